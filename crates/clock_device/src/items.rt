@@ -1,0 +1,81 @@
+ghost use Rattle.std.specs.Prelude.{◌≡◌, [], ◌∷◌, ◌++◌, ◌<◌, length, slice_set, OnOk, OnErr, IfOk};
+
+use crate::no_memory::NoMemory;
+use std::alloc::Global;
+use std::marker::Model;
+
+/// A list that owns its items. Contracts see the list of the items.
+///
+/// The lists of the auction are this type under names of their own, as [`Text`] for bytes.
+#[derive(Drop)]
+pub struct Items<T> {
+    held: Vec<T>,
+}
+
+/// Bytes, as a name, a page or a document.
+pub type Text = Items<u8>;
+
+impl<T> Model for Items<T> {
+    ghost use Rattle.std.specs.Prelude.{List};
+
+    ghost Value = { List T };
+
+    ghost view = { λ a. a.held.items };
+}
+
+impl<T> Items<T> {
+    /// No items. It takes no memory yet.
+    pub fn new(alloc: Global) -> Items<T>
+        ensures { result ≡ [] }
+    {
+        Items {
+            held: Vec::new(alloc),
+        }
+    }
+
+    /// Adds an item at the end, or drops it where there is no memory.
+    pub fn push(&mut self, item: T) -> Result<(), NoMemory>
+    where
+        T: Drop,
+        ensures ok { OnOk result (self.new ≡ self.old ++ item ∷ []) }
+        ensures err { OnErr result (self.new ≡ self.old) }
+    {
+        self.held.push(item)?;
+        Ok(())
+    }
+
+    /// The items in order.
+    pub fn as_slice(&self) -> &[T]
+        ensures { result.now ≡ self.now }
+    {
+        self.held.as_slice()
+    }
+
+    /// Puts an item in the place of another, which is dropped.
+    pub fn set(&mut self, place: usize, item: T)
+    where
+        T: Drop,
+        requires { place < length self.old }
+        ensures { self.new ≡ slice_set self.old place item }
+    {
+        self.held[place] = item;
+    }
+}
+
+impl<T: Copy> Items<T> {
+    /// A list of its own with the items of a slice.
+    pub fn from_slice(alloc: Global, items: &[T]) -> Result<Items<T>, NoMemory>
+        ensures { IfOk result (λ copy. copy ≡ items.now) }
+    {
+        Ok(Items {
+            held: Vec::from_slice(alloc, items)?,
+        })
+    }
+
+    /// An equal list.
+    pub fn copy(&self, alloc: Global) -> Result<Items<T>, NoMemory>
+        ensures { IfOk result (λ copy. copy ≡ self.now) }
+    {
+        Items::from_slice(alloc, self.held.as_slice())
+    }
+}
