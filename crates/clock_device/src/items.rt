@@ -33,6 +33,13 @@ impl<T> Items<T> {
         }
     }
 
+    /// The items of a vector, which is taken over and not copied.
+    pub fn from_vec(items: Vec<T>) -> Items<T>
+        ensures { result ≡ items.items }
+    {
+        Items { held: items }
+    }
+
     /// Adds an item at the end, or drops it where there is no memory.
     pub fn push(&mut self, item: T) -> Result<(), NoMemory>
     where
@@ -70,6 +77,15 @@ impl<T: Copy> Items<T> {
         Ok(Items {
             held: Vec::from_slice(alloc, items)?,
         })
+    }
+
+    /// Adds the items of a slice at the end, all of them or none.
+    pub fn extend_from_slice(&mut self, items: &[T]) -> Result<(), NoMemory>
+        ensures ok { OnOk result (self.new ≡ self.old ++ items.now) }
+        ensures err { OnErr result (self.new ≡ self.old) }
+    {
+        self.held.extend_from_slice(items)?;
+        Ok(())
     }
 
     /// An equal list.
