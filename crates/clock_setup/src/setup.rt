@@ -1,4 +1,4 @@
-ghost use Rattle.std.specs.Prelude.{◌≡◌, List, ℕ, ◌≤◌, ◌<◌, [], ◌∷◌, ◌++◌, length, OnOk, OnErr, IfOk};
+ghost use Rattle.std.specs.Prelude.{◌≡◌, IfOk};
 
 use clock_device::{Items, NoMemory, Text};
 use clock_money::Price;
@@ -115,20 +115,4 @@ impl Setup {
             bidders,
         })
     }
-}
-
-/// How many products there are.
-pub fn product_count(setup: &Setup) -> usize
-    ensures count { result ≡ length setup.now.products }
-    ensures few { result ≤ 4096 }
-{
-    setup.products.as_slice().len()
-}
-
-/// The cap of a product.
-pub fn cap_of(setup: &Setup, product: usize) -> u64
-    requires { product < length setup.now.products }
-    ensures most { result ≤ 1000 }
-{
-    setup.products.as_slice()[product].cap
 }

@@ -1,0 +1,26 @@
+-- First faults: a list of checks, each a fault and whether its test passes, in the order in which they are looked at.
+--     first_fault checks      the fault of the first check that fails
+--     unless fault value      the value, where there is no fault
+--     or_fault fault value      the value that is there, or the fault
+use Rattle.std.specs.Prelude.{Bool, List, [], ◌∷◌, if◌then◌else◌, Option, Some, None, Result, Ok, Err}
+
+-- the fault of the first check that fails
+abbrev pub first_fault : {F : Type 0} → List (F × Bool) → Option F
+first_fault [] = None
+first_fault (check ∷ checks) = if check.1 then first_fault checks else Some check.0
+
+-- the value, where there is no fault
+abbrev pub unless : {A F : Type 0} → Option F → A → Result A F
+unless None value = Ok value
+unless (Some fault) value = Err fault
+
+-- the value that is there, or the fault
+abbrev pub or_fault : {A F : Type 0} → F → Option A → Result A F
+or_fault fault None = Err fault
+or_fault fault (Some value) = Ok value
+
+-- in a do block: go on with a value, or stop at a fault
+infixl 10 ◌>>=◌
+abbrev pub ◌>>=◌ : {A B F : Type 0} → Result A F → (A → Result B F) → Result B F
+(Err fault) >>= f = Err fault
+(Ok value) >>= f = f value

@@ -1,0 +1,45 @@
+-- Members of JSON objects, over the values that serde_json reads. An object has a key once: where a document repeats
+-- one, the reader keeps the last.
+--     number_at key value, text_at key value, items_at key value      the member of that kind at a key
+--     has_members count value      the value is an object of so many members
+--     number_from value      a whole number of 64 bits; RFC 8259's other numbers are none
+--     each meaning items      what all items mean, where each means something
+use Rattle.std.specs.Prelude.{ℕ, Bool, false, List, [], ◌∷◌, ◌==◌, Option, Some, None, option_and_then}
+use Rattle.serde_json.specs.Data.{Data, Members, Items, no_items, item}
+use Rattle.serde_json.specs.Find.{get, as_number, as_u64, as_str, as_array, as_object}
+use Rattle.serde_json.specs.Events.{members_len}
+
+-- a whole number from 0 to 2^64 - 1
+abbrev pub number_from : Data → Option ℕ
+number_from value = option_and_then as_u64 (as_number value)
+
+abbrev pub number_at : List ℕ → Data → Option ℕ
+number_at key value = option_and_then number_from (get key value)
+
+abbrev pub text_at : List ℕ → Data → Option (List ℕ)
+text_at key value = option_and_then as_str (get key value)
+
+abbrev pub items_at : List ℕ → Data → Option Items
+items_at key value = option_and_then as_array (get key value)
+
+abbrev pub is_count : ℕ → Option Members → Bool
+is_count count None = false
+is_count count (Some members) = members_len members == count
+
+-- with as many members as there are keys looked up, an object has these keys and no other
+abbrev pub has_members : ℕ → Data → Bool
+has_members count value = is_count count (as_object value)
+
+-- in a do block: go on with a value where there is one
+infixl 10 ◌>>=◌
+abbrev pub ◌>>=◌ : {A B : Type 0} → Option A → (A → Option B) → Option B
+None >>= f = None
+(Some x) >>= f = f x
+
+-- what all items mean, where each means something
+abbrev pub each : {A : Type 0} → (Data → Option A) → Items → Option (List A)
+each meaning no_items = Some []
+each meaning (item value items) = do
+  first ← meaning value
+  rest ← each meaning items
+  Some (first ∷ rest)

@@ -1,0 +1,64 @@
+-- What an opening document means: a set-up, the demands of round 1 and an increment, or the fault of the first check
+-- that fails. (Own format and own order.)
+--     opening_checks setup parts      what is looked at once the set-up is known, in order
+--     opening_of value      what a JSON value means as an opening
+--     document_opening bytes      what bytes mean as an opening
+use Rattle.std.specs.Prelude.{ℕ, ◌+◌, Bool, ◌&&◌, ◌==◌, List, [], ◌∷◌, ◌++◌, length, zip, nat_le, Result, Ok, Err}
+use Rattle.std.specs.List.{list_all}
+use Rattle.serde_json.specs.Data.{Data}
+use Rattle.clock_setup.specs.declared.setup.Product.{Product}
+use Rattle.clock_setup.specs.declared.setup.Bidder.{Bidder}
+use Rattle.clock_setup.specs.declared.fault.SetupFault.{SetupFault}
+use Rattle.clock_setup.specs.declared.opening.Opening.{Opening}
+use Rattle.clock_setup.specs.declared.opening.OpeningFault.{OpeningFault}
+use Rattle.clock_setup.specs.declared.opening.OpeningFault.TheVariants.{NotJson, Shape, Setup, Demand, Activity, Increment}
+use Rattle.clock_setup.specs.Limits.{SetupFields, is_within}
+use Rattle.clock_setup.specs.Eligibility.{activity}
+use Rattle.clock_setup.specs.Faults.{first_fault, unless, or_fault, ◌>>=◌}
+use Rattle.clock_setup.specs.SetupDocument.{json, setup_of}
+use Rattle.clock_setup.specs.OpeningShape.{OpeningParts, parts_of}
+
+-- a row for each bidder, and in each row a number for each product
+abbrev pub has_counts : SetupFields → List (List ℕ) → Bool
+has_counts setup demands =
+    (length demands == length setup.bidders) && list_all (λ row. length row == length setup.products) demands
+
+-- one bidder's demands by rising product, each at most the product's cap
+unfoldable pub demand_checks : ℕ → ℕ → List (Product × ℕ) → List (OpeningFault × Bool)
+demand_checks bidder product [] = []
+demand_checks bidder product (line ∷ lines) =
+    (Demand bidder product, nat_le line.1 line.0.cap) ∷ demand_checks bidder (product + 1) lines
+
+-- the bidders one after another: first its demands, then that their activity is at most its eligibility
+unfoldable pub row_checks : List Product → ℕ → List (Bidder × List ℕ) → List (OpeningFault × Bool)
+row_checks products bidder [] = []
+row_checks products bidder (line ∷ lines) =
+    demand_checks bidder 0 (zip products line.1)
+    ++ ((Activity bidder, nat_le (activity products line.1) line.0.eligibility)
+    ∷ row_checks products (bidder + 1) lines)
+
+-- the counts of the rows, then the rows, then the increment
+unfoldable pub opening_checks : SetupFields → OpeningParts → List (OpeningFault × Bool)
+opening_checks setup parts =
+    (Shape, has_counts setup parts.demands)
+    ∷ (row_checks setup.products 0 (zip setup.bidders parts.demands)
+    ++ ((Increment, is_within 1 50 parts.increment)
+    ∷ []))
+
+-- a set-up's fault is one of the document that holds it
+abbrev pub in_opening : Result SetupFields SetupFault → Result SetupFields OpeningFault
+in_opening (Ok setup) = Ok setup
+in_opening (Err fault) = Err (Setup fault)
+
+-- the shape, then the set-up, then the checks above
+unfoldable pub opening_of : Data → Result Opening OpeningFault
+opening_of value = do
+  parts ← or_fault Shape (parts_of value)
+  setup ← in_opening (setup_of parts.setup)
+  unless (first_fault (opening_checks setup parts)) (record { setup = setup; grid = parts.demands; increment = parts.increment })
+
+-- what the bytes of an opening document mean
+unfoldable pub document_opening : List ℕ → Result Opening OpeningFault
+document_opening bytes = do
+  value ← or_fault NotJson (json bytes)
+  opening_of value

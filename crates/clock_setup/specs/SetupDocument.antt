@@ -1,0 +1,79 @@
+-- What a set-up document means: its set-up, or the fault of the first check that fails. (Own format and own order.)
+--     setup_checks setup      the limits of a set-up in the order in which they are looked at
+--     setup_of value      what a JSON value means as a set-up
+--     document_setup bytes      what bytes mean as a set-up
+use Rattle.std.specs.Prelude.{ℕ, ◌+◌, Bool, not, ◌&&◌, ◌||◌, ◌==◌, List, [], ◌∷◌, ◌++◌, map, length, nat_le, if◌then◌else◌, Option, Some, None, Result, Ok, Err, codes}
+use Rattle.std.specs.List.{list_any, list_all}
+use Rattle.std.specs.Str.{bytes_eq, is_utf8}
+use Rattle.serde_json.specs.Data.{Data}
+use Rattle.serde_json.specs.Read.{read}
+use Rattle.clock_setup.specs.declared.setup.Product.{Product}
+use Rattle.clock_setup.specs.declared.setup.Bidder.{Bidder}
+use Rattle.clock_setup.specs.declared.fault.Place.{Place}
+use Rattle.clock_setup.specs.declared.fault.Place.TheVariants.{Requirement, Operator, Products, Name, Units, Supply, Cap, Opening, Bidders, BidderName, Token, Eligibility}
+use Rattle.clock_setup.specs.declared.fault.SetupFault.{SetupFault}
+use Rattle.clock_setup.specs.declared.fault.SetupFault.TheVariants.{NotJson, Shape, Version, Range, DuplicateName, DuplicateToken}
+use Rattle.clock_setup.specs.Limits.{SetupFields, is_within, is_name, is_token, is_distinct}
+use Rattle.clock_setup.specs.Members.{number_at}
+use Rattle.clock_setup.specs.SetupShape.{fields_of}
+use Rattle.clock_setup.specs.Faults.{first_fault, unless, or_fault, ◌>>=◌}
+
+-- the products one after another, and of each its name, units, supply, cap (at most the supply) and opening price
+unfoldable pub product_checks : ℕ → List Product → List (SetupFault × Bool)
+product_checks i [] = []
+product_checks i (product ∷ products) =
+    (Range (Name i), is_name product.name)
+    ∷ (Range (Units i), is_within 1 1000000 product.units)
+    ∷ (Range (Supply i), is_within 1 1000 product.supply)
+    ∷ (Range (Cap i), is_within 1 product.supply product.cap)
+    ∷ (Range (Opening i), is_within 1 1000000000000 product.opening)
+    ∷ product_checks (i + 1) products
+
+-- the bidders one after another, and of each its name, token and eligibility
+unfoldable pub bidder_checks : ℕ → List Bidder → List (SetupFault × Bool)
+bidder_checks i [] = []
+bidder_checks i (bidder ∷ bidders) =
+    (Range (BidderName i), is_name bidder.name)
+    ∷ (Range (Token i), is_token bidder.token)
+    ∷ (Range (Eligibility i), nat_le bidder.eligibility 1000000000000)
+    ∷ bidder_checks (i + 1) bidders
+
+-- no two products, and no two bidders, have one name; a product and a bidder may share one
+abbrev pub has_distinct_names : SetupFields → Bool
+has_distinct_names setup =
+    is_distinct (map (λ product. product.name) setup.products) && is_distinct (map (λ bidder. bidder.name) setup.bidders)
+
+-- no two bidders, and no bidder and the operator, have one token
+abbrev pub has_distinct_tokens : SetupFields → Bool
+has_distinct_tokens setup = is_distinct (setup.operator ∷ map (λ bidder. bidder.token) setup.bidders)
+
+-- the limits of a set-up, in the order in which they are looked at
+unfoldable pub setup_checks : SetupFields → List (SetupFault × Bool)
+setup_checks setup =
+    (Range Requirement, is_within 50 100 setup.requirement)
+    ∷ (Range Operator, is_token setup.operator)
+    ∷ (Range Products, is_within 1 4096 (length setup.products))
+    ∷ (product_checks 0 setup.products
+    ++ ((Range Bidders, is_within 1 512 (length setup.bidders))
+    ∷ (bidder_checks 0 setup.bidders
+    ++ ((DuplicateName, has_distinct_names setup)
+    ∷ (DuplicateToken, has_distinct_tokens setup)
+    ∷ []))))
+
+-- a number under "version", then that it is 1, then the rest of the shape, then the limits
+unfoldable pub setup_of : Data → Result SetupFields SetupFault
+setup_of value = do
+  version ← or_fault Shape (number_at (codes "version") value)
+  one ← if version == 1 then Ok version else Err Version
+  setup ← or_fault Shape (fields_of value)
+  unless (first_fault (setup_checks setup)) setup
+
+-- the JSON value that the bytes are (RFC 8259, as serde_json's reading definition has it)
+unfoldable pub json : List ℕ → Option Data
+json bytes = if is_utf8 bytes then read bytes else None
+
+-- what the bytes of a set-up document mean
+unfoldable pub document_setup : List ℕ → Result SetupFields SetupFault
+document_setup bytes = do
+  value ← or_fault NotJson (json bytes)
+  setup_of value
