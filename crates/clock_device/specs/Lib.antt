@@ -1,0 +1,4 @@
+pub mod Calls
+pub mod Streams
+pub mod SourceState
+pub mod SinkState

@@ -1,8 +1,14 @@
-//! Owned lists, bytes, and want of memory: what every crate of the auction stands on.
+//! Owned lists, bytes in and out, and want of memory: what every crate of the auction stands on.
 #![tactic(auto)]
 
+mod held;
 mod items;
 mod no_memory;
+mod stream;
+mod wrapped;
 
+pub use held::{ListSink, ListSource};
 pub use items::{Items, Text};
 pub use no_memory::NoMemory;
+pub use stream::{Failed, Sink, Source, Stop};
+pub use wrapped::{FromReader, ToWriter};

@@ -1,0 +1,24 @@
+-- What is remembered of the calls that were made on a source or a sink: how many, and whether one failed.
+-- Own rule: the count stays at the greatest u64.
+use Rattle.std.specs.Prelude.{◌≡◌, ℕ, ◌+◌, ◌-◌, ◌^◌, min, Bool, true, false, Result, Ok, Err}
+use Rattle.clock_device.specs.declared.stream.Stop.{Stop}
+use Rattle.clock_device.specs.declared.stream.Stop.TheVariants.{Interrupted, Failed}
+
+-- the count after one more call
+abbrev pub count_after : ℕ → ℕ
+count_after calls = min (calls + 1) (2 ^ 64 - 1)
+
+-- no call was made before: none is counted, and none has failed
+pub record IsUnused (calls : ℕ) (has_failed : Bool) : Type 0 where
+  pub uncounted : calls ≡ 0
+  pub unfailed : has_failed ≡ false
+
+-- a read that was interrupted has not failed
+abbrev pub is_failure : Stop → Bool
+is_failure Interrupted = false
+is_failure Failed = true
+
+-- the read has failed
+abbrev pub is_failed_read : {N : Type 0} → Result N Stop → Bool
+is_failed_read (Ok n) = false
+is_failed_read (Err stop) = is_failure stop

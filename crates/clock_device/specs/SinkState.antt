@@ -1,0 +1,49 @@
+-- A sink that keeps its bytes in memory.
+use Rattle.std.specs.Prelude.{◌==◌, ◌-◌, ◌||◌, ◌++◌, ℕ, Bool, true, false, List, [], length, take, min, Option, Some, None, if◌then◌else◌, is_some, not}
+use Rattle.clock_device.specs.Calls.{count_after}
+
+-- what it has taken, how many bytes it has room for in all, how many one write takes at most, the
+-- write at which it fails, and what was done
+pub record SinkState : Type 0 where
+  pub taken : List ℕ
+  pub room : ℕ
+  pub piece : ℕ
+  pub stop : Option ℕ
+  pub calls : ℕ
+  pub has_failed : Bool
+
+-- no write was made yet
+abbrev pub new_sink : ℕ → ℕ → Option ℕ → SinkState
+new_sink room piece stop = record {
+  taken = [];
+  room = room;
+  piece = piece;
+  stop = stop;
+  calls = 0;
+  has_failed = false;
+}
+
+-- the write of this number, counted from 0, is the one that fails
+abbrev pub is_stop_at : Option ℕ → ℕ → Bool
+is_stop_at None call = false
+is_stop_at (Some k) call = k == call
+
+abbrev pub some_above_zero : ℕ → Option ℕ
+some_above_zero count = if count == 0 then None else Some count
+
+-- how many of so many bytes a write takes, and none where it fails: at its stop, where it is full,
+-- and where there is no byte to take
+abbrev pub write_count : SinkState → ℕ → Option ℕ
+write_count s offered = if is_stop_at s.stop s.calls then None
+    else some_above_zero (min (min s.piece (s.room - length s.taken)) offered)
+
+abbrev pub count_or_zero : Option ℕ → ℕ
+count_or_zero None = 0
+count_or_zero (Some count) = count
+
+abbrev pub after_write : SinkState → List ℕ → SinkState
+after_write s bytes = let count = write_count s (length bytes) in record s {
+  taken = s.taken ++ take (count_or_zero count) bytes;
+  calls = count_after s.calls;
+  has_failed = s.has_failed || not (is_some count);
+}

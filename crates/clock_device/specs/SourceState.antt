@@ -1,0 +1,48 @@
+-- A source of bytes that stand in memory.
+use Rattle.std.specs.Prelude.{◌==◌, ◌||◌, ℕ, Bool, false, List, length, drop, min, Option, Some, None, Result, Ok, Err, if◌then◌else◌}
+use Rattle.clock_device.specs.Calls.{count_after, is_failed_read}
+use Rattle.clock_device.specs.declared.stream.Stop.{Stop}
+
+-- what is left, how much of it one read gives at most, the read at which it stops, and what was done
+pub record SourceState : Type 0 where
+  pub left : List ℕ
+  pub piece : ℕ
+  pub stop : Option (ℕ × Stop)
+  pub calls : ℕ
+  pub has_failed : Bool
+
+-- no read was made yet
+abbrev pub new_source : List ℕ → ℕ → Option (ℕ × Stop) → SourceState
+new_source bytes piece stop = record {
+  left = bytes;
+  piece = piece;
+  stop = stop;
+  calls = 0;
+  has_failed = false;
+}
+
+-- the stop that comes at the read of this number, counted from 0
+abbrev pub stop_at : Option (ℕ × Stop) → ℕ → Option Stop
+stop_at None call = None
+stop_at (Some p) call = if p.0 == call then Some p.1 else None
+
+abbrev pub stopped_or : Option Stop → ℕ → Result ℕ Stop
+stopped_or (Some stop) count = Err stop
+stopped_or None count = Ok count
+
+-- the answer of a read into a buffer of this length: its stop where it has come, else as many bytes
+-- as piece, buffer and what is left allow
+abbrev pub read_answer : SourceState → ℕ → Result ℕ Stop
+read_answer s room = stopped_or (stop_at s.stop s.calls) (min (min s.piece room) (length s.left))
+
+-- how many bytes the answer counts
+abbrev pub count_of : Result ℕ Stop → ℕ
+count_of (Ok count) = count
+count_of (Err stop) = 0
+
+abbrev pub after_read : SourceState → Result ℕ Stop → SourceState
+after_read s answer = record s {
+  left = drop (count_of answer) s.left;
+  calls = count_after s.calls;
+  has_failed = s.has_failed || is_failed_read answer;
+}
