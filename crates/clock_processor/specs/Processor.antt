@@ -1,0 +1,36 @@
+-- What a processor answers.
+--     IsSettlement board changes end      the settling of the board's round ended so
+--     IsProperEnd board changes end      what holds at the end of every settling
+use Rattle.std.specs.Prelude.{◌≡◌, ℕ, ◌≤◌, List, length, min, EachIndex, slice_index, slice_index_or}
+use Rattle.clock_setup.specs.Limits.{supply_of}
+use Rattle.clock_setup.specs.Demands.{total_of}
+use Rattle.clock_bids.specs.declared.change.Change.{Change}
+use Rattle.clock_processor.specs.Room.{room}
+use Rattle.clock_processor.specs.Board.{BoardFields, IsWithinEligibility}
+use Rattle.clock_processor.specs.Settling.{settled, no_change}
+
+-- the grid after the round, what each request has left, and the counts
+pub record SettledFields : Type 0 where
+  pub grid : List (List ℕ)
+  pub left : List ℕ
+  pub applied : ℕ
+  pub tests : ℕ
+
+-- grid, what is left and the number of applications are those of the settling's end
+pub record IsSettlement (board : BoardFields) (changes : List Change) (end : SettledFields) : Type 0 where
+  pub grid : end.grid ≡ (settled board.products board.eligibilities changes board.grid).grid
+  pub left : end.left ≡ (settled board.products board.eligibilities changes board.grid).left
+  pub applied : end.applied ≡ (settled board.products board.eligibilities changes board.grid).applied
+
+-- the part of the request at a place that is left has no room
+abbrev pub HasNoRoom : BoardFields → List Change → SettledFields → ℕ → Type 0
+HasNoRoom board changes end place =
+    room board.products board.eligibilities end.grid (slice_index_or changes place no_change) (slice_index end.left place) ≡ 0
+
+-- no request has room, none has more left than it asked for, no product's total is below the smaller of its former value and its supply, and every bidder's demands are within the caps and its eligibility
+pub record IsProperEnd (board : BoardFields) (changes : List Change) (end : SettledFields) : Type 0 where
+  pub each : length end.left ≡ length changes
+  pub left : EachIndex changes (λ place. slice_index end.left place ≤ (slice_index_or changes place no_change).amount)
+  pub no_room : EachIndex changes (HasNoRoom board changes end)
+  pub supply : (product : ℕ) → min (total_of board.grid product) (supply_of board.products product) ≤ total_of end.grid product
+  pub held : IsWithinEligibility board.products board.eligibilities end.grid

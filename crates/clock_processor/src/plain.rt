@@ -1,0 +1,121 @@
+ghost use Rattle.std.specs.Prelude.{◌≡◌, ◌<◌, ◌≤◌, ◌-◌, length, IfOk, IfSome, IfNone, OnSome, All, Some, None, ℕ, map, slice_index, slice_index_or, slice_set};
+ghost use Rattle.clock_processor.specs.Board.{IsBoard, one_more};
+ghost use Rattle.clock_processor.specs.Room.{with_change};
+ghost use Rattle.clock_processor.specs.Settling as settling;
+ghost use Rattle.clock_processor.specs.Requests.{IsRequest};
+ghost use Rattle.clock_processor.specs.UnderWay.{IsUnderWay, SameButTests, StaysWithinCaps, progress_of};
+
+use crate::board::Board;
+use crate::processor::Processor;
+use crate::settled::Settled;
+use clock_bids::{Change, Changes};
+use clock_device::NoMemory;
+use clock_setup::Amounts;
+use std::alloc::Global;
+
+/// Tests the admitted requests from the first on after each application.
+#[derive(Clone, Copy, Debug, Default)]
+pub struct Plain;
+
+impl Processor for Plain {
+    fn settle(&self, alloc: Global, board: Board, changes: &Changes) -> Result<Settled, NoMemory> {
+        let mut board = board;
+        let mut left = amounts_of(alloc, changes.as_slice())?;
+        rescan(&mut board, changes.as_slice(), &mut left);
+        Ok(board.end(left))
+    }
+}
+
+/// The whole amount of each request.
+fn amounts_of(alloc: Global, changes: &[Change]) -> Result<Amounts, NoMemory>
+    ensures { IfOk result (λ amounts. amounts ≡ map (λ change. change.amount) changes.now) }
+{
+    let mut amounts = Amounts::new(alloc);
+    for change in changes {
+        amounts.push(change.amount)?;
+    }
+    Ok(amounts)
+}
+
+/// Steps to the end.
+fn rescan(board: &mut Board, changes: &[Change], left: &mut Amounts)
+    requires { IsUnderWay board.old changes.now left.old 0 }
+    ensures ended { (n : ℕ) × settling.Settles board.old.products board.old.eligibilities changes.now (progress_of board.old 0 left.old) (progress_of board.new n left.new) }
+    ensures terms { (board.new.products ≡ board.old.products) × (board.new.eligibilities ≡ board.old.eligibilities) }
+{
+    let mut admitted: usize = 0;
+    while let Some(now) = advance(board, changes, left, admitted) {
+        admitted = now;
+    }
+}
+
+/// One step: the number of admitted requests after it, or None at the end.
+fn advance(
+    board: &mut Board,
+    changes: &[Change],
+    left: &mut Amounts,
+    admitted: usize,
+) -> Option<usize>
+    requires { IsUnderWay board.old changes.now left.old admitted }
+    ensures step { IfSome result (λ now. settling.next board.old.products board.old.eligibilities changes.now (progress_of board.old admitted left.old) ≡ Some (progress_of board.new now left.new)) }
+    ensures under_way { IfSome result (λ now. IsUnderWay board.new changes.now left.new now) }
+    ensures end { IfNone result (settling.HasEnded board.old.products board.old.eligibilities changes.now (progress_of board.old admitted left.old)) }
+    ensures same { IfNone result (SameButTests board.old board.new × (left.new ≡ left.old)) }
+    ensures terms { (board.new.products ≡ board.old.products) × (board.new.eligibilities ≡ board.old.eligibilities) }
+{
+    match first_with_room(board, changes, left.as_slice(), admitted) {
+        Some(i) => {
+            apply_at(board, changes, left, i);
+            Some(admitted)
+        }
+        None => {
+            if admitted < changes.len() {
+                Some(admitted + 1)
+            } else {
+                None
+            }
+        }
+    }
+}
+
+/// The place of the first admitted request with room.
+fn first_with_room(
+    board: &mut Board,
+    changes: &[Change],
+    left: &[u64],
+    admitted: usize,
+) -> Option<usize>
+    requires admitted { admitted ≤ length changes.now }
+    requires left { length left.now ≡ length changes.now }
+    requires requests { All (IsRequest (length board.old.eligibilities) (length board.old.products)) changes.now }
+    ensures found { result ≡ settling.first_with_room board.old.products board.old.eligibilities changes.now (progress_of board.old admitted left.now) }
+    ensures same { SameButTests board.old board.new }
+    ensures kept { OnSome result (IsBoard board.new.products board.new.eligibilities board.new.grid) }
+{
+    for i in 0..admitted {
+        if board.room(&changes[i], left[i]) > 0 {
+            return Some(i);
+        }
+    }
+    None
+}
+
+/// Applies the request at a place by its whole room.
+fn apply_at(board: &mut Board, changes: &[Change], left: &mut Amounts, place: usize)
+    requires place { place < length changes.now }
+    requires each { length left.old ≡ length changes.now }
+    requires requests { All (IsRequest (length board.old.eligibilities) (length board.old.products)) changes.now }
+    requires caps { StaysWithinCaps board.old.products board.old.grid changes.now left.old }
+    requires is_board { IsBoard board.old.products board.old.eligibilities board.old.grid }
+    requires room { 0 < settling.room_at board.old.products board.old.eligibilities changes.now (progress_of board.old 0 left.old) place }
+    ensures grid { board.new.grid ≡ with_change board.old.grid (slice_index_or changes.now place settling.no_change) (settling.room_at board.old.products board.old.eligibilities changes.now (progress_of board.old 0 left.old) place) }
+    ensures left { left.new ≡ slice_set left.old place (slice_index left.old place - settling.room_at board.old.products board.old.eligibilities changes.now (progress_of board.old 0 left.old) place) }
+    ensures applied { board.new.applied ≡ one_more board.old.applied }
+    ensures terms { (board.new.products ≡ board.old.products) × (board.new.eligibilities ≡ board.old.eligibilities) }
+{
+    let change = changes[place];
+    let amount = left.as_slice()[place];
+    let room = board.room(&change, amount);
+    board.apply(&change, room);
+    left.set(place, amount - room);
+}

@@ -1,0 +1,63 @@
+ghost use Rattle.std.specs.Prelude.{◌≡◌};
+
+use clock_setup::{Amounts, Grid};
+use std::marker::Model;
+
+/// What a settling ends with. Only [`Board::end`](crate::Board::end) makes one.
+#[derive(Drop)]
+pub struct Settled {
+    grid: Grid,
+    left: Amounts,
+    applied: u64,
+    tests: u64,
+}
+
+impl Model for Settled {
+    ghost use Rattle.clock_processor.specs.Processor.{SettledFields};
+
+    ghost Value = { SettledFields };
+
+    ghost view = { λ s. record { grid = s.grid; left = s.left; applied = s.applied; tests = s.tests } };
+}
+
+impl Settled {
+    /// The end of a board's settling.
+    pub(crate) fn of(grid: Grid, left: Amounts, applied: u64, tests: u64) -> Settled
+        ensures { result ≡ record { grid = grid; left = left; applied = applied; tests = tests } }
+    {
+        Settled {
+            grid,
+            left,
+            applied,
+            tests,
+        }
+    }
+
+    /// The demands after the round: a row for each bidder, in blocks.
+    pub fn grid(&self) -> &Grid
+        ensures { result.now ≡ self.now.grid }
+    {
+        &self.grid
+    }
+
+    /// What of each request was not applied, in blocks, in the order of the requests.
+    pub fn left(&self) -> &[u64]
+        ensures { result.now ≡ self.now.left }
+    {
+        self.left.as_slice()
+    }
+
+    /// How many times a request, or a part of one, was applied.
+    pub fn applied(&self) -> u64
+        ensures { result ≡ self.now.applied }
+    {
+        self.applied
+    }
+
+    /// How many times the room of a request was looked at.
+    pub fn tests(&self) -> u64
+        ensures { result ≡ self.now.tests }
+    {
+        self.tests
+    }
+}
