@@ -1,6 +1,6 @@
 -- The lines that tell a round's sheet, one for the round and one for each product (own format).
 --     sheet_text products sheet      the lines
-use Rattle.std.specs.Prelude.{ℕ, List, [], ◌∷◌, ◌++◌, Option, Some, None, codes, decimal, zip}
+use Rattle.std.specs.Prelude.{ℕ, List, ◌++◌, Option, Some, None, codes, decimal, zip}
 use Rattle.std.specs.List.{flat_map}
 use Rattle.clock_setup.specs.declared.setup.Product.{Product}
 use Rattle.clock_posting.specs.declared.sheet.Line.{Line}

@@ -3,8 +3,11 @@ ghost use Rattle.clock_setup.specs.Demands.{IsGrid};
 ghost use Rattle.clock_setup.specs.Prices as prices;
 ghost use Rattle.clock_posting.specs.Posting as rules;
 
+use crate::posting::posting;
 use crate::sheet::{PostFault, Posting};
-use clock_setup::{Grid, Setup};
+use clock_device::{Items, NoMemory};
+use clock_money::Price;
+use clock_setup::{Grid, PricePair, Prices, Product, Setup};
 use std::alloc::Global;
 
 /// What the closing of the first round posts, where the sheets' quantities stand as demands: each
@@ -29,5 +32,41 @@ pub fn post_first(
     ensures err { IfErr result (rules.IsPostFault (rules.price_limit_fault setup.now.products grid.now (rules.opening_posted setup.now.products) increment)) }
     ensures laws { IfOk result rules.IsConsistent }
 {
-    Err(PostFault::NoMemory)
+    let products = setup.products.as_slice();
+    let prices = opening_prices(alloc, products)?;
+    let posted = opening_posted(alloc, products)?;
+    posting(
+        alloc,
+        1,
+        products,
+        prices.as_slice(),
+        grid,
+        posted.as_slice(),
+        increment,
+    )
+}
+
+/// The prices of the first round.
+fn opening_prices(alloc: Global, products: &[Product]) -> Result<Prices, NoMemory>
+    ensures { IfOk result (λ made. made ≡ prices.opening_prices products.now) }
+{
+    let mut made = Prices::new(alloc);
+    for product in products {
+        made.push(PricePair {
+            start: product.opening,
+            clock: product.opening,
+        })?;
+    }
+    Ok(made)
+}
+
+/// The prices posted in the first round.
+fn opening_posted(alloc: Global, products: &[Product]) -> Result<Items<Price>, NoMemory>
+    ensures { IfOk result (λ posted. posted ≡ rules.opening_posted products.now) }
+{
+    let mut posted = Items::new(alloc);
+    for product in products {
+        posted.push(product.opening)?;
+    }
+    Ok(posted)
 }

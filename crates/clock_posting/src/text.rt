@@ -1,9 +1,10 @@
 ghost use Rattle.std.specs.Prelude.{◌≡◌, ◌++◌, List, [], ◌∷◌, length, codes, decimal, IfOk, OnOk, Option};
-ghost use Rattle.clock_posting.specs.SheetText.{sheet_text};
+ghost use Rattle.clock_posting.specs.SheetText.{sheet_text, line_text, number_or_dash};
 
-use crate::sheet::RoundSheet;
+use crate::sheet::{Line, RoundSheet};
 use clock_device::{NoMemory, Text};
-use clock_setup::Setup;
+use clock_setup::{Product, Setup};
+use itoa::Buffer;
 use std::alloc::Global;
 
 /// The lines that tell a round's sheet: `round N`, then for each product
@@ -13,5 +14,53 @@ pub fn sheet_lines(alloc: Global, setup: &Setup, sheet: &RoundSheet) -> Result<T
     requires { length sheet.now.lines ≡ length setup.now.products }
     ensures { IfOk result (λ text. text ≡ sheet_text setup.now.products sheet.now) }
 {
-    Err(NoMemory)
+    let products = setup.products.as_slice();
+    let mut text = Text::from_slice(alloc, b"round ")?;
+    push_number(&mut text, sheet.round)?;
+    text.push(b'\n')?;
+    for (i, line) in sheet.lines.as_slice().iter().enumerate() {
+        push_line(&mut text, &products[i], line)?;
+    }
+    Ok(text)
+}
+
+/// Adds the line of a product.
+fn push_line(text: &mut Text, product: &Product, line: &Line) -> Result<(), NoMemory>
+    ensures { OnOk result (text.new ≡ text.old ++ line_text product.now line.now) }
+{
+    text.extend_from_slice(product.name.as_slice())?;
+    text.push(b' ')?;
+    push_number(text, line.start.get())?;
+    text.push(b' ')?;
+    push_number(text, line.clock.get())?;
+    text.push(b' ')?;
+    push_number(text, line.posted.get())?;
+    text.push(b' ')?;
+    push_or_dash(text, line.demand)?;
+    text.push(b' ')?;
+    push_or_dash(text, line.next)?;
+    text.push(b'\n')?;
+    Ok(())
+}
+
+/// Adds a number, or a dash where there is none.
+fn push_or_dash(text: &mut Text, number: Option<u64>) -> Result<(), NoMemory>
+    ensures { OnOk result (text.new ≡ text.old ++ number_or_dash number) }
+{
+    match number {
+        Some(number) => push_number(text, number),
+        None => {
+            text.push(b'-')?;
+            Ok(())
+        }
+    }
+}
+
+/// Adds a number in decimal.
+fn push_number(text: &mut Text, number: u64) -> Result<(), NoMemory>
+    ensures { OnOk result (text.new ≡ text.old ++ decimal number) }
+{
+    let mut buffer = Buffer::new();
+    text.extend_from_slice(buffer.format(number).as_bytes())?;
+    Ok(())
 }

@@ -1,0 +1,31 @@
+-- A test, a fact or a function over n neighbouring numbers from a on.
+use Rattle.std.proofs.Common.{◌≡◌, ℕ, zero, suc, ◌+◌, ◌<◌, ◌≤◌, Bool, true, false, map, refl, ap, sym, ◌∙◌, arith, zero-add}
+use Rattle.std.specs.Prelude.{All, Any}
+use Rattle.std.specs.List.{list_any, range_with_len}
+use Rattle.std.proofs.lemmas.List.FromFn.{length-range_with_len, get_or-range_with_len, length-map-range_with_len, get_or-map-range_with_len}
+use Rattle.std.proofs.lemmas.List.Folds.{list_any_at, Any-from_list_any}
+
+-- none of the numbers passes
+pub none_in_range : (test : ℕ → Bool) (a n : ℕ) → ((k : ℕ) → a ≤ k → k < a + n → test k ≡ false) → list_any test (range_with_len a n) ≡ false
+none_in_range test a zero fails = refl
+none_in_range test a (suc n) fails =
+    rw (fails a (omega arith) (omega arith)) (none_in_range test (a + 1) n (λ k low high. fails k (omega arith) (omega arith)))
+
+-- one of the numbers passes
+pub one_in_range : (test : ℕ → Bool) (n k : ℕ) → k < n → test k ≡ true → list_any test (range_with_len 0 n) ≡ true
+one_in_range test n k below passes =
+    list_any_at test (range_with_len 0 n) k 0 (omega (arith, length-range_with_len 0 n)) (ap test (get_or-range_with_len 0 n k 0 below ∙ zero-add k) ∙ passes)
+
+-- what holds of each value of a function
+pub all_in_range : {X : Type 0} (P : X → Type 0) (f : ℕ → X) (n : ℕ) → ((k : ℕ) → k < n → P (f k)) → All P (map f (range_with_len 0 n))
+all_in_range P f n holds = λ k d below.
+    let in_range : k < n = omega (arith, length-map-range_with_len f 0 n) in
+    rw (get_or-map-range_with_len f 0 n k k d in_range (zero-add k)) (holds k in_range)
+
+-- what holds of some value of a function, namely where a test passes
+pub some_in_range : {X : Type 0} (P : X → Type 0) (f : ℕ → X) (test : ℕ → Bool) (n : ℕ) → ((k : ℕ) → k < n → test k ≡ true → P (f k)) → list_any test (range_with_len 0 n) ≡ true → Any P (map f (range_with_len 0 n))
+some_in_range P f test n holds passes =
+    let found = Any-from_list_any test (range_with_len 0 n) passes in
+    let in_range : found.0 < n = omega (arith, length-range_with_len 0 n, found.2) in
+    let is : found.1 ≡ found.0 = sym found.3 ∙ get_or-range_with_len 0 n found.0 found.1 in_range ∙ zero-add found.0 in
+    (found.0, f found.0, omega (arith, length-map-range_with_len f 0 n), get_or-map-range_with_len f 0 n found.0 found.0 (f found.0) in_range (zero-add found.0), holds found.0 in_range (ap test (sym is) ∙ found.4))
