@@ -1,54 +1,64 @@
-ghost use Rattle.std.specs.Prelude.{◌≡◌, List, ℕ, ◌≤◌, ◌<◌, ◌*◌, [], ◌∷◌, ◌++◌, length, All, OnOk, OnErr, slice_index, slice_set};
-ghost use Rattle.clock_setup.specs.Demands.{total_of, demand_at, row_of, with_demand};
-ghost use Rattle.clock_setup.specs.Eligibility as eligibility;
-ghost use Rattle.clock_setup.specs.Limits.{IsProduct, IsRow};
+ghost use Rattle.std.specs.Prelude.{◌≡◌, List, ℕ, ◌≤◌, ◌<◌, length, All, IfOk, replicate, slice_set};
+ghost use Rattle.clock_setup.specs.Demands.{total_of, demand_at, row_of, with_demand, no_demands};
 
-use crate::setup::{Product, Setup};
-use clock_device::Items;
+use crate::setup::Setup;
+use clock_device::{Items, NoMemory};
+use std::alloc::Global;
 use std::marker::Model;
 
 /// Numbers, one for each product or one for each change.
 pub type Amounts = Items<u64>;
 
-/// A row of demands for each bidder.
+/// A row of demands for each bidder, and in it the demand in blocks for each product. Contracts see the list of rows.
 #[derive(Drop)]
 pub struct Grid {
-    products: usize,
     rows: Vec<Amounts>,
+    totals: Amounts,
 }
 
 impl Model for Grid {
     ghost use Rattle.std.specs.Prelude.{List, ℕ};
-    ghost use Rattle.clock_setup.specs.Demands.{IsSmallGrid};
+    ghost use Rattle.clock_setup.specs.Demands.{IsKeptGrid};
 
     ghost Value = { List (List ℕ) };
 
     ghost view = { λ a. a.rows.items };
 
-    ghost invariant = { λ a. IsSmallGrid a.products a.rows.items };
-}
-
-/// The sum of a column.
-fn column_sum(rows: &[Amounts], product: usize) -> u64
-    requires few { length rows.now ≤ 512 }
-    requires wide { All (λ row. product < length row) rows.now }
-    requires small { All (λ row. All (λ demand. demand ≤ 1000) row) rows.now }
-    ensures { result ≡ total_of rows.now product }
-{
-    let mut total: u64 = 0;
-    for row in rows {
-        total += row.as_slice()[product];
-    }
-    total
+    ghost invariant = { λ a. IsKeptGrid a.rows.items a.totals };
 }
 
 impl Grid {
-    /// The demand for a product over all bidders.
-    pub fn total(&self, product: usize) -> u64
-        requires { All (λ row. product < length row) self.now }
-        ensures { result ≡ total_of self.now product }
+    /// The grid of a set-up in which nobody demands anything.
+    pub fn zero(alloc: Global, setup: &Setup) -> Result<Grid, NoMemory>
+        ensures { IfOk result (λ grid. grid ≡ no_demands (length setup.now.bidders) (length setup.now.products)) }
     {
-        column_sum(self.rows.as_slice(), product)
+        let bidders = setup.bidders.as_slice().len();
+        let products = setup.products.as_slice().len();
+        let totals = zeros(alloc, products)?;
+        let mut rows = Vec::with_capacity(alloc, bidders)?;
+        for _bidder in 0..bidders {
+            rows.push(zeros(alloc, products)?)?;
+        }
+        Ok(Grid { rows, totals })
+    }
+
+    /// An equal grid.
+    pub fn copy(&self, alloc: Global) -> Result<Grid, NoMemory>
+        ensures { IfOk result (λ copy. copy ≡ self.now) }
+    {
+        Ok(Grid {
+            rows: rows_copy(alloc, self.rows.as_slice())?,
+            totals: self.totals.copy(alloc)?,
+        })
+    }
+
+    /// A bidder's demand for a product, in blocks.
+    pub fn get(&self, bidder: usize, product: usize) -> u64
+        requires bidder { bidder < length self.now }
+        requires product { All (λ row. product < length row) self.now }
+        ensures { result ≡ demand_at self.now bidder product }
+    {
+        self.rows.as_slice()[bidder].as_slice()[product]
     }
 
     /// A bidder's demands.
@@ -59,58 +69,54 @@ impl Grid {
         self.rows.as_slice()[bidder].as_slice()
     }
 
-    /// Changes one demand.
+    /// The demand for a product over all bidders, in blocks. It is one read, no walk over the bidders.
+    pub fn total(&self, product: usize) -> u64
+        requires { All (λ row. product < length row) self.now }
+        ensures { result ≡ total_of self.now product }
+    {
+        self.totals.as_slice()[product]
+    }
+
+    /// Changes one demand, and no other.
     pub fn set(&mut self, bidder: usize, product: usize, demand: u64)
         requires bidder { bidder < length self.old }
         requires product { All (λ row. product < length row) self.old }
         requires small { demand ≤ 1000 }
         ensures { self.new ≡ with_demand self.old bidder product demand }
     {
+        let total = self.total(product) - self.get(bidder, product) + demand;
+        self.totals.set(product, total);
         let row = &mut self.rows[bidder];
         row.set(product, demand);
     }
 
-    /// A bidder's demand for a product.
-    pub fn get(&self, bidder: usize, product: usize) -> u64
-        requires bidder { bidder < length self.now }
-        requires product { All (λ row. product < length row) self.now }
-        ensures { result ≡ demand_at self.now bidder product }
+    /// Changes a bidder's demands, and no others.
+    pub fn set_row(&mut self, bidder: usize, demands: &[u64])
+        requires bidder { bidder < length self.old }
+        requires each { All (λ row. length demands.now ≡ length row) self.old }
+        requires small { All (λ demand. demand ≤ 1000) demands.now }
+        ensures { self.new ≡ slice_set self.old bidder demands.now }
     {
-        self.rows.as_slice()[bidder].as_slice()[product]
+        for (product, demand) in demands.iter().enumerate() {
+            self.set(bidder, product, *demand);
+        }
     }
 }
 
-/// The eligibility after a round.
-pub fn next_eligibility(held: u64, activity: u64, requirement: u64) -> u64
-    requires activity { activity ≤ held }
-    requires held { held ≤ 1000000000000 }
-    requires low { 50 ≤ requirement }
-    requires high { requirement ≤ 100 }
-    ensures { result ≡ eligibility.next_eligibility held activity requirement }
+/// So many zeros.
+fn zeros(alloc: Global, count: usize) -> Result<Amounts, NoMemory>
+    ensures { IfOk result (λ amounts. amounts ≡ replicate count 0) }
 {
-    let least = (100 * activity + (requirement - 1)) / requirement;
-    if least < held { least } else { held }
+    Ok(Amounts::from_vec(vec![in alloc; 0; count]?))
 }
 
-/// The bidding units that a row of demands takes.
-pub fn units_taken(products: &[Product], demands: &[u64]) -> u64
-    requires limits { All IsProduct products.now }
-    requires few { length products.now ≤ 4096 }
-    requires row { IsRow products.now demands.now }
-    ensures exact { result ≡ eligibility.activity products.now demands.now }
-    ensures most { result ≤ 4096000000000 }
+/// Equal rows.
+fn rows_copy(alloc: Global, rows: &[Amounts]) -> Result<Vec<Amounts>, NoMemory>
+    ensures { IfOk result (λ copy. copy.items ≡ rows.now) }
 {
-    let mut total: u64 = 0;
-    for (i, product) in products.iter().enumerate() {
-        total += product.units * demands[i];
+    let mut copy = Vec::with_capacity(alloc, rows.len())?;
+    for row in rows {
+        copy.push(row.copy(alloc)?)?;
     }
-    total
-}
-
-/// The bidding units that a row of demands takes.
-pub fn activity(setup: &Setup, demands: &[u64]) -> u64
-    requires { IsRow setup.now.products demands.now }
-    ensures { result ≡ eligibility.activity setup.now.products demands.now }
-{
-    units_taken(setup.products.as_slice(), demands)
+    Ok(copy)
 }

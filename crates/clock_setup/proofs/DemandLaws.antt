@@ -1,0 +1,103 @@
+-- Laws of grids of demands and their totals.
+use Rattle.std.proofs.Common.{◌≡◌, ℕ, ◌+◌, ◌-◌, ◌*◌, ◌<◌, ◌≤◌, ◌≢◌, List, [], ◌∷◌, ◌++◌, length, take, drop, get_or, set, replicate, zip, zero, suc, All, refl, sym, ap, ◌∙◌, subst, arith, ⊎_elim}
+use Rattle.std.proofs.lemmas.List.{length-set, length-take-le, drop_more, take_more, set_at, set-set, append_assoc, get_or-set_same, get_or-set_other, get_or_past, get_or-replicate, length-replicate}
+use Rattle.std.proofs.lemmas.List.Sums.{sum_by-set, sum_by-le, sum_by-cons, get_or-le-sum_by}
+use Rattle.std.proofs.lemmas.List.Elements.{All-set}
+use Rattle.std.proofs.lemmas.Bool.{cases_lt, cases_eq}
+use Rattle.clock_setup.specs.declared.setup.Product.{Product}
+use Rattle.clock_setup.specs.Limits.{IsRow}
+use Rattle.clock_setup.specs.Eligibility.{activity}
+use Rattle.clock_setup.specs.Demands.{total_of, demand_at, row_of, with_demand, IsKeptGrid}
+
+-- a demand is at most a thousand
+demand_small : (row : List ℕ) (p : ℕ) → All (λ demand. demand ≤ 1000) row → get_or row p 0 ≤ 1000
+demand_small row p small = ⊎_elim (λ h. small p 0 h) (λ (h : length row ≤ p). rw (get_or_past row p 0 h) (omega arith)) (cases_lt p (length row))
+
+-- a total is at most a thousand for each bidder
+pub total_small : (grid : List (List ℕ)) (p : ℕ) → All (λ row. All (λ demand. demand ≤ 1000) row) grid → total_of grid p ≤ length grid * 1000
+total_small grid p small = sum_by-le (λ row. get_or row p 0) 1000 grid (λ k d h. demand_small (get_or grid k d) p (small k d h))
+
+-- a demand is part of its total
+pub demand-le-total : (grid : List (List ℕ)) (b p : ℕ) → b < length grid → demand_at grid b p ≤ total_of grid p
+demand-le-total grid b p h = get_or-le-sum_by (λ row. get_or row p 0) grid b [] h
+
+-- changing a demand changes its product's total by the difference
+pub total-with_demand_same : (grid : List (List ℕ)) (b p v : ℕ) → b < length grid → p < length (row_of grid b) → total_of (with_demand grid b p v) p + demand_at grid b p ≡ total_of grid p + v
+total-with_demand_same grid b p v h k =
+    sum_by-set (λ row. get_or row p 0) grid b (set (row_of grid b) p v) [] h ∙ ap (λ n. total_of grid p + n) (get_or-set_same (row_of grid b) p v 0 k)
+
+-- and no other product's
+pub total-with_demand_other : (grid : List (List ℕ)) (b p v q : ℕ) → b < length grid → q ≢ p → total_of (with_demand grid b p v) q ≡ total_of grid q
+total-with_demand_other grid b p v q h differ =
+    let e = sum_by-set (λ row. get_or row q 0) grid b (set (row_of grid b) p v) [] h in
+    let f = get_or-set_other (row_of grid b) p q v 0 differ in
+    omega (arith, e, f)
+
+-- what the type of grids keeps, after a change of one demand
+pub kept_with_demand : (grid : List (List ℕ)) (totals : List ℕ) (b p v n : ℕ) → IsKeptGrid grid totals → b < length grid → p < length totals → v ≤ 1000
+    → n + demand_at grid b p ≡ total_of grid p + v → IsKeptGrid (with_demand grid b p v) (set totals p n)
+kept_with_demand grid totals b p v n kept h k low is =
+    let row_length : length (row_of grid b) ≡ length totals = kept.small.same_length b [] h in
+    let same : total_of (with_demand grid b p v) p + demand_at grid b p ≡ total_of grid p + v = total-with_demand_same grid b p v h (omega arith) in
+    record {
+      small = record {
+        few_products = rw (length-set totals p n) kept.small.few_products;
+        few_bidders = rw (length-set grid b (set (row_of grid b) p v)) kept.small.few_bidders;
+        same_length = rw (length-set totals p n) (All-set (λ row. length row ≡ length totals) grid b (set (row_of grid b) p v) (length-set (row_of grid b) p v ∙ row_length) kept.small.same_length);
+        small = All-set (λ row. All (λ demand. demand ≤ 1000) row) grid b (set (row_of grid b) p v) (All-set (λ demand. demand ≤ 1000) (row_of grid b) p v low (kept.small.small b [] h)) kept.small.small;
+      };
+      some_bidder = rw (length-set grid b (set (row_of grid b) p v)) kept.some_bidder;
+      kept = λ q j.
+          let within : q < length totals = omega (arith, length-set totals p n) in
+          ⊎_elim
+          (λ e. subst (λ i. get_or (set totals p n) i 0 ≡ total_of (with_demand grid b p v) i) (sym e) (get_or-set_same totals p n 0 k ∙ omega arith))
+          (λ ne. get_or-set_other totals p q n 0 ne ∙ kept.kept q within ∙ sym (total-with_demand_other grid b p v q h ne))
+          (cases_eq q p);
+    }
+
+-- a product of each row has a total
+pub in_totals : (grid : List (List ℕ)) (totals : List ℕ) (p : ℕ) → IsKeptGrid grid totals → All (λ row. p < length row) grid → p < length totals
+in_totals grid totals p kept wide =
+    let first : p < length (get_or grid 0 []) = wide 0 [] kept.some_bidder in
+    let same : length (get_or grid 0 []) ≡ length totals = kept.small.same_length 0 [] kept.some_bidder in
+    omega arith
+
+-- a total, less one demand and with another in its place
+pub total_after : (grid : List (List ℕ)) (totals : List ℕ) (b p v : ℕ) → IsKeptGrid grid totals → b < length grid → v ≤ 1000
+    → ((total_of grid p - demand_at grid b p) + v + demand_at grid b p ≡ total_of grid p + v) × ((total_of grid p - demand_at grid b p) + v ≤ 1000000)
+total_after grid totals b p v kept h low =
+    let most : total_of grid p ≤ length grid * 1000 = total_small grid p kept.small.small in
+    let part : demand_at grid b p ≤ total_of grid p = demand-le-total grid b p h in
+    let few : length grid ≤ 512 = kept.small.few_bidders in
+    (omega arith, omega arith)
+
+-- one more demand of a new row
+pub row_more : (grid : List (List ℕ)) (b : ℕ) (demands : List ℕ) (i : ℕ) → b < length grid → i < length demands → length demands ≡ length (row_of grid b)
+    → with_demand (set grid b (take i demands ++ drop i (row_of grid b))) b i (get_or demands i 0) ≡ set grid b (take (i + 1) demands ++ drop (i + 1) (row_of grid b))
+row_more grid b demands i h k same =
+    let row : List ℕ = row_of grid b in
+    let so_far : List ℕ = take i demands ++ drop i row in
+    let within : i < length row = omega arith in
+    let left : length (take i demands) ≡ i = length-take-le i demands (omega arith) in
+    let written : set so_far i (get_or demands i 0) ≡ take i demands ++ get_or demands i 0 ∷ drop (i + 1) row =
+    ap (λ rest. set (take i demands ++ rest) i (get_or demands i 0)) (drop_more row i 0 within) ∙ set_at (take i demands) (get_or row i 0) (drop (i + 1) row) (get_or demands i 0) i left in
+    let joined : take (i + 1) demands ++ drop (i + 1) row ≡ take i demands ++ get_or demands i 0 ∷ drop (i + 1) row =
+    ap (λ front. front ++ drop (i + 1) row) (take_more demands i 0 k) ∙ append_assoc (take i demands) (get_or demands i 0 ∷ []) (drop (i + 1) row) in
+    ap (λ r. set (set grid b so_far) b (set r i (get_or demands i 0))) (get_or-set_same grid b so_far [] h)
+    ∙ set-set grid b so_far (set so_far i (get_or demands i 0))
+    ∙ ap (set grid b) (written ∙ sym joined)
+
+-- who demands nothing has no activity
+pub activity_zeros : (products : List Product) (n : ℕ) → activity products (replicate n 0) ≡ 0
+activity_zeros [] n = refl
+activity_zeros (product ∷ products) zero = refl
+activity_zeros (product ∷ products) (suc n) =
+    let rest : activity products (replicate n 0) ≡ 0 = activity_zeros products n in
+    sum_by-cons (λ line. line.0.units * line.1) (product, 0) (zip products (replicate n 0)) ∙ omega (arith, rest)
+
+-- demanding nothing is within every cap
+pub zeros_row : (products : List Product) → IsRow products (replicate (length products) 0)
+zeros_row products = record {
+  each = length-replicate {A = ℕ} (length products) 0;
+  capped = λ product h. rw (get_or-replicate {A = ℕ} (length products) product 0 0 (omega (arith, length-replicate {A = ℕ} (length products) 0))) (omega arith);
+}
