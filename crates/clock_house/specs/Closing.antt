@@ -1,0 +1,136 @@
+-- The closing of a round, from what is known before it.
+--     OpenRound      where the auction stands, what each bidder holds, and the sheets in force
+--     requests round ties      all bidders' requests, in the order of processing
+--     outcome products round ties      the demands and the posted prices after the round
+--     closed_round products requirement round increment outcome      the sheet and the slips of the round
+--     closing products requirement round number increment ties      the round that a closing adds, or its first fault
+use Rattle.std.specs.Prelude.{ℕ, List, [], not, ◌==◌, if◌then◌else◌, Option, Some, None, Result, Ok, Err, unwrap_or, length, map, flat_map, slice_index_or}
+use Rattle.std.specs.List.{range_with_len}
+use Rattle.clock_setup.specs.declared.setup.Product.{Product}
+use Rattle.clock_setup.specs.declared.prices.PricePair.{PricePair}
+use Rattle.clock_setup.specs.Limits.{is_within}
+use Rattle.clock_setup.specs.Demands.{row_of}
+use Rattle.clock_setup.specs.Eligibility.{activity, next_eligibility}
+use Rattle.clock_bids.specs.declared.sheet.Bid.{Bid}
+use Rattle.clock_bids.specs.declared.change.Change.{Change}
+use Rattle.clock_bids.specs.Sheet.{asked_demands}
+use Rattle.clock_bids.specs.Changes.{changes_of_sheet}
+use Rattle.clock_order.specs.declared.ties.Tie.{Tie}
+use Rattle.clock_order.specs.declared.ties.TieFault.{TieFault}
+use Rattle.clock_order.specs.Ties.{tie_fault}
+use Rattle.clock_order.specs.Order.{processing_list}
+use Rattle.clock_processor.specs.Settling.{Progress, settled}
+use Rattle.clock_posting.specs.Posting.{round_sheet, opening_posted, posted_prices, price_limit_fault}
+use Rattle.clock_house.specs.declared.slip.Slip.{Slip}
+use Rattle.clock_house.specs.declared.slip.ClosedRound.{ClosedRound}
+use Rattle.clock_house.specs.declared.fault.CloseFault.{CloseFault}
+use Rattle.clock_house.specs.declared.fault.CloseFault.TheVariants as close_faults
+use Rattle.clock_house.specs.Standing.{Standing, Holding}
+
+-- what a closing goes by: where the auction stands, what each bidder holds, and each bidder's sheet in force
+pub record OpenRound : Type 0 where
+  pub standing : Standing
+  pub holdings : List Holding
+  pub sheets : List (Option (List Bid))
+
+-- the number of a bidder, for each bidder
+abbrev pub bidder_numbers : OpenRound → List ℕ
+bidder_numbers now = range_with_len 0 (length now.holdings)
+
+-- what a bidder holds
+abbrev pub holding_at : List Holding → ℕ → Holding
+holding_at holdings bidder = slice_index_or holdings bidder (record { eligibility = 0; demands = [] })
+
+-- a bidder's bids in force; no sheet is the same as an empty one
+abbrev pub bids_at : List (Option (List Bid)) → ℕ → List Bid
+bids_at sheets bidder = unwrap_or (slice_index_or sheets bidder None) []
+
+-- the demands that the sheets in force ask for
+abbrev pub asked_grid : List Product → OpenRound → List (List ℕ)
+asked_grid products now =
+    map (λ bidder. asked_demands (length products) (bids_at now.sheets bidder)) (bidder_numbers now)
+
+-- the requests that a bidder's sheet in force stands for
+abbrev pub requests_of : OpenRound → ℕ → List Change
+requests_of now bidder =
+    changes_of_sheet now.standing.prices (holding_at now.holdings bidder).demands bidder (bids_at now.sheets bidder)
+
+-- all bidders' requests, in the order of processing
+abbrev pub requests : OpenRound → List Tie → List Change
+requests now ties = processing_list ties (flat_map (requests_of now) (bidder_numbers now))
+
+-- what the settling of the requests comes to
+abbrev pub settlement : List Product → OpenRound → List Change → Progress
+settlement products now changes =
+    settled products (map (λ holding. holding.eligibility) now.holdings) changes (map (λ holding. holding.demands) now.holdings)
+
+-- the demands and the posted prices of a round
+pub record Outcome : Type 0 where
+  pub grid : List (List ℕ)
+  pub posted : List ℕ
+
+-- in the first round the sheets' quantities stand as demands, at the opening prices
+abbrev pub first_outcome : List Product → OpenRound → Outcome
+first_outcome products now = record { grid = asked_grid products now; posted = opening_posted products }
+
+-- the demands that a settling leaves, and the posted prices
+abbrev pub settled_outcome : List Product → List PricePair → List Change → Progress → Outcome
+settled_outcome products prices changes end = record {
+  grid = end.grid;
+  posted = posted_prices products prices changes end.left end.grid;
+}
+
+-- in a later round the requests are settled
+abbrev pub later_outcome : List Product → OpenRound → List Change → Outcome
+later_outcome products now changes = settled_outcome products now.standing.prices changes (settlement products now changes)
+
+abbrev pub outcome : List Product → OpenRound → List Tie → Outcome
+outcome products now ties =
+    if now.standing.round == 1 then first_outcome products now else later_outcome products now (requests now ties)
+
+-- a bidder's slip: its activity, its next eligibility and its demands after the round
+abbrev pub slip_after : List Product → ℕ → ℕ → ℕ → List ℕ → Slip
+slip_after products requirement round held demands = record {
+  round = round;
+  activity = activity products demands;
+  eligibility = next_eligibility held (activity products demands) requirement;
+  demands = demands;
+}
+
+-- the slip of each bidder
+abbrev pub slips_after : List Product → ℕ → OpenRound → List (List ℕ) → List Slip
+slips_after products requirement now grid =
+    map (λ bidder. slip_after products requirement now.standing.round (holding_at now.holdings bidder).eligibility (row_of grid bidder))
+    (bidder_numbers now)
+
+-- the sheet and the slips of the round
+abbrev pub closed_round : List Product → ℕ → OpenRound → ℕ → Outcome → ClosedRound
+closed_round products requirement now increment result = record {
+  sheet = round_sheet now.standing.round products now.standing.prices result.grid result.posted increment;
+  slips = slips_after products requirement now result.grid;
+}
+
+-- no closing where a next clock price would be too high
+abbrev pub closed_unless : Option ℕ → ClosedRound → Result ClosedRound CloseFault
+closed_unless None round = Ok round
+closed_unless (Some product) round = Err (close_faults.PriceLimit product)
+
+-- the closing with an outcome
+abbrev pub closing_with : List Product → ℕ → OpenRound → ℕ → Outcome → Result ClosedRound CloseFault
+closing_with products requirement now increment result =
+    closed_unless (price_limit_fault products result.grid result.posted increment)
+    (closed_round products requirement now increment result)
+
+-- no closing where the tie numbers have a fault
+abbrev pub closing_unless : Option TieFault → List Product → ℕ → OpenRound → ℕ → List Tie → Result ClosedRound CloseFault
+closing_unless None products requirement now increment ties =
+    closing_with products requirement now increment (outcome products now ties)
+closing_unless (Some fault) products requirement now increment ties = Err (close_faults.Tie fault)
+
+-- the round that a closing adds, or its first fault: the auction has ended, the round is not the current one, the increment is not 1 to 50, the tie numbers have a fault, or a next clock price would be too high
+abbrev pub closing : List Product → ℕ → OpenRound → ℕ → ℕ → List Tie → Result ClosedRound CloseFault
+closing products requirement now round increment ties =
+    if now.standing.ended then Err close_faults.Ended
+    else (if not (round == now.standing.round) then Err (close_faults.WrongRound now.standing.round)
+    else (if not (is_within 1 50 increment) then Err close_faults.Increment
+    else closing_unless (tie_fault (length now.holdings) (length products) ties) products requirement now increment ties))
