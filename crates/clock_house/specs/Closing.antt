@@ -20,7 +20,8 @@ use Rattle.clock_order.specs.declared.ties.TieFault.{TieFault}
 use Rattle.clock_order.specs.Ties.{tie_fault}
 use Rattle.clock_order.specs.Order.{processing_list}
 use Rattle.clock_processor.specs.Settling.{Progress, settled}
-use Rattle.clock_posting.specs.Posting.{round_sheet, opening_posted, posted_prices, price_limit_fault}
+use Rattle.clock_posting.specs.Posting.{round_sheet, opening_posted, price_limit_fault}
+use Rattle.clock_posting.specs.PostedPrice.{posted_prices}
 use Rattle.clock_house.specs.declared.slip.Slip.{Slip}
 use Rattle.clock_house.specs.declared.slip.ClosedRound.{ClosedRound}
 use Rattle.clock_house.specs.declared.fault.CloseFault.{CloseFault}

@@ -4,7 +4,7 @@
 --     first_standing products, first_holding products row      before the first round
 --     standing_after sheet, holding_after slip      after a closed round
 --     put_fault products standing holding round bids      the first fault of a sheet put for a round
-use Rattle.std.specs.Prelude.{ℕ, ◌+◌, List, Bool, true, false, not, ◌==◌, if◌then◌else◌, Option, Some, None, unwrap_or, length, map, replicate}
+use Rattle.std.specs.Prelude.{ℕ, ◌+◌, List, Bool, true, false, not, ◌==◌, if◌then◌else◌, Option, Some, None, length, map, replicate}
 use Rattle.clock_setup.specs.declared.setup.Product.{Product}
 use Rattle.clock_setup.specs.declared.setup.Bidder.{Bidder}
 use Rattle.clock_setup.specs.declared.prices.PricePair.{PricePair}
@@ -12,8 +12,8 @@ use Rattle.clock_setup.specs.Prices.{opening_prices}
 use Rattle.clock_bids.specs.declared.sheet.Bid.{Bid}
 use Rattle.clock_bids.specs.declared.sheet.BidFault.{BidFault}
 use Rattle.clock_bids.specs.Sheet.{sheet_fault}
-use Rattle.clock_posting.specs.declared.sheet.Line.{Line}
 use Rattle.clock_posting.specs.declared.sheet.RoundSheet.{RoundSheet}
+use Rattle.clock_posting.specs.Posting.{next_pair}
 use Rattle.clock_house.specs.declared.slip.Slip.{Slip}
 use Rattle.clock_house.specs.declared.fault.PutFault.{PutFault}
 use Rattle.clock_house.specs.declared.fault.PutFault.TheVariants as put_faults
@@ -28,10 +28,6 @@ pub record Standing : Type 0 where
 pub record Holding : Type 0 where
   pub eligibility : ℕ
   pub demands : List ℕ
-
--- the prices that a line leaves for the next round
-abbrev pub next_pair : Line → PricePair
-next_pair line = record { start = line.posted; clock = unwrap_or line.next 0 }
 
 -- the first round is at the opening prices
 abbrev pub first_standing : List Product → Standing

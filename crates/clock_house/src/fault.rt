@@ -20,7 +20,7 @@ pub enum PutFault {
 }
 
 /// Why a round is not closed: the first of these that applies, but for want of memory, which may come at any point.
-#[derive(Clone, Copy, Debug, PartialEq, Eq, Error)]
+#[derive(Debug, Drop, Error)]
 pub enum CloseFault {
     /// The auction has ended.
     #[error("the auction has ended")]

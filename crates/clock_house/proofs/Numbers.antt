@@ -1,0 +1,115 @@
+-- Closed rounds are numbered from 1 on, and each has a slip for each bidder and a line for each product.
+use Rattle.std.proofs.Common.{◌≡◌, ℕ, zero, suc, ◌+◌, ◌-◌, ◌≤◌, ◌<◌, List, [], ◌∷◌, ◌++◌, Bool, true, false, cond, ◌==◌, inl, inr, length, refl, ap, sym, ◌∙◌, arith, eq-eqb, ne_eqb, length-append}
+use Rattle.std.specs.Prelude.{Option, Some, None, Result, Ok, Err, reverse, slice_get}
+use Rattle.std.proofs.lemmas.List.FromFn.{length-map-range_with_len}
+use Rattle.std.proofs.lemmas.List.{reverse-reverse, length-reverse, reverse-append}
+use Rattle.std.proofs.lemmas.Bool.{cases_order}
+use Rattle.std.proofs.lemmas.Option.{slice_get_past, none-some}
+use Rattle.clock_setup.specs.Limits.{SetupFields}
+use Rattle.clock_order.specs.declared.ties.Tie.{Tie}
+use Rattle.clock_house.specs.declared.fault.CloseFault.{CloseFault}
+use Rattle.clock_house.specs.Standing.{first_holding, holding_after}
+use Rattle.clock_house.specs.Command.{Command, put, close, other}
+use Rattle.clock_house.specs.Closing.{outcome, closed_round}
+use Rattle.clock_house.specs.History.{ClosedRound, Auction, standing, holding, bidder_at, slip_of, open_round, closing_of, after_closing, history, round_numbered}
+use Rattle.clock_house.proofs.Closings.{IsClosing, closing_passed}
+
+-- the rounds, the newest first, have the numbers down to 1, and each has a slip for each bidder and a line for each product
+abbrev pub AreNumbered : ℕ → ℕ → List ClosedRound → Type 0
+AreNumbered bidders products [] = Unit {0}
+AreNumbered bidders products (round ∷ rounds) =
+    (round.sheet.round ≡ suc (length rounds)) × (length round.slips ≡ bidders) × (length round.sheet.lines ≡ products) × AreNumbered bidders products rounds
+
+module _ (setup : SetupFields) where
+  -- while the auction goes on, the current round is one more than the number of closed rounds
+  pub round-closed : (closed : List ClosedRound) → AreNumbered (length setup.bidders) (length setup.products) closed →
+      (standing setup.products closed).ended ≡ false → (standing setup.products closed).round ≡ suc (length closed)
+  round-closed [] all going = refl
+  round-closed (last ∷ rounds) all going = ap (λ ended. cond ended last.sheet.round (last.sheet.round + 1)) going ∙ omega (arith, all.0)
+
+  numbered_closing : (auction : Auction) (round increment : ℕ) (ties : List Tie) (answer : Result ClosedRound CloseFault) → closing_of setup auction round increment ties ≡ answer →
+      AreNumbered (length setup.bidders) (length setup.products) auction.closed →
+      AreNumbered (length setup.bidders) (length setup.products) (after_closing auction (close round increment ties) answer).closed
+  numbered_closing auction round increment ties (Ok done) e all =
+      let is : IsClosing setup.products setup.requirement (open_round setup auction) round increment ties done
+      = closing_passed setup.products setup.requirement (open_round setup auction) round increment ties done e in
+      let number : (standing setup.products auction.closed).round ≡ suc (length auction.closed) = round-closed auction.closed all is.going in
+      let bidders : length (open_round setup auction).holdings ≡ length setup.bidders = length-map-range_with_len _ 0 (length setup.bidders) in
+      (ap (λ one. one.sheet.round) is.made ∙ number, ap (λ one. length one.slips) is.made ∙ length-map-range_with_len _ 0 _ ∙ bidders, ap (λ one. length one.sheet.lines) is.made ∙ length-map-range_with_len _ 0 _, all)
+  numbered_closing auction round increment ties (Err fault) e all = all
+
+  -- so it is after every list of commands
+  pub numbered : (commands : List Command) → AreNumbered (length setup.bidders) (length setup.products) (history setup commands).closed
+  numbered [] = tt
+  numbered (put author round bids ∷ earlier) = numbered earlier
+  numbered (close round increment ties ∷ earlier) =
+      numbered_closing (history setup earlier) round increment ties (closing_of setup (history setup earlier) round increment ties) refl (numbered earlier)
+  numbered (other ∷ earlier) = numbered earlier
+
+module _ {A : Type 0} where
+  -- an element at the end of a list, and those before it
+  get-at_end : (xs : List A) (x : A) → slice_get (xs ++ x ∷ []) (length xs) ≡ Some x
+  get-at_end [] x = refl
+  get-at_end (y ∷ xs) x = get-at_end xs x
+
+  get-before_end : (xs : List A) (x : A) (k : ℕ) → k < length xs → slice_get (xs ++ x ∷ []) k ≡ slice_get xs k
+  get-before_end [] x k h = absurd (omega (arith, h))
+  get-before_end (y ∷ xs) x zero h = refl
+  get-before_end (y ∷ xs) x (suc k) h = get-before_end xs x k (omega (arith, h))
+
+  reverse_cons : (x : A) (xs : List A) → reverse (x ∷ xs) ≡ reverse xs ++ x ∷ []
+  reverse_cons x xs = reverse-append (x ∷ []) xs
+
+  last_of_reverse : (xs : List A) → slice_get (reverse xs) (length (reverse xs) - 1) ≡ slice_get xs 0
+  last_of_reverse [] = refl
+  last_of_reverse (x ∷ xs) =
+      let place : length (reverse (x ∷ xs)) - 1 ≡ length (reverse xs) = omega (arith, length-reverse (x ∷ xs), length-reverse xs) in
+      ap (λ k. slice_get (reverse (x ∷ xs)) k) place ∙ ap (λ ys. slice_get ys (length (reverse xs))) (reverse_cons x xs) ∙ get-at_end (reverse xs) x
+
+  -- the last of a list is the first of the list from its end
+  pub last-reverse : (xs : List A) → slice_get xs (length xs - 1) ≡ slice_get (reverse xs) 0
+  last-reverse xs = ap (λ ys. slice_get ys (length ys - 1)) (sym (reverse-reverse xs)) ∙ last_of_reverse (reverse xs)
+
+-- there is no round 0
+pub round_numbered-zero : (bidders products : ℕ) (closed : List ClosedRound) → AreNumbered bidders products closed → round_numbered 0 closed ≡ None
+round_numbered-zero bidders products [] all = refl
+round_numbered-zero bidders products (round ∷ rounds) all =
+    ap (λ here. cond here (Some round) (round_numbered 0 rounds)) (ne_eqb round.sheet.round 0 (λ e. omega (arith, e, all.0)))
+    ∙ round_numbered-zero bidders products rounds all.3
+
+-- the closed round of a number stands at its place, counted from the first round
+pub round_numbered-suc : (bidders products k : ℕ) (closed : List ClosedRound) → AreNumbered bidders products closed → round_numbered (suc k) closed ≡ slice_get (reverse closed) k
+round_numbered-suc bidders products k [] all = refl
+round_numbered-suc bidders products k (round ∷ rounds) all =
+    let later : round_numbered (suc k) rounds ≡ slice_get (reverse rounds) k = round_numbered-suc bidders products k rounds all.3 in
+    let size : length (reverse rounds) ≡ length rounds = length-reverse rounds in
+    let turned : reverse (round ∷ rounds) ≡ reverse rounds ++ round ∷ [] = reverse_cons round rounds in
+    elim (cases_order k (length rounds)) as (λ _. round_numbered (suc k) (round ∷ rounds) ≡ slice_get (reverse (round ∷ rounds)) k) [
+      | inl same ↦
+          ap (λ here. cond here (Some round) (round_numbered (suc k) rounds)) (eq-eqb round.sheet.round (suc k) (omega (arith, same, all.0)))
+          ∙ sym (ap (λ ys. slice_get ys k) turned ∙ ap (λ j. slice_get (reverse rounds ++ round ∷ []) j) (omega (arith, same, size)) ∙ get-at_end (reverse rounds) round)
+      | inr other_place ↦
+          elim other_place as (λ _. round_numbered (suc k) (round ∷ rounds) ≡ slice_get (reverse (round ∷ rounds)) k) [
+            | inl below ↦
+                ap (λ here. cond here (Some round) (round_numbered (suc k) rounds)) (ne_eqb round.sheet.round (suc k) (λ e. omega (arith, e, all.0, below)))
+                ∙ later ∙ sym (ap (λ ys. slice_get ys k) turned ∙ get-before_end (reverse rounds) round k (omega (arith, below, size)))
+            | inr above ↦
+                ap (λ here. cond here (Some round) (round_numbered (suc k) rounds)) (ne_eqb round.sheet.round (suc k) (λ e. omega (arith, e, all.0, above)))
+                ∙ later ∙ slice_get_past (reverse rounds) k (omega (arith, above, size))
+                ∙ sym (slice_get_past (reverse (round ∷ rounds)) k (omega (arith, above, length-reverse (round ∷ rounds))))
+          ]
+    ]
+
+-- the slips of the newest round are one for each bidder
+pub newest_slips : (bidders products : ℕ) (closed : List ClosedRound) (last : ClosedRound) → AreNumbered bidders products closed → slice_get closed 0 ≡ Some last → length last.slips ≡ bidders
+newest_slips bidders products [] last all e = absurd (none-some last e)
+newest_slips bidders products (round ∷ rounds) last all e = let same : round ≡ last = cc in ap (λ one. length one.slips) (sym same) ∙ all.1
+
+-- what a bidder holds is on its slip of the newest round, or in its row of the set-up
+pub holding-newest : (setup : SetupFields) (bidder : ℕ) (closed : List ClosedRound) (last : ClosedRound) → slice_get closed 0 ≡ Some last → holding setup closed bidder ≡ holding_after (slip_of bidder last)
+holding-newest setup bidder [] last e = absurd (none-some last e)
+holding-newest setup bidder (round ∷ rounds) last e = let same : round ≡ last = cc in ap (λ one. holding_after (slip_of bidder one)) same
+
+pub holding-first : (setup : SetupFields) (bidder : ℕ) (closed : List ClosedRound) → slice_get closed 0 ≡ None → holding setup closed bidder ≡ first_holding setup.products (bidder_at setup bidder)
+holding-first setup bidder [] e = refl
+holding-first setup bidder (round ∷ rounds) e = absurd (none-some round (sym e))

@@ -1,0 +1,22 @@
+use Rattle.std.proofs.Common.{◌≡◌, ℕ, ◌<◌, List, length, refl, ap, sym, ◌∙◌, subst, arith, rules, get_or}
+use Rattle.std.proofs.lemmas.List.{get_or_read}
+use Rattle.std.specs.Prelude.{Option, Some, None, option_map, option_copied, slice_get, slice_index_or}
+use Rattle.clock_house.specs.History.{ClosedRound, slip_of, round_numbered, holding}
+use Rattle.clock_house.specs.House.{HouseFields, holding_in}
+use Rattle.clock_house.proofs.Kept.{stands_numbered, stands_sheets, found_round, numbered_slips}
+use Rattle.clock_house.proofs.Numbers.{newest_slips, last-reverse, holding-newest, holding-first}
+use Rattle.clock_house.proofs.house.House.bids.Goals as goal
+
+pub bounds-as_slice-bidder : goal.bounds-as_slice-bidder
+bounds-as_slice-bidder g c =
+    let many = stands_sheets _ c.self.invariant.commands c.self.invariant.stands in
+    let known = rw (← c.self.view_is) at c.requires in
+    omega (arith, ap length c.as_slice.ensures, many, known)
+
+pub returns : goal.returns
+returns g c =
+    let many = stands_sheets _ c.self.invariant.commands c.self.invariant.stands in
+    let known = rw (← c.self.view_is) at c.requires in
+    let in_range : c.args.bidder < length c.self.inside.sheets = omega (arith, many, known) in
+    let is = rw c.as_slice.ensures at c.index-as_slice-bidder.is in
+    rw (← c.self.view_is) (c.as_ref.ensures.value ∙ (get_or_read c.self.inside.sheets c.args.bidder _ in_range is None))
