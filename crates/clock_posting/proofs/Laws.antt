@@ -46,7 +46,7 @@ none_if_ended true next = (λ _. refl, λ _. refl)
 none_if_ended false next = (λ h. cc, λ h. cc)
 
 -- what holds of the next prices where the auction goes on
-some_if_going_on : (ended : Bool) (next : List PricePair) (P : List PricePair → Type 0) → (ended ≡ false → P next) → IfSome (if ended then None else Some next) P
+pub some_if_going_on : (ended : Bool) (next : List PricePair) (P : List PricePair → Type 0) → (ended ≡ false → P next) → IfSome (if ended then None else Some next) P
 some_if_going_on true next P holds = tt
 some_if_going_on false next P holds = holds refl
 
@@ -57,7 +57,7 @@ module _ (products : List Product) (prices : List PricePair) (grid : List (List 
       rw goes_on (ap (λ next. record { start = get_or posted k 0; clock = unwrap_or next 0 }) (raise_of posted increment k none below))
 
   -- the lines show the next prices
-  lines_show : length posted ≡ length products → has_ended products grid ≡ false → first_at_limit posted increment ≡ None → next_prices posted increment ≡ map next_pair (lines_of_round products prices grid posted increment)
+  pub lines_show : length posted ≡ length products → has_ended products grid ≡ false → first_at_limit posted increment ≡ None → next_prices posted increment ≡ map next_pair (lines_of_round products prices grid posted increment)
   lines_show each goes_on none =
       let d : PricePair = record { start = 0; clock = 0 } in
       let f = λ (k : ℕ). next_pair (sheet_line products prices grid posted increment k) in

@@ -1,3 +1,4 @@
 pub mod Ranges
 pub mod Excess
 pub mod Laws
+pub mod Posted

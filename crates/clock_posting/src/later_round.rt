@@ -1,12 +1,16 @@
-ghost use Rattle.std.specs.Prelude.{◌≡◌, ◌≤◌, length, All, Any, IfOk, IfErr, IfSome};
+ghost use Rattle.std.specs.Prelude.{◌≡◌, ◌<◌, ◌≤◌, ℕ, length, max, slice_index, if◌then◌else◌, All, Any, IfOk, IfErr, IfSome};
 ghost use Rattle.clock_setup.specs.Demands.{IsGrid};
+ghost use Rattle.clock_setup.specs.Prices.{prices_at};
 ghost use Rattle.clock_posting.specs.Posting as rules;
-ghost use Rattle.clock_posting.specs.PostedPrice.{posted_prices, IsPricedBy, IsOrdered};
+ghost use Rattle.clock_posting.specs.PostedPrice as later;
 
+use crate::posting::posting;
 use crate::sheet::{PostFault, Posting};
-use clock_bids::Changes;
+use clock_bids::{Change, Changes, Kind};
+use clock_device::{Items, NoMemory};
+use clock_money::Price;
 use clock_processor::Settled;
-use clock_setup::{Prices, Setup};
+use clock_setup::{Grid, PricePair, Prices, Product, Setup};
 use std::alloc::Global;
 
 /// What the closing of a round after the first posts, by the prices of the round, the changes that
@@ -31,14 +35,113 @@ pub fn post(
     requires most { increment ≤ 50 }
     requires grid { IsGrid (length setup.now.bidders) (length setup.now.products) settled.now.grid }
     requires prices { length prices.now ≡ length setup.now.products }
-    requires ordered { All IsOrdered prices.now }
-    requires changes { All (IsPricedBy prices.now) changes.now }
+    requires ordered { All later.IsOrdered prices.now }
+    requires changes { All (later.IsPricedBy prices.now) changes.now }
     requires left { length settled.now.left ≡ length changes.now }
 
-    ensures ok { IfOk result (rules.IsPosting round setup.now.products prices.now settled.now.grid (posted_prices setup.now.products prices.now changes.now settled.now.left settled.now.grid) increment) }
-    ensures err { IfErr result (rules.IsPostFault (rules.price_limit_fault setup.now.products settled.now.grid (posted_prices setup.now.products prices.now changes.now settled.now.left settled.now.grid) increment)) }
+    ensures ok { IfOk result (rules.IsPosting round setup.now.products prices.now settled.now.grid (later.posted_prices setup.now.products prices.now changes.now settled.now.left settled.now.grid) increment) }
+    ensures err { IfErr result (rules.IsPostFault (rules.price_limit_fault setup.now.products settled.now.grid (later.posted_prices setup.now.products prices.now changes.now settled.now.left settled.now.grid) increment)) }
     ensures laws { IfOk result rules.IsConsistent }
+    // While the auction goes on, some price reaches the clock price: so prices rise without end.
     ensures clock { IfOk result (λ posting. IfSome posting.next (λ _. Any rules.IsAtClock posting.sheet.lines)) }
 {
-    Err(PostFault::NoMemory)
+    let products = setup.products.as_slice();
+    let posted = posted_prices(
+        alloc,
+        products,
+        prices.as_slice(),
+        changes.as_slice(),
+        settled.left(),
+        settled.grid(),
+    )?;
+    posting(
+        alloc,
+        round,
+        products,
+        prices.as_slice(),
+        settled.grid(),
+        posted.as_slice(),
+        increment,
+    )
+}
+
+/// The posted price of each product.
+fn posted_prices(
+    alloc: Global,
+    products: &[Product],
+    prices: &[PricePair],
+    changes: &[Change],
+    left: &[u64],
+    grid: &Grid,
+) -> Result<Items<Price>, NoMemory>
+    requires rows { All (λ row. length row ≡ length products.now) grid.now }
+    requires prices { length prices.now ≡ length products.now }
+    requires changes { All (later.IsPricedBy prices.now) changes.now }
+    requires left { length left.now ≡ length changes.now }
+    ensures { IfOk result (λ posted. posted ≡ later.posted_prices products.now prices.now changes.now left.now grid.now) }
+{
+    let mut posted = reduced_prices(alloc, prices, changes, left)?;
+    for (i, product) in products.iter().enumerate() {
+        if grid.total(i) > product.supply {
+            posted.set(i, prices[i].clock);
+        }
+    }
+    Ok(posted)
+}
+
+/// For each product the highest price of its applied reductions, or its start price.
+fn reduced_prices(
+    alloc: Global,
+    prices: &[PricePair],
+    changes: &[Change],
+    left: &[u64],
+) -> Result<Items<Price>, NoMemory>
+    requires changes { All (later.IsPricedBy prices.now) changes.now }
+    requires left { length left.now ≡ length changes.now }
+    ensures each { IfOk result (λ highest. length highest ≡ length prices.now) }
+    ensures price { IfOk result (λ highest. (p : ℕ) → p < length prices.now → slice_index highest p ≡ later.highest_or (prices_at prices.now p).start (later.applied_prices changes.now left.now p)) }
+{
+    let mut highest = start_prices(alloc, prices)?;
+    for (i, change) in changes.iter().enumerate() {
+        note(&mut highest, prices, change, left[i]);
+    }
+    Ok(highest)
+}
+
+/// The start price of each product.
+fn start_prices(alloc: Global, prices: &[PricePair]) -> Result<Items<Price>, NoMemory>
+    ensures each { IfOk result (λ starts. length starts ≡ length prices.now) }
+    ensures price { IfOk result (λ starts. (p : ℕ) → p < length prices.now → slice_index starts p ≡ (prices_at prices.now p).start) }
+{
+    let mut starts = Items::new(alloc);
+    for pair in prices {
+        starts.push(pair.start)?;
+    }
+    Ok(starts)
+}
+
+/// Takes the price of a change into account, where it is a reduction of which a part was applied.
+fn note(highest: &mut Items<Price>, prices: &[PricePair], change: &Change, left: u64)
+    requires each { length highest.old ≡ length prices.now }
+    requires priced { later.IsPricedBy prices.now change.now }
+    ensures each { length highest.new ≡ length highest.old }
+    ensures price { (p : ℕ) → p < length highest.old → slice_index highest.new p ≡ (if later.is_applied_reduction p change.now left then max (slice_index highest.old p) change.now.price else slice_index highest.old p) }
+{
+    let product = change.product as usize;
+    if change.kind == Kind::Reduction && left < change.amount {
+        let price = price_of(change, prices[product]);
+        if highest.as_slice()[product].get() < price.get() {
+            highest.set(product, price);
+        }
+    }
+}
+
+/// The price of a change, which stands between two prices of its product.
+fn price_of(change: &Change, pair: PricePair) -> Price
+    requires from_start { pair.start ≤ change.now.price }
+    requires to_clock { change.now.price ≤ pair.clock }
+    ensures { result ≡ change.now.price }
+{
+    prove!(pair.start.get() <= change.price && change.price <= pair.clock.get());
+    Price::new(change.price).unwrap()
 }

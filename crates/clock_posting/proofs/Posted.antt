@@ -1,0 +1,106 @@
+-- The posted prices of a round after the first stand between start and clock price, and where the auction goes on one is the clock price.
+use Rattle.std.proofs.Common.{◌≡◌, ℕ, ◌<◌, ◌≤◌, Bool, true, false, cond, List, [], ◌∷◌, length, get_or, map, refl, ap, ◌∙◌, arith, zero-add}
+use Rattle.std.specs.Prelude.{All, Any, IfSome, fold, max, filter, zip, not, if◌then◌else◌}
+use Rattle.std.specs.List.{list_any, range_with_len}
+use Rattle.std.proofs.lemmas.Bool.Decides.{nat_tests}
+use Rattle.std.proofs.lemmas.List.Elements.{All-nil, All-cons, All-head, All-tail, All-weaker, All-get_or}
+use Rattle.std.proofs.lemmas.List.FromFn.{get_or-map-range_with_len, length-map-range_with_len}
+use Rattle.clock_setup.specs.declared.setup.Product.{Product}
+use Rattle.clock_setup.specs.declared.prices.PricePair.{PricePair}
+use Rattle.clock_setup.specs.Prices.{prices_at}
+use Rattle.clock_bids.specs.declared.change.Change.{Change}
+use Rattle.clock_posting.specs.declared.sheet.Posting.{Posting}
+use Rattle.clock_posting.specs.Posting.{has_excess, has_ended, next_prices, sheet_line, lines_of_round, IsBetween, IsAtClock, IsPosting}
+use Rattle.clock_posting.specs.PostedPrice.{is_applied_reduction, applied_prices, highest_or, posted_price, posted_prices, IsPricedBy, IsOrdered}
+use Rattle.clock_posting.proofs.Ranges.{some_in_range}
+use Rattle.clock_posting.proofs.Laws.{some_if_going_on}
+
+not_false : (b : Bool) → not b ≡ false → b ≡ true
+not_false true is = refl
+not_false false is = cc
+
+-- an applied reduction of a product is a change of it
+applied_product : (product : ℕ) (change : Change) (left : ℕ) → is_applied_reduction product change left ≡ true → change.product ≡ product
+applied_product product change left applied = grind (arith, nat_tests)
+
+-- what holds of the prices of a product's changes holds of its applied prices
+applied_head : (P : ℕ → Type 0) (product : ℕ) (change : Change) (left : ℕ) (rest : List (Change × ℕ)) (b : Bool) → is_applied_reduction product change left ≡ b → (change.product ≡ product → P change.price) → All P (map (λ line. line.0.price) rest) → All P (map (λ line. line.0.price) (cond b ((change, left) ∷ rest) rest))
+applied_head P product change left rest true applied here later =
+    All-cons P change.price (map (λ line. line.0.price) rest) (here (applied_product product change left applied)) later
+applied_head P product change left rest false applied here later = later
+
+applied_within : (P : ℕ → Type 0) (product : ℕ) (changes : List Change) (left : List ℕ) → All (λ change. change.product ≡ product → P change.price) changes → All P (applied_prices changes left product)
+applied_within P product [] left holds = All-nil P
+applied_within P product (change ∷ changes) [] holds = All-nil P
+applied_within P product (change ∷ changes) (l ∷ left) holds =
+    let Q = λ (c : Change). c.product ≡ product → P c.price in
+    applied_head P product change l (filter (λ line. is_applied_reduction product line.0 line.1) (zip changes left)) (is_applied_reduction product change l) refl (All-head Q change changes holds) (applied_within P product changes left (All-tail Q change changes holds))
+
+-- the highest of a price and others
+highest_from : (price : ℕ) (prices : List ℕ) → price ≤ fold max price prices
+highest_from price [] = omega arith
+highest_from price (x ∷ prices) = omega (arith, highest_from (max price x) prices)
+
+highest_to : (most price : ℕ) (prices : List ℕ) → price ≤ most → All (λ x. x ≤ most) prices → fold max price prices ≤ most
+highest_to most price [] first others = first
+highest_to most price (x ∷ prices) first others =
+    let here : x ≤ most = All-head (λ y. y ≤ most) x prices others in
+    highest_to most (max price x) prices (omega arith) (All-tail (λ y. y ≤ most) x prices others)
+
+-- a lower price changes nothing
+pub fold_is_highest : (start : ℕ) (prices : List ℕ) → All (λ x. start ≤ x) prices → fold max start prices ≡ highest_or start prices
+fold_is_highest start [] above = refl
+fold_is_highest start (x ∷ prices) above =
+    let here : start ≤ x = All-head (λ y. start ≤ y) x prices above in
+    ap (λ price. fold max price prices) (omega arith)
+
+highest_or_from : (start : ℕ) (prices : List ℕ) → All (λ x. start ≤ x) prices → start ≤ highest_or start prices
+highest_or_from start prices above =
+    omega (arith, highest_from start prices, fold_is_highest start prices above)
+
+highest_or_to : (start most : ℕ) (prices : List ℕ) → start ≤ most → All (λ x. start ≤ x) prices → All (λ x. x ≤ most) prices → highest_or start prices ≤ most
+highest_or_to start most prices first above below =
+    omega (arith, highest_to most start prices first below, fold_is_highest start prices above)
+
+-- applied prices stand from the start price to the clock price
+pub applied_from_start : (prices : List PricePair) (changes : List Change) (left : List ℕ) (product : ℕ) → All (IsPricedBy prices) changes → All (λ price. (prices_at prices product).start ≤ price) (applied_prices changes left product)
+applied_from_start prices changes left product priced =
+    let P = λ (price : ℕ). (prices_at prices product).start ≤ price in
+    applied_within P product changes left (All-weaker (IsPricedBy prices) (λ c. c.product ≡ product → P c.price) (λ c h is. rw is at h.from_start) changes priced)
+
+applied_to_clock : (prices : List PricePair) (changes : List Change) (left : List ℕ) (product : ℕ) → All (IsPricedBy prices) changes → All (λ price. price ≤ (prices_at prices product).clock) (applied_prices changes left product)
+applied_to_clock prices changes left product priced =
+    let P = λ (price : ℕ). price ≤ (prices_at prices product).clock in
+    applied_within P product changes left (All-weaker (IsPricedBy prices) (λ c. c.product ≡ product → P c.price) (λ c h is. rw is at h.to_clock) changes priced)
+
+module _ (products : List Product) (prices : List PricePair) (changes : List Change) (left : List ℕ) (grid : List (List ℕ)) where
+  -- a posted price for each product
+  pub length-posted_prices : length (posted_prices products prices changes left grid) ≡ length products
+  length-posted_prices =
+      length-map-range_with_len (posted_price products prices changes left grid) 0 (length products)
+
+  pub posted_at : (product : ℕ) → product < length products → get_or (posted_prices products prices changes left grid) product 0 ≡ posted_price products prices changes left grid product
+  posted_at product below =
+      get_or-map-range_with_len (posted_price products prices changes left grid) 0 (length products) product product 0 below (zero-add product)
+
+  price_between : (product : ℕ) (excess : Bool) → IsOrdered (prices_at prices product) → All (IsPricedBy prices) changes → ((prices_at prices product).start ≤ (if excess then (prices_at prices product).clock else highest_or (prices_at prices product).start (applied_prices changes left product))) × ((if excess then (prices_at prices product).clock else highest_or (prices_at prices product).start (applied_prices changes left product)) ≤ (prices_at prices product).clock)
+  price_between product true ordered priced = (ordered, omega arith)
+  price_between product false ordered priced =
+      let above = applied_from_start prices changes left product priced in
+      (highest_or_from _ _ above, highest_or_to _ _ _ ordered above (applied_to_clock prices changes left product priced))
+
+  -- each posted price stands between start and clock price
+  pub posted_between : (increment product : ℕ) → length prices ≡ length products → All IsOrdered prices → All (IsPricedBy prices) changes → product < length products → IsBetween (sheet_line products prices grid (posted_prices products prices changes left grid) increment product)
+  posted_between increment product each ordered priced below =
+      let here = price_between product (has_excess products grid product) (All-get_or IsOrdered prices product (record { start = 0; clock = 0 }) (omega (arith, each)) ordered) priced in
+      let is = posted_at product below in
+      record { from_start = omega (arith, here.0, is); to_clock = omega (arith, here.1, is) }
+
+  -- where the auction goes on, some clock price is posted
+  pub some_at_clock : (increment : ℕ) → has_ended products grid ≡ false → Any IsAtClock (lines_of_round products prices grid (posted_prices products prices changes left grid) increment)
+  some_at_clock increment goes_on =
+      some_in_range IsAtClock (sheet_line products prices grid (posted_prices products prices changes left grid) increment) (has_excess products grid) (length products) (λ k below excess. posted_at k below ∙ ap (λ b. if b then (prices_at prices k).clock else highest_or (prices_at prices k).start (applied_prices changes left k)) excess) (not_false (list_any (has_excess products grid) (range_with_len 0 (length products))) goes_on)
+
+  pub clock_posted : (round increment : ℕ) (posting : Posting) → IsPosting round products prices grid (posted_prices products prices changes left grid) increment posting → IfSome posting.next (λ _. Any IsAtClock posting.sheet.lines)
+  clock_posted round increment posting is =
+      rw (is.sheet, is.next) (some_if_going_on (has_ended products grid) (next_prices (posted_prices products prices changes left grid) increment) (λ _. Any IsAtClock (lines_of_round products prices grid (posted_prices products prices changes left grid) increment)) (some_at_clock increment))
