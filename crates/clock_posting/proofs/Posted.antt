@@ -12,7 +12,7 @@ use Rattle.clock_bids.specs.declared.change.Change.{Change}
 use Rattle.clock_posting.specs.declared.sheet.Posting.{Posting}
 use Rattle.clock_posting.specs.Posting.{has_excess, has_ended, next_prices, sheet_line, lines_of_round, IsBetween, IsAtClock, IsPosting}
 use Rattle.clock_posting.specs.PostedPrice.{is_applied_reduction, applied_prices, highest_or, posted_price, posted_prices, IsPricedBy, IsOrdered}
-use Rattle.clock_posting.proofs.Ranges.{some_in_range}
+use Rattle.clock_posting.proofs.Ranges.{all_in_range, some_in_range}
 use Rattle.clock_posting.proofs.Laws.{some_if_going_on}
 
 not_false : (b : Bool) → not b ≡ false → b ≡ true
@@ -95,6 +95,15 @@ module _ (products : List Product) (prices : List PricePair) (changes : List Cha
       let here = price_between product (has_excess products grid product) (All-get_or IsOrdered prices product (record { start = 0; clock = 0 }) (omega (arith, each)) ordered) priced in
       let is = posted_at product below in
       record { from_start = omega (arith, here.0, is); to_clock = omega (arith, here.1, is) }
+
+  -- posted prices are at least a dollar
+  pub posted_dollars : length prices ≡ length products → All IsOrdered prices → All (IsPricedBy prices) changes → All (λ pair. 1 ≤ pair.start) prices → All (λ price. 1 ≤ price) (posted_prices products prices changes left grid)
+  posted_dollars each ordered priced some =
+      all_in_range (λ price. 1 ≤ price) (posted_price products prices changes left grid) (length products) (λ k below.
+      let d : PricePair = record { start = 0; clock = 0 } in
+      let in_range : k < length prices = omega (arith, each) in
+      let here = price_between k (has_excess products grid k) (All-get_or IsOrdered prices k d in_range ordered) priced in
+      omega (arith, here.0, some k d in_range))
 
   -- where the auction goes on, some clock price is posted
   pub some_at_clock : (increment : ℕ) → has_ended products grid ≡ false → Any IsAtClock (lines_of_round products prices grid (posted_prices products prices changes left grid) increment)

@@ -1,13 +1,13 @@
 ghost use Rattle.std.specs.Prelude.{◌≡◌, ◌≤◌, length, IfOk, IfErr};
 ghost use Rattle.clock_setup.specs.Demands.{IsGrid};
-ghost use Rattle.clock_setup.specs.Prices as prices;
+ghost use Rattle.clock_setup.specs.Prices.{opening_prices};
 ghost use Rattle.clock_posting.specs.Posting as rules;
 
 use crate::posting::posting;
 use crate::sheet::{PostFault, Posting};
 use clock_device::{Items, NoMemory};
 use clock_money::Price;
-use clock_setup::{Grid, PricePair, Prices, Product, Setup};
+use clock_setup::{Grid, OpeningPrices, Prices, Product, Setup};
 use std::alloc::Global;
 
 /// What the closing of the first round posts, where the sheets' quantities stand as demands: each
@@ -28,12 +28,12 @@ pub fn post_first(
     requires most { increment ≤ 50 }
     requires grid { IsGrid (length setup.now.bidders) (length setup.now.products) grid.now }
 
-    ensures ok { IfOk result (rules.IsPosting 1 setup.now.products (prices.opening_prices setup.now.products) grid.now (rules.opening_posted setup.now.products) increment) }
+    ensures ok { IfOk result (rules.IsPosting 1 setup.now.products (opening_prices setup.now.products) grid.now (rules.opening_posted setup.now.products) increment) }
     ensures err { IfErr result (rules.IsPostFault (rules.price_limit_fault setup.now.products grid.now (rules.opening_posted setup.now.products) increment)) }
     ensures laws { IfOk result rules.IsConsistent }
 {
     let products = setup.products.as_slice();
-    let prices = opening_prices(alloc, products)?;
+    let prices = Prices::opening(alloc, setup)?;
     let posted = opening_posted(alloc, products)?;
     posting(
         alloc,
@@ -44,20 +44,6 @@ pub fn post_first(
         posted.as_slice(),
         increment,
     )
-}
-
-/// The prices of the first round.
-fn opening_prices(alloc: Global, products: &[Product]) -> Result<Prices, NoMemory>
-    ensures { IfOk result (λ made. made ≡ prices.opening_prices products.now) }
-{
-    let mut made = Prices::new(alloc);
-    for product in products {
-        made.push(PricePair {
-            start: product.opening,
-            clock: product.opening,
-        })?;
-    }
-    Ok(made)
 }
 
 /// The prices posted in the first round.
