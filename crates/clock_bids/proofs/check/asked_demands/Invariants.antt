@@ -1,0 +1,7 @@
+use Rattle.std.proofs.Common.{◌≡◌, length, take}
+use Rattle.clock_bids.specs.Sheet.{asked_demands}
+use Rattle.clock_bids.proofs.check.asked_demands.Given as goal
+
+-- the demands that the bids so far ask for
+abbrev pub invariant-loop-bid : goal.invariant-loop-bid
+invariant-loop-bid l = l.asked.items ≡ asked_demands (length l.setup.products) (take l.bid-index l.bids)
