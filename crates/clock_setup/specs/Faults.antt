@@ -1,13 +1,19 @@
 -- First faults: a list of checks, each a fault and whether its test passes, in the order in which they are looked at.
 --     first_fault checks      the fault of the first check that fails
+--     in_turn checks i items      the checks of each item, by rising number
 --     unless fault value      the value, where there is no fault
 --     or_fault fault value      the value that is there, or the fault
-use Rattle.std.specs.Prelude.{Bool, List, [], ◌∷◌, if◌then◌else◌, Option, Some, None, Result, Ok, Err}
+use Rattle.std.specs.Prelude.{ℕ, ◌+◌, Bool, List, [], ◌∷◌, ◌++◌, if◌then◌else◌, Option, Some, None, Result, Ok, Err}
 
 -- the fault of the first check that fails
 abbrev pub first_fault : {F : Type 0} → List (F × Bool) → Option F
 first_fault [] = None
 first_fault (check ∷ checks) = if check.1 then first_fault checks else Some check.0
+
+-- the checks of each item in turn, the items numbered from i
+abbrev pub in_turn : {X F : Type 0} → (ℕ → X → List (F × Bool)) → ℕ → List X → List (F × Bool)
+in_turn checks i [] = []
+in_turn checks i (x ∷ xs) = checks i x ++ in_turn checks (i + 1) xs
 
 -- the value, where there is no fault
 abbrev pub unless : {A F : Type 0} → Option F → A → Result A F

@@ -14,7 +14,7 @@ use Rattle.clock_setup.specs.declared.opening.OpeningFault.{OpeningFault}
 use Rattle.clock_setup.specs.declared.opening.OpeningFault.TheVariants.{NotJson, Shape, Setup, Demand, Activity, Increment}
 use Rattle.clock_setup.specs.Limits.{SetupFields, is_within}
 use Rattle.clock_setup.specs.Eligibility.{activity}
-use Rattle.clock_setup.specs.Faults.{first_fault, unless, or_fault, ◌>>=◌}
+use Rattle.clock_setup.specs.Faults.{first_fault, in_turn, unless, or_fault, ◌>>=◌}
 use Rattle.clock_setup.specs.SetupDocument.{json, setup_of}
 use Rattle.clock_setup.specs.OpeningShape.{OpeningParts, parts_of}
 
@@ -23,25 +23,22 @@ abbrev pub has_counts : SetupFields → List (List ℕ) → Bool
 has_counts setup demands =
     (length demands == length setup.bidders) && list_all (λ row. length row == length setup.products) demands
 
--- one bidder's demands by rising product, each at most the product's cap
-unfoldable pub demand_checks : ℕ → ℕ → List (Product × ℕ) → List (OpeningFault × Bool)
-demand_checks bidder product [] = []
-demand_checks bidder product (line ∷ lines) =
-    (Demand bidder product, nat_le line.1 line.0.cap) ∷ demand_checks bidder (product + 1) lines
+-- a demand is at most the product's cap
+unfoldable pub demand_checks : ℕ → ℕ → Product × ℕ → List (OpeningFault × Bool)
+demand_checks bidder product line = (Demand bidder product, nat_le line.1 line.0.cap) ∷ []
 
--- the bidders one after another: first its demands, then that their activity is at most its eligibility
-unfoldable pub row_checks : List Product → ℕ → List (Bidder × List ℕ) → List (OpeningFault × Bool)
-row_checks products bidder [] = []
-row_checks products bidder (line ∷ lines) =
-    demand_checks bidder 0 (zip products line.1)
+-- of a bidder its demands by rising product, then that their activity is at most its eligibility
+unfoldable pub row_checks : List Product → ℕ → Bidder × List ℕ → List (OpeningFault × Bool)
+row_checks products bidder line =
+    in_turn (demand_checks bidder) 0 (zip products line.1)
     ++ ((Activity bidder, nat_le (activity products line.1) line.0.eligibility)
-    ∷ row_checks products (bidder + 1) lines)
+    ∷ [])
 
--- the counts of the rows, then the rows, then the increment
+-- the counts of the rows, then the bidders by rising number, then the increment
 unfoldable pub opening_checks : SetupFields → OpeningParts → List (OpeningFault × Bool)
 opening_checks setup parts =
     (Shape, has_counts setup parts.demands)
-    ∷ (row_checks setup.products 0 (zip setup.bidders parts.demands)
+    ∷ (in_turn (row_checks setup.products) 0 (zip setup.bidders parts.demands)
     ++ ((Increment, is_within 1 50 parts.increment)
     ∷ []))
 

@@ -14,27 +14,25 @@ use Rattle.clock_setup.specs.declared.fault.SetupFault.TheVariants.{NotJson, Sha
 use Rattle.clock_setup.specs.Limits.{SetupFields, is_within, is_name, is_token, is_distinct}
 use Rattle.clock_setup.specs.Members.{number_at}
 use Rattle.clock_setup.specs.SetupShape.{fields_of}
-use Rattle.clock_setup.specs.Faults.{first_fault, unless, or_fault, ◌>>=◌}
+use Rattle.clock_setup.specs.Faults.{first_fault, in_turn, unless, or_fault, ◌>>=◌}
 
--- the products one after another, and of each its name, units, supply, cap (at most the supply) and opening price
-unfoldable pub product_checks : ℕ → List Product → List (SetupFault × Bool)
-product_checks i [] = []
-product_checks i (product ∷ products) =
+-- of a product its name, units, supply, cap (at most the supply) and opening price
+unfoldable pub product_checks : ℕ → Product → List (SetupFault × Bool)
+product_checks i product =
     (Range (Name i), is_name product.name)
     ∷ (Range (Units i), is_within 1 1000000 product.units)
     ∷ (Range (Supply i), is_within 1 1000 product.supply)
     ∷ (Range (Cap i), is_within 1 product.supply product.cap)
     ∷ (Range (Opening i), is_within 1 1000000000000 product.opening)
-    ∷ product_checks (i + 1) products
+    ∷ []
 
--- the bidders one after another, and of each its name, token and eligibility
-unfoldable pub bidder_checks : ℕ → List Bidder → List (SetupFault × Bool)
-bidder_checks i [] = []
-bidder_checks i (bidder ∷ bidders) =
+-- of a bidder its name, token and eligibility
+unfoldable pub bidder_checks : ℕ → Bidder → List (SetupFault × Bool)
+bidder_checks i bidder =
     (Range (BidderName i), is_name bidder.name)
     ∷ (Range (Token i), is_token bidder.token)
     ∷ (Range (Eligibility i), nat_le bidder.eligibility 1000000000000)
-    ∷ bidder_checks (i + 1) bidders
+    ∷ []
 
 -- no two products, and no two bidders, have one name; a product and a bidder may share one
 abbrev pub has_distinct_names : SetupFields → Bool
@@ -51,9 +49,9 @@ setup_checks setup =
     (Range Requirement, is_within 50 100 setup.requirement)
     ∷ (Range Operator, is_token setup.operator)
     ∷ (Range Products, is_within 1 4096 (length setup.products))
-    ∷ (product_checks 0 setup.products
+    ∷ (in_turn product_checks 0 setup.products
     ++ ((Range Bidders, is_within 1 512 (length setup.bidders))
-    ∷ (bidder_checks 0 setup.bidders
+    ∷ (in_turn bidder_checks 0 setup.bidders
     ++ ((DuplicateName, has_distinct_names setup)
     ∷ (DuplicateToken, has_distinct_tokens setup)
     ∷ []))))

@@ -77,8 +77,8 @@ impl Bidder {
     }
 }
 
-/// Equal products.
-fn products_copy(alloc: Global, products: &[Product]) -> Result<Products, NoMemory>
+/// Equal products, in the same order.
+pub fn products_copy(alloc: Global, products: &[Product]) -> Result<Products, NoMemory>
     ensures { IfOk result (λ copy. copy ≡ products.now) }
 {
     let mut copy = Products::new(alloc);

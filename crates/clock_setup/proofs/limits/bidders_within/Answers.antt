@@ -1,0 +1,20 @@
+use Rattle.std.proofs.Common.{sym, ◌∙◌, arith}
+use Rattle.std.proofs.lemmas.Grind.{common_steps}
+use Rattle.std.proofs.lemmas.Result.{err_from_is_err_and}
+use Rattle.clock_setup.specs.SetupDocument.{bidder_checks}
+use Rattle.clock_setup.proofs.FaultLaws.{turn_passed, turn_failed}
+use Rattle.clock_setup.proofs.limits.bidders_within.Goals as goal
+
+pub returns-in_err-bidder-clause-err : goal.returns-in_err-bidder-clause-err
+returns-in_err-bidder-clause-err c =
+    let p = err_from_is_err_and c.from_residual-in_err-bidder.result c.from_residual-in_err-bidder.ensures.1 in
+    rw (p.1, p.2)
+    (λ known. sym c.loop-i.invariant.rest
+    ∙ turn_failed bidder_checks c.args.entries.now c.loop-i.i _ _ c.loop-i-test.true c.index-entries-i.is (c.in_err-bidder.ensures.err known))
+
+pub loop-i-preserved : goal.loop-i-preserved
+loop-i-preserved c = record {
+  same = grind (arith, common_steps);
+  rest = sym (turn_passed bidder_checks c.args.entries.now c.loop-i.i _ c.loop-i-test.true c.index-entries-i.is c.in_ok-bidder.ensures.ok)
+      ∙ c.loop-i.invariant.rest;
+}

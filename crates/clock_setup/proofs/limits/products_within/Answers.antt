@@ -1,0 +1,20 @@
+use Rattle.std.proofs.Common.{sym, ◌∙◌, arith}
+use Rattle.std.proofs.lemmas.Grind.{common_steps}
+use Rattle.std.proofs.lemmas.Result.{err_from_is_err_and}
+use Rattle.clock_setup.specs.SetupDocument.{product_checks}
+use Rattle.clock_setup.proofs.FaultLaws.{turn_passed, turn_failed}
+use Rattle.clock_setup.proofs.limits.products_within.Goals as goal
+
+pub returns-in_err-product-clause-err : goal.returns-in_err-product-clause-err
+returns-in_err-product-clause-err c =
+    let p = err_from_is_err_and c.from_residual-in_err-product.result c.from_residual-in_err-product.ensures.1 in
+    rw (p.1, p.2)
+    (λ known. sym c.loop-i.invariant.rest
+    ∙ turn_failed product_checks c.args.entries.now c.loop-i.i _ _ c.loop-i-test.true c.index-entries-i.is (c.in_err-product.ensures.err known))
+
+pub loop-i-preserved : goal.loop-i-preserved
+loop-i-preserved c = record {
+  same = grind (arith, common_steps);
+  rest = sym (turn_passed product_checks c.args.entries.now c.loop-i.i _ c.loop-i-test.true c.index-entries-i.is c.in_ok-product.ensures.ok)
+      ∙ c.loop-i.invariant.rest;
+}

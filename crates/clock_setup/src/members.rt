@@ -1,0 +1,40 @@
+ghost use Rattle.std.specs.Prelude.{◌≡◌, option_map};
+ghost use Rattle.serde_json.specs.View.{view, items_view};
+ghost use Rattle.clock_setup.specs.Members as members;
+
+use serde_json::Value;
+
+/// A whole number from 0 to 2^64 - 1 under a key.
+pub(crate) fn number_at(value: &Value, key: &str) -> Option<u64>
+    ensures { result ≡ members.number_at key.now (view value.now) }
+{
+    value.get(key).and_then(Value::as_u64)
+}
+
+/// A text under a key.
+pub(crate) fn text_at<'v>(value: &'v Value, key: &str) -> Option<&'v str>
+    ensures { option_map (λ text. text.now) result ≡ members.text_at key.now (view value.now) }
+{
+    value.get(key).and_then(Value::as_str)
+}
+
+/// The items of a list under a key.
+pub(crate) fn items_at<'v>(value: &'v Value, key: &str) -> Option<&'v [Value]>
+    ensures { option_map (λ items. items_view items.now) result
+        ≡ members.items_at key.now (view value.now) }
+{
+    match value.get(key).and_then(Value::as_array) {
+        Some(items) => Some(items.as_slice()),
+        None => None,
+    }
+}
+
+/// Whether a value is an object of so many members.
+pub(crate) fn has_members(value: &Value, count: usize) -> bool
+    ensures { result ≡ members.has_members count (view value.now) }
+{
+    match value.as_object() {
+        Some(members) => members.len() == count,
+        None => false,
+    }
+}
