@@ -1,0 +1,43 @@
+-- Reading `--increment` as a number and looking at its limits gives what the definition says of its text.
+use Rattle.std.proofs.Common.{◌≡◌, ◌≤◌, ◌<◌, ℕ, Bool, List, Option, Some, None, Ok, Err, Result, nat_le, ◌&&◌, cond, option_and_then, true, false, refl, sym, subst, ◌∙◌, rules}
+use Rattle.std.proofs.lemmas.Bool.{leb-true, le-leb}
+use Rattle.std.specs.Str.Parse.{ParsesUnsigned, digits_value, without_leading_plus}
+use Rattle.clap.specs.Matches.{ReadsOne}
+use Rattle.clap.specs.ValueTests.{is_unsigned_in}
+use Rattle.clap.specs.declared.builder.value_parser.ValueParser.TheVariants as parser
+use Rattle.clap.proofs.ValueTestLemmas.{accepts-Accepts, Accepts-accepts}
+use Rattle.clap.proofs.WalkLemmas.{both}
+use Rattle.clock_auction.specs.Words.{increment_from}
+
+-- the number, where it is from 1 to 50
+abbrev pub within_limits : Option ℕ → Option ℕ
+within_limits None = None
+within_limits (Some n) = cond (nat_le 1 n && nat_le n 50) (Some n) None
+
+same_choice : (a b : Bool) (n v : ℕ) → n ≡ v → (a ≡ true → b ≡ true) → (b ≡ true → a ≡ true)
+    → cond a (Some n) None ≡ cond b (Some v) None
+same_choice true true n v e there back = rw e refl
+same_choice true false n v e there back = let clash : false ≡ true = there refl in cc
+same_choice false true n v e there back = let clash : false ≡ true = back refl in cc
+same_choice false false n v e there back = refl
+
+none_taken : (b : Bool) (v : ℕ) → (b ≡ true → ⊥) → ◌≡◌ {A = Option ℕ} None (cond b (Some v) None)
+none_taken true v never = absurd (never refl)
+none_taken false v never = refl
+
+module _ {E : Type 0} (gives : List ℕ → Result ℕ E → Type 0) (parses : (t : List ℕ) (r : Result ℕ E) → gives t r → ParsesUnsigned 64 10 t r) where
+  read_at : (t : List ℕ) (r : Option ℕ) → ReadsOne gives t r → within_limits r ≡ increment_from t
+  read_at t None given =
+      none_taken (is_unsigned_in 1 50 t) _ (λ e. let accepted = accepts-Accepts false (parser.Unsigned 1 50) t e in parses t (Err given.0) given.1 (accepted.0, accepted.1))
+  read_at t (Some n) given =
+      let parsed = parses t (Ok n) given in
+      same_choice (nat_le 1 n && nat_le n 50) (is_unsigned_in 1 50 t) n _ parsed.1
+      (λ e. let limits = both (nat_le 1 n) (nat_le n 50) e in
+      Accepts-accepts false (parser.Unsigned 1 50) t (parsed.0.0, parsed.0.1, subst (λ (k : ℕ). 1 ≤ k) parsed.1 (leb-true _ _ limits.0), subst (λ (k : ℕ). k ≤ 50) parsed.1 (leb-true _ _ limits.1)))
+      (λ e. let accepted = accepts-Accepts false (parser.Unsigned 1 50) t e in
+      rw (le-leb 1 n (subst (λ (k : ℕ). 1 ≤ k) (sym parsed.1) accepted.2), le-leb n 50 (subst (λ (k : ℕ). k ≤ 50) (sym parsed.1) accepted.3)) refl)
+
+  pub increment_read : (text : Option (List ℕ)) (r : Option ℕ) → (text ≡ None → r ≡ None) → ((t : List ℕ) → text ≡ Some t → ReadsOne gives t r)
+      → within_limits r ≡ option_and_then increment_from text
+  increment_read None r none some = rw (none refl) refl
+  increment_read (Some t) r none some = read_at t r (some t refl)

@@ -1,0 +1,2 @@
+mod IncrementText
+mod Grammar

@@ -1,0 +1,69 @@
+-- What the words after the program's name ask for. How words are read is clap's own definition: `fault_of` lists the
+-- ways in which a grammar refuses words, and `subcommand_of` is the command that they name, with what each option has.
+--     grammar      the program's commands and options
+--     given words      the words, or those that stand for none
+--     job_of words      the job that the words ask for, where they are not refused
+use Rattle.std.specs.Prelude.{ℕ, true, List, [], ◌∷◌, Option, Some, None, codes, if◌then◌else◌, option_and_then, option_map}
+use Rattle.std.specs.Str.{bytes_eq}
+use Rattle.std.specs.Str.Parse.{digits_value, without_leading_plus}
+use Rattle.clap.specs.Words.{App, Kinds, Row, Rule, Shape, Text, fault_of, new_app, new_rule, one_of, subcommand_of, with_rule, with_subcommand}
+use Rattle.clap.specs.Simple.{on_top}
+use Rattle.clap.specs.ValueTests.{is_unsigned_in}
+use Rattle.clap.specs.declared.builder.value_parser.ValueParser.TheVariants as parser
+use Rattle.clock_auction.specs.declared.words.Job.{Job}
+use Rattle.clock_auction.specs.declared.words.Job.TheVariants.{Prices, Opening}
+
+-- `--increment N`, from 1 to 50, and 10 where it is not given
+abbrev pub increment_option : Rule
+increment_option = record (new_rule (codes "increment")) {
+  long = Some (codes "increment");
+  parser = Some (parser.Unsigned 1 50);
+  defaults = codes "10" ∷ [];
+}
+
+-- `prices [--increment N]`
+abbrev pub prices_grammar : App
+prices_grammar = with_rule (new_app (codes "prices")) increment_option
+
+-- the words begin with a command, and not with the program's own name
+abbrev pub asks_for_a_command : Shape → Shape
+asks_for_a_command shape = record shape { no_binary_name = true; subcommand_required = true }
+
+-- the commands `prices` and `opening`, one of which must be named
+abbrev pub grammar : App
+grammar =
+    with_subcommand (with_subcommand (on_top asks_for_a_command (new_app (codes "clock_auction"))) prices_grammar.top)
+    (new_app (codes "opening")).top
+
+-- no word stands for `prices --increment 10`
+abbrev pub given : List Text → List Text
+given [] = codes "prices" ∷ codes "--increment" ∷ codes "10" ∷ []
+given (word ∷ words) = word ∷ words
+
+-- the number that a text writes, where it is from 1 to 50
+abbrev pub increment_from : Text → Option ℕ
+increment_from text = if is_unsigned_in 1 50 text then Some (digits_value 10 (without_leading_plus text)) else None
+
+-- what a command asks for, with what its options have
+abbrev pub job_named : Text → List Row → Option Job
+job_named name options =
+    if bytes_eq name (codes "prices")
+    then option_map Prices (option_and_then increment_from (one_of (codes "increment") options))
+    else (if bytes_eq name (codes "opening") then Some Opening else None)
+
+abbrev pub job_met : Option (Text × List Row) → Option Job
+job_met None = None
+job_met (Some met) = job_named met.0 met.1
+
+-- the job, and none where the words may be refused
+abbrev pub unless_refused : Kinds → Option Job → Option Job
+unless_refused [] job = job
+unless_refused (kind ∷ kinds) job = None
+
+-- the job that some words ask for, and none where clap refuses them
+abbrev pub job_meant : List Text → Option Job
+job_meant words = unless_refused (fault_of grammar words) (job_met (subcommand_of grammar words))
+
+-- the job that the words after the program's name ask for
+abbrev pub job_of : List Text → Option Job
+job_of words = job_meant (given words)

@@ -1,0 +1,113 @@
+ghost use Rattle.std.specs.Prelude.{◌≡◌, ◌≢◌, ◌&&◌, if◌then◌else◌, nat_le, Some, None, false, codes, map, option_and_then, IfOk, IfErr};
+ghost use Rattle.clap.specs.Words.{app_of, found_of, kind_of, one_of, rows_of, subcommand_rows_of};
+ghost use Rattle.clap.specs.declared.builder.Command.TheViews.{out-Command};
+ghost use Rattle.clock_auction.specs.Words.{grammar, increment_from, job_meant, job_met, job_of, prices_grammar};
+
+use clap::builder::ValueParser;
+use clap::error::ErrorKind;
+use clap::{Arg, ArgMatches, Command, Error, value_parser};
+use std::alloc::Global;
+
+/// What the words ask the program to do.
+#[derive(Clone, Copy, Debug, PartialEq, Eq)]
+pub enum Job {
+    /// Price lines for a set-up document, with clock prices at this increment of 1 to 50 percent.
+    Prices(u64),
+    /// The lines of round 1 for an opening document.
+    Opening,
+}
+
+/// What a run without any word does.
+static WITHOUT_WORDS: [&str; 3] = ["prices", "--increment", "10"];
+
+/// What `--increment` takes.
+fn increment_parser<'a>() -> ValueParser<'a>
+    ensures { result ≡ ValueParser.Unsigned 1 50 }
+{
+    value_parser!(u64).range(1..=50)
+}
+
+/// `prices` and its option.
+fn prices_command<'a>(alloc: Global) -> Result<Command<'a>, Error>
+    ensures shape { IfOk result (λ command. app_of command ≡ prices_grammar) }
+    ensures local { IfOk result (λ command. (out-Command command).has_globals ≡ false) }
+    ensures err { IfErr result (λ error. kind_of error ≡ ErrorKind.OutOfMemory) }
+{
+    let increment = Arg::new(alloc, "increment")
+        .long("increment")
+        .value_parser(increment_parser())
+        .default_value("10");
+    Ok(Command::new(alloc, "prices").arg(increment)?)
+}
+
+/// The program's commands.
+fn program<'a>(alloc: Global) -> Result<Command<'a>, Error>
+    ensures shape { IfOk result (λ command. app_of command ≡ grammar) }
+    ensures err { IfErr result (λ error. kind_of error ≡ ErrorKind.OutOfMemory) }
+{
+    let prices = prices_command(alloc)?;
+    let opening = Command::new(alloc, "opening");
+    Ok(Command::new(alloc, "clock_auction")
+        .no_binary_name(true)
+        .subcommand_required(true)
+        .subcommand(prices)?
+        .subcommand(opening)?)
+}
+
+/// The increment, where it is from 1 to 50.
+fn within_limits(increment: u64) -> Option<u64>
+    ensures { result ≡ (if nat_le 1 increment && nat_le increment 50 then Some increment else None) }
+{
+    if (1..=50).contains(&increment) {
+        Some(increment)
+    } else {
+        None
+    }
+}
+
+/// The increment that `prices` is given, where it is from 1 to 50.
+fn increment_in(options: &ArgMatches) -> Option<u64>
+    ensures { result ≡ option_and_then increment_from
+        (one_of (codes "increment") (rows_of (found_of options.now))) }
+{
+    let increment = options.get_one::<u64>("increment")?;
+    within_limits(increment)
+}
+
+/// The job that the matches name.
+fn job_in(matches: &ArgMatches) -> Option<Job>
+    ensures { result ≡ job_met (subcommand_rows_of matches.now) }
+{
+    let (name, options) = matches.subcommand()?;
+    if name == "prices" {
+        Some(Job::Prices(increment_in(options)?))
+    } else if name == "opening" {
+        Some(Job::Opening)
+    } else {
+        None
+    }
+}
+
+/// The job that some words ask for.
+fn job_in_words(alloc: Global, words: &[&str]) -> Result<Option<Job>, Error>
+    ensures ok { IfOk result (λ job. job ≡ job_meant (map (λ word. word.now) words.entry.now)) }
+    ensures err { IfErr result (λ error. kind_of error ≢ ErrorKind.OutOfMemory
+        → job_meant (map (λ word. word.now) words.entry.now) ≡ None) }
+{
+    let matches = program(alloc)?.try_get_matches_from(words)?;
+    Ok(job_in(&matches))
+}
+
+/// The job that the words after the program's name ask for, or `None` or an error where there is
+/// none. An error's text says what is wrong with the words, or is the help that they ask for.
+pub fn job_asked(alloc: Global, words: &[&str]) -> Result<Option<Job>, Error>
+    ensures ok { IfOk result (λ job. job ≡ job_of (map (λ word. word.now) words.entry.now)) }
+    ensures err { IfErr result (λ error. kind_of error ≢ ErrorKind.OutOfMemory
+        → job_of (map (λ word. word.now) words.entry.now) ≡ None) }
+{
+    if words.is_empty() {
+        job_in_words(alloc, WITHOUT_WORDS.as_slice())
+    } else {
+        job_in_words(alloc, words)
+    }
+}
