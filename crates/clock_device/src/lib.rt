@@ -1,6 +1,7 @@
 //! Owned lists, bytes in and out, and want of memory: what every crate of the auction stands on.
 #![tactic(auto)]
 
+mod decimal;
 mod held;
 mod items;
 mod no_memory;

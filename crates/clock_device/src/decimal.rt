@@ -1,0 +1,16 @@
+ghost use Rattle.std.specs.Prelude.{◌≡◌, ◌++◌, List, ℕ, decimal, OnOk, OnErr};
+
+use crate::items::Items;
+use crate::no_memory::NoMemory;
+use itoa::Buffer;
+
+impl Items<u8> {
+    /// Adds a number in plain decimal.
+    pub fn push_number(&mut self, number: u64) -> Result<(), NoMemory>
+        ensures ok { OnOk result (self.new ≡ self.old ++ decimal number) }
+        ensures err { OnErr result (self.new ≡ self.old) }
+    {
+        let mut buffer = Buffer::new();
+        self.extend_from_slice(buffer.format(number).as_bytes())
+    }
+}
