@@ -1,5 +1,5 @@
 -- What every application and every admission keeps, holds where the settling ends.
-use Rattle.std.proofs.Common.{◌≡◌, ℕ, zero, suc, List, Bool, true, false, cond, refl}
+use Rattle.std.proofs.Common.{◌≡◌, ℕ, zero, suc, ◌<◌, List, Bool, true, false, cond, refl, ltb-true}
 use Rattle.std.specs.Prelude.{Option, Some, None, length, nat_lt}
 use Rattle.clock_setup.specs.declared.setup.Product.{Product}
 use Rattle.clock_bids.specs.declared.change.Change.{Change}
@@ -7,17 +7,17 @@ use Rattle.clock_processor.specs.Settling.{Progress, next_by, first_with_room, w
 
 module _ (products : List Product) (eligibilities : List ℕ) (changes : List Change) (P : Progress → Type 0)
     (applied : (s : Progress) (i : ℕ) → first_with_room products eligibilities changes s ≡ Some i → P s → P (with_application products eligibilities changes s i))
-    (admitted : (s : Progress) → P s → P (with_admission products eligibilities changes s)) where
-  after_next : (n : ℕ) → ((s : Progress) → P s → P (after_steps products eligibilities changes n s)) → (s : Progress) (more : Bool) → P s →
+    (admitted : (s : Progress) → s.admitted < length changes → P s → P (with_admission products eligibilities changes s)) where
+  after_next : (n : ℕ) → ((s : Progress) → P s → P (after_steps products eligibilities changes n s)) → (s : Progress) (more : Bool) → nat_lt s.admitted (length changes) ≡ more → P s →
       P (elim (cond more (Some (with_admission products eligibilities changes s)) None) [ None ↦ s | Some t ↦ after_steps products eligibilities changes n t ])
-  after_next n later s true h = later (with_admission products eligibilities changes s) (admitted s h)
-  after_next n later s false h = h
+  after_next n later s true is h = later (with_admission products eligibilities changes s) (admitted s (ltb-true s.admitted (length changes) is) h)
+  after_next n later s false is h = h
 
   after_choice : (n : ℕ) → ((s : Progress) → P s → P (after_steps products eligibilities changes n s)) →
       (s : Progress) (choice : Option ℕ) → first_with_room products eligibilities changes s ≡ choice → P s →
       P (elim (next_by products eligibilities changes s choice) [ None ↦ s | Some t ↦ after_steps products eligibilities changes n t ])
   after_choice n later s (Some i) chosen h = later (with_application products eligibilities changes s i) (applied s i chosen h)
-  after_choice n later s None chosen h = after_next n later s (nat_lt s.admitted (length changes)) h
+  after_choice n later s None chosen h = after_next n later s (nat_lt s.admitted (length changes)) refl h
 
   -- so it is after any number of steps
   pub steps_keep : (n : ℕ) (s : Progress) → P s → P (after_steps products eligibilities changes n s)

@@ -10,13 +10,13 @@ use Rattle.clock_setup.specs.Demands.{total_of}
 use Rattle.clock_bids.specs.declared.change.Change.{Change}
 use Rattle.clock_processor.specs.Room.{room}
 use Rattle.clock_processor.specs.Board.{BoardFields, IsBoard, IsWithinEligibility, MayApply}
-use Rattle.clock_processor.specs.Settling.{Progress, next_by, first_with_room, room_at, with_application, with_admission, HasEnded, no_change, settled, start_of}
+use Rattle.clock_processor.specs.Settling.{Progress, next_by, first_with_room, room_at, with_application, with_admission, HasEnded, Settles, no_change, settled, start_of}
 use Rattle.clock_processor.specs.Requests.{IsRequest, CanSettle}
-use Rattle.clock_processor.specs.Processor.{SettledFields, IsSettlement, IsProperEnd}
+use Rattle.clock_processor.specs.Processor.{SettledFields, IsSettlement, IsProperEnd, end_of}
 use Rattle.clock_processor.specs.UnderWay.{StaysWithinCaps}
 use Rattle.clock_processor.proofs.Supply.{same_or_not, settled_supplied}
 use Rattle.clock_processor.proofs.Kept.{settled_keep}
-use Rattle.clock_processor.proofs.End.{has_room, settled_ended}
+use Rattle.clock_processor.proofs.End.{has_room, settled_ended, settled_settles}
 use Rattle.clock_processor.proofs.BoardKept.{board_applied}
 use Rattle.clock_processor.proofs.Apply.{may_apply, caps_after, caps_at_start, length_amounts}
 
@@ -78,18 +78,32 @@ module _ (products : List Product) (eligibilities : List ℕ) (changes : List Ch
   settled_left grid =
       settled_keep products eligibilities changes (λ s. IsLeft s.left)
       (λ s i chosen was. left_reduced s.left i (room_at products eligibilities changes s i) (has_room products eligibilities changes s i chosen).1 was)
-      (λ s was. was)
+      (λ s more was. was)
       grid (record { each = length_amounts changes; within = λ i lt. omega (arith, amount_at changes i lt) })
 
   pub settled_no_room : (grid : List (List ℕ)) (i : ℕ) → i < length changes → room_at products eligibilities changes (settled products eligibilities changes grid) i ≡ 0
   settled_no_room grid i lt = no_room (settled products eligibilities changes grid) (settled_ended products eligibilities changes grid) (settled_left grid).each i lt
+
+  settled_admitted : (grid : List (List ℕ)) → (settled products eligibilities changes grid).admitted ≤ length changes
+  settled_admitted grid =
+      settled_keep products eligibilities changes (λ s. s.admitted ≤ length changes) (λ s i chosen was. was) (λ s more was. omega (arith, more)) grid (omega arith)
+
+  -- at the end all requests are admitted
+  pub all_admitted : (grid : List (List ℕ)) → (settled products eligibilities changes grid).admitted ≡ length changes
+  all_admitted grid =
+      let end : Progress = settled products eligibilities changes grid in
+      let done : (first_with_room products eligibilities changes end ≡ None) × (length changes ≤ end.admitted) = ended_by end (first_with_room products eligibilities changes end) (nat_lt end.admitted (length changes)) (settled_ended products eligibilities changes grid) refl in
+      omega (arith, done.1, settled_admitted grid)
 
 -- what a processor needs to show of its end: that it is the settlement, and that the board's type kept its demands
 pub proper_end : (board : BoardFields) (changes : List Change) (end : SettledFields) → IsSettlement board changes end → IsWithinEligibility board.products board.eligibilities end.grid → IsProperEnd board changes end
 proper_end board changes end is held =
     let final : Progress = settled board.products board.eligibilities changes board.grid in
     let left : IsLeft board.products board.eligibilities changes end.left = subst (IsLeft board.products board.eligibilities changes) (sym is.left) (settled_left board.products board.eligibilities changes board.grid) in
+    let is_end : end_of changes end ≡ final =
+    λ k. record { admitted = sym (all_admitted board.products board.eligibilities changes board.grid) k; left = is.left k; grid = is.grid k; applied = is.applied k } in
     record {
+      settles = subst (Settles board.products board.eligibilities changes (start_of board.products board.eligibilities changes board.grid)) (sym is_end) (settled_settles board.products board.eligibilities changes board.grid);
       each = left.each;
       left = left.within;
       no_room = λ i lt.
@@ -121,7 +135,7 @@ module _ (products : List Product) (eligibilities : List ℕ) (changes : List Ch
 
   settled_held : (grid : List (List ℕ)) → IsBoard products eligibilities grid → StaysWithinCaps products grid changes (map (λ change. change.amount) changes) → IsBoard products eligibilities (settled products eligibilities changes grid).grid
   settled_held grid is caps =
-      (settled_keep products eligibilities changes IsHeld held_applied (λ s was. record { is_board = was.is_board; each = was.each; caps = was.caps }) grid
+      (settled_keep products eligibilities changes IsHeld held_applied (λ s more was. record { is_board = was.is_board; each = was.each; caps = was.caps }) grid
       (record { is_board = is; each = length_amounts changes; caps = caps })).is_board
 
 pub settled_board : (board : BoardFields) (changes : List Change) → IsBoard board.products board.eligibilities board.grid → CanSettle board changes →

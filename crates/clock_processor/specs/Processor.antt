@@ -7,7 +7,7 @@ use Rattle.clock_setup.specs.Demands.{total_of}
 use Rattle.clock_bids.specs.declared.change.Change.{Change}
 use Rattle.clock_processor.specs.Room.{room}
 use Rattle.clock_processor.specs.Board.{BoardFields, IsWithinEligibility}
-use Rattle.clock_processor.specs.Settling.{settled, no_change}
+use Rattle.clock_processor.specs.Settling.{Progress, Settles, start_of, settled, no_change}
 
 -- the grid after the round, what each request has left, and the counts
 pub record SettledFields : Type 0 where
@@ -22,13 +22,18 @@ pub record IsSettlement (board : BoardFields) (changes : List Change) (end : Set
   pub left : end.left ≡ (settled board.products board.eligibilities changes board.grid).left
   pub applied : end.applied ≡ (settled board.products board.eligibilities changes board.grid).applied
 
+-- the state in which all requests are admitted, with what the end says of the rest
+abbrev pub end_of : List Change → SettledFields → Progress
+end_of changes end = record { admitted = length changes; left = end.left; grid = end.grid; applied = end.applied }
+
 -- the part of the request at a place that is left has no room
 abbrev pub HasNoRoom : BoardFields → List Change → SettledFields → ℕ → Type 0
 HasNoRoom board changes end place =
     room board.products board.eligibilities end.grid (slice_index_or changes place no_change) (slice_index end.left place) ≡ 0
 
--- no request has room, none has more left than it asked for, no product's total is below the smaller of its former value and its supply, and every bidder's demands are within the caps and its eligibility
+-- the settling of the round comes to its end here: no request has room, none has more left than it asked for, no product's total is below the smaller of its former value and its supply, and every bidder's demands are within the caps and its eligibility
 pub record IsProperEnd (board : BoardFields) (changes : List Change) (end : SettledFields) : Type 0 where
+  pub settles : Settles board.products board.eligibilities changes (start_of board.products board.eligibilities changes board.grid) (end_of changes end)
   pub each : length end.left ≡ length changes
   pub left : EachIndex changes (λ place. slice_index end.left place ≤ (slice_index_or changes place no_change).amount)
   pub no_room : EachIndex changes (HasNoRoom board changes end)
