@@ -155,7 +155,7 @@ module _ (products : List Product) (prices : List PricePair) (demands : List ℕ
   good_sheet_chains eligibility good = good_bids_chains (no_sheet_fault products prices eligibility demands bids good).each
 
 -- a good chain ends within the cap
-last_quantity-le : (pair : PricePair) (cap held : ℕ) (chain : List Bid) → held ≤ cap → All (IsInRange pair cap) chain → last_quantity held chain ≤ cap
+pub last_quantity-le : (pair : PricePair) (cap held : ℕ) (chain : List Bid) → held ≤ cap → All (IsInRange pair cap) chain → last_quantity held chain ≤ cap
 last_quantity-le pair cap held [] most good = most
 last_quantity-le pair cap held (bid ∷ bids) most good =
     let first : IsInRange pair cap bid = All-head (IsInRange pair cap) bid bids good in
