@@ -27,3 +27,12 @@ module _ {A : Type 0} (fault : ℕ → Option A) where
       by : (start ≡ i) ⊎ (start ≡ i → ⊥) → ((start ≡ i → ⊥) → first_from (start + 1) count ≡ Some x) → first_from start (suc count) ≡ Some x
       by (inl same) later = first_after start count (Some x) (ap fault same ∙ e)
       by (inr other) later = first_after start count None (good start (omega arith) (omega (arith, other, low))) ∙ later other
+
+  -- a first fault is that of some place
+  pub is_of_place : (start count : ℕ) (x : A) → first_from start count ≡ Some x → (i : ℕ) × (fault i ≡ Some x)
+  is_of_place start zero x e = let bad : None ≡ Some x = e in absurd (cc)
+  is_of_place start (suc count) x e = by (fault start) refl (is_of_place (start + 1) count x)
+    where
+      by : (o : Option A) → fault start ≡ o → (first_from (start + 1) count ≡ Some x → (i : ℕ) × (fault i ≡ Some x)) → (i : ℕ) × (fault i ≡ Some x)
+      by None at rest = rest (sym (first_after start count None at) ∙ e)
+      by (Some y) at rest = (start, at ∙ sym (first_after start count (Some y) at) ∙ e)

@@ -5,12 +5,10 @@ use Rattle.std.specs.List.{list_any}
 use Rattle.std.specs.Map.{lookup}
 use Rattle.std.specs.Option.{option_map_or}
 use Rattle.clock_order.specs.declared.ties.Tie.{Tie}
+use Rattle.clock_order.specs.Entries.{tie_of}
 use Rattle.clock_order.specs.Ties.{tie_number, is_tie_of}
 
--- an entry is the pair of bidder and product, and the number
-abbrev pub tie_of : (ℕ × ℕ) × ℕ → Tie
-tie_of entry = record { bidder = entry.0.0; product = entry.0.1; number = entry.1 }
-
+-- the key is the pair
 abbrev pub is_key : ℕ → ℕ → ℕ × ℕ → Bool
 is_key bidder product key = (bidder == key.0) && (product == key.1)
 

@@ -6,9 +6,10 @@ use Rattle.std.proofs.lemmas.List.{take_more, map-append}
 use Rattle.clock_order.specs.declared.ties.Tie.{Tie}
 use Rattle.clock_order.specs.declared.ties.TieFault.{TieFault}
 use Rattle.clock_order.specs.declared.ties.TieFault.TheVariants.{Range, Repeated}
+use Rattle.clock_order.specs.Entries.{tie_of}
 use Rattle.clock_order.specs.Ties.{is_tie_of, is_out_of_range, tie_fault_at, first_tie_fault}
 use Rattle.clock_order.proofs.FirstFault.{none_from, first_at}
-use Rattle.clock_order.proofs.Listed.{tie_of, is_key, list_any-entries}
+use Rattle.clock_order.proofs.Listed.{is_key, list_any-entries}
 
 -- the entry at place i
 abbrev pub tie_at : List Tie → ℕ → Tie

@@ -21,7 +21,7 @@ pub struct OrderKey {
     pub product: u32,
     /// The number of the link in the bidder's chain for the product, from 0.
     pub place: u32,
-    pub ghost real: { 1 ≤ point.span },
+    pub ghost denominator: { 1 ≤ point.span },
 }
 
 impl Ord for OrderKey {

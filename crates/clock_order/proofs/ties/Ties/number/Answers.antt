@@ -1,5 +1,5 @@
 -- What the map has at the pair is the tie number of the list that it is seen as.
-use Rattle.std.proofs.Common.{◌≡◌, ◌∙◌, ap, unwrap_or}
+use Rattle.std.proofs.Common.{◌∙◌, ap, unwrap_or}
 use Rattle.clock_order.specs.Ties.{tie_number}
 use Rattle.clock_order.proofs.Listed.{tie_number-entries}
 use Rattle.clock_order.proofs.ties.Ties.number.Goals as goal
