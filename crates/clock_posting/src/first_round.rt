@@ -56,3 +56,55 @@ fn opening_posted(alloc: Global, products: &[Product]) -> Result<Items<Price>, N
     }
     Ok(posted)
 }
+
+#[cfg(test)]
+mod tests {
+    use super::*;
+    use crate::fixtures::{HIGHEST_OPENING, ONE_PRODUCT, TWO_PRODUCTS, opening};
+    use crate::text::sheet_lines;
+    use clock_device::Text;
+    use clock_setup::read_opening;
+    use std::test::Fail;
+
+    /// What the first round posts from an opening document, as lines.
+    fn lines_of(alloc: Global, setup: &str, demands: &str, increment: u64) -> Result<Text, Fail> {
+        let document = opening(alloc, setup, demands, increment)?;
+        let opening = read_opening(alloc, document.as_bytes())?;
+        let posting = post_first(alloc, &opening.setup, &opening.grid, opening.increment)?;
+        let sheet = posting.sheet.copy(alloc)?;
+        Ok(sheet_lines(alloc, &opening.setup, &sheet)?)
+    }
+
+    #[test]
+    fn totals_show_only_above_supply(rt: HostRuntime) -> Result<(), Fail> {
+        let alloc = rt.alloc();
+        for (setup, demands, lines) in [
+            (ONE_PRODUCT, "[[1],[1]]", "round 1\nA 100 100 100 - -\n"),
+            (ONE_PRODUCT, "[[2],[1]]", "round 1\nA 100 100 100 3 110\n"),
+            (
+                TWO_PRODUCTS,
+                "[[0,2],[2,0],[0,1]]",
+                "round 1\nA 100 100 100 - 110\nB 100 100 100 3 110\n",
+            ),
+            (
+                HIGHEST_OPENING,
+                "[[1],[1]]",
+                "round 1\nA 1000000000000 1000000000000 1000000000000 - -\n",
+            ),
+        ] {
+            let text = lines_of(alloc, setup, demands, 10)?;
+            assert_eq!(rt; text.as_slice(), lines.as_bytes(), "for {demands}");
+        }
+        Ok(())
+    }
+
+    #[test]
+    fn no_price_rises_above_the_highest(rt: HostRuntime) -> Result<(), Fail> {
+        let alloc = rt.alloc();
+        let document = opening(alloc, HIGHEST_OPENING, "[[2],[1]]", 1)?;
+        let opening = read_opening(alloc, document.as_bytes())?;
+        let refused = post_first(alloc, &opening.setup, &opening.grid, opening.increment);
+        assert_eq!(rt; refused.err(), Some(PostFault::PriceLimit(0)));
+        Ok(())
+    }
+}

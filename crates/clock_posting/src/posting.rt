@@ -124,11 +124,7 @@ fn line(
     let pair = prices[product];
     let price = posted[product];
     let total = grid.total(product);
-    let demand = if total > products[product].supply {
-        Some(total)
-    } else {
-        None
-    };
+    let demand = (total > products[product].supply).then_some(total);
     let next = if ended {
         None
     } else {

@@ -1,10 +1,9 @@
-ghost use Rattle.std.specs.Prelude.{◌≡◌, ◌++◌, List, [], ◌∷◌, length, codes, decimal, IfOk, OnOk, Option};
+ghost use Rattle.std.specs.Prelude.{◌≡◌, ◌++◌, length, IfOk, OnOk};
 ghost use Rattle.clock_posting.specs.SheetText.{sheet_text, line_text, number_or_dash};
 
 use crate::sheet::{Line, RoundSheet};
 use clock_device::{NoMemory, Text};
 use clock_setup::{Product, Setup};
-use itoa::Buffer;
 use std::alloc::Global;
 
 /// The lines that tell a round's sheet: `round N`, then for each product
@@ -16,7 +15,7 @@ pub fn sheet_lines(alloc: Global, setup: &Setup, sheet: &RoundSheet) -> Result<T
 {
     let products = setup.products.as_slice();
     let mut text = Text::from_slice(alloc, b"round ")?;
-    push_number(&mut text, sheet.round)?;
+    text.push_number(sheet.round)?;
     text.push(b'\n')?;
     for (i, line) in sheet.lines.as_slice().iter().enumerate() {
         push_line(&mut text, &products[i], line)?;
@@ -30,11 +29,11 @@ fn push_line(text: &mut Text, product: &Product, line: &Line) -> Result<(), NoMe
 {
     text.extend_from_slice(product.name.as_slice())?;
     text.push(b' ')?;
-    push_number(text, line.start.get())?;
+    text.push_number(line.start.get())?;
     text.push(b' ')?;
-    push_number(text, line.clock.get())?;
+    text.push_number(line.clock.get())?;
     text.push(b' ')?;
-    push_number(text, line.posted.get())?;
+    text.push_number(line.posted.get())?;
     text.push(b' ')?;
     push_or_dash(text, line.demand)?;
     text.push(b' ')?;
@@ -48,19 +47,7 @@ fn push_or_dash(text: &mut Text, number: Option<u64>) -> Result<(), NoMemory>
     ensures { OnOk result (text.new ≡ text.old ++ number_or_dash number) }
 {
     match number {
-        Some(number) => push_number(text, number),
-        None => {
-            text.push(b'-')?;
-            Ok(())
-        }
+        Some(number) => text.push_number(number),
+        None => text.push(b'-'),
     }
-}
-
-/// Adds a number in decimal.
-fn push_number(text: &mut Text, number: u64) -> Result<(), NoMemory>
-    ensures { OnOk result (text.new ≡ text.old ++ decimal number) }
-{
-    let mut buffer = Buffer::new();
-    text.extend_from_slice(buffer.format(number).as_bytes())?;
-    Ok(())
 }
