@@ -1,0 +1,13 @@
+//! The set-up documents that the tests begin with.
+
+/// One product A of two blocks, and the bidders X and Y of eligibility 10.
+pub const ONE_PRODUCT: &[u8] =
+    b"{\"bidders\":[{\"eligibility\":10,\"name\":\"X\",\"token\":\"XXXXXXXXXXXXXXXX\"},{\"eligibility\":10,\"name\":\"Y\",\"token\":\"YYYYYYYYYYYYYYYY\"}],\"operator\":\"OPERATOROPERATOR\",\"products\":[{\"cap\":2,\"name\":\"A\",\"opening\":100,\"supply\":2,\"units\":1}],\"requirement\":95,\"version\":1}";
+
+/// The same, opening at the highest price.
+pub const HIGHEST_OPENING: &[u8] =
+    b"{\"bidders\":[{\"eligibility\":10,\"name\":\"X\",\"token\":\"XXXXXXXXXXXXXXXX\"},{\"eligibility\":10,\"name\":\"Y\",\"token\":\"YYYYYYYYYYYYYYYY\"}],\"operator\":\"OPERATOROPERATOR\",\"products\":[{\"cap\":2,\"name\":\"A\",\"opening\":1000000000000,\"supply\":2,\"units\":1}],\"requirement\":95,\"version\":1}";
+
+/// Two products A and B of two blocks each, and the bidders X, Y and Z of eligibility 2, 2 and 1.
+pub const TWO_PRODUCTS: &[u8] =
+    b"{\"bidders\":[{\"eligibility\":2,\"name\":\"X\",\"token\":\"XXXXXXXXXXXXXXXX\"},{\"eligibility\":2,\"name\":\"Y\",\"token\":\"YYYYYYYYYYYYYYYY\"},{\"eligibility\":1,\"name\":\"Z\",\"token\":\"ZZZZZZZZZZZZZZZZ\"}],\"operator\":\"OPERATOROPERATOR\",\"products\":[{\"cap\":2,\"name\":\"A\",\"opening\":100,\"supply\":2,\"units\":1},{\"cap\":2,\"name\":\"B\",\"opening\":100,\"supply\":2,\"units\":1}],\"requirement\":100,\"version\":1}";
