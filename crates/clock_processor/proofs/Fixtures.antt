@@ -1,0 +1,152 @@
+-- The tests' set-up, board and requests are such as the calls ask for.
+use Rattle.std.proofs.Common.{◌≡◌, ◌≢◌, ℕ, zero, suc, ◌+◌, ◌<◌, ◌≤◌, List, [], ◌∷◌, Bool, true, false, ◌&&◌, refl, ap, subst, ◌∙◌, arith, get_or, length, All, leb-true, ltb-true, eqb-true, zero-add}
+use Rattle.std.specs.Prelude.{nat_le, nat_lt, nat_eq, slice_index}
+use Rattle.std.specs.List.{list_all, range_with_len, AllPass, AllPairs}
+use Rattle.std.proofs.lemmas.Bool.{false≢true}
+use Rattle.std.proofs.lemmas.List.Sums.{AllPass-from_list_all}
+use Rattle.std.proofs.lemmas.List.Elements.{All-cons, All-nil, All-weaker, All-from_get_or}
+use Rattle.std.proofs.lemmas.List.Kept.{AllPairs-cons}
+use Rattle.std.proofs.lemmas.List.FromFn.{get_or-range_with_len, length-range_with_len}
+use Rattle.clock_setup.specs.declared.setup.Product.{Product}
+use Rattle.clock_setup.specs.declared.setup.Bidder.{Bidder}
+use Rattle.clock_setup.specs.Limits.{IsProduct, IsBidder, IsSetup, IsRow, IsName, IsToken, AreDistinct, is_name_character, is_letter_or_digit, cap_of}
+use Rattle.clock_setup.specs.Examples.{two_products, two_blocks, bidder_named}
+use Rattle.clock_setup.specs.Demands.{row_of, demand_at}
+use Rattle.clock_setup.specs.Eligibility.{activity}
+use Rattle.clock_bids.specs.declared.change.Change.{Change}
+use Rattle.clock_bids.specs.declared.change.Kind.TheVariants.{Increase, Reduction}
+use Rattle.clock_bids.specs.Requests.{asked_of}
+use Rattle.clock_processor.specs.Board.{IsWithinEligibility}
+use Rattle.clock_processor.specs.Requests.{IsRequest, CanSettle}
+use Rattle.clock_processor.specs.Examples.{board, eligibilities, before}
+
+-- a name and a token are tested by computing
+name_of : (text : List ℕ) → 1 ≤ length text → length text ≤ 32 → list_all is_name_character text ≡ true → IsName text
+name_of text low high passes = ((low, high), AllPass-from_list_all is_name_character text passes)
+
+token_of : (text : List ℕ) → 16 ≤ length text → length text ≤ 64 → list_all is_letter_or_digit text ≡ true → IsToken text
+token_of text low high passes = ((low, high), AllPass-from_list_all is_letter_or_digit text passes)
+
+-- texts with other first bytes are not equal
+differ : (a b : List ℕ) → (get_or a 0 0 ≡ get_or b 0 0 → ⊥) → a ≢ b
+differ a b first e = first (ap (λ (text : List ℕ). get_or text 0 0) e)
+
+apart_nil : AreDistinct []
+apart_nil = λ i j d above in_range. absurd (omega (arith, in_range))
+
+product_is : (letter : ℕ) → list_all is_name_character (letter ∷ []) ≡ true → IsProduct (two_blocks (letter ∷ []))
+product_is letter passes = record {
+  name = name_of (letter ∷ []) (omega arith) (omega arith) passes;
+  units = (omega arith, omega arith);
+  supply = (omega arith, omega arith);
+  cap = (omega arith, omega arith);
+  opening = (omega arith, omega arith);
+}
+
+bidder_is : (letter eligibility : ℕ) → list_all is_name_character (letter ∷ []) ≡ true → list_all is_letter_or_digit (bidder_named letter eligibility).token ≡ true → eligibility ≤ 1000000000000 → IsBidder (bidder_named letter eligibility)
+bidder_is letter eligibility name token most = record {
+  name = name_of (letter ∷ []) (omega arith) (omega arith) name;
+  token = token_of (bidder_named letter eligibility).token (omega arith) (omega arith) token;
+  eligibility = most;
+}
+
+abbrev products : List Product
+products = two_products.products
+
+apart_from_all : (text : List ℕ) (texts : List (List ℕ)) → All (λ (other : List ℕ). text ≢ other) texts → AreDistinct texts → AreDistinct (text ∷ texts)
+apart_from_all text texts all apart = AllPairs-cons (λ (a b : List ℕ). a ≢ b) text texts all apart
+
+others : (text other : List ℕ) (texts : List (List ℕ)) → (get_or text 0 0 ≡ get_or other 0 0 → ⊥) → All (λ (one : List ℕ). text ≢ one) texts → All (λ (one : List ℕ). text ≢ one) (other ∷ texts)
+others text other texts first all = All-cons (λ (one : List ℕ). text ≢ one) other texts (differ text other first) all
+
+no_others : (text : List ℕ) → All (λ (one : List ℕ). text ≢ one) []
+no_others text = All-nil (λ (one : List ℕ). text ≢ one)
+
+-- three texts with other first bytes
+three_apart : (a b c : List ℕ) → (get_or a 0 0 ≡ get_or b 0 0 → ⊥) → (get_or a 0 0 ≡ get_or c 0 0 → ⊥) → (get_or b 0 0 ≡ get_or c 0 0 → ⊥) → AreDistinct (a ∷ b ∷ c ∷ [])
+three_apart a b c ab ac bc =
+    apart_from_all a (b ∷ c ∷ []) (others a b (c ∷ []) ab (others a c [] ac (no_others a)))
+    (apart_from_all b (c ∷ []) (others b c [] bc (no_others b)) (apart_from_all c [] (no_others c) apart_nil))
+
+pub two_products_is : IsSetup two_products
+two_products_is = record {
+  version = refl;
+  requirement = (omega arith, omega arith);
+  operator = token_of two_products.operator (omega arith) (omega arith) refl;
+  product_count = (omega arith, omega arith);
+  products = All-cons IsProduct _ (two_blocks (66 ∷ []) ∷ []) (product_is 65 refl) (All-cons IsProduct _ [] (product_is 66 refl) (All-nil IsProduct));
+  bidder_count = (omega arith, omega arith);
+  bidders = All-cons IsBidder _ (bidder_named 89 2 ∷ bidder_named 90 1 ∷ []) (bidder_is 88 2 refl refl (omega arith))
+      (All-cons IsBidder _ (bidder_named 90 1 ∷ []) (bidder_is 89 2 refl refl (omega arith))
+      (All-cons IsBidder _ [] (bidder_is 90 1 refl refl (omega arith)) (All-nil IsBidder)));
+  product_names = apart_from_all (65 ∷ []) ((66 ∷ []) ∷ []) (others (65 ∷ []) (66 ∷ []) [] (λ e. omega (arith, e)) (no_others (65 ∷ []))) (apart_from_all (66 ∷ []) [] (no_others (66 ∷ [])) apart_nil);
+  bidder_names = three_apart (88 ∷ []) (89 ∷ []) (90 ∷ []) (λ e. omega (arith, e)) (λ e. omega (arith, e)) (λ e. omega (arith, e));
+  tokens = (let x : List ℕ = (bidder_named 88 2).token in
+      let y : List ℕ = (bidder_named 89 2).token in
+      let z : List ℕ = (bidder_named 90 1).token in
+      apart_from_all two_products.operator (x ∷ y ∷ z ∷ [])
+      (others two_products.operator x (y ∷ z ∷ []) (λ e. omega (arith, e)) (others two_products.operator y (z ∷ []) (λ e. omega (arith, e)) (others two_products.operator z [] (λ e. omega (arith, e)) (no_others two_products.operator))))
+      (three_apart x y z (λ e. omega (arith, e)) (λ e. omega (arith, e)) (λ e. omega (arith, e))));
+}
+
+-- a test that passes at each number below n
+passes_at : (test : ℕ → Bool) (n i : ℕ) → list_all test (range_with_len 0 n) ≡ true → i < n → test i ≡ true
+passes_at test n i all lt =
+    let at : get_or (range_with_len 0 n) i 0 ≡ i = get_or-range_with_len 0 n i 0 lt ∙ zero-add i in
+    subst (λ k. test k ≡ true) at (AllPass-from_list_all test (range_with_len 0 n) all i 0 (omega (arith, lt, length-range_with_len 0 n)))
+
+both : (a b : Bool) → (a && b) ≡ true → (a ≡ true) × (b ≡ true)
+both true b h = (refl, h)
+both false b h = absurd (false≢true h)
+
+-- the activity and the demands before the round, row by row
+abbrev is_row_within : ℕ → Bool
+is_row_within b = nat_eq (length (row_of before b)) 2 && (nat_le (activity products (row_of before b)) (slice_index eligibilities b) && list_all (λ p. nat_le (demand_at before b p) (cap_of products p)) (range_with_len 0 2))
+
+pub before_held : IsWithinEligibility products eligibilities before
+before_held =
+    let row : (b : ℕ) → b < 3 → is_row_within b ≡ true = λ b lt. passes_at is_row_within 3 b refl lt in
+    record {
+      bidders = refl;
+      rows = All-from_get_or (IsRow products) before [] (λ b lt.
+          (let parts = both (nat_eq (length (row_of before b)) 2) _ (row b lt) in
+          let each : length (row_of before b) ≡ 2 = eqb-true _ _ parts.0 in
+          record {
+            each = each;
+            capped = λ p p_in. leb-true _ _ (passes_at (λ q. nat_le (demand_at before b q) (cap_of products q)) 2 p (both (nat_le (activity products (row_of before b)) (slice_index eligibilities b)) _ parts.1).1 (omega (arith, each, p_in)));
+          }));
+      within = λ b lt. leb-true _ _ (both (nat_le (activity products (row_of before b)) (slice_index eligibilities b)) _ (both (nat_eq (length (row_of before b)) 2) _ (row b lt)).1).0;
+    }
+
+-- whether requests can be settled on this board
+abbrev is_request : Change → Bool
+is_request change = nat_lt change.bidder 3 && (nat_lt change.product 2 && (nat_le 1 change.amount && nat_le change.amount 1000))
+
+abbrev keeps_cap : List Change → ℕ → ℕ → Bool
+keeps_cap changes b p =
+    nat_le (demand_at before b p + asked_of Increase b p changes) (cap_of products p) && nat_le (asked_of Reduction b p changes) (demand_at before b p)
+
+abbrev pub can_be_settled : List Change → Bool
+can_be_settled changes =
+    nat_le (length changes) 6291456 && (list_all is_request changes && list_all (λ b. list_all (keeps_cap changes b) (range_with_len 0 2)) (range_with_len 0 3))
+
+request_of : (change : Change) → is_request change ≡ true → IsRequest 3 2 change
+request_of change passes =
+    let bidder = both (nat_lt change.bidder 3) _ passes in
+    let product = both (nat_lt change.product 2) _ bidder.1 in
+    let amount = both (nat_le 1 change.amount) _ product.1 in
+    record { bidder = ltb-true _ _ bidder.0; product = ltb-true _ _ product.0; some = leb-true _ _ amount.0; few = leb-true _ _ amount.1 }
+
+pub settled_as_tested : (changes : List Change) → can_be_settled changes ≡ true → CanSettle board changes
+settled_as_tested changes passes =
+    let few = both (nat_le (length changes) 6291456) _ passes in
+    let each = both (list_all is_request changes) _ few.1 in
+    record {
+      applied = refl;
+      tests = refl;
+      few = leb-true _ _ few.0;
+      requests = All-weaker (λ (change : Change). is_request change ≡ true) (IsRequest 3 2) request_of changes (AllPass-from_list_all is_request changes each.0);
+      caps = λ b p b_in p_in.
+          (let keep = both (nat_le (demand_at before b p + asked_of Increase b p changes) (cap_of products p)) _ (passes_at (keeps_cap changes b) 2 p (passes_at (λ c. list_all (keeps_cap changes c) (range_with_len 0 2)) 3 b each.1 b_in) p_in) in
+          record { raised = leb-true _ _ keep.0; reduced = leb-true _ _ keep.1 });
+    }
