@@ -1,5 +1,5 @@
 -- The tests' set-up, board and requests are such as the calls ask for.
-use Rattle.std.proofs.Common.{◌≡◌, ◌≢◌, ℕ, zero, suc, ◌+◌, ◌<◌, ◌≤◌, List, [], ◌∷◌, Bool, true, false, ◌&&◌, refl, ap, subst, ◌∙◌, arith, get_or, length, All, leb-true, ltb-true, eqb-true, zero-add}
+use Rattle.std.proofs.Common.{◌≡◌, ◌≢◌, ℕ, zero, suc, ◌+◌, ◌<◌, ◌≤◌, List, [], ◌∷◌, ◌++◌, Bool, true, false, ◌&&◌, refl, ap, sym, subst, ◌∙◌, arith, get_or, length, All, leb-true, ltb-true, eqb-true, zero-add}
 use Rattle.std.specs.Prelude.{nat_le, nat_lt, nat_eq, slice_index}
 use Rattle.std.specs.List.{list_all, range_with_len, AllPass, AllPairs}
 use Rattle.std.proofs.lemmas.Bool.{false≢true}
@@ -18,7 +18,7 @@ use Rattle.clock_bids.specs.declared.change.Kind.TheVariants.{Increase, Reductio
 use Rattle.clock_bids.specs.Requests.{asked_of}
 use Rattle.clock_processor.specs.Board.{IsWithinEligibility}
 use Rattle.clock_processor.specs.Requests.{IsRequest, CanSettle}
-use Rattle.clock_processor.specs.Examples.{board, eligibilities, before}
+use Rattle.clock_processor.specs.Examples.{board, eligibilities, before, products, is_request, keeps_cap, can_be_settled}
 
 -- a name and a token are tested by computing
 name_of : (text : List ℕ) → 1 ≤ length text → length text ≤ 32 → list_all is_name_character text ≡ true → IsName text
@@ -49,9 +49,6 @@ bidder_is letter eligibility name token most = record {
   token = token_of (bidder_named letter eligibility).token (omega arith) (omega arith) token;
   eligibility = most;
 }
-
-abbrev products : List Product
-products = two_products.products
 
 apart_from_all : (text : List ℕ) (texts : List (List ℕ)) → All (λ (other : List ℕ). text ≢ other) texts → AreDistinct texts → AreDistinct (text ∷ texts)
 apart_from_all text texts all apart = AllPairs-cons (λ (a b : List ℕ). a ≢ b) text texts all apart
@@ -118,18 +115,6 @@ before_held =
       within = λ b lt. leb-true _ _ (both (nat_le (activity products (row_of before b)) (slice_index eligibilities b)) _ (both (nat_eq (length (row_of before b)) 2) _ (row b lt)).1).0;
     }
 
--- whether requests can be settled on this board
-abbrev is_request : Change → Bool
-is_request change = nat_lt change.bidder 3 && (nat_lt change.product 2 && (nat_le 1 change.amount && nat_le change.amount 1000))
-
-abbrev keeps_cap : List Change → ℕ → ℕ → Bool
-keeps_cap changes b p =
-    nat_le (demand_at before b p + asked_of Increase b p changes) (cap_of products p) && nat_le (asked_of Reduction b p changes) (demand_at before b p)
-
-abbrev pub can_be_settled : List Change → Bool
-can_be_settled changes =
-    nat_le (length changes) 6291456 && (list_all is_request changes && list_all (λ b. list_all (keeps_cap changes b) (range_with_len 0 2)) (range_with_len 0 3))
-
 request_of : (change : Change) → is_request change ≡ true → IsRequest 3 2 change
 request_of change passes =
     let bidder = both (nat_lt change.bidder 3) _ passes in
@@ -150,3 +135,21 @@ settled_as_tested changes passes =
           (let keep = both (nat_le (demand_at before b p + asked_of Increase b p changes) (cap_of products p)) _ (passes_at (keeps_cap changes b) 2 p (passes_at (λ c. list_all (keeps_cap changes c) (range_with_len 0 2)) 3 b each.1 b_in) p_in) in
           record { raised = leb-true _ _ keep.0; reduced = leb-true _ _ keep.1 });
     }
+
+-- lists that are pushed one after another
+pushed_two : {A : Type 0} (none one two : List A) (a b c d : A) → none ≡ [] → one ≡ none ++ (a ∷ []) → two ≡ one ++ (b ∷ []) → a ≡ c → b ≡ d → two ≡ c ∷ d ∷ []
+pushed_two none one two a b c d at_none at_one at_two first second =
+    at_two ∙ ap (λ list. list ++ (b ∷ [])) (at_one ∙ ap (λ list. list ++ (a ∷ [])) at_none) ∙ (λ k. first k ∷ second k ∷ [])
+
+pushed_three : {A : Type 0} (none one two three : List A) (a b c x y z : A) → none ≡ [] → one ≡ none ++ (a ∷ []) → two ≡ one ++ (b ∷ []) → three ≡ two ++ (c ∷ []) → a ≡ x → b ≡ y → c ≡ z → three ≡ x ∷ y ∷ z ∷ []
+pushed_three none one two three a b c x y z at_none at_one at_two at_three first second third =
+    at_three ∙ ap (λ list. list ++ (c ∷ [])) (pushed_two none one two a b x y at_none at_one at_two first second) ∙ (λ k. x ∷ y ∷ third k ∷ [])
+
+pub setup_is : (operator : List ℕ) (p0 p1 p2 : List Product) (b0 b1 b2 b3 : List Bidder) (a b : Product) (x y z : Bidder) → operator ≡ two_products.operator →
+    p0 ≡ [] → p1 ≡ p0 ++ (a ∷ []) → p2 ≡ p1 ++ (b ∷ []) → a ≡ two_blocks (65 ∷ []) → b ≡ two_blocks (66 ∷ []) →
+    b0 ≡ [] → b1 ≡ b0 ++ (x ∷ []) → b2 ≡ b1 ++ (y ∷ []) → b3 ≡ b2 ++ (z ∷ []) → x ≡ bidder_named 88 2 → y ≡ bidder_named 89 2 → z ≡ bidder_named 90 1 →
+    IsSetup (record { version = 1; requirement = 100; operator = operator; products = p2; bidders = b3 })
+setup_is operator p0 p1 p2 b0 b1 b2 b3 a b x y z text none_p one_p two_p is_a is_b none_b one_b two_b three_b is_x is_y is_z =
+    let products_are : p2 ≡ two_products.products = pushed_two p0 p1 p2 a b _ _ none_p one_p two_p is_a is_b in
+    let bidders_are : b3 ≡ two_products.bidders = pushed_three b0 b1 b2 b3 x y z _ _ _ none_b one_b two_b three_b is_x is_y is_z in
+    subst IsSetup (λ k. record { version = 1; requirement = 100; operator = sym text k; products = sym products_are k; bidders = sym bidders_are k }) two_products_is

@@ -1,7 +1,13 @@
 -- A small auction on which settling is computed: two products A and B, and the bidders X, Y and Z after their first round.
 --     board      what they hold then
+--     can_be_settled changes      whether requests can be settled on that board
 --     in_turn, without_the_last, two_drops      requests in the order of processing
-use Rattle.std.specs.Prelude.{ℕ, ◌-◌, List, [], ◌∷◌}
+use Rattle.std.specs.Prelude.{ℕ, ◌+◌, ◌-◌, List, [], ◌∷◌, Bool, ◌&&◌, nat_lt, nat_le, length}
+use Rattle.std.specs.List.{list_all, range_with_len}
+use Rattle.clock_setup.specs.declared.setup.Product.{Product}
+use Rattle.clock_setup.specs.Limits.{cap_of}
+use Rattle.clock_setup.specs.Demands.{demand_at}
+use Rattle.clock_bids.specs.Requests.{asked_of}
 use Rattle.clock_bids.specs.declared.change.Change.{Change}
 use Rattle.clock_bids.specs.declared.change.Kind.{Kind}
 use Rattle.clock_bids.specs.declared.change.Kind.TheVariants.{Increase, Reduction}
@@ -18,8 +24,23 @@ before = (0 ∷ 2 ∷ []) ∷ (2 ∷ 0 ∷ []) ∷ (0 ∷ 1 ∷ []) ∷ []
 abbrev pub eligibilities : List ℕ
 eligibilities = 2 ∷ 2 ∷ 1 ∷ []
 
+abbrev pub products : List Product
+products = two_products.products
+
 abbrev pub board : BoardFields
-board = new_board two_products.products eligibilities before
+board = new_board products eligibilities before
+
+-- whether requests can be settled on this board
+abbrev pub is_request : Change → Bool
+is_request change = nat_lt change.bidder 3 && (nat_lt change.product 2 && (nat_le 1 change.amount && nat_le change.amount 1000))
+
+abbrev pub keeps_cap : List Change → ℕ → ℕ → Bool
+keeps_cap changes b p =
+    nat_le (demand_at before b p + asked_of Increase b p changes) (cap_of products p) && nat_le (asked_of Reduction b p changes) (demand_at before b p)
+
+abbrev pub can_be_settled : List Change → Bool
+can_be_settled changes =
+    nat_le (length changes) 6291456 && (list_all is_request changes && list_all (λ b. list_all (keeps_cap changes b) (range_with_len 0 2)) (range_with_len 0 3))
 
 -- Y gives up one of A, X takes one of A, and X gives up one of B
 abbrev pub in_turn : List Change

@@ -1,9 +1,9 @@
 //! Examples of settling, which any processor can be put through.
 
-ghost use Rattle.std.specs.Prelude.{◌≡◌, ◌≤◌, ◌<◌, ◌-◌, [], ◌∷◌, length, IfOk};
+ghost use Rattle.std.specs.Prelude.{◌≡◌, ◌≤◌, ◌<◌, ◌-◌, [], ◌∷◌, length, IfOk, IsTrue};
 ghost use Rattle.clock_setup.specs.Examples.{two_products, two_blocks, bidder_named};
-ghost use Rattle.clock_processor.specs.Requests.{CanSettle};
 ghost use Rattle.clock_processor.specs.Examples as example;
+ghost use Rattle.clock_processor.specs.Examples.{can_be_settled};
 
 use crate::{Board, Plain, Processor, Settled};
 use clock_bids::{Change, Changes, Kind};
@@ -91,18 +91,46 @@ fn request(kind: Kind, bidder: u32, product: u32, amount: u64, price: u64) -> Ch
     }
 }
 
+/// Y reduces A and X raises it.
+fn without_the_last(alloc: Global) -> Result<Changes, NoMemory>
+    ensures { IfOk result (λ changes. changes ≡ example.without_the_last) }
+{
+    let mut changes = Changes::new(alloc);
+    changes.push(request(Kind::Reduction, 1, 0, 1, 102))?;
+    changes.push(request(Kind::Increase, 0, 0, 1, 104))?;
+    Ok(changes)
+}
+
+/// Y reduces A, X raises it, and X reduces B.
+fn in_turn(alloc: Global) -> Result<Changes, NoMemory>
+    ensures { IfOk result (λ changes. changes ≡ example.in_turn) }
+{
+    let mut changes = without_the_last(alloc)?;
+    changes.push(request(Kind::Reduction, 0, 1, 1, 106))?;
+    Ok(changes)
+}
+
+/// Z drops B, and so does X.
+fn two_drops(alloc: Global) -> Result<Changes, NoMemory>
+    ensures { IfOk result (λ changes. changes ≡ example.two_drops) }
+{
+    let mut changes = Changes::new(alloc);
+    changes.push(request(Kind::Reduction, 2, 1, 1, 100))?;
+    changes.push(request(Kind::Reduction, 0, 1, 2, 106))?;
+    Ok(changes)
+}
+
 /// Settles requests after the first round.
 fn settle<P: Processor>(
     alloc: Global,
     processor: &P,
-    changes: &[Change],
+    changes: &Changes,
 ) -> Result<Settled, NoMemory>
-    requires { CanSettle example.board changes.now }
+    requires { IsTrue (can_be_settled changes.now) }
     ensures { IfOk result (λ settled. length settled.grid ≡ 3) }
 {
     let board = board_after_first_round(alloc)?;
-    let changes = Changes::from_slice(alloc, changes)?;
-    processor.settle(alloc, board, &changes)
+    processor.settle(alloc, board, changes)
 }
 
 /// Compares an end with the demands of A and B for X, Y and Z, what is left, and the number of applications.
@@ -132,22 +160,17 @@ fn settles_examples<P: Processor>(
     alloc: Global,
     processor: &P,
 ) -> Result<(), NoMemory> {
-    let y_reduces_a = request(Kind::Reduction, 1, 0, 1, 102);
-    let x_raises_a = request(Kind::Increase, 0, 0, 1, 104);
-    let x_reduces_b = request(Kind::Reduction, 0, 1, 1, 106);
-    let in_turn = settle(alloc, processor, &[y_reduces_a, x_raises_a, x_reduces_b])?;
-    assert_settled(rt, &in_turn, [[1, 1], [1, 0], [0, 1]], &[0, 0, 0], 3);
+    let end = settle(alloc, processor, &in_turn(alloc)?)?;
+    assert_settled(rt, &end, [[1, 1], [1, 0], [0, 1]], &[0, 0, 0], 3);
 
-    let without_the_last = settle(alloc, processor, &[y_reduces_a, x_raises_a])?;
-    assert_settled(rt, &without_the_last, [[0, 2], [2, 0], [0, 1]], &[1, 1], 0);
+    let end = settle(alloc, processor, &without_the_last(alloc)?)?;
+    assert_settled(rt, &end, [[0, 2], [2, 0], [0, 1]], &[1, 1], 0);
 
-    let none = settle(alloc, processor, &[])?;
-    assert_settled(rt, &none, [[0, 2], [2, 0], [0, 1]], &[], 0);
+    let end = settle(alloc, processor, &Changes::new(alloc))?;
+    assert_settled(rt, &end, [[0, 2], [2, 0], [0, 1]], &[], 0);
 
-    let z_drops_b = request(Kind::Reduction, 2, 1, 1, 100);
-    let x_drops_b = request(Kind::Reduction, 0, 1, 2, 106);
-    let two_drops = settle(alloc, processor, &[z_drops_b, x_drops_b])?;
-    assert_settled(rt, &two_drops, [[0, 2], [2, 0], [0, 0]], &[0, 2], 1);
+    let end = settle(alloc, processor, &two_drops(alloc)?)?;
+    assert_settled(rt, &end, [[0, 2], [2, 0], [0, 0]], &[0, 2], 1);
     Ok(())
 }
 
