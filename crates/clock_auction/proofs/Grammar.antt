@@ -1,6 +1,6 @@
 -- What clap promises of a parse, said of the program's own grammar.
-use Rattle.std.proofs.Common.{◌≡◌, ◌≢◌, ◌∷◌, [], ◌⊎◌, inl, inr, Bool, true, List, Option, Some, None, refl, sym, ◌<◌, length, map, arith, Bor, ap, subst, ◌∙◌}
-use Rattle.clap.specs.Words.{App, FailsBy, HasKind, Kinds, Row, Text, fault_of, is_simple, is_simple_and_free, kind_of, subcommand_of}
+use Rattle.std.proofs.Common.{◌≡◌, ◌≢◌, ◌∷◌, [], inl, inr, true, List, Option, None, refl, sym, ◌<◌, length, map, arith, Bor, ap, subst, ◌∙◌}
+use Rattle.clap.specs.Words.{App, HasKind, Kinds, Row, Text, fault_of, is_simple, is_simple_and_free, kind_of, subcommand_of}
 use Rattle.clap.specs.declared.error.Error.{Error}
 use Rattle.clap.specs.declared.error.kind.ErrorKind.TheVariants.{OutOfMemory}
 use Rattle.clap.proofs.OnLiterals.{clap_on_literals}
@@ -30,9 +30,9 @@ module _ (app : App) (is_grammar : app ≡ grammar) (words : List Text) where
       → (is_simple app ≡ true → met ≡ subcommand_of app words) → job_met met ≡ job_meant words
   job_taken met none found =
       let none_of : fault_of grammar words ≡ [] =
-          subst (λ (a : App). is_simple_and_free a ≡ true → fault_of a words ≡ []) is_grammar none grammar_free in
+      subst (λ (a : App). is_simple_and_free a ≡ true → fault_of a words ≡ []) is_grammar none grammar_free in
       let found_by : met ≡ subcommand_of grammar words =
-          subst (λ (a : App). is_simple a ≡ true → met ≡ subcommand_of a words) is_grammar found grammar_simple in
+      subst (λ (a : App). is_simple a ≡ true → met ≡ subcommand_of a words) is_grammar found grammar_simple in
       ap job_met found_by ∙ taken (fault_of grammar words) (job_met (subcommand_of grammar words)) none_of
 
   -- clap refused the words
@@ -40,7 +40,7 @@ module _ (app : App) (is_grammar : app ≡ grammar) (words : List Text) where
       → kind_of error ≢ OutOfMemory → job_meant words ≡ None
   job_refused error has other =
       let has_kind : HasKind (fault_of grammar words) error =
-          subst (λ (a : App). is_simple_and_free a ≡ true → HasKind (fault_of a words) error) is_grammar has grammar_free in
+      subst (λ (a : App). is_simple_and_free a ≡ true → HasKind (fault_of a words) error) is_grammar has grammar_free in
       refused (fault_of grammar words) (job_met (subcommand_of grammar words)) error has_kind other
 
 -- no word stands for `prices --increment 10`

@@ -1,2 +1,5 @@
 mod IncrementText
 mod Grammar
+mod Streams
+mod Reading
+mod Outcomes

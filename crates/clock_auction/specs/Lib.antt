@@ -1,1 +1,7 @@
 pub mod Words
+pub mod Input
+pub mod Output
+pub mod PriceLines
+pub mod FaultLines
+pub mod Answers
+pub mod Run

@@ -10,6 +10,7 @@ use Rattle.clap.specs.Words.{App, Kinds, Row, Rule, Shape, Text, fault_of, new_a
 use Rattle.clap.specs.Simple.{on_top}
 use Rattle.clap.specs.ValueTests.{is_unsigned_in}
 use Rattle.clap.specs.declared.builder.value_parser.ValueParser.TheVariants as parser
+use Rattle.clock_setup.specs.Limits.{IsWithin}
 use Rattle.clock_auction.specs.declared.words.Job.{Job}
 use Rattle.clock_auction.specs.declared.words.Job.TheVariants.{Prices, Opening}
 
@@ -67,3 +68,8 @@ job_meant words = unless_refused (fault_of grammar words) (job_met (subcommand_o
 -- the job that the words after the program's name ask for
 abbrev pub job_of : List Text → Option Job
 job_of words = job_meant (given words)
+
+-- an increment is from 1 to 50 percent
+abbrev pub IsJob : Job → Type 0
+IsJob (Prices increment) = IsWithin 1 50 increment
+IsJob Opening = Unit {0}

@@ -1,6 +1,59 @@
-//! The program: reads a document on standard input and writes the lines that it asks for.
+//! The program: reads a document on standard input and prints the lines that it asks for.
 #![tactic(auto)]
 
+mod answer;
+mod command;
+mod fault;
+mod fault_lines;
+mod input;
+mod output;
+mod prices;
 mod words;
 
-fn main(_rt: HostRuntime) {}
+use clock_device::{FromReader, ToWriter};
+use command::command;
+use std::alloc::{AllocError, Global};
+use std::process::ExitCode;
+use std::rt::Env;
+use std::{env, io};
+
+/// Standard input is the document's, standard output the text's, and standard error the fault's.
+fn main(rt: HostRuntime) -> io::Result<ExitCode> {
+    let status = match given_words(&rt) {
+        Ok(words) => match texts_of(rt.alloc(), words.as_slice()) {
+            Ok(texts) => command(
+                rt.alloc(),
+                texts.as_slice(),
+                &mut FromReader::new(rt.stdin()),
+                &mut ToWriter::new(rt.stdout()),
+                &mut ToWriter::new(rt.stderr()),
+            ),
+            Err(AllocError) => memory_fault(&rt),
+        },
+        Err(error) if error.kind() == io::ErrorKind::OutOfMemory => memory_fault(&rt),
+        Err(_) => {
+            let _ = rt.eprintln("error: a word is not UTF-8");
+            2
+        }
+    };
+    Ok(ExitCode::from(status))
+}
+
+/// The words after the program's name.
+fn given_words(rt: &(impl Env + Alloc<A = Global>)) -> io::Result<Vec<String>> {
+    let mut words = Vec::new(rt.alloc());
+    for word in env::args(rt)?.skip(1) {
+        words.push(word)?;
+    }
+    Ok(words)
+}
+
+fn texts_of(alloc: Global, words: &[String]) -> Result<Vec<&str>, AllocError> {
+    words.iter().map(|word| word.as_str()).collect(alloc)
+}
+
+/// Shows that the program's own words found no memory.
+fn memory_fault(rt: &impl Eprint) -> u8 {
+    let _ = rt.eprintln("fault: memory");
+    1
+}

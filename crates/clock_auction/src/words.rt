@@ -1,7 +1,8 @@
-ghost use Rattle.std.specs.Prelude.{◌≡◌, ◌≢◌, ◌&&◌, if◌then◌else◌, nat_le, Some, None, false, codes, map, option_and_then, IfOk, IfErr};
+ghost use Rattle.std.specs.Prelude.{◌≡◌, ◌≢◌, ◌&&◌, if◌then◌else◌, nat_le, Some, None, false, codes, map, option_and_then, IfSome, IfOk, IfErr};
+ghost use Rattle.clock_setup.specs.Limits.{IsWithin};
 ghost use Rattle.clap.specs.Words.{app_of, found_of, kind_of, one_of, rows_of, subcommand_rows_of};
 ghost use Rattle.clap.specs.declared.builder.Command.TheViews.{out-Command};
-ghost use Rattle.clock_auction.specs.Words.{grammar, increment_from, job_meant, job_met, job_of, prices_grammar};
+ghost use Rattle.clock_auction.specs.Words.{IsJob, grammar, increment_from, job_meant, job_met, job_of, prices_grammar};
 
 use clap::builder::ValueParser;
 use clap::error::ErrorKind;
@@ -47,16 +48,19 @@ fn program<'a>(alloc: Global) -> Result<Command<'a>, Error>
 {
     let prices = prices_command(alloc)?;
     let opening = Command::new(alloc, "opening");
-    Ok(Command::new(alloc, "clock_auction")
-        .no_binary_name(true)
-        .subcommand_required(true)
-        .subcommand(prices)?
-        .subcommand(opening)?)
+    Ok(
+        Command::new(alloc, "clock_auction")
+            .no_binary_name(true)
+            .subcommand_required(true)
+            .subcommand(prices)?
+            .subcommand(opening)?,
+    )
 }
 
 /// The increment, where it is from 1 to 50.
 fn within_limits(increment: u64) -> Option<u64>
-    ensures { result ≡ (if nat_le 1 increment && nat_le increment 50 then Some increment else None) }
+    ensures value { result ≡ (if nat_le 1 increment && nat_le increment 50 then Some increment else None) }
+    ensures limits { IfSome result (IsWithin 1 50) }
 {
     if (1..=50).contains(&increment) {
         Some(increment)
@@ -67,8 +71,9 @@ fn within_limits(increment: u64) -> Option<u64>
 
 /// The increment that `prices` is given, where it is from 1 to 50.
 fn increment_in(options: &ArgMatches) -> Option<u64>
-    ensures { result ≡ option_and_then increment_from
+    ensures value { result ≡ option_and_then increment_from
         (one_of (codes "increment") (rows_of (found_of options.now))) }
+    ensures limits { IfSome result (IsWithin 1 50) }
 {
     let increment = options.get_one::<u64>("increment")?;
     within_limits(increment)
@@ -76,7 +81,8 @@ fn increment_in(options: &ArgMatches) -> Option<u64>
 
 /// The job that the matches name.
 fn job_in(matches: &ArgMatches) -> Option<Job>
-    ensures { result ≡ job_met (subcommand_rows_of matches.now) }
+    ensures met { result ≡ job_met (subcommand_rows_of matches.now) }
+    ensures limits { IfSome result IsJob }
 {
     let (name, options) = matches.subcommand()?;
     if name == "prices" {
@@ -91,6 +97,7 @@ fn job_in(matches: &ArgMatches) -> Option<Job>
 /// The job that some words ask for.
 fn job_in_words(alloc: Global, words: &[&str]) -> Result<Option<Job>, Error>
     ensures ok { IfOk result (λ job. job ≡ job_meant (map (λ word. word.now) words.entry.now)) }
+    ensures limits { IfOk result (λ job. IfSome job IsJob) }
     ensures err { IfErr result (λ error. kind_of error ≢ ErrorKind.OutOfMemory
         → job_meant (map (λ word. word.now) words.entry.now) ≡ None) }
 {
@@ -102,6 +109,7 @@ fn job_in_words(alloc: Global, words: &[&str]) -> Result<Option<Job>, Error>
 /// none. An error's text says what is wrong with the words, or is the help that they ask for.
 pub fn job_asked(alloc: Global, words: &[&str]) -> Result<Option<Job>, Error>
     ensures ok { IfOk result (λ job. job ≡ job_of (map (λ word. word.now) words.entry.now)) }
+    ensures limits { IfOk result (λ job. IfSome job IsJob) }
     ensures err { IfErr result (λ error. kind_of error ≢ ErrorKind.OutOfMemory
         → job_of (map (λ word. word.now) words.entry.now) ≡ None) }
 {

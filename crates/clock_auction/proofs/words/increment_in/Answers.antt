@@ -1,19 +1,18 @@
-use Rattle.std.proofs.Common.{rules, ◌≡◌, ◌∙◌, ℕ, ap, sym, Option, Some, None, nat_le, ◌&&◌, cond, codes, option_and_then}
+use Rattle.std.proofs.Common.{◌∙◌, ap, sym, codes}
 use Rattle.std.specs.Str.Parse.{ParsesUnsigned, ExplainsUnsignedError, HasUnsignedDigitsIfOk}
 use Rattle.clock_auction.proofs.IncrementText.{increment_read, within_limits}
-use Rattle.clap.specs.Words.{found_of, one_of, one_text, rows_of}
+use Rattle.clap.specs.Words.{found_of, one_text}
 use Rattle.clap.proofs.WalkLemmas.{one_text-rows}
-use Rattle.clock_auction.specs.Words.{increment_from}
 use Rattle.clock_auction.proofs.words.increment_in.Goals as goal
 
-pub returns-in_err-increment : goal.returns-in_err-increment
-returns-in_err-increment c =
+pub returns-in_err-increment-clause-value : goal.returns-in_err-increment-clause-value
+returns-in_err-increment-clause-value c =
     let read = increment_read (λ bs r. ParsesUnsigned 64 10 bs r × ExplainsUnsignedError 10 bs r × HasUnsignedDigitsIfOk bs r) (λ t r g. g.0) (one_text (found_of c.args.options.now) (codes "increment")) c.get_one.result
     c.get_one.ensures.none c.get_one.ensures.value in
     rw (← one_text-rows) (c.from_residual.ensures ∙ ap within_limits (sym c.in_err-increment.was) ∙ read)
 
-pub returns : goal.returns
-returns c =
+pub returns-clause-value : goal.returns-clause-value
+returns-clause-value c =
     let read = increment_read (λ bs r. ParsesUnsigned 64 10 bs r × ExplainsUnsignedError 10 bs r × HasUnsignedDigitsIfOk bs r) (λ t r g. g.0) (one_text (found_of c.args.options.now) (codes "increment")) c.get_one.result
     c.get_one.ensures.none c.get_one.ensures.value in
-    rw (← one_text-rows) (c.within_limits.ensures ∙ ap within_limits (sym c.in_ok-increment.was) ∙ read)
+    rw (← one_text-rows) (c.within_limits.ensures.value ∙ ap within_limits (sym c.in_ok-increment.was) ∙ read)

@@ -1,4 +1,4 @@
-use Rattle.std.proofs.Common.{◌≡◌, ◌∙◌, ap, map}
+use Rattle.std.proofs.Common.{◌∙◌, ap, map}
 use Rattle.std.proofs.lemmas.Result.{err_from_is_err_and}
 use Rattle.clap.specs.Words.{kind_of}
 use Rattle.clock_auction.proofs.Grammar.{job_taken, job_refused}
@@ -12,5 +12,5 @@ returns-in_err-matches-clause-err c =
 
 pub returns-clause-ok : goal.returns-clause-ok
 returns-clause-ok c =
-    c.job_in.ensures ∙ job_taken _ c.in_ok-program.ensures.shape (map (λ word. word.now) c.args.words.now) _
+    c.job_in.ensures.met ∙ job_taken _ c.in_ok-program.ensures.shape (map (λ word. word.now) c.args.words.now) _
     c.in_ok-matches.ensures.kinds (λ simple. (c.in_ok-matches.ensures.matches simple).1)

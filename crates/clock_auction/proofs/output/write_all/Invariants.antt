@@ -1,0 +1,14 @@
+use Rattle.std.proofs.Common.{length, take, ◌-◌, ◌≡◌, ◌≤◌}
+use Rattle.clock_device.specs.Streams.{HasWritten}
+use Rattle.clock_auction.proofs.output.write_all.Given as goal
+
+-- the bytes so far are written, and no write has failed
+abbrev pub invariant-loop-done : goal.invariant-loop-done
+invariant-loop-done g l = record {
+  within : l.done ≤ length l.bytes;
+  written : HasWritten (g.W.Sink.bytes_taken l.initial.sink) (g.W.Sink.bytes_taken l.sink) (take l.done l.bytes);
+  unfailed : g.W.Sink.has_failed l.sink ≡ g.W.Sink.has_failed l.initial.sink;
+}
+
+abbrev pub decreases-loop-done : goal.decreases-loop-done
+decreases-loop-done g l = length l.bytes - l.done

@@ -1,0 +1,44 @@
+-- What a job answers to a document: the text that it prints, or the document's fault. (Own formats.)
+--     answer_of job document     the answer
+use Rattle.std.specs.Prelude.{ℕ, List, Option, Some, None, Result, Ok, Err}
+use Rattle.clock_setup.specs.Limits.{SetupFields}
+use Rattle.clock_setup.specs.Prices.{opening_prices}
+use Rattle.clock_setup.specs.SetupDocument.{document_setup}
+use Rattle.clock_setup.specs.OpeningDocument.{document_opening}
+use Rattle.clock_setup.specs.declared.fault.SetupFault.{SetupFault}
+use Rattle.clock_setup.specs.declared.opening.Opening.{Opening}
+use Rattle.clock_setup.specs.declared.opening.OpeningFault.{OpeningFault}
+use Rattle.clock_posting.specs.Posting.{opening_posted, price_limit_fault, round_sheet}
+use Rattle.clock_posting.specs.SheetText.{sheet_text}
+use Rattle.clock_auction.specs.PriceLines.{price_lines}
+use Rattle.clock_auction.specs.declared.words.Job.{Job}
+use Rattle.clock_auction.specs.declared.words.Job.TheVariants as job
+use Rattle.clock_auction.specs.declared.fault.Fault.{Fault}
+use Rattle.clock_auction.specs.declared.fault.Fault.TheVariants as fault
+
+-- the price lines of the set-up that was read
+abbrev pub prices_of : ℕ → Result SetupFields SetupFault → Result (List ℕ) Fault
+prices_of increment (Ok setup) = Ok (price_lines increment setup.products)
+prices_of increment (Err inner) = Err (fault.Setup inner)
+
+-- a posting that no price limit forbids
+abbrev pub unless_limited : Option ℕ → List ℕ → Result (List ℕ) Fault
+unless_limited None text = Ok text
+unless_limited (Some product) text = Err (fault.PriceLimit product)
+
+-- the lines of the sheet of round 1, where the opening prices are posted
+abbrev pub first_round : Opening → Result (List ℕ) Fault
+first_round opening =
+    let products = opening.setup.products in
+    let posted = opening_posted products in
+    unless_limited (price_limit_fault products opening.grid posted opening.increment)
+    (sheet_text products (round_sheet 1 products (opening_prices products) opening.grid posted opening.increment))
+
+abbrev pub opening_lines_of : Result Opening OpeningFault → Result (List ℕ) Fault
+opening_lines_of (Ok opening) = first_round opening
+opening_lines_of (Err inner) = Err (fault.Opening inner)
+
+-- what the job answers to the document
+abbrev pub answer_of : Job → List ℕ → Result (List ℕ) Fault
+answer_of (job.Prices increment) document = prices_of increment (document_setup document)
+answer_of job.Opening document = opening_lines_of (document_opening document)

@@ -1,0 +1,58 @@
+-- The one line that a run shows of its fault. (Own format.)
+--     fault_line fault     `fault: WORDS` and a line feed
+use Rattle.std.specs.Prelude.{ℕ, List, ◌++◌, codes, decimal}
+use Rattle.clock_setup.specs.declared.fault.Place.{Place}
+use Rattle.clock_setup.specs.declared.fault.Place.TheVariants as place
+use Rattle.clock_setup.specs.declared.fault.SetupFault.{SetupFault}
+use Rattle.clock_setup.specs.declared.fault.SetupFault.TheVariants as in_setup
+use Rattle.clock_setup.specs.declared.opening.OpeningFault.{OpeningFault}
+use Rattle.clock_setup.specs.declared.opening.OpeningFault.TheVariants as in_opening
+use Rattle.clock_auction.specs.declared.fault.Fault.{Fault}
+use Rattle.clock_auction.specs.declared.fault.Fault.TheVariants as fault
+
+-- where in a set-up the value stands
+abbrev pub place_words : Place → List ℕ
+place_words place.Requirement = codes "requirement"
+place_words place.Operator = codes "operator"
+place_words place.Products = codes "products"
+place_words (place.Name i) = codes "name " ++ decimal i
+place_words (place.Units i) = codes "units " ++ decimal i
+place_words (place.Supply i) = codes "supply " ++ decimal i
+place_words (place.Cap i) = codes "cap " ++ decimal i
+place_words (place.Opening i) = codes "opening " ++ decimal i
+place_words place.Bidders = codes "bidders"
+place_words (place.BidderName i) = codes "bidder_name " ++ decimal i
+place_words (place.Token i) = codes "token " ++ decimal i
+place_words (place.Eligibility i) = codes "eligibility " ++ decimal i
+
+-- want of memory has one word, wherever it comes
+abbrev pub setup_words : SetupFault → List ℕ
+setup_words in_setup.NotJson = codes "setup_not_json"
+setup_words in_setup.Shape = codes "setup_shape"
+setup_words in_setup.Version = codes "setup_version"
+setup_words (in_setup.Range p) = codes "setup_range " ++ place_words p
+setup_words in_setup.DuplicateName = codes "setup_duplicate_name"
+setup_words in_setup.DuplicateToken = codes "setup_duplicate_token"
+setup_words in_setup.NoMemory = codes "memory"
+
+-- a fault of the set-up in an opening document has the set-up's words
+abbrev pub opening_words : OpeningFault → List ℕ
+opening_words in_opening.NotJson = codes "not_json"
+opening_words in_opening.Shape = codes "shape"
+opening_words (in_opening.Setup inner) = setup_words inner
+opening_words (in_opening.Demand bidder product) = codes "demand " ++ decimal bidder ++ codes " " ++ decimal product
+opening_words (in_opening.Activity bidder) = codes "activity " ++ decimal bidder
+opening_words in_opening.Increment = codes "increment"
+opening_words in_opening.NoMemory = codes "memory"
+
+abbrev pub fault_words : Fault → List ℕ
+fault_words fault.Input = codes "input"
+fault_words fault.LongInput = codes "long_input"
+fault_words (fault.Setup inner) = setup_words inner
+fault_words (fault.Opening inner) = opening_words inner
+fault_words (fault.PriceLimit product) = codes "price_limit " ++ decimal product
+fault_words fault.Output = codes "output"
+fault_words fault.Memory = codes "memory"
+
+abbrev pub fault_line : Fault → List ℕ
+fault_line cause = codes "fault: " ++ fault_words cause ++ codes "\n"

@@ -1,0 +1,33 @@
+-- What was written to a sink.
+--     Writes     the text was written, all of it unless a write failed
+--     IsUntouched     no write was made
+use Rattle.std.specs.Prelude.{◌≡◌, ℕ, List, take, Option, Bool, true, false}
+use Rattle.clock_device.specs.Streams.{HasWritten, HasWrittenNothing}
+
+-- what is seen of a sink over a run: the bytes taken before and after it, where the sink tells them, how many writes
+-- were made, and whether one failed
+pub record Writing : Type 0 where
+  pub before : Option (List ℕ)
+  pub after : Option (List ℕ)
+  pub calls : ℕ
+  pub has_failed : Bool
+
+-- so many bytes of the text were written, and no others
+abbrev pub HasWrittenFront : Option (List ℕ) → Option (List ℕ) → List ℕ → Type 0
+HasWrittenFront old new text = (count : ℕ) × HasWritten old new (take count text)
+
+-- all of the text was written
+pub record WritesWhole (writing : Writing) (text : List ℕ) : Type 0 where
+  pub bytes : HasWritten writing.before writing.after text
+  pub unfailed : writing.has_failed ≡ false
+
+-- a write failed, and only a front of the text was written
+pub record WritesFront (writing : Writing) (text : List ℕ) : Type 0 where
+  pub bytes : HasWrittenFront writing.before writing.after text
+  pub failed : writing.has_failed ≡ true
+
+-- no write was made, so nothing was written
+pub record IsUntouched (writing : Writing) : Type 0 where
+  pub bytes : HasWrittenNothing writing.before writing.after
+  pub none : writing.calls ≡ 0
+  pub unfailed : writing.has_failed ≡ false

@@ -1,0 +1,88 @@
+-- What a run of the program comes to: what it read, what it wrote, what it showed, and its status.
+--     IsRunOf job reading output result     how the run of a job ends
+--     HasOutcome job reading output shown outcome     how a run ends whose words ask for that job, if any
+--     ComesTo job reading output shown status     a run with this status ends so
+use Rattle.std.specs.Prelude.{◌≡◌, ◌⊎◌, ℕ, List, Option, Some, None, Result, Ok, Err, false}
+use Rattle.clock_device.specs.Streams.{HasWrittenNothing}
+use Rattle.clock_auction.specs.Input.{IsReadingOf, Reading, ReadsWhole}
+use Rattle.clock_auction.specs.Output.{IsUntouched, Writing, WritesFront, WritesWhole}
+use Rattle.clock_auction.specs.Answers.{answer_of}
+use Rattle.clock_auction.specs.FaultLines.{fault_line}
+use Rattle.clock_auction.specs.declared.words.Job.{Job}
+use Rattle.clock_auction.specs.declared.fault.Fault.{Fault}
+use Rattle.clock_auction.specs.declared.fault.Fault.TheVariants as fault
+
+-- all of the input is a document to which the job answers this
+abbrev pub HasAnswer : Job → Reading → Result (List ℕ) Fault → Type 0
+HasAnswer job reading answer =
+    (document : List ℕ) × ReadsWhole reading document × (answer_of job document ≡ answer)
+
+-- the run of a job prints the answer to the whole input, or it prints nothing and has the first fault: of reading, of the
+-- document, of writing. Only where a write failed can a front of the text be written. Want of memory can stand in place
+-- of any but a fault of reading or writing.
+abbrev pub IsRunOf : {U : Type 0} → Job → Reading → Writing → Result U Fault → Type 0
+IsRunOf job reading output (Ok done) =
+    (text : List ℕ) × HasAnswer job reading (Ok text) × WritesWhole output text
+IsRunOf job reading output (Err fault.Output) =
+    (text : List ℕ) × HasAnswer job reading (Ok text) × WritesFront output text
+IsRunOf job reading output (Err fault.Input) = IsReadingOf reading (Err fault.Input) × IsUntouched output
+IsRunOf job reading output (Err fault.LongInput) = IsReadingOf reading (Err fault.LongInput) × IsUntouched output
+IsRunOf job reading output (Err fault.Memory) = IsReadingOf reading (Err fault.Memory) × IsUntouched output
+IsRunOf job reading output (Err (fault.Setup inner)) =
+    HasAnswer job reading (Err (fault.Setup inner)) × IsUntouched output
+IsRunOf job reading output (Err (fault.Opening inner)) =
+    HasAnswer job reading (Err (fault.Opening inner)) × IsUntouched output
+IsRunOf job reading output (Err (fault.PriceLimit product)) =
+    HasAnswer job reading (Err (fault.PriceLimit product)) × IsUntouched output
+
+-- how a run can end: its answer is printed, or it has a fault, or its words are refused
+pub data Outcome : Type 0 where
+  printed : Outcome
+  stopped : Fault → Outcome
+  refused : Outcome
+
+abbrev pub status_of : Outcome → ℕ
+status_of printed = 0
+status_of (stopped cause) = 1
+status_of refused = 2
+
+-- the text is shown, but for what follows a write that failed
+abbrev pub Shows : Writing → List ℕ → Type 0
+Shows shown text = WritesWhole shown text ⊎ WritesFront shown text
+
+-- no read was made, so nothing was read
+pub record IsUnread (reading : Reading) : Type 0 where
+  pub bytes : HasWrittenNothing reading.before reading.after
+  pub none : reading.calls ≡ 0
+  pub unfailed : reading.has_failed ≡ false
+
+-- the words ask for a job, whose run ends so
+abbrev pub RunsJob : {U : Type 0} → Option Job → Reading → Writing → Result U Fault → Type 0
+RunsJob asked reading output result = (job : Job) × (asked ≡ Some job) × IsRunOf job reading output result
+
+-- a run whose answer is printed shows nothing, and one that stops shows the one line of its fault. Words that ask for no
+-- job are refused, and nothing is read. Want of memory can come before the words are known.
+abbrev pub HasOutcome : Option Job → Reading → Writing → Writing → Outcome → Type 0
+HasOutcome asked reading output shown printed =
+    RunsJob {U = Unit {0}} asked reading output (Ok tt) × IsUntouched shown
+HasOutcome asked reading output shown (stopped fault.Memory) =
+    IsReadingOf reading (Err fault.Memory) × IsUntouched output × Shows shown (fault_line fault.Memory)
+HasOutcome asked reading output shown (stopped cause) =
+    RunsJob {U = Unit {0}} asked reading output (Err cause) × Shows shown (fault_line cause)
+HasOutcome asked reading output shown refused = (asked ≡ None) × IsUnread reading × IsUntouched output
+
+-- the run ends in one of these ways, and its status tells which
+abbrev pub ComesTo : Option Job → Reading → Writing → Writing → ℕ → Type 0
+ComesTo asked reading output shown status =
+    (outcome : Outcome) × (status ≡ status_of outcome) × HasOutcome asked reading output shown outcome
+
+-- the line of the fault is shown, or that of want of memory
+abbrev pub IsShownOrMemory : Fault → Writing → Type 0
+IsShownOrMemory cause shown = Shows shown (fault_line cause) ⊎ Shows shown (fault_line fault.Memory)
+
+-- the line of the fault is shown, which takes memory where the fault is the document's
+abbrev pub IsShown : Fault → Writing → Type 0
+IsShown (fault.Setup inner) shown = IsShownOrMemory (fault.Setup inner) shown
+IsShown (fault.Opening inner) shown = IsShownOrMemory (fault.Opening inner) shown
+IsShown (fault.PriceLimit product) shown = IsShownOrMemory (fault.PriceLimit product) shown
+IsShown other shown = Shows shown (fault_line other)

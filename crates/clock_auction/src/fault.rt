@@ -1,0 +1,42 @@
+ghost use Rattle.std.specs.Prelude.{◌≡◌};
+ghost use Rattle.clock_auction.specs.declared.fault.Fault.TheVariants.{Memory};
+
+use clock_device::NoMemory;
+use clock_setup::{OpeningFault, SetupFault};
+use std::alloc::AllocError;
+
+/// Why a run printed nothing. The cases stand in the order in which they are looked at, want of
+/// memory aside, which stands in place of any other.
+#[derive(Clone, Copy, Debug, PartialEq, Eq)]
+pub enum Fault {
+    /// A read failed, or too many reads were made.
+    Input,
+    /// There are more bytes than the program reads.
+    LongInput,
+    /// The document is no set-up.
+    Setup(SetupFault),
+    /// The document is no opening.
+    Opening(OpeningFault),
+    /// A product, by its number, can have no next clock price.
+    PriceLimit(u64),
+    /// A write failed.
+    Output,
+    /// There was no memory.
+    Memory,
+}
+
+impl From<NoMemory> for Fault {
+    ghost from_gives = { λ _ fault. fault ≡ Memory };
+
+    fn from(_refused: NoMemory) -> Fault {
+        Fault::Memory
+    }
+}
+
+impl From<AllocError> for Fault {
+    ghost from_gives = { λ _ fault. fault ≡ Memory };
+
+    fn from(_refused: AllocError) -> Fault {
+        Fault::Memory
+    }
+}

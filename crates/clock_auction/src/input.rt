@@ -1,0 +1,66 @@
+ghost use Rattle.std.specs.Prelude.{◌≡◌, ◌≤◌, ◌<◌, ◌||◌, length, vec_len, IfOk};
+ghost use Rattle.clock_device.specs.Calls.{IsUnused, count_after};
+ghost use Rattle.clock_auction.specs.Input.{IsReadingOf, IsStepOf, is_input_fault, most_bytes, most_reads};
+
+use crate::fault::Fault;
+use clock_device::{Source, Stop, Text};
+use std::alloc::{AllocError, Global};
+
+/// How many bytes of input are read at most.
+const MOST_BYTES: usize = 67_108_864;
+
+/// How many reads are made at most.
+const MOST_READS: u64 = 100_000_000;
+
+/// How many bytes one read asks for at most.
+const PIECE: usize = 65_536;
+
+/// All bytes of the input. An interrupted read is tried again.
+pub fn read_all<R: Source>(alloc: Global, reader: &mut R) -> Result<Text, Fault>
+    requires { IsUnused (R.calls reader.old) (R.has_failed reader.old) }
+    ensures reading { IsReadingOf (record { before = R.bytes_left reader.old; after = R.bytes_left reader.new; calls = R.calls reader.new; has_failed = R.has_failed reader.new }) result }
+    ensures calls { R.calls reader.new ≤ most_reads }
+{
+    let mut piece = empty_piece(alloc, PIECE)?;
+    let mut document = Text::new(alloc);
+    for _call in 0..MOST_READS {
+        if read_more(reader, piece.as_mut_slice(), &mut document)? {
+            return Ok(document);
+        }
+    }
+    Err(Fault::Input)
+}
+
+/// Room for one read.
+fn empty_piece(alloc: Global, size: usize) -> Result<Vec<u8>, AllocError>
+    ensures { IfOk result (λ piece. vec_len piece ≡ size) }
+{
+    vec![in alloc; 0; size]
+}
+
+/// Makes one read and adds its bytes to the document. Answers whether the input has ended.
+fn read_more<R: Source>(
+    reader: &mut R,
+    piece: &mut [u8],
+    document: &mut Text,
+) -> Result<bool, Fault>
+    requires room { 0 < length piece.old }
+    requires few { length document.old ≤ most_bytes }
+    ensures step { IsStepOf (R.bytes_left reader.old) (R.bytes_left reader.new) document.old document.new result }
+    ensures counted { R.calls reader.new ≡ count_after (R.calls reader.old) }
+    ensures failed { R.has_failed reader.new ≡ (R.has_failed reader.old || is_input_fault result) }
+{
+    let free = MOST_BYTES - document.as_slice().len();
+    let asked = piece.len().min(free + 1);
+    let part = &mut piece[..asked];
+    let count = match reader.read(part) {
+        Ok(count) => count,
+        Err(Stop::Interrupted) => return Ok(false),
+        Err(Stop::Failed) => return Err(Fault::Input),
+    };
+    if count > free {
+        return Err(Fault::LongInput);
+    }
+    document.extend_from_slice(&part[..count])?;
+    Ok(count == 0)
+}

@@ -1,0 +1,45 @@
+ghost use Rattle.std.specs.Prelude.{◌≡◌, ◌≤◌, ◌++◌, IfOk, OnOk};
+ghost use Rattle.clock_auction.specs.PriceLines.{price_line, price_lines, price_or_dash};
+
+use clock_device::{NoMemory, Text};
+use clock_money::{Price, clock_price};
+use clock_setup::{Product, Setup};
+use std::alloc::Global;
+
+/// The price lines of a set-up, with clock prices at this increment in percent.
+pub fn prices_text(alloc: Global, setup: &Setup, increment: u64) -> Result<Text, NoMemory>
+    requires least { 1 ≤ increment }
+    requires most { increment ≤ 50 }
+    ensures { IfOk result (λ text. text ≡ price_lines increment setup.now.products) }
+{
+    let products = setup.products.as_slice();
+    let mut text = Text::new(alloc);
+    for product in products {
+        push_line(&mut text, product, increment)?;
+    }
+    Ok(text)
+}
+
+/// Adds the line of a product.
+fn push_line(text: &mut Text, product: &Product, increment: u64) -> Result<(), NoMemory>
+    requires least { 1 ≤ increment }
+    requires most { increment ≤ 50 }
+    ensures { OnOk result (text.new ≡ text.old ++ price_line increment product.now) }
+{
+    text.extend_from_slice(product.name.as_slice())?;
+    text.push(b' ')?;
+    text.push_number(product.opening.get())?;
+    text.push(b' ')?;
+    push_or_dash(text, clock_price(product.opening, increment))?;
+    text.push(b'\n')
+}
+
+/// Adds a price, or a dash where there is none.
+fn push_or_dash(text: &mut Text, price: Option<Price>) -> Result<(), NoMemory>
+    ensures { OnOk result (text.new ≡ text.old ++ price_or_dash price) }
+{
+    match price {
+        Some(price) => text.push_number(price.get()),
+        None => text.push(b'-'),
+    }
+}
