@@ -128,7 +128,7 @@ chains_apart item (bid ∷ bids) =
     ]
 
 -- no more bids from a product on than bids
-length-filter-le : {A : Type 0} (test : A → Bool) (xs : List A) → length (filter test xs) ≤ length xs
+pub length-filter-le : {A : Type 0} (test : A → Bool) (xs : List A) → length (filter test xs) ≤ length xs
 length-filter-le test xs = omega (arith, length-filter test xs, count_by-le-length test xs)
 
 no_place_twice : (a b : Change) → StandsBefore a b → a.product ≡ b.product → a.place ≡ b.place → ⊥

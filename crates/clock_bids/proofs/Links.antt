@@ -122,20 +122,33 @@ one_more_step owner item first pair way blocks most change changes step at steps
   count = omega (arith, steps.count);
 }
 
-module _ (owner item : ℕ) (pair : PricePair) (cap : ℕ) (small : cap ≤ 1000) where
-  -- the changes of the bids from one on
-  abbrev changes_from : ℕ → ℕ → List Bid → List Change
+-- the changes that the bids of a chain ask for, from a place and a quantity on
+module _ (owner item : ℕ) (pair : PricePair) where
+  abbrev pub changes_from : ℕ → ℕ → List Bid → List Change
   changes_from place from chain =
       map (λ link. change_to owner item pair link.0 link.1.0 link.1.1.quantity link.1.1.price)
       (filter (λ link. not (link.1.0 == link.1.1.quantity)) (enumerate_from place (zip (from ∷ map (λ bid. bid.quantity) chain) chain)))
 
-  begins_with : (place from : ℕ) (bid : Bid) (bids : List Bid) → (from == bid.quantity) ≡ false →
-      changes_from place from (bid ∷ bids) ≡ change_to owner item pair place from bid.quantity bid.price ∷ changes_from (place + 1) bid.quantity bids
-  begins_with place from bid bids differ =
-      ap (λ b. map (λ (link : ℕ × (ℕ × Bid)). change_to owner item pair link.0 link.1.0 link.1.1.quantity link.1.1.price)
+  by_test : (place from : ℕ) (bid : Bid) (bids : List Bid) (b : Bool) → (from == bid.quantity) ≡ b →
+      changes_from place from (bid ∷ bids)
+      ≡ map (λ link. change_to owner item pair link.0 link.1.0 link.1.1.quantity link.1.1.price)
       (cond (not b) ((place, (from, bid)) ∷ filter (λ link. not (link.1.0 == link.1.1.quantity)) (enumerate_from (place + 1) (zip (map (λ bid. bid.quantity) (bid ∷ bids)) bids)))
-      (filter (λ link. not (link.1.0 == link.1.1.quantity)) (enumerate_from (place + 1) (zip (map (λ bid. bid.quantity) (bid ∷ bids)) bids))))) differ
+      (filter (λ link. not (link.1.0 == link.1.1.quantity)) (enumerate_from (place + 1) (zip (map (λ bid. bid.quantity) (bid ∷ bids)) bids))))
+  by_test place from bid bids b is =
+      ap (λ test. map (λ (link : ℕ × (ℕ × Bid)). change_to owner item pair link.0 link.1.0 link.1.1.quantity link.1.1.price)
+      (cond (not test) ((place, (from, bid)) ∷ filter (λ link. not (link.1.0 == link.1.1.quantity)) (enumerate_from (place + 1) (zip (map (λ bid. bid.quantity) (bid ∷ bids)) bids)))
+      (filter (λ link. not (link.1.0 == link.1.1.quantity)) (enumerate_from (place + 1) (zip (map (λ bid. bid.quantity) (bid ∷ bids)) bids))))) is
 
+  -- a bid of another quantity than the one before it asks for a change, and one of the same for none
+  pub begins_with : (place from : ℕ) (bid : Bid) (bids : List Bid) → (from == bid.quantity) ≡ false →
+      changes_from place from (bid ∷ bids) ≡ change_to owner item pair place from bid.quantity bid.price ∷ changes_from (place + 1) bid.quantity bids
+  begins_with place from bid bids differ = by_test place from bid bids false differ
+
+  pub begins_without : (place from : ℕ) (bid : Bid) (bids : List Bid) → (from == bid.quantity) ≡ true →
+      changes_from place from (bid ∷ bids) ≡ changes_from (place + 1) bid.quantity bids
+  begins_without place from bid bids same = by_test place from bid bids true same
+
+module _ (owner item : ℕ) (pair : PricePair) (cap : ℕ) (small : cap ≤ 1000) where
   step_is : (way : Kind) (place from to price : ℕ) → LeadsOn way from to → from ≤ cap → to ≤ cap → pair.start ≤ price → price ≤ pair.clock →
       IsStep owner item place pair way (change_to owner item pair place from to price)
   step_is way place from to price on least most low high = record {
@@ -151,7 +164,7 @@ module _ (owner item : ℕ) (pair : PricePair) (cap : ℕ) (small : cap ≤ 1000
   }
 
   steps_from : (way : Kind) (place from : ℕ) (chain : List Bid) → MovesOn way from chain → from ≤ cap → All (IsInRange pair cap) chain →
-      AreSteps owner item place pair way (distance from (last_quantity from chain)) (length chain) (changes_from place from chain)
+      AreSteps owner item place pair way (distance from (last_quantity from chain)) (length chain) (changes_from owner item pair place from chain)
   steps_from way place from [] moves least good =
       let none : 0 ≡ distance from from = omega arith in
       subst (λ blocks. AreSteps owner item place pair way blocks 0 []) none (no_steps owner item place pair way 0)
@@ -160,14 +173,14 @@ module _ (owner item : ℕ) (pair : PricePair) (cap : ℕ) (small : cap ≤ 1000
       let change : Change = change_to owner item pair place from bid.quantity bid.price in
       let first : IsStep owner item place pair way change = step_is way place from bid.quantity bid.price moves.0 least here.capped here.from_start here.to_clock in
       let rest = steps_from way (place + 1) bid.quantity bids moves.1 here.capped (All-tail (IsInRange pair cap) bid bids good) in
-      let all = one_more_step owner item place pair way (distance bid.quantity (last_quantity bid.quantity bids)) (length bids) change (changes_from (place + 1) bid.quantity bids) first refl rest in
+      let all = one_more_step owner item place pair way (distance bid.quantity (last_quantity bid.quantity bids)) (length bids) change (changes_from owner item pair (place + 1) bid.quantity bids) first refl rest in
       let sums : change.amount + distance bid.quantity (last_quantity bid.quantity bids) ≡ distance from (last_quantity bid.quantity bids) =
       adds_up way from bid.quantity (last_quantity bid.quantity bids) moves.0 (ends_on way bid.quantity bids moves.1) in
       let more : length bids + 1 ≡ suc (length bids) = omega arith in
       subst (λ list. AreSteps owner item place pair way (distance from (last_quantity bid.quantity bids)) (suc (length bids)) list)
-      (sym (begins_with place from bid bids (differs way from bid.quantity moves.0)))
-      (subst (λ n. AreSteps owner item place pair way (distance from (last_quantity bid.quantity bids)) n (change ∷ changes_from (place + 1) bid.quantity bids)) more
-      (subst (λ blocks. AreSteps owner item place pair way blocks (length bids + 1) (change ∷ changes_from (place + 1) bid.quantity bids)) sums all))
+      (sym (begins_with owner item pair place from bid bids (differs way from bid.quantity moves.0)))
+      (subst (λ n. AreSteps owner item place pair way (distance from (last_quantity bid.quantity bids)) n (change ∷ changes_from owner item pair (place + 1) bid.quantity bids)) more
+      (subst (λ blocks. AreSteps owner item place pair way blocks (length bids + 1) (change ∷ changes_from owner item pair (place + 1) bid.quantity bids)) sums all))
 
 -- changes in a direction keep a demand within 0 and the cap
 abbrev pub KeepsWithin : Kind → ℕ → ℕ → ℕ → Type 0
