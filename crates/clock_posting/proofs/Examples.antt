@@ -1,6 +1,5 @@
 -- Posted prices and sheets of small rounds, computed from their definitions.
 use Rattle.std.proofs.Common.{◌≡◌, ℕ, ◌-◌, List, [], ◌∷◌, Option, Some, None, true, false, refl}
-use Rattle.clock_setup.specs.declared.setup.Product.{Product}
 use Rattle.clock_setup.specs.declared.prices.PricePair.{PricePair}
 use Rattle.clock_setup.specs.Examples.{one_product, two_products}
 use Rattle.clock_bids.specs.declared.change.Change.{Change}

@@ -28,8 +28,12 @@ pub fn post_first(
     requires most { increment ≤ 50 }
     requires grid { IsGrid (length setup.now.bidders) (length setup.now.products) grid.now }
 
-    ensures ok { IfOk result (rules.IsPosting 1 setup.now.products (opening_prices setup.now.products) grid.now (rules.opening_posted setup.now.products) increment) }
-    ensures err { IfErr result (rules.IsPostFault (rules.price_limit_fault setup.now.products grid.now (rules.opening_posted setup.now.products) increment)) }
+    ensures ok { let products = setup.now.products in
+        let posted = rules.opening_posted products in
+        IfOk result (rules.IsPosting 1 products (opening_prices products) grid.now posted increment) }
+    ensures err { let products = setup.now.products in
+        let posted = rules.opening_posted products in
+        IfErr result (rules.IsPostFault (rules.price_limit_fault products grid.now posted increment)) }
     ensures laws { IfOk result rules.IsConsistent }
 {
     let products = setup.products.as_slice();

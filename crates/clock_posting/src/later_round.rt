@@ -13,6 +13,9 @@ use clock_processor::Settled;
 use clock_setup::{Grid, PricePair, Prices, Product, Setup};
 use std::alloc::Global;
 
+#[cfg(test)]
+mod tests;
+
 /// What the closing of a round after the first posts, by the prices of the round, the changes that
 /// were asked, and what they settled to: each product's posted price is its clock price where its
 /// total exceeds its supply, otherwise its start price where no reduction of it was applied, and
@@ -39,11 +42,18 @@ pub fn post(
     requires changes { All (later.IsPricedBy prices.now) changes.now }
     requires left { length settled.now.left ≡ length changes.now }
 
-    ensures ok { IfOk result (rules.IsPosting round setup.now.products prices.now settled.now.grid (later.posted_prices setup.now.products prices.now changes.now settled.now.left settled.now.grid) increment) }
-    ensures err { IfErr result (rules.IsPostFault (rules.price_limit_fault setup.now.products settled.now.grid (later.posted_prices setup.now.products prices.now changes.now settled.now.left settled.now.grid) increment)) }
+    ensures ok { let products = setup.now.products in
+        let end = settled.now in
+        let posted = later.posted_prices products prices.now changes.now end.left end.grid in
+        IfOk result (rules.IsPosting round products prices.now end.grid posted increment) }
+    ensures err { let products = setup.now.products in
+        let end = settled.now in
+        let posted = later.posted_prices products prices.now changes.now end.left end.grid in
+        IfErr result (rules.IsPostFault (rules.price_limit_fault products end.grid posted increment)) }
     ensures laws { IfOk result rules.IsConsistent }
-    // While the auction goes on, some price reaches the clock price: so prices rise without end.
-    ensures clock { IfOk result (λ posting. IfSome posting.next (λ _. Any rules.IsAtClock posting.sheet.lines)) }
+    // While the auction goes on, some clock price is posted: prices rise, so it can't go on for ever.
+    ensures clock { IfOk result
+        (λ posting. IfSome posting.next (λ _. Any rules.IsAtClock posting.sheet.lines)) }
 {
     let products = setup.products.as_slice();
     let posted = posted_prices(
@@ -78,7 +88,8 @@ fn posted_prices(
     requires prices { length prices.now ≡ length products.now }
     requires changes { All (later.IsPricedBy prices.now) changes.now }
     requires left { length left.now ≡ length changes.now }
-    ensures { IfOk result (λ posted. posted ≡ later.posted_prices products.now prices.now changes.now left.now grid.now) }
+    ensures { IfOk result (λ posted. posted
+        ≡ later.posted_prices products.now prices.now changes.now left.now grid.now) }
 {
     let mut posted = reduced_prices(alloc, prices, changes, left)?;
     for (i, product) in products.iter().enumerate() {
@@ -99,7 +110,9 @@ fn reduced_prices(
     requires changes { All (later.IsPricedBy prices.now) changes.now }
     requires left { length left.now ≡ length changes.now }
     ensures each { IfOk result (λ highest. length highest ≡ length prices.now) }
-    ensures price { IfOk result (λ highest. (p : ℕ) → p < length prices.now → slice_index highest p ≡ later.highest_or (prices_at prices.now p).start (later.applied_prices changes.now left.now p)) }
+    ensures price { IfOk result (λ highest. (p : ℕ) → p < length prices.now → slice_index highest p
+        ≡ later.highest_or (prices_at prices.now p).start
+        (later.applied_prices changes.now left.now p)) }
 {
     let mut highest = start_prices(alloc, prices)?;
     for (i, change) in changes.iter().enumerate() {
@@ -111,7 +124,8 @@ fn reduced_prices(
 /// The start price of each product.
 fn start_prices(alloc: Global, prices: &[PricePair]) -> Result<Items<Price>, NoMemory>
     ensures each { IfOk result (λ starts. length starts ≡ length prices.now) }
-    ensures price { IfOk result (λ starts. (p : ℕ) → p < length prices.now → slice_index starts p ≡ (prices_at prices.now p).start) }
+    ensures price { IfOk result (λ starts. (p : ℕ) → p < length prices.now →
+        slice_index starts p ≡ (prices_at prices.now p).start) }
 {
     let mut starts = Items::new(alloc);
     for pair in prices {
@@ -125,7 +139,9 @@ fn note(highest: &mut Items<Price>, prices: &[PricePair], change: &Change, left:
     requires each { length highest.old ≡ length prices.now }
     requires priced { later.IsPricedBy prices.now change.now }
     ensures each { length highest.new ≡ length highest.old }
-    ensures price { (p : ℕ) → p < length highest.old → slice_index highest.new p ≡ (if later.is_applied_reduction p change.now left then max (slice_index highest.old p) change.now.price else slice_index highest.old p) }
+    ensures price { (p : ℕ) → p < length highest.old → slice_index highest.new p
+        ≡ (if later.is_applied_reduction p change.now left
+        then max (slice_index highest.old p) change.now.price else slice_index highest.old p) }
 {
     let product = change.product as usize;
     if change.kind == Kind::Reduction && left < change.amount {

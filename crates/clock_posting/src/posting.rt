@@ -22,9 +22,13 @@ pub fn posting(
     requires rows { All (λ row. length row ≡ length products.now) grid.now }
     requires prices { length prices.now ≡ length products.now }
     requires posted { length posted.now ≡ length products.now }
-    requires between { (k : ℕ) → k < length products.now → rules.IsBetween (rules.sheet_line products.now prices.now grid.now posted.now increment k) }
-    ensures ok { IfOk result (rules.IsPosting round products.now prices.now grid.now posted.now increment) }
-    ensures err { IfErr result (rules.IsPostFault (rules.price_limit_fault products.now grid.now posted.now increment)) }
+    requires between { (k : ℕ) → k < length products.now → rules.IsBetween
+        (rules.sheet_line products.now prices.now grid.now posted.now increment k) }
+
+    ensures ok { IfOk result
+        (rules.IsPosting round products.now prices.now grid.now posted.now increment) }
+    ensures err { IfErr result
+        (rules.IsPostFault (rules.price_limit_fault products.now grid.now posted.now increment)) }
     ensures laws { IfOk result rules.IsConsistent }
 {
     let ended = has_ended(products, grid);
@@ -93,7 +97,8 @@ fn lines(
     requires prices { length prices.now ≡ length products.now }
     requires posted { length posted.now ≡ length products.now }
     requires ended { ended ≡ rules.has_ended products.now grid.now }
-    ensures { IfOk result (λ lines. lines ≡ rules.lines_of_round products.now prices.now grid.now posted.now increment) }
+    ensures { IfOk result (λ lines. lines
+        ≡ rules.lines_of_round products.now prices.now grid.now posted.now increment) }
 {
     let mut lines = Lines::new(alloc);
     for product in 0..products.len() {
@@ -119,7 +124,8 @@ fn line(
     requires prices { length prices.now ≡ length products.now }
     requires posted { length posted.now ≡ length products.now }
     requires ended { ended ≡ rules.has_ended products.now grid.now }
-    ensures { result ≡ rules.sheet_line products.now prices.now grid.now posted.now increment product }
+    ensures { result
+        ≡ rules.sheet_line products.now prices.now grid.now posted.now increment product }
 {
     let pair = prices[product];
     let price = posted[product];
