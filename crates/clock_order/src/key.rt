@@ -38,8 +38,8 @@ impl Ord for OrderKey {
     ghost matches_eq = { order_key_equal };
 
     fn cmp(&self, other: &OrderKey) -> Ordering {
-        self.point
-            .compare(&other.point)
+        let by_point = self.point.compare(&other.point);
+        by_point
             .then(self.tie.cmp(&other.tie))
             .then(self.bidder.cmp(&other.bidder))
             .then(self.product.cmp(&other.product))
