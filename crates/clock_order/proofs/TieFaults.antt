@@ -1,5 +1,5 @@
 -- A list of tie numbers is never refused for want of memory by its first fault.
-use Rattle.std.proofs.Common.{◌≡◌, ℕ, Bool, true, false, List, length, nat_lt, Option, Some, None, if◌then◌else◌, refl, sym, ap, ◌∙◌}
+use Rattle.std.proofs.Common.{◌≡◌, ℕ, Bool, true, false, List, length, nat_lt, Option, Some, None, if◌then◌else◌}
 use Rattle.clock_order.specs.declared.ties.Tie.{Tie}
 use Rattle.clock_order.specs.declared.ties.TieFault.{TieFault}
 use Rattle.clock_order.specs.declared.ties.TieFault.TheVariants.{Range, Repeated, TooMany, NoMemory}

@@ -3,7 +3,7 @@ ghost use Rattle.std.specs.Prelude.{ℕ, ◌≤◌};
 use clock_money::Point;
 use std::cmp::Ordering;
 
-/// What a request is ordered by: its price point, the tie number of its bidder and product, and
+/// What a change is ordered by: its price point, the tie number of its bidder and product, and
 /// then bidder, product and place themselves.
 ///
 /// Points are compared by value, so that 5/10 and 50/100 tie; the two numbers of a point come
@@ -21,6 +21,7 @@ pub struct OrderKey {
     pub product: u32,
     /// The number of the link in the bidder's chain for the product, from 0.
     pub place: u32,
+    // Without it 0/0 would equal every point, and the order would not be total.
     pub ghost denominator: { 1 ≤ point.span },
 }
 

@@ -1,5 +1,5 @@
 -- Each entry is judged by the map of those before it.
-use Rattle.std.proofs.Common.{◌≡◌, ◌∙◌, ap, map, sym}
+use Rattle.std.proofs.Common.{◌∙◌, ap, map, sym}
 use Rattle.indexmap.proofs.CallerLemmas.{insert_entry-new}
 use Rattle.clock_order.specs.Entries.{tie_of}
 use Rattle.clock_order.proofs.Listed.{is_key}
