@@ -1,13 +1,13 @@
 -- Laws of grids of demands and their totals.
 use Rattle.std.proofs.Common.{◌≡◌, ℕ, ◌+◌, ◌-◌, ◌*◌, ◌<◌, ◌≤◌, ◌≢◌, List, [], ◌∷◌, ◌++◌, length, take, drop, get_or, set, replicate, zip, zero, suc, All, refl, sym, ap, ◌∙◌, subst, arith, ⊎_elim}
-use Rattle.std.proofs.lemmas.List.{length-set, length-take-le, drop_more, take_more, set_at, set-set, append_assoc, get_or-set_same, get_or-set_other, get_or_past, get_or-replicate, length-replicate}
+use Rattle.std.proofs.lemmas.List.{length-set, length-take-le, drop_more, take_more, set_at, set-set, append_assoc, get_or-set_same, get_or-set_other, get_or_past, get_or-replicate, get_or_default, length-replicate}
 use Rattle.std.proofs.lemmas.List.Sums.{sum_by-set, sum_by-le, sum_by-cons, get_or-le-sum_by}
-use Rattle.std.proofs.lemmas.List.Elements.{All-set}
+use Rattle.std.proofs.lemmas.List.Elements.{All-set, All-replicate}
 use Rattle.std.proofs.lemmas.Bool.{cases_lt, cases_eq}
 use Rattle.clock_setup.specs.declared.setup.Product.{Product}
 use Rattle.clock_setup.specs.Limits.{IsRow}
 use Rattle.clock_setup.specs.Eligibility.{activity}
-use Rattle.clock_setup.specs.Demands.{total_of, demand_at, row_of, with_demand, IsKeptGrid}
+use Rattle.clock_setup.specs.Demands.{total_of, demand_at, row_of, with_demand, no_demands, IsGrid, IsKeptGrid}
 
 -- a demand is at most a thousand
 demand_small : (row : List ℕ) (p : ℕ) → All (λ demand. demand ≤ 1000) row → get_or row p 0 ≤ 1000
@@ -71,21 +71,35 @@ total_after grid totals b p v kept h low =
     let few : length grid ≤ 512 = kept.small.few_bidders in
     (omega arith, omega arith)
 
+-- one more item of a list takes the place of another list's
+pub replaced_more : {A : Type 0} (new old : List A) (i : ℕ) (d x : A) → i < length new → length new ≡ length old → x ≡ get_or new i x
+    → set (take i new ++ drop i old) i x ≡ take (i + 1) new ++ drop (i + 1) old
+replaced_more new old i d x h same at =
+    let within : i < length old = omega arith in
+    ap (λ rest. set (take i new ++ rest) i x) (drop_more old i d within)
+    ∙ set_at (take i new) (get_or old i d) (drop (i + 1) old) x i (length-take-le i new (omega arith))
+    ∙ ap (λ y. take i new ++ y ∷ drop (i + 1) old) at
+    ∙ sym (ap (λ front. front ++ drop (i + 1) old) (take_more new i x h) ∙ append_assoc (take i new) (get_or new i x ∷ []) (drop (i + 1) old))
+
 -- one more demand of a new row
 pub row_more : (grid : List (List ℕ)) (b : ℕ) (demands : List ℕ) (i : ℕ) → b < length grid → i < length demands → length demands ≡ length (row_of grid b)
     → with_demand (set grid b (take i demands ++ drop i (row_of grid b))) b i (get_or demands i 0) ≡ set grid b (take (i + 1) demands ++ drop (i + 1) (row_of grid b))
 row_more grid b demands i h k same =
     let row : List ℕ = row_of grid b in
     let so_far : List ℕ = take i demands ++ drop i row in
-    let within : i < length row = omega arith in
-    let left : length (take i demands) ≡ i = length-take-le i demands (omega arith) in
-    let written : set so_far i (get_or demands i 0) ≡ take i demands ++ get_or demands i 0 ∷ drop (i + 1) row =
-    ap (λ rest. set (take i demands ++ rest) i (get_or demands i 0)) (drop_more row i 0 within) ∙ set_at (take i demands) (get_or row i 0) (drop (i + 1) row) (get_or demands i 0) i left in
-    let joined : take (i + 1) demands ++ drop (i + 1) row ≡ take i demands ++ get_or demands i 0 ∷ drop (i + 1) row =
-    ap (λ front. front ++ drop (i + 1) row) (take_more demands i 0 k) ∙ append_assoc (take i demands) (get_or demands i 0 ∷ []) (drop (i + 1) row) in
     ap (λ r. set (set grid b so_far) b (set r i (get_or demands i 0))) (get_or-set_same grid b so_far [] h)
     ∙ set-set grid b so_far (set so_far i (get_or demands i 0))
-    ∙ ap (set grid b) (written ∙ sym joined)
+    ∙ ap (set grid b) (replaced_more demands row i 0 (get_or demands i 0) k same (get_or_default demands i 0 (get_or demands i 0) k))
+
+-- a grid of the same shape, after a change of one row
+pub grid-set : (bidders products : ℕ) (grid : List (List ℕ)) (b : ℕ) (row : List ℕ) → IsGrid bidders products grid → length row ≡ products → IsGrid bidders products (set grid b row)
+grid-set bidders products grid b row is same =
+    (length-set grid b row ∙ is.0, All-set (λ r. length r ≡ products) grid b row same is.1)
+
+-- nobody's demands are a grid
+pub no_demands_grid : (bidders products : ℕ) → IsGrid bidders products (no_demands bidders products)
+no_demands_grid bidders products =
+    (length-replicate {A = List ℕ} bidders (replicate products 0), All-replicate (λ row. length row ≡ products) bidders (replicate products 0) (length-replicate {A = ℕ} products 0))
 
 -- who demands nothing has no activity
 pub activity_zeros : (products : List Product) (n : ℕ) → activity products (replicate n 0) ≡ 0

@@ -1,5 +1,5 @@
 -- Laws of first faults.
-use Rattle.std.proofs.Common.{◌≡◌, ℕ, ◌+◌, ◌<◌, ◌≤◌, Bool, true, false, List, [], ◌∷◌, ◌++◌, length, get_or, drop, Option, Some, None, refl, sym, ap, ◌∙◌}
+use Rattle.std.proofs.Common.{◌≡◌, ℕ, ◌+◌, ◌<◌, ◌≤◌, Bool, true, false, List, [], ◌∷◌, ◌++◌, length, get_or, drop, Some, None, refl, sym, ap, ◌∙◌}
 use Rattle.std.proofs.lemmas.List.{drop_more, drop_all}
 use Rattle.clock_setup.specs.Faults.{first_fault, in_turn}
 
@@ -14,6 +14,12 @@ pub failed : {F : Type 0} (checks rest : List (F × Bool)) (fault : F) → first
 failed [] rest fault h = cc
 failed ((other, true) ∷ checks) rest fault h = failed checks rest fault h
 failed ((other, false) ∷ checks) rest fault h = h
+
+-- where no check of two lists fails, none of either fails
+pub both_pass : {F : Type 0} (checks rest : List (F × Bool)) → first_fault (checks ++ rest) ≡ None → (first_fault checks ≡ None) × (first_fault rest ≡ None)
+both_pass [] rest h = (refl, h)
+both_pass ((fault, true) ∷ checks) rest h = both_pass checks rest h
+both_pass ((fault, false) ∷ checks) rest h = cc
 
 -- the next item, x, passes
 pub turn_passed : {X F : Type 0} (checks : ℕ → X → List (F × Bool)) (items : List X) (i : ℕ) (x : X) → i < length items → x ≡ get_or items i x → first_fault (checks i x) ≡ None
@@ -36,3 +42,5 @@ pub turn_none : {X F : Type 0} (checks : ℕ → X → List (F × Bool)) (items 
 turn_none checks items i h = ap (λ rest. first_fault (in_turn checks i rest)) (drop_all i items h)
 
 pub ruleset fault_steps = (turn_passed, turn_failed, turn_none)
+
+pub ruleset fault_lists = (passed, failed)

@@ -3,7 +3,7 @@
 --     opening_checks setup parts      what is looked at once the set-up is known, in order
 --     opening_of value      what a JSON value means as an opening
 --     document_opening bytes      what bytes mean as an opening
-use Rattle.std.specs.Prelude.{ℕ, ◌+◌, Bool, ◌&&◌, ◌==◌, List, [], ◌∷◌, ◌++◌, length, zip, nat_le, Result, Ok, Err}
+use Rattle.std.specs.Prelude.{ℕ, Bool, ◌&&◌, ◌==◌, List, [], ◌∷◌, ◌++◌, length, zip, nat_le, Result, Ok, Err}
 use Rattle.std.specs.List.{list_all}
 use Rattle.serde_json.specs.Data.{Data}
 use Rattle.clock_setup.specs.declared.setup.Product.{Product}

@@ -1,26 +1,95 @@
-ghost use Rattle.std.specs.Prelude.{◌≡◌, ◌≢◌, Ok, Err, IfOk, IfErr};
+ghost use Rattle.std.specs.Prelude.{◌≡◌, ◌≢◌, None, Some, Ok, Err, IfOk, IfErr};
 ghost use Rattle.serde_json.specs.View.{view};
+ghost use Rattle.clock_setup.specs.Faults.{first_fault};
 ghost use Rattle.clock_setup.specs.SetupDocument as document;
 
-use crate::fault::SetupFault;
+use crate::entries::{SetupEntries, setup_entries};
+use crate::fault::{Place, SetupFault};
+use crate::limits::{bidders_within, is_token, is_within, products_within};
+use crate::members::{number_at, read_value};
+use crate::names::{bidder_names, is_distinct, product_names, tokens};
 use crate::setup::Setup;
+use clock_device::Text;
 use serde_json::Value;
-use std::alloc::Global;
+use std::alloc::{AllocError, Global};
+
+/// Whether no two products, and no two bidders, have one name.
+fn has_distinct_names(alloc: Global, entries: &SetupEntries) -> Result<bool, AllocError>
+    ensures { IfOk result (λ distinct. distinct ≡ document.has_distinct_names entries.now) }
+{
+    let products = product_names(alloc, entries.products.as_slice())?;
+    let bidders = bidder_names(alloc, entries.bidders.as_slice())?;
+    Ok(is_distinct(alloc, products.as_slice())? && is_distinct(alloc, bidders.as_slice())?)
+}
+
+/// Whether no two bidders, and no bidder and the operator, have one token.
+fn has_distinct_tokens(alloc: Global, entries: &SetupEntries) -> Result<bool, AllocError>
+    ensures { IfOk result (λ distinct. distinct ≡ document.has_distinct_tokens entries.now) }
+{
+    let tokens = tokens(alloc, entries.operator, entries.bidders.as_slice())?;
+    is_distinct(alloc, tokens.as_slice())
+}
+
+/// The set-up, where it is within its limits, or the first fault.
+#[tactic(auto, using(crate::proofs::FaultLaws::fault_lists), unfolding(crate::specs::SetupDocument::setup_checks))]
+fn within_limits(alloc: Global, entries: &SetupEntries) -> Result<Setup, SetupFault>
+    requires { entries.now.version ≡ 1 }
+    ensures same { IfOk result (λ setup. setup ≡ entries.now) }
+    ensures ok { IfOk result (λ _. first_fault (document.setup_checks entries.now) ≡ None) }
+    ensures err { IfErr result (λ fault. fault ≢ SetupFault.NoMemory
+        → first_fault (document.setup_checks entries.now) ≡ Some fault) }
+{
+    if !is_within(50, 100, entries.requirement) {
+        return Err(SetupFault::Range(Place::Requirement));
+    }
+    if !is_token(entries.operator) {
+        return Err(SetupFault::Range(Place::Operator));
+    }
+    if !is_within(1, 4096, entries.products.len() as u64) {
+        return Err(SetupFault::Range(Place::Products));
+    }
+    let products = products_within(alloc, entries.products.as_slice())?;
+    if !is_within(1, 512, entries.bidders.len() as u64) {
+        return Err(SetupFault::Range(Place::Bidders));
+    }
+    let bidders = bidders_within(alloc, entries.bidders.as_slice())?;
+    if !has_distinct_names(alloc, entries)? {
+        return Err(SetupFault::DuplicateName);
+    }
+    if !has_distinct_tokens(alloc, entries)? {
+        return Err(SetupFault::DuplicateToken);
+    }
+    Ok(Setup {
+        version: entries.version,
+        requirement: entries.requirement,
+        operator: Text::from_slice(alloc, entries.operator.as_bytes())?,
+        products,
+        bidders,
+    })
+}
 
 /// The set-up that the bytes of a document mean, or the document's first fault.
+#[tactic(auto, unfolding(crate::specs::SetupDocument::document_setup))]
 pub fn read_setup(alloc: Global, bytes: &[u8]) -> Result<Setup, SetupFault>
     ensures ok { IfOk result (λ setup. document.document_setup bytes.now ≡ Ok setup) }
     ensures err { IfErr result
         (λ fault. fault ≢ SetupFault.NoMemory → document.document_setup bytes.now ≡ Err fault) }
 {
-    Err(SetupFault::NoMemory)
+    let value = read_value(alloc, bytes)?.ok_or(SetupFault::NotJson)?;
+    setup_of(alloc, &value)
 }
 
 /// The set-up that a JSON value means, or its first fault. It is never `NotJson`.
+#[tactic(auto, unfolding(crate::specs::SetupDocument::setup_of))]
 pub fn setup_of(alloc: Global, value: &Value) -> Result<Setup, SetupFault>
     ensures ok { IfOk result (λ setup. document.setup_of (view value.now) ≡ Ok setup) }
     ensures err { IfErr result
         (λ fault. fault ≢ SetupFault.NoMemory → document.setup_of (view value.now) ≡ Err fault) }
 {
-    Err(SetupFault::NoMemory)
+    let version = number_at(value, "version").ok_or(SetupFault::Shape)?;
+    if version != 1 {
+        return Err(SetupFault::Version);
+    }
+    let entries = setup_entries(alloc, value)?;
+    within_limits(alloc, &entries)
 }

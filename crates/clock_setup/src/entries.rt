@@ -1,6 +1,7 @@
-ghost use Rattle.std.specs.Prelude.{◌≡◌, ◌≢◌, Some, Ok, Err, IfOk, IfErr};
+ghost use Rattle.std.specs.Prelude.{◌≡◌, ◌≢◌, codes, Some, Ok, Err, IfOk, IfErr};
 ghost use Rattle.serde_json.specs.View.{view, items_view};
 ghost use Rattle.clock_setup.specs.Faults.{or_fault};
+ghost use Rattle.clock_setup.specs.Members as members;
 ghost use Rattle.clock_setup.specs.Members.{each};
 ghost use Rattle.clock_setup.specs.SetupShape.{product_of, bidder_of, fields_of};
 
@@ -136,6 +137,8 @@ fn bidder_entries(alloc: Global, items: &[Value]) -> Result<Vec<BidderEntry<'_>>
 #[tactic(auto, unfolding(crate::specs::SetupShape::fields_of))]
 pub(crate) fn setup_entries(alloc: Global, value: &Value) -> Result<SetupEntries<'_>, SetupFault>
     ensures ok { IfOk result (λ entries. fields_of (view value.now) ≡ Some entries) }
+    ensures version { IfOk result
+        (λ entries. members.number_at (codes "version") (view value.now) ≡ Some entries.version) }
     ensures err { IfErr result (λ fault. fault ≢ SetupFault.NoMemory
         → or_fault SetupFault.Shape (fields_of (view value.now)) ≡ Err fault) }
 {

@@ -58,7 +58,7 @@ impl Grid {
         requires product { All (λ row. product < length row) self.now }
         ensures { result ≡ demand_at self.now bidder product }
     {
-        self.rows.as_slice()[bidder].as_slice()[product]
+        self.row(bidder)[product]
     }
 
     /// A bidder's demands.

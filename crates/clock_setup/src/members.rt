@@ -1,8 +1,11 @@
-ghost use Rattle.std.specs.Prelude.{◌≡◌, option_map};
+ghost use Rattle.std.specs.Prelude.{◌≡◌, option_map, IfOk};
 ghost use Rattle.serde_json.specs.View.{view, items_view};
 ghost use Rattle.clock_setup.specs.Members as members;
+ghost use Rattle.clock_setup.specs.SetupDocument.{json};
 
+use clock_device::NoMemory;
 use serde_json::Value;
+use std::alloc::Global;
 
 /// A whole number from 0 to 2^64 - 1 under a key.
 pub(crate) fn number_at(value: &Value, key: &str) -> Option<u64>
@@ -36,5 +39,22 @@ pub(crate) fn has_members(value: &Value, count: usize) -> bool
     match value.as_object() {
         Some(members) => members.len() == count,
         None => false,
+    }
+}
+
+/// The JSON value that the bytes are, or none.
+#[tactic(auto, unfolding(crate::specs::SetupDocument::json))]
+pub(crate) fn read_value(alloc: Global, bytes: &[u8]) -> Result<Option<Value>, NoMemory>
+    ensures { IfOk result (λ value. option_map view value ≡ json bytes.now) }
+{
+    match Value::from_slice(alloc, bytes) {
+        Ok(value) => Ok(Some(value)),
+        Err(error) => {
+            if error.is_memory() {
+                Err(NoMemory)
+            } else {
+                Ok(None)
+            }
+        }
     }
 }

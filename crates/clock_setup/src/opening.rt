@@ -1,11 +1,22 @@
-ghost use Rattle.std.specs.Prelude.{◌≡◌, ◌≢◌, ◌≤◌, length, Ok, Err, IfOk, IfErr};
+ghost use Rattle.std.specs.Prelude.{◌≡◌, ◌≢◌, ◌≤◌, None, Some, length, Ok, Err, All, IfOk, IfErr};
+ghost use Rattle.serde_json.specs.View.{view};
 ghost use Rattle.clock_setup.specs.Demands.{IsGrid};
-ghost use Rattle.clock_setup.specs.OpeningDocument.{document_opening};
+ghost use Rattle.clock_setup.specs.Faults.{first_fault};
+ghost use Rattle.clock_setup.specs.Limits.{IsWithin};
+ghost use Rattle.clock_setup.specs.OpeningDocument.{document_opening, opening_of, in_opening};
+ghost use Rattle.clock_setup.specs.SetupDocument as document;
 
+use crate::document::setup_of;
 use crate::fault::SetupFault;
 use crate::grid::Grid;
+use crate::limits::is_within;
+use crate::members::read_value;
+use crate::parts::opening_parts;
+use crate::rows::{grid_within, has_counts};
 use crate::setup::Setup;
-use std::alloc::Global;
+use clock_device::NoMemory;
+use serde_json::Value;
+use std::alloc::{AllocError, AllocFailed, Global};
 use thiserror::Error;
 
 /// What round 1 can be posted from.
@@ -35,7 +46,7 @@ pub enum OpeningFault {
     /// A bidder's demand for a product is above the product's cap; of one bidder its least such product.
     #[error("a demand is above the cap")]
     Demand(u64, u64),
-    /// The activity of a bidder's demands is above its eligibility.
+    /// The activity of a bidder's demands, none of which is above its cap, is above its eligibility.
     #[error("an activity is above the eligibility")]
     Activity(u64),
     /// The increment is not 1 to 50.
@@ -46,12 +57,95 @@ pub enum OpeningFault {
     NoMemory,
 }
 
+impl From<NoMemory> for OpeningFault {
+    ghost use Rattle.std.specs.Prelude.{◌≡◌};
+    ghost use Rattle.clock_setup.specs.declared.opening.OpeningFault.TheVariants.{NoMemory};
+
+    ghost from_gives = { λ _ fault. fault ≡ NoMemory };
+
+    fn from(_refused: NoMemory) -> OpeningFault {
+        OpeningFault::NoMemory
+    }
+}
+
+impl From<AllocError> for OpeningFault {
+    ghost use Rattle.std.specs.Prelude.{◌≡◌};
+    ghost use Rattle.clock_setup.specs.declared.opening.OpeningFault.TheVariants.{NoMemory};
+
+    ghost from_gives = { λ _ fault. fault ≡ NoMemory };
+
+    fn from(_refused: AllocError) -> OpeningFault {
+        OpeningFault::NoMemory
+    }
+}
+
+impl<T: Drop> From<AllocFailed<T>> for OpeningFault {
+    ghost use Rattle.std.specs.Prelude.{◌≡◌};
+    ghost use Rattle.clock_setup.specs.declared.opening.OpeningFault.TheVariants.{NoMemory};
+
+    ghost from_gives = { λ _ fault. fault ≡ NoMemory };
+
+    fn from(_refused: AllocFailed<T>) -> OpeningFault {
+        OpeningFault::NoMemory
+    }
+}
+
+/// The set-up under a document's key, its faults as those of the document.
+fn held_setup(alloc: Global, value: &Value) -> Result<Setup, OpeningFault>
+    ensures ok { IfOk result (λ setup. document.setup_of (view value.now) ≡ Ok setup) }
+    ensures err { IfErr result (λ fault. fault ≢ OpeningFault.NoMemory
+        → in_opening (document.setup_of (view value.now)) ≡ Err fault) }
+    ensures held { IfErr result (λ fault. fault ≢ OpeningFault.Setup SetupFault.NoMemory) }
+{
+    match setup_of(alloc, value) {
+        Ok(setup) => Ok(setup),
+        Err(SetupFault::NoMemory) => Err(OpeningFault::NoMemory),
+        Err(SetupFault::NotJson) => Err(OpeningFault::Setup(SetupFault::NotJson)),
+        Err(SetupFault::Shape) => Err(OpeningFault::Setup(SetupFault::Shape)),
+        Err(SetupFault::Version) => Err(OpeningFault::Setup(SetupFault::Version)),
+        Err(SetupFault::Range(place)) => Err(OpeningFault::Setup(SetupFault::Range(place))),
+        Err(SetupFault::DuplicateName) => Err(OpeningFault::Setup(SetupFault::DuplicateName)),
+        Err(SetupFault::DuplicateToken) => Err(OpeningFault::Setup(SetupFault::DuplicateToken)),
+    }
+}
+
+/// The opening that a JSON value means, or its first fault.
+fn opening_in(alloc: Global, value: &Value) -> Result<Opening, OpeningFault>
+    ensures ok { IfOk result (λ opening. opening_of (view value.now) ≡ Ok opening) }
+    ensures grid { IfOk result
+        (λ opening. IsGrid (length opening.setup.bidders) (length opening.setup.products) opening.grid) }
+    ensures increment { IfOk result (λ opening. IsWithin 1 50 opening.increment) }
+    ensures err { IfErr result
+        (λ fault. fault ≢ OpeningFault.NoMemory → opening_of (view value.now) ≡ Err fault) }
+    ensures held { IfErr result (λ fault. fault ≢ OpeningFault.Setup SetupFault.NoMemory) }
+{
+    let parts = opening_parts(alloc, value)?;
+    let setup = held_setup(alloc, parts.setup)?;
+    if !has_counts(&setup, parts.demands.as_slice()) {
+        return Err(OpeningFault::Shape);
+    }
+    let grid = grid_within(alloc, &setup, parts.demands.as_slice())?;
+    if !is_within(1, 50, parts.increment) {
+        return Err(OpeningFault::Increment);
+    }
+    Ok(Opening {
+        setup,
+        grid,
+        increment: parts.increment,
+    })
+}
+
 /// The opening that the bytes of a document mean, or the document's first fault.
+#[tactic(auto, unfolding(crate::specs::OpeningDocument::document_opening))]
 pub fn read_opening(alloc: Global, bytes: &[u8]) -> Result<Opening, OpeningFault>
     ensures ok { IfOk result (λ opening. document_opening bytes.now ≡ Ok opening) }
+    ensures grid { IfOk result
+        (λ opening. IsGrid (length opening.setup.bidders) (length opening.setup.products) opening.grid) }
+    ensures increment { IfOk result (λ opening. IsWithin 1 50 opening.increment) }
     ensures err { IfErr result
         (λ fault. fault ≢ OpeningFault.NoMemory → document_opening bytes.now ≡ Err fault) }
     ensures held { IfErr result (λ fault. fault ≢ OpeningFault.Setup SetupFault.NoMemory) }
 {
-    Err(OpeningFault::NoMemory)
+    let value = read_value(alloc, bytes)?.ok_or(OpeningFault::NotJson)?;
+    opening_in(alloc, &value)
 }

@@ -1,0 +1,131 @@
+-- A set-up whose checks all pass is within the limits that the type of set-ups keeps.
+use Rattle.std.proofs.Common.{◌≡◌, ℕ, ◌+◌, ◌≤◌, Bool, true, false, not, ◌||◌, nat_le, List, [], ◌∷◌, length, map, Some, None, refl, ◌∙◌, arith}
+use Rattle.std.specs.List.{list_any, list_all, IsDistinct, AllByRecursion}
+use Rattle.std.specs.Str.{bytes_eq}
+use Rattle.std.proofs.lemmas.Bool.{and_parts}
+use Rattle.std.proofs.lemmas.Bool.Decides.{nat_tests}
+use Rattle.std.proofs.lemmas.List.Sums.{AllPass-from_list_all}
+use Rattle.std.proofs.lemmas.List.Elements.{All-from_recursion}
+use Rattle.std.proofs.lemmas.Map.Made.{AllPairs-from_IsDistinct}
+use Rattle.std.proofs.lemmas.Slice.Eq.{bytes_eq-Decides}
+use Rattle.clock_setup.specs.declared.setup.Product.{Product}
+use Rattle.clock_setup.specs.declared.setup.Bidder.{Bidder}
+use Rattle.clock_setup.specs.declared.fault.SetupFault.{SetupFault}
+use Rattle.clock_setup.specs.Limits.{SetupFields, IsWithin, is_within, IsName, is_name, IsToken, is_token, is_name_character, is_letter_or_digit, AreDistinct, is_distinct, IsProduct, IsBidder, IsSetup}
+use Rattle.clock_setup.proofs.FaultLaws.{passed, failed, both_pass}
+use Rattle.clock_setup.specs.Faults.{first_fault, in_turn}
+use Rattle.clock_setup.specs.SetupDocument.{product_checks, bidder_checks, setup_checks, has_distinct_names, has_distinct_tokens}
+
+-- every check passes
+abbrev pub Passing : {F : Type 0} → List (F × Bool) → Type 0
+Passing checks = AllByRecursion (λ check. check.1 ≡ true) checks
+
+-- where no check fails, every check passes
+pub passing : {F : Type 0} (checks : List (F × Bool)) → first_fault checks ≡ None → Passing checks
+passing [] h = tt
+passing ((fault, true) ∷ checks) h = (refl, passing checks h)
+passing ((fault, false) ∷ checks) h = cc
+
+-- where no item's checks fail, each item is as its checks say
+pub each_passes : {X F : Type 0} (checks : ℕ → X → List (F × Bool)) (P : X → Type 0) → ((i : ℕ) (x : X) → first_fault (checks i x) ≡ None → P x)
+    → (i : ℕ) (items : List X) → first_fault (in_turn checks i items) ≡ None → AllByRecursion P items
+each_passes checks P means i [] h = tt
+each_passes checks P means i (x ∷ xs) h =
+    let both = both_pass (checks i x) (in_turn checks (i + 1) xs) h in
+    (means i x both.0, each_passes checks P means (i + 1) xs both.1)
+
+le_of_test : (a b : ℕ) → nat_le a b ≡ true → a ≤ b
+le_of_test a b h = grind (arith, nat_tests)
+
+within_of_test : (low high n : ℕ) → is_within low high n ≡ true → IsWithin low high n
+within_of_test low high n h =
+    let both = and_parts (nat_le low n) (nat_le n high) h in
+    (le_of_test low n both.0, le_of_test n high both.1)
+
+name_of_test : (text : List ℕ) → is_name text ≡ true → IsName text
+name_of_test text h =
+    let both = and_parts (is_within 1 32 (length text)) (list_all is_name_character text) h in
+    (within_of_test 1 32 (length text) both.0, AllPass-from_list_all is_name_character text both.1)
+
+token_of_test : (text : List ℕ) → is_token text ≡ true → IsToken text
+token_of_test text h =
+    let both = and_parts (is_within 16 64 (length text)) (list_all is_letter_or_digit text) h in
+    (within_of_test 16 64 (length text) both.0, AllPass-from_list_all is_letter_or_digit text both.1)
+
+-- a text that does not pass, before texts of which none passes
+none_more : (b found : Bool) (test : List ℕ → Bool) (texts : List (List ℕ)) (P : Type 0) → (not found ≡ true → P) → not (b || found) ≡ true → (b ≡ false) × P
+none_more true found test texts P rest h = cc
+none_more false found test texts P rest h = (refl, rest h)
+
+-- no text of a list passes
+none_passes : (test : List ℕ → Bool) (texts : List (List ℕ)) → not (list_any test texts) ≡ true → AllByRecursion (λ text. test text ≡ false) texts
+none_passes test [] h = tt
+none_passes test (text ∷ texts) h = none_more (test text) (list_any test texts) test texts _ (none_passes test texts) h
+
+distinct_by_test : (texts : List (List ℕ)) → is_distinct texts ≡ true → IsDistinct bytes_eq texts
+unfolding IsDistinct
+distinct_by_test [] h = tt
+distinct_by_test (text ∷ texts) h =
+    let both = and_parts (not (list_any (bytes_eq text) texts)) (is_distinct texts) h in
+    (none_passes (bytes_eq text) texts both.0, distinct_by_test texts both.1)
+
+distinct_of_test : (texts : List (List ℕ)) → is_distinct texts ≡ true → AreDistinct texts
+distinct_of_test texts h = AllPairs-from_IsDistinct bytes_eq-Decides texts (distinct_by_test texts h)
+
+product_of_checks : (i : ℕ) (product : Product) → first_fault (product_checks i product) ≡ None → IsProduct product
+unfolding product_checks
+product_of_checks i product h =
+    let pass = passing (product_checks i product) h in
+    record {
+      name = name_of_test product.name pass.0;
+      units = within_of_test 1 1000000 product.units pass.1.0;
+      supply = within_of_test 1 1000 product.supply pass.1.1.0;
+      cap = within_of_test 1 product.supply product.cap pass.1.1.1.0;
+      opening = within_of_test 1 1000000000000 product.opening pass.1.1.1.1.0;
+    }
+
+bidder_of_checks : (i : ℕ) (bidder : Bidder) → first_fault (bidder_checks i bidder) ≡ None → IsBidder bidder
+unfolding bidder_checks
+bidder_of_checks i bidder h =
+    let pass = passing (bidder_checks i bidder) h in
+    record {
+      name = name_of_test bidder.name pass.0;
+      token = token_of_test bidder.token pass.1.0;
+      eligibility = le_of_test bidder.eligibility 1000000000000 pass.1.1.0;
+    }
+
+-- a set-up of version 1 of which every check passes
+pub setup_within : (setup : SetupFields) → setup.version ≡ 1 → is_within 50 100 setup.requirement ≡ true → is_token setup.operator ≡ true
+    → is_within 1 4096 (length setup.products) ≡ true → first_fault (in_turn product_checks 0 setup.products) ≡ None
+    → is_within 1 512 (length setup.bidders) ≡ true → first_fault (in_turn bidder_checks 0 setup.bidders) ≡ None
+    → has_distinct_names setup ≡ true → has_distinct_tokens setup ≡ true → IsSetup setup
+setup_within setup one requirement operator product_count products bidder_count bidders names tokens =
+    let apart = and_parts (is_distinct (map (λ product. product.name) setup.products)) (is_distinct (map (λ bidder. bidder.name) setup.bidders)) names in
+    record {
+      version = one;
+      requirement = within_of_test 50 100 setup.requirement requirement;
+      operator = token_of_test setup.operator operator;
+      product_count = within_of_test 1 4096 (length setup.products) product_count;
+      products = All-from_recursion IsProduct setup.products (each_passes product_checks IsProduct product_of_checks 0 setup.products products);
+      bidder_count = within_of_test 1 512 (length setup.bidders) bidder_count;
+      bidders = All-from_recursion IsBidder setup.bidders (each_passes bidder_checks IsBidder bidder_of_checks 0 setup.bidders bidders);
+      product_names = distinct_of_test (map (λ product. product.name) setup.products) apart.0;
+      bidder_names = distinct_of_test (map (λ bidder. bidder.name) setup.bidders) apart.1;
+      tokens = distinct_of_test (setup.operator ∷ map (λ bidder. bidder.token) setup.bidders) tokens;
+    }
+
+-- the first fault of a set-up, where it is a product's
+pub product_fault_first : (setup : SetupFields) (fault : SetupFault) → is_within 50 100 setup.requirement ≡ true → is_token setup.operator ≡ true
+    → is_within 1 4096 (length setup.products) ≡ true → first_fault (in_turn product_checks 0 setup.products) ≡ Some fault → first_fault (setup_checks setup) ≡ Some fault
+unfolding setup_checks
+product_fault_first setup fault requirement operator product_count products =
+    rw (requirement, operator, product_count) (failed (in_turn product_checks 0 setup.products) _ fault products)
+
+-- the first fault of a set-up, where it is a bidder's
+pub bidder_fault_first : (setup : SetupFields) (fault : SetupFault) → is_within 50 100 setup.requirement ≡ true → is_token setup.operator ≡ true
+    → is_within 1 4096 (length setup.products) ≡ true → first_fault (in_turn product_checks 0 setup.products) ≡ None
+    → is_within 1 512 (length setup.bidders) ≡ true → first_fault (in_turn bidder_checks 0 setup.bidders) ≡ Some fault → first_fault (setup_checks setup) ≡ Some fault
+unfolding setup_checks
+bidder_fault_first setup fault requirement operator product_count products bidder_count bidders =
+    rw (requirement, operator, product_count)
+    (passed (in_turn product_checks 0 setup.products) _ products ∙ rw bidder_count (failed (in_turn bidder_checks 0 setup.bidders) _ fault bidders))

@@ -1,0 +1,127 @@
+-- Laws of the checks of an opening document.
+use Rattle.std.proofs.Common.{◌≡◌, ℕ, ◌+◌, ◌<◌, ◌≤◌, ◌==◌, Bool, true, false, nat_le, if◌then◌else◌, List, length, get_or, drop, zip, Option, Some, None, Ok, Err, refl, sym, ap, ◌∙◌, subst, arith}
+use Rattle.std.specs.List.{list_all, AllPass}
+use Rattle.std.proofs.lemmas.Bool.{and_parts}
+use Rattle.std.proofs.lemmas.Bool.Decides.{nat_tests}
+use Rattle.std.proofs.lemmas.List.{get_or_default}
+use Rattle.std.proofs.lemmas.List.Sums.{AllPass-from_list_all}
+use Rattle.std.proofs.lemmas.Slice.Zip.{get_or-zip, length-zip}
+use Rattle.serde_json.specs.Data.{Data}
+use Rattle.clock_setup.specs.declared.setup.Product.{Product}
+use Rattle.clock_setup.specs.declared.opening.Opening.{Opening}
+use Rattle.clock_setup.specs.declared.opening.OpeningFault.{OpeningFault}
+use Rattle.clock_setup.specs.declared.opening.OpeningFault.TheVariants.{Shape, Demand, Increment}
+use Rattle.clock_setup.specs.Demands.{IsGrid}
+use Rattle.clock_setup.specs.Faults.{first_fault, in_turn, unless, or_fault}
+use Rattle.clock_setup.specs.Limits.{SetupFields, is_within, cap_of, no_product}
+use Rattle.clock_setup.specs.SetupDocument.{setup_of}
+use Rattle.clock_setup.specs.OpeningShape.{OpeningParts, parts_of}
+use Rattle.clock_setup.specs.OpeningDocument.{has_counts, demand_checks, row_checks, opening_checks, in_opening, opening_of}
+use Rattle.clock_setup.proofs.FaultLaws.{passed, failed, turn_passed, turn_failed, turn_none}
+
+-- a pair of two lists
+pub zip_at : {A B : Type 0} (ks : List A) (vs : List B) (i : ℕ) (a : A) (b : B) → i < length ks → i < length vs → a ≡ get_or ks i a → b ≡ get_or vs i b
+    → (a, b) ≡ get_or (zip ks vs) i (a, b)
+zip_at ks vs i a b h k first second =
+    ap (λ x. (x, b)) first ∙ ap (λ y. (get_or ks i a, y)) second ∙ sym (get_or-zip ks vs i (a, b) h k)
+
+le_true : (a b : ℕ) → a ≤ b → nat_le a b ≡ true
+le_true a b h = grind (arith, nat_tests)
+
+le_false : (a b : ℕ) → b < a → nat_le a b ≡ false
+le_false a b h = grind (arith, nat_tests)
+
+line_at : (products : List Product) (row : List ℕ) (i : ℕ) (d : Product) → length row ≡ length products → i < length row
+    → (get_or products i d, get_or row i 0) ≡ get_or (zip products row) i (get_or products i d, get_or row i 0)
+line_at products row i d same h =
+    let within : i < length products = omega arith in
+    zip_at products row i (get_or products i d) (get_or row i 0) within h (get_or_default products i d (get_or products i d) within) (get_or_default row i 0 (get_or row i 0) h)
+
+line_within : (products : List Product) (row : List ℕ) (i : ℕ) → length row ≡ length products → i < length row → i < length (zip products row)
+line_within products row i same h = omega (arith, length-zip products row)
+
+one_demand : (number i : ℕ) (p : Product) (demand : ℕ) (b : Bool) → nat_le demand p.cap ≡ b
+    → first_fault (demand_checks number i (p, demand)) ≡ (if b then None else Some (Demand number i))
+unfolding demand_checks
+one_demand number i p demand b is = rw is refl
+
+-- a demand above its cap
+pub demand_failed : (number : ℕ) (products : List Product) (row : List ℕ) (i : ℕ) (d : Product) → length row ≡ length products → i < length row → (get_or products i d).cap < get_or row i 0
+    → first_fault (in_turn (demand_checks number) i (drop i (zip products row))) ≡ Some (Demand number i)
+demand_failed number products row i d same h above =
+    turn_failed (demand_checks number) (zip products row) i (get_or products i d, get_or row i 0) (Demand number i) (line_within products row i same h) (line_at products row i d same h)
+    (one_demand number i (get_or products i d) (get_or row i 0) false (le_false (get_or row i 0) (get_or products i d).cap above))
+
+-- a demand within its cap
+pub demand_passed : (number : ℕ) (products : List Product) (row : List ℕ) (i : ℕ) (d : Product) → length row ≡ length products → i < length row → get_or row i 0 ≤ (get_or products i d).cap
+    → first_fault (in_turn (demand_checks number) i (drop i (zip products row))) ≡ first_fault (in_turn (demand_checks number) (i + 1) (drop (i + 1) (zip products row)))
+demand_passed number products row i d same h within =
+    turn_passed (demand_checks number) (zip products row) i (get_or products i d, get_or row i 0) (line_within products row i same h) (line_at products row i d same h)
+    (one_demand number i (get_or products i d) (get_or row i 0) true (le_true (get_or row i 0) (get_or products i d).cap within))
+
+-- no demand is left
+pub demands_end : (number : ℕ) (products : List Product) (row : List ℕ) (i : ℕ) → length row ≤ i → first_fault (in_turn (demand_checks number) i (drop i (zip products row))) ≡ None
+demands_end number products row i h = turn_none (demand_checks number) (zip products row) i (omega (arith, length-zip products row))
+
+-- the cap of a product that was read
+pub within_cap : (products : List Product) (i : ℕ) (d : Product) (demand : ℕ) → i < length products → demand ≤ (get_or products i d).cap → demand ≤ cap_of products i
+within_cap products i d demand h within = subst (λ n. demand ≤ n) (ap (λ (p : Product). p.cap) (get_or_default products i d no_product h)) within
+
+-- ---- the whole document
+
+same_of_test : (a b : ℕ) → (a == b) ≡ true → a ≡ b
+same_of_test a b h = grind (arith, nat_tests)
+
+-- rows in the right counts are a grid
+pub grid_of_counts : (setup : SetupFields) (demands : List (List ℕ)) → has_counts setup demands ≡ true → IsGrid (length setup.bidders) (length setup.products) demands
+grid_of_counts setup demands h =
+    let both = and_parts (length demands == length setup.bidders) (list_all (λ row. length row == length setup.products) demands) h in
+    let each : AllPass (λ row. length row == length setup.products) demands = AllPass-from_list_all (λ row. length row == length setup.products) demands both.1 in
+    (same_of_test _ _ both.0, λ k d lt. same_of_test _ _ (each k d lt))
+
+-- the opening of a set-up and of the other parts
+abbrev pub whole : SetupFields → OpeningParts → Opening
+whole setup parts = record { setup = setup; grid = parts.demands; increment = parts.increment }
+
+by_increment : (opening : Opening) (b : Bool) → unless (if b then None else Some Increment) opening ≡ (if b then Ok opening else Err Increment)
+by_increment opening true = refl
+by_increment opening false = refl
+
+-- a document whose parts and set-up are known is judged by its other checks
+opening_at : (value : Data) (parts : OpeningParts) (setup : SetupFields) → parts_of value ≡ Some parts → setup_of parts.setup ≡ Ok setup
+    → opening_of value ≡ unless (first_fault (opening_checks setup parts)) (whole setup parts)
+unfolding opening_of
+opening_at value parts setup read held = rw (read, held) refl
+
+-- a document of another shape
+pub opening_shape : (value : Data) (fault : OpeningFault) → or_fault Shape (parts_of value) ≡ Err fault → opening_of value ≡ Err fault
+unfolding opening_of
+opening_shape value fault h = rw h refl
+
+-- a document whose set-up is refused
+pub opening_setup : (value : Data) (parts : OpeningParts) (fault : OpeningFault) → parts_of value ≡ Some parts → in_opening (setup_of parts.setup) ≡ Err fault → opening_of value ≡ Err fault
+unfolding opening_of
+opening_setup value parts fault read refused = rw (read, refused) refl
+
+-- a document whose rows do not fit its set-up
+pub opening_counts : (value : Data) (parts : OpeningParts) (setup : SetupFields) → parts_of value ≡ Some parts → setup_of parts.setup ≡ Ok setup
+    → has_counts setup parts.demands ≡ false → opening_of value ≡ Err Shape
+unfolding opening_checks
+opening_counts value parts setup read held counts = opening_at value parts setup read held ∙ rw counts refl
+
+-- a document with a fault of its rows
+pub opening_rows : (value : Data) (parts : OpeningParts) (setup : SetupFields) (fault : OpeningFault) → parts_of value ≡ Some parts → setup_of parts.setup ≡ Ok setup
+    → has_counts setup parts.demands ≡ true → first_fault (in_turn (row_checks setup.products) 0 (zip setup.bidders parts.demands)) ≡ Some fault → opening_of value ≡ Err fault
+unfolding opening_checks
+opening_rows value parts setup fault read held counts rows =
+    opening_at value parts setup read held
+    ∙ rw counts (ap (λ (o : Option OpeningFault). unless o (whole setup parts)) (failed (in_turn (row_checks setup.products) 0 (zip setup.bidders parts.demands)) _ fault rows))
+
+-- a document with rows within their limits is judged by its increment
+pub opening_increment : (value : Data) (parts : OpeningParts) (setup : SetupFields) (b : Bool) → parts_of value ≡ Some parts → setup_of parts.setup ≡ Ok setup
+    → has_counts setup parts.demands ≡ true → first_fault (in_turn (row_checks setup.products) 0 (zip setup.bidders parts.demands)) ≡ None → is_within 1 50 parts.increment ≡ b
+    → opening_of value ≡ (if b then Ok (whole setup parts) else Err Increment)
+unfolding opening_checks
+opening_increment value parts setup b read held counts rows increment =
+    opening_at value parts setup read held
+    ∙ rw counts (ap (λ (o : Option OpeningFault). unless o (whole setup parts)) (passed (in_turn (row_checks setup.products) 0 (zip setup.bidders parts.demands)) _ rows) ∙ rw increment (by_increment (whole setup parts) b))

@@ -1,0 +1,88 @@
+ghost use Rattle.std.specs.Prelude.{◌≡◌, ◌≢◌, Some, Ok, Err, IfOk, IfErr};
+ghost use Rattle.serde_json.specs.View.{view, items_view};
+ghost use Rattle.clock_setup.specs.Faults.{or_fault};
+ghost use Rattle.clock_setup.specs.Members.{each, number_from};
+ghost use Rattle.clock_setup.specs.OpeningShape as shape;
+
+use crate::fault::SetupFault;
+use crate::grid::Amounts;
+use crate::members::{has_members, items_at, number_at};
+use crate::opening::OpeningFault;
+use serde_json::Value;
+use std::alloc::Global;
+
+/// An opening document of the right shape, with its set-up not yet read and no count compared.
+#[derive(Drop)]
+pub(crate) struct OpeningEntries<'v> {
+    pub setup: &'v Value,
+    pub demands: Vec<Amounts>,
+    pub increment: u64,
+}
+
+/// The numbers of a list.
+fn numbers(alloc: Global, items: &[Value]) -> Result<Amounts, OpeningFault>
+    ensures ok { IfOk result (λ row. each number_from (items_view items.now) ≡ Some row) }
+    ensures err { IfErr result (λ fault. fault ≢ OpeningFault.NoMemory
+        → or_fault OpeningFault.Shape (each number_from (items_view items.now)) ≡ Err fault) }
+    ensures held { IfErr result (λ fault. fault ≢ OpeningFault.Setup SetupFault.NoMemory) }
+{
+    let mut row = Amounts::new(alloc);
+    for item in items {
+        let number = item.as_u64().ok_or(OpeningFault::Shape)?;
+        row.push(number)?;
+    }
+    Ok(row)
+}
+
+/// One bidder's demands.
+#[tactic(auto, unfolding(crate::specs::OpeningShape::row_of))]
+fn row_entry(alloc: Global, value: &Value) -> Result<Amounts, OpeningFault>
+    ensures ok { IfOk result (λ row. shape.row_of (view value.now) ≡ Some row) }
+    ensures err { IfErr result (λ fault. fault ≢ OpeningFault.NoMemory
+        → or_fault OpeningFault.Shape (shape.row_of (view value.now)) ≡ Err fault) }
+    ensures held { IfErr result (λ fault. fault ≢ OpeningFault.Setup SetupFault.NoMemory) }
+{
+    let items = value.as_array().ok_or(OpeningFault::Shape)?;
+    numbers(alloc, items.as_slice())
+}
+
+/// The rows of demands.
+fn row_entries(alloc: Global, items: &[Value]) -> Result<Vec<Amounts>, OpeningFault>
+    ensures ok { IfOk result (λ rows. each shape.row_of (items_view items.now) ≡ Some rows.items) }
+    ensures err { IfErr result (λ fault. fault ≢ OpeningFault.NoMemory
+        → or_fault OpeningFault.Shape (each shape.row_of (items_view items.now)) ≡ Err fault) }
+    ensures held { IfErr result (λ fault. fault ≢ OpeningFault.Setup SetupFault.NoMemory) }
+{
+    let mut rows = Vec::new(alloc);
+    for item in items {
+        let row = row_entry(alloc, item)?;
+        rows.push(row)?;
+    }
+    Ok(rows)
+}
+
+/// An opening document of the right shape.
+#[tactic(auto, unfolding(crate::specs::OpeningShape::parts_of))]
+pub(crate) fn opening_parts(
+    alloc: Global,
+    value: &Value,
+) -> Result<OpeningEntries<'_>, OpeningFault>
+    ensures ok { IfOk result (λ parts. shape.parts_of (view value.now)
+        ≡ Some (record { setup = view parts.setup.now; demands = parts.demands.items; increment = parts.increment })) }
+    ensures err { IfErr result (λ fault. fault ≢ OpeningFault.NoMemory
+        → or_fault OpeningFault.Shape (shape.parts_of (view value.now)) ≡ Err fault) }
+    ensures held { IfErr result (λ fault. fault ≢ OpeningFault.Setup SetupFault.NoMemory) }
+{
+    let setup = value.get("setup").ok_or(OpeningFault::Shape)?;
+    let items = items_at(value, "demands").ok_or(OpeningFault::Shape)?;
+    let demands = row_entries(alloc, items)?;
+    let increment = number_at(value, "increment").ok_or(OpeningFault::Shape)?;
+    if !has_members(value, 3) {
+        return Err(OpeningFault::Shape);
+    }
+    Ok(OpeningEntries {
+        setup,
+        demands,
+        increment,
+    })
+}

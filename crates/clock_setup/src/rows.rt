@@ -1,0 +1,88 @@
+ghost use Rattle.std.specs.Prelude.{◌≡◌, ◌≢◌, ◌≤◌, ◌==◌, None, Some, length, zip, All, IfOk, IfErr, IfNone};
+ghost use Rattle.std.specs.List.{list_all};
+ghost use Rattle.clock_setup.specs.Demands.{IsGrid};
+ghost use Rattle.clock_setup.specs.Faults.{first_fault, in_turn};
+ghost use Rattle.clock_setup.specs.Limits.{IsRow};
+ghost use Rattle.clock_setup.specs.OpeningDocument as document;
+ghost use Rattle.clock_setup.specs.OpeningDocument.{demand_checks, row_checks};
+
+use crate::eligibility::activity;
+use crate::fault::SetupFault;
+use crate::grid::{Amounts, Grid};
+use crate::opening::OpeningFault;
+use crate::setup::{Bidder, Product, Setup};
+use std::alloc::Global;
+
+/// Whether each row has so many numbers.
+fn has_lengths(count: usize, rows: &[Amounts]) -> bool
+    ensures { result ≡ list_all (λ row. length row == count) rows.now }
+{
+    rows.iter().all(|row| row.as_slice().len() == count)
+}
+
+/// Whether there is a row for each bidder, and in each row a number for each product.
+pub(crate) fn has_counts(setup: &Setup, demands: &[Amounts]) -> bool
+    ensures { result ≡ document.has_counts setup.now demands.now }
+{
+    demands.len() == setup.bidders.as_slice().len()
+        && has_lengths(setup.products.as_slice().len(), demands)
+}
+
+/// The least product of which a bidder demands more than its cap.
+#[tactic(auto, using(crate::proofs::FaultLaws::fault_steps), unfolding(crate::specs::OpeningDocument::demand_checks))]
+fn demand_fault(number: u64, products: &[Product], row: &[u64]) -> Option<OpeningFault>
+    requires { length row.now ≡ length products.now }
+    ensures fault { result ≡ first_fault (in_turn (demand_checks number) 0 (zip products.now row.now)) }
+    ensures capped { IfNone result (IsRow products.now row.now) }
+    ensures held { result ≢ Some (OpeningFault.Setup SetupFault.NoMemory) }
+{
+    for (product, demand) in row.iter().enumerate() {
+        if *demand > products[product].cap {
+            return Some(OpeningFault::Demand(number, product as u64));
+        }
+    }
+    None
+}
+
+/// The first fault of a bidder's row.
+#[tactic(auto, using(crate::proofs::FaultLaws::fault_lists), unfolding(crate::specs::OpeningDocument::row_checks))]
+fn row_fault(number: u64, setup: &Setup, bidder: &Bidder, row: &[u64]) -> Option<OpeningFault>
+    requires { length row.now ≡ length setup.now.products }
+    ensures fault { result ≡ first_fault (row_checks setup.now.products number (bidder.now, row.now)) }
+    ensures small { IfNone result (All (λ demand. demand ≤ 1000) row.now) }
+    ensures held { result ≢ Some (OpeningFault.Setup SetupFault.NoMemory) }
+{
+    if let Some(fault) = demand_fault(number, setup.products.as_slice(), row) {
+        return Some(fault);
+    }
+    if activity(setup, row) > bidder.eligibility {
+        return Some(OpeningFault::Activity(number));
+    }
+    None
+}
+
+/// The grid of rows that have no fault, or their first fault.
+pub(crate) fn grid_within(
+    alloc: Global,
+    setup: &Setup,
+    demands: &[Amounts],
+) -> Result<Grid, OpeningFault>
+    requires { IsGrid (length setup.now.bidders) (length setup.now.products) demands.now }
+    ensures same { IfOk result (λ grid. grid ≡ demands.now) }
+    ensures ok { IfOk result (λ _. first_fault
+        (in_turn (row_checks setup.now.products) 0 (zip setup.now.bidders demands.now)) ≡ None) }
+    ensures err { IfErr result (λ fault. fault ≢ OpeningFault.NoMemory → first_fault
+        (in_turn (row_checks setup.now.products) 0 (zip setup.now.bidders demands.now)) ≡ Some fault) }
+    ensures held { IfErr result (λ fault. fault ≢ OpeningFault.Setup SetupFault.NoMemory) }
+{
+    let bidders = setup.bidders.as_slice();
+    let mut grid = Grid::zero(alloc, setup)?;
+    for (number, demanded) in demands.iter().enumerate() {
+        let row = demanded.as_slice();
+        match row_fault(number as u64, setup, &bidders[number], row) {
+            Some(fault) => return Err(fault),
+            None => grid.set_row(number, row),
+        }
+    }
+    Ok(grid)
+}
