@@ -8,6 +8,8 @@ mod fault_lines;
 mod input;
 mod output;
 mod prices;
+#[cfg(test)]
+mod tests;
 mod words;
 
 use clock_device::{FromReader, ToWriter};

@@ -6,6 +6,8 @@ mod held;
 mod items;
 mod no_memory;
 mod stream;
+#[cfg(test)]
+mod tests;
 mod wrapped;
 
 pub use held::{ListSink, ListSource};

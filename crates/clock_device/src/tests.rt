@@ -1,0 +1,120 @@
+//! Each call once: on bytes in memory, and on std's readers and writers.
+use crate::{
+    Failed, FromReader, Items, ListSink, ListSource, NoMemory, Sink, Source, Stop, Text, ToWriter,
+};
+use std::io;
+use std::io::{ErrorKind, Read};
+use std::test::Fail;
+
+#[test]
+fn lists_grow_and_change(rt: HostRuntime) -> Result<(), Fail> {
+    let alloc = rt.alloc();
+    let mut list = Items::new(alloc);
+    list.push(3u64)?;
+    list.extend_from_slice(&[4, 5])?;
+    assert_eq!(rt; list.as_slice().len(), 3);
+    assert_eq!(rt; list.copy(alloc)?.as_slice(), [3, 4, 5].as_slice());
+    let mut text = Text::from_slice(alloc, b"round ")?;
+    text.push_number(18_446_744_073_709_551_615)?;
+    assert_eq!(rt; text.as_slice(), b"round 18446744073709551615".as_slice());
+    let taken = Items::from_vec(vec![in alloc; 7u8, 8]?);
+    assert_eq!(rt; taken.as_slice(), [7, 8].as_slice());
+    Ok(())
+}
+
+#[test]
+fn an_item_is_put_in_the_place_of_another(rt: HostRuntime) -> Result<(), NoMemory> {
+    let mut text = Text::from_slice(rt.alloc(), b"cat")?;
+    text.set(1, b'u');
+    assert_eq!(rt; text.as_slice(), b"cut".as_slice());
+    Ok(())
+}
+
+#[test]
+fn a_list_source_gives_its_bytes_in_pieces(rt: HostRuntime) {
+    let mut source = ListSource::new(b"hello", 2, None);
+    let mut buffer = *b"----";
+    assert_eq!(rt; source.read(&mut buffer), Ok(2));
+    assert_eq!(rt; buffer, *b"he--");
+    assert_eq!(rt; source.read(&mut buffer[..1]), Ok(1));
+    assert_eq!(rt; buffer, *b"le--");
+    assert_eq!(rt; source.read(&mut buffer), Ok(2));
+    assert_eq!(rt; buffer, *b"lo--");
+    assert_eq!(rt; source.read(&mut buffer), Ok(0));
+    assert_eq!(rt; source.read(&mut buffer), Ok(0));
+}
+
+#[test]
+fn a_list_source_stops_at_one_read(rt: HostRuntime) {
+    for stop in [Stop::Interrupted, Stop::Failed] {
+        let mut source = ListSource::new(b"hello", 4, Some((1, stop)));
+        let mut buffer = *b"----";
+        assert_eq!(rt; source.read(&mut buffer), Ok(4));
+        assert_eq!(rt; source.read(&mut buffer), Err(stop));
+        assert_eq!(rt; buffer, *b"hell");
+        assert_eq!(rt; source.read(&mut buffer), Ok(1));
+    }
+}
+
+#[test]
+fn a_list_sink_takes_pieces_until_it_is_full(rt: HostRuntime) -> Result<(), NoMemory> {
+    let mut sink = ListSink::new(rt.alloc(), 3, 2, None)?;
+    assert_eq!(rt; sink.write(b"hello"), Ok(2));
+    assert_eq!(rt; sink.write(b""), Err(Failed));
+    assert_eq!(rt; sink.write(b"llo"), Ok(1));
+    assert_eq!(rt; sink.write(b"lo"), Err(Failed));
+    assert_eq!(rt; sink.bytes(), b"hel".as_slice());
+    Ok(())
+}
+
+#[test]
+fn a_list_sink_fails_at_one_write(rt: HostRuntime) -> Result<(), NoMemory> {
+    let mut sink = ListSink::new(rt.alloc(), 8, 8, Some(0))?;
+    assert_eq!(rt; sink.write(b"hello"), Err(Failed));
+    assert_eq!(rt; sink.write(b"hello"), Ok(5));
+    assert_eq!(rt; sink.bytes(), b"hello".as_slice());
+    Ok(())
+}
+
+/// A reader that is interrupted at first, then gives a byte, and then fails.
+#[derive(Drop)]
+struct Flaky {
+    reads: u8,
+}
+
+impl Read for Flaky {
+    fn read(&mut self, buffer: &mut [u8]) -> io::Result<usize> {
+        self.reads = self.reads.saturating_add(1);
+        if self.reads == 2 && !buffer.is_empty() {
+            buffer[0] = b'x';
+            return Ok(1);
+        }
+        Err(io::Error::from(if self.reads == 1 {
+            ErrorKind::Interrupted
+        } else {
+            ErrorKind::Other
+        }))
+    }
+}
+
+#[test]
+fn a_reader_is_interrupted_or_fails(rt: HostRuntime) {
+    let mut source = FromReader::new(Flaky { reads: 0 });
+    let mut buffer = *b"--";
+    assert_eq!(rt; source.read(&mut buffer), Err(Stop::Interrupted));
+    assert_eq!(rt; source.read(&mut buffer), Ok(1));
+    assert_eq!(rt; buffer, *b"x-");
+    assert_eq!(rt; source.read(&mut buffer), Err(Stop::Failed));
+}
+
+#[test]
+fn a_slice_is_read_and_a_vector_written(rt: HostRuntime) {
+    let mut source = FromReader::new(b"hi".as_slice());
+    let mut buffer = *b"---";
+    assert_eq!(rt; source.read(&mut buffer), Ok(2));
+    assert_eq!(rt; buffer, *b"hi-");
+    assert_eq!(rt; source.read(&mut buffer), Ok(0));
+    let mut sink = ToWriter::new(Vec::new(rt.alloc()));
+    assert_eq!(rt; sink.write(b"hi"), Ok(2));
+    assert_eq!(rt; sink.write(b""), Err(Failed));
+}
