@@ -6,7 +6,8 @@ use crate::fault::Fault;
 use crate::prices::prices_text;
 use crate::words::Job;
 use clock_device::Text;
-use clock_setup::{SetupFault, read_setup};
+use clock_posting::{PostFault, post_first, sheet_lines};
+use clock_setup::{OpeningFault, SetupFault, read_opening, read_setup};
 use std::alloc::Global;
 
 /// What the job prints of the document, or the document's fault.
@@ -35,10 +36,20 @@ fn prices_answer(alloc: Global, increment: u64, document: &[u8]) -> Result<Text,
     Ok(prices_text(alloc, &setup, increment)?)
 }
 
-fn opening_answer(_alloc: Global, document: &[u8]) -> Result<Text, Fault>
+fn opening_answer(alloc: Global, document: &[u8]) -> Result<Text, Fault>
     ensures ok { IfOk result (λ text. answer_of Job.Opening document.now ≡ Ok text) }
     ensures err { IfErr result (λ fault. fault ≢ Fault.Memory
         → answer_of Job.Opening document.now ≡ Err fault) }
 {
-    Err(Fault::Memory)
+    let opening = match read_opening(alloc, document) {
+        Ok(opening) => opening,
+        Err(OpeningFault::NoMemory) => return Err(Fault::Memory),
+        Err(fault) => return Err(Fault::Opening(fault)),
+    };
+    let posting = match post_first(alloc, &opening.setup, &opening.grid, opening.increment) {
+        Ok(posting) => posting,
+        Err(PostFault::PriceLimit(product)) => return Err(Fault::PriceLimit(product)),
+        Err(PostFault::NoMemory) => return Err(Fault::Memory),
+    };
+    Ok(sheet_lines(alloc, &opening.setup, &posting.sheet)?)
 }
