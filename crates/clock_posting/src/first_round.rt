@@ -31,6 +31,8 @@ pub fn post_first(
     ensures ok { let products = setup.now.products in
         let posted = rules.opening_posted products in
         IfOk result (rules.IsPosting 1 products (opening_prices products) grid.now posted increment) }
+    ensures each { IfOk result
+        (λ posting. length posting.sheet.lines ≡ length setup.now.products) }
     ensures err { let products = setup.now.products in
         let posted = rules.opening_posted products in
         IfErr result (rules.IsPostFault (rules.price_limit_fault products grid.now posted increment)) }

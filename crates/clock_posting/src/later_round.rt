@@ -46,6 +46,8 @@ pub fn post(
         let end = settled.now in
         let posted = later.posted_prices products prices.now changes.now end.left end.grid in
         IfOk result (rules.IsPosting round products prices.now end.grid posted increment) }
+    ensures each { IfOk result
+        (λ posting. length posting.sheet.lines ≡ length setup.now.products) }
     ensures err { let products = setup.now.products in
         let end = settled.now in
         let posted = later.posted_prices products prices.now changes.now end.left end.grid in

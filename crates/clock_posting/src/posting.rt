@@ -27,6 +27,7 @@ pub fn posting(
 
     ensures ok { IfOk result
         (rules.IsPosting round products.now prices.now grid.now posted.now increment) }
+    ensures each { IfOk result (λ posting. length posting.sheet.lines ≡ length products.now) }
     ensures err { IfErr result
         (rules.IsPostFault (rules.price_limit_fault products.now grid.now posted.now increment)) }
     ensures laws { IfOk result rules.IsConsistent }
@@ -97,7 +98,8 @@ fn lines(
     requires prices { length prices.now ≡ length products.now }
     requires posted { length posted.now ≡ length products.now }
     requires ended { ended ≡ rules.has_ended products.now grid.now }
-    ensures { IfOk result (λ lines. lines
+    ensures each { IfOk result (λ lines. length lines ≡ length products.now) }
+    ensures exact { IfOk result (λ lines. lines
         ≡ rules.lines_of_round products.now prices.now grid.now posted.now increment) }
 {
     let mut lines = Lines::new(alloc);

@@ -1,6 +1,7 @@
 use Rattle.std.proofs.Common.{◌≡◌, ◌++◌, ◌∷◌, [], ◌+◌, map, arith}
 use Rattle.std.specs.List.{range_with_len}
 use Rattle.std.proofs.lemmas.List.FromFn.{map-range_with_len_more}
+use Rattle.std.proofs.lemmas.Grind.{common_steps}
 use Rattle.clock_posting.specs.Posting.{sheet_line}
 use Rattle.clock_posting.proofs.posting.lines.Goals as goal
 
@@ -9,4 +10,7 @@ loop-product-preserved c =
     let product = c.loop-product.product in
     let f = sheet_line c.args.products.now c.args.prices.now c.args.grid.now c.args.posted.now c.args.increment in
     let more : map f (range_with_len 0 (product + 1)) ≡ map f (range_with_len 0 product) ++ f product ∷ [] = map-range_with_len_more f 0 product product (omega arith) in
-    cc (c.in_ok-push.ensures.ok)
+    record {
+      each = grind (arith, common_steps);
+      so_far = cc (c.in_ok-push.ensures.ok);
+    }

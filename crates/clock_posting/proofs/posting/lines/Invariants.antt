@@ -1,9 +1,11 @@
-use Rattle.std.proofs.Common.{◌≡◌, map}
+use Rattle.std.proofs.Common.{◌≡◌, length, map}
 use Rattle.std.specs.List.{range_with_len}
 use Rattle.clock_posting.specs.Posting.{sheet_line}
 use Rattle.clock_posting.proofs.posting.lines.Given as goal
 
 -- the lines of the products so far
 abbrev pub invariant-loop-product : goal.invariant-loop-product
-invariant-loop-product l =
-    l.lines ≡ map (sheet_line l.products l.prices l.grid l.posted l.increment) (range_with_len 0 l.product)
+invariant-loop-product l = record {
+  each : length l.lines ≡ l.product;
+  so_far : l.lines ≡ map (sheet_line l.products l.prices l.grid l.posted l.increment) (range_with_len 0 l.product);
+}
