@@ -8,15 +8,26 @@ pub enum Kind {
     Reduction,
 }
 
-/// A request to change a demand.
-#[derive(Clone, Copy, Debug)]
+/// A request to change a bidder's demand for a product.
+#[derive(Clone, Copy, Debug, PartialEq, Eq)]
 pub struct Change {
+    /// The bidder's number in the set-up, from 0.
     pub bidder: u32,
+
+    /// The product's number in the set-up, from 0.
     pub product: u32,
+
+    /// The number of the bid in the sheet's chain for the product, from 0.
     pub place: u32,
     pub kind: Kind,
+
+    /// In blocks.
     pub amount: u64,
+
+    /// In whole dollars.
     pub price: u64,
+
+    /// How far the price stands from the start price to the clock price.
     pub point: Point,
 }
 

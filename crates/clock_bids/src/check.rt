@@ -1,19 +1,25 @@
-ghost use Rattle.std.specs.Prelude.{◌≡◌, ◌<◌, ◌≤◌, ◌⊎◌, [], None, Some, length, take, All, OnOk, IfOk, IfErr, slice_index_or};
+ghost use Rattle.std.specs.Prelude.{◌≡◌, ◌⊎◌, [], None, Some, length, OnOk, IfOk, IfErr, slice_index_or};
 ghost use Rattle.clock_setup.specs.Limits.{IsRow};
-ghost use Rattle.clock_setup.specs.Prices.{prices_at};
-ghost use Rattle.clock_bids.specs.Sheet.{IsGoodSheet, IsFaultOf, asked_demands, bid_faults, first_or};
+ghost use Rattle.clock_bids.specs.Sheet.{IsGoodSheet, IsFaultOf, bid_faults, first_or};
 ghost use Rattle.clock_bids.specs.Chains as chains;
-ghost use Rattle.clock_bids.specs.Chains.{AreGoodChains, last_bids};
 
+use crate::demands::asked_demands;
 use crate::sheet::{Bid, BidFault, Own, Sheet};
-use clock_device::NoMemory;
-use clock_setup::{Amounts, PricePair, Prices, Product, Setup, activity};
+use clock_setup::{PricePair, Prices, Product, Setup, activity};
 use std::alloc::Global;
 
 /// The most bids that a sheet may have.
 const MOST_BIDS: usize = 8192;
 
-/// Judges a sheet of bids before it is taken.
+/// Judges a sheet of bids: the sheet with these bids, or its first fault.
+///
+/// [`BidFault::TooMany`] comes first, then the faults of the bids in their order, each bid's first
+/// one in the order of [`BidFault`], and [`BidFault::OverActivity`] last. The prices are those of
+/// the round, a pair for each product; `own` has a demand for each product, at most its cap.
+///
+/// A sheet is judged in one pass over its bids, however many products they are for. The rules are
+/// those of the FCC's procedures for Auction 105 on simple bids; that several bids for a product
+/// form a chain is our own rule.
 pub fn check_sheet(
     alloc: Global,
     setup: &Setup,
@@ -38,8 +44,9 @@ pub fn check_sheet(
     Ok(Sheet::from_bids(alloc, bids)?)
 }
 
-/// Judges each bid by the last one before it for the same product, so that all are judged in one
-/// pass.
+/// Judges each bid by the last one before it for the same product. Where the earlier bids are
+/// good, their prices rise and their quantities move one way, so that the last one tells whether
+/// the next price is higher and the next step goes on.
 fn judge(
     alloc: Global,
     setup: &Setup,
@@ -120,17 +127,4 @@ fn fault_after(last: Option<Bid>, held: u64, clock: u64, place: u64, bid: &Bid) 
         return Some(BidFault::MixedDirection(place));
     }
     None
-}
-
-/// The demands that bids ask for: for each product the last quantity, or 0 where there is no bid.
-pub fn asked_demands(alloc: Global, setup: &Setup, bids: &[Bid]) -> Result<Amounts, NoMemory>
-    requires { All (λ bid. bid.product < length setup.now.products) bids.now }
-    ensures { IfOk result (λ asked. asked ≡ asked_demands (length setup.now.products) bids.now) }
-{
-    let mut asked = Vec::new(alloc);
-    asked.resize(setup.products.as_slice().len(), 0)?;
-    for bid in bids {
-        asked[bid.product as usize] = bid.quantity;
-    }
-    Ok(Amounts::from_vec(asked))
 }

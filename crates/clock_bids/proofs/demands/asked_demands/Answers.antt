@@ -1,7 +1,7 @@
 use Rattle.std.proofs.Common.{◌≡◌, ◌<◌, [], length, ◌∙◌, sym, ap, get_or, set}
 use Rattle.clock_bids.specs.Sheet.{asked_demands}
 use Rattle.clock_bids.proofs.Tables.{no_bid, filled, asked_demands-nil, asked_demands-more}
-use Rattle.clock_bids.proofs.check.asked_demands.Goals as goal
+use Rattle.clock_bids.proofs.demands.asked_demands.Goals as goal
 
 pub loop-bid-init : goal.loop-bid-init
 loop-bid-init c =
