@@ -1,7 +1,7 @@
 -- The tests' set-up, board and requests are such as the calls ask for.
-use Rattle.std.proofs.Common.{◌≡◌, ◌≢◌, ℕ, zero, suc, ◌+◌, ◌<◌, ◌≤◌, List, [], ◌∷◌, ◌++◌, Bool, true, false, ◌&&◌, refl, ap, sym, subst, ◌∙◌, arith, get_or, length, All, leb-true, ltb-true, eqb-true, zero-add}
+use Rattle.std.proofs.Common.{◌≡◌, ◌≢◌, ℕ, ◌+◌, ◌<◌, ◌≤◌, List, [], ◌∷◌, ◌++◌, Bool, true, false, ◌&&◌, refl, ap, sym, subst, ◌∙◌, arith, get_or, length, All, leb-true, ltb-true, eqb-true, zero-add}
 use Rattle.std.specs.Prelude.{nat_le, nat_lt, nat_eq, slice_index}
-use Rattle.std.specs.List.{list_all, range_with_len, AllPass, AllPairs}
+use Rattle.std.specs.List.{list_all, range_with_len}
 use Rattle.std.proofs.lemmas.Bool.{false≢true}
 use Rattle.std.proofs.lemmas.List.Sums.{AllPass-from_list_all}
 use Rattle.std.proofs.lemmas.List.Elements.{All-cons, All-nil, All-weaker, All-from_get_or}
@@ -14,7 +14,7 @@ use Rattle.clock_setup.specs.Examples.{two_products, two_blocks, bidder_named}
 use Rattle.clock_setup.specs.Demands.{row_of, demand_at}
 use Rattle.clock_setup.specs.Eligibility.{activity}
 use Rattle.clock_bids.specs.declared.change.Change.{Change}
-use Rattle.clock_bids.specs.declared.change.Kind.TheVariants.{Increase, Reduction}
+use Rattle.clock_bids.specs.declared.change.Kind.TheVariants.{Increase}
 use Rattle.clock_bids.specs.Requests.{asked_of}
 use Rattle.clock_processor.specs.Board.{IsWithinEligibility}
 use Rattle.clock_processor.specs.Requests.{IsRequest, CanSettle}

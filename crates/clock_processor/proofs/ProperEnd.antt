@@ -12,7 +12,7 @@ use Rattle.clock_processor.specs.Room.{room}
 use Rattle.clock_processor.specs.Board.{BoardFields, IsBoard, IsWithinEligibility, MayApply}
 use Rattle.clock_processor.specs.Settling.{Progress, next_by, first_with_room, room_at, with_application, with_admission, HasEnded, Settles, no_change, settled, start_of}
 use Rattle.clock_processor.specs.Requests.{IsRequest, CanSettle}
-use Rattle.clock_processor.specs.Processor.{SettledFields, IsSettlement, IsProperEnd, end_of}
+use Rattle.clock_processor.specs.Settlement.{SettledFields, IsSettlement, IsProperEnd, end_of}
 use Rattle.clock_processor.specs.UnderWay.{StaysWithinCaps}
 use Rattle.clock_processor.proofs.Supply.{same_or_not, settled_supplied}
 use Rattle.clock_processor.proofs.Kept.{settled_keep}

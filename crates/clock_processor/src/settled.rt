@@ -13,7 +13,7 @@ pub struct Settled {
 }
 
 impl Model for Settled {
-    ghost use Rattle.clock_processor.specs.Processor.{SettledFields};
+    ghost use Rattle.clock_processor.specs.Settlement.{SettledFields};
 
     ghost Value = { SettledFields };
 

@@ -3,7 +3,7 @@ use Rattle.std.proofs.Common.{List, map, sym, subst, ap, ◌∙◌}
 use Rattle.clock_bids.specs.declared.change.Change.{Change}
 use Rattle.clock_processor.specs.UnderWay.{IsUnderWay, progress_of}
 use Rattle.clock_processor.specs.Settling.{Settles}
-use Rattle.clock_processor.specs.Processor.{IsSettlement, SettledFields}
+use Rattle.clock_processor.specs.Settlement.{IsSettlement, SettledFields}
 use Rattle.clock_processor.proofs.Apply.{under_way_start, settlement_reached}
 use Rattle.clock_processor.proofs.ProperEnd.{proper_end, held_at_end}
 use Rattle.clock_processor.proofs.plain.PlainProcessor.settle.Goals as goal
