@@ -7,7 +7,8 @@ use Rattle.std.proofs.lemmas.List.FromFn.{length-map-range_with_len}
 use Rattle.clock_house.specs.Command.{Command}
 use Rattle.clock_house.specs.History.{ClosedRound, round_numbered}
 use Rattle.clock_house.specs.House.{HouseFields, StandsFor}
-use Rattle.clock_house.proofs.Numbers.{AreNumbered, numbered, round_numbered-zero, round_numbered-suc, newest_slips, last-reverse}
+use Rattle.clock_house.specs.Laws.{AreNumbered}
+use Rattle.clock_house.proofs.Numbers.{numbered, round_numbered-zero, round_numbered-suc, newest_slips, last-reverse}
 
 module _ (house : HouseFields) (commands : List Command) (stands : StandsFor commands house) where
   -- its closed rounds are numbered

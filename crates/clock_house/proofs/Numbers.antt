@@ -12,13 +12,8 @@ use Rattle.clock_house.specs.Standing.{first_holding, holding_after}
 use Rattle.clock_house.specs.Command.{Command, put, close, other}
 use Rattle.clock_house.specs.Closing.{outcome, closed_round}
 use Rattle.clock_house.specs.History.{ClosedRound, Auction, standing, holding, bidder_at, slip_of, open_round, closing_of, after_closing, history, round_numbered}
+use Rattle.clock_house.specs.Laws.{AreNumbered}
 use Rattle.clock_house.proofs.Closings.{IsClosing, closing_passed}
-
--- the rounds, the newest first, have the numbers down to 1, and each has a slip for each bidder and a line for each product
-abbrev pub AreNumbered : ℕ → ℕ → List ClosedRound → Type 0
-AreNumbered bidders products [] = Unit {0}
-AreNumbered bidders products (round ∷ rounds) =
-    (round.sheet.round ≡ suc (length rounds)) × (length round.slips ≡ bidders) × (length round.sheet.lines ≡ products) × AreNumbered bidders products rounds
 
 module _ (setup : SetupFields) where
   -- while the auction goes on, the current round is one more than the number of closed rounds

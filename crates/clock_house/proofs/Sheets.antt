@@ -1,0 +1,62 @@
+-- Sheets in force: each is good, and what a command does to them.
+use Rattle.std.proofs.Common.{◌≡◌, ℕ, List, [], ◌∷◌, ◌==◌, ◌&&◌, Bool, true, false, cond, not, refl, ap, sym, ◌∙◌}
+use Rattle.std.specs.Prelude.{Option, Some, None, is_none, slice_get, slice_index_or, filter_map, unwrap_or}
+use Rattle.std.specs.List.{cons_option}
+use Rattle.std.proofs.lemmas.Option.{none-some}
+use Rattle.clock_setup.specs.declared.setup.Product.{Product}
+use Rattle.clock_setup.specs.Limits.{SetupFields}
+use Rattle.clock_bids.specs.declared.sheet.Bid.{Bid}
+use Rattle.clock_bids.specs.declared.sheet.BidFault.{BidFault}
+use Rattle.clock_bids.specs.Sheet.{sheet_fault, IsGoodSheet}
+use Rattle.clock_house.specs.declared.fault.PutFault.{PutFault}
+use Rattle.clock_house.specs.declared.fault.PutFault.TheVariants as put_faults
+use Rattle.clock_house.specs.Command.{Command, put, close, other}
+use Rattle.clock_house.specs.Standing.{Standing, Holding, put_fault, bid_fault_of}
+use Rattle.clock_house.specs.History.{Auction, standing, holding, accepted_bids, sheet_in_force}
+
+no_bid_fault : (fault : Option BidFault) → bid_fault_of fault ≡ None → fault ≡ None
+no_bid_fault None e = refl
+no_bid_fault (Some fault) e = absurd (none-some _ (sym e))
+
+judged : (ended current : Bool) (round : ℕ) (fault : Option BidFault) →
+    cond ended (Some put_faults.Ended) (cond (not current) (Some (put_faults.WrongRound round)) (bid_fault_of fault)) ≡ None → fault ≡ None
+judged true current round fault e = absurd (none-some _ (sym e))
+judged false false round fault e = absurd (none-some _ (sym e))
+judged false true round fault e = no_bid_fault fault e
+
+-- a sheet that may be put is good
+pub good_of_put : (products : List Product) (now : Standing) (held : Holding) (round : ℕ) (bids : List Bid) → put_fault products now held round bids ≡ None →
+    IsGoodSheet products now.prices held.eligibility held.demands bids
+good_of_put products now held round bids e =
+    judged now.ended (round == now.round) now.round (sheet_fault products now.prices held.eligibility held.demands bids) e
+
+is_none_none : {A : Type 0} (o : Option A) → is_none o ≡ true → o ≡ None
+is_none_none None e = refl
+is_none_none (Some x) e = let bad : false ≡ true = e in cc
+
+module _ (products : List Product) (now : Standing) (held : Holding) (bidder : ℕ) where
+  first_good : (command_bids : Option (List Bid)) (rest : List (List Bid)) (bids : List Bid) →
+      ((one : List Bid) → command_bids ≡ Some one → IsGoodSheet products now.prices held.eligibility held.demands one) →
+      (slice_get rest 0 ≡ Some bids → IsGoodSheet products now.prices held.eligibility held.demands bids) →
+      slice_get (cons_option command_bids rest) 0 ≡ Some bids → IsGoodSheet products now.prices held.eligibility held.demands bids
+  first_good None rest bids own later e = later e
+  first_good (Some one) rest bids own later e = own bids e
+
+  accepted : (own good : Bool) (fault : Option PutFault) (bids one : List Bid) → is_none fault ≡ good → cond (own && good) (Some bids) None ≡ Some one → (fault ≡ None) × (bids ≡ one)
+  accepted true true fault bids one is e = (is_none_none fault is, cc)
+  accepted true false fault bids one is e = absurd (none-some _ e)
+  accepted false good fault bids one is e = absurd (none-some _ e)
+
+  accepted_good : (command : Command) (one : List Bid) → accepted_bids products now held bidder command ≡ Some one → IsGoodSheet products now.prices held.eligibility held.demands one
+  accepted_good (put author round bids) one e =
+      let found = accepted (author == bidder) (is_none (put_fault products now held round bids)) (put_fault products now held round bids) bids one refl e in
+      ap (sheet_fault products now.prices held.eligibility held.demands) (sym found.1) ∙ good_of_put products now held round bids found.0
+  accepted_good (close round increment ties) one e = absurd (none-some _ e)
+  accepted_good other one e = absurd (none-some _ e)
+
+  -- the first accepted sheet is good
+  pub first_accepted_good : (since : List Command) (bids : List Bid) → slice_get (filter_map (accepted_bids products now held bidder) since) 0 ≡ Some bids →
+      IsGoodSheet products now.prices held.eligibility held.demands bids
+  first_accepted_good [] bids e = absurd (none-some _ e)
+  first_accepted_good (command ∷ since) bids e =
+      first_good (accepted_bids products now held bidder command) (filter_map (accepted_bids products now held bidder) since) bids (accepted_good command) (first_accepted_good since bids) e

@@ -1,0 +1,53 @@
+-- What holds after every list of commands.
+--     IsHeld products held      a bidder's demands are within the caps and its eligibility
+--     IsPriced products now      the prices of a round that goes on
+--     AreNumbered bidders products closed      the closed rounds are numbered from 1 on
+--     StaysSupplied products later earlier      a product's total, once at supply, never falls below it
+--     IsSound setup auction      all of these
+use Rattle.std.specs.Prelude.{◌≡◌, ℕ, suc, ◌+◌, ◌<◌, ◌≤◌, List, [], ◌∷◌, false, length, map, sum_by, All}
+use Rattle.std.specs.List.{AllPairs}
+use Rattle.clock_money.specs.Price.{highest_price}
+use Rattle.clock_setup.specs.declared.setup.Product.{Product}
+use Rattle.clock_setup.specs.Limits.{SetupFields, IsRow, supply_of}
+use Rattle.clock_setup.specs.Demands.{total_of}
+use Rattle.clock_setup.specs.Eligibility.{activity}
+use Rattle.clock_posting.specs.Posting.{IsRising}
+use Rattle.clock_posting.specs.PostedPrice.{IsOrdered}
+use Rattle.clock_house.specs.Standing.{Standing, Holding}
+use Rattle.clock_house.specs.History.{ClosedRound, Auction, standing, holding}
+
+-- a demand for each product, none above its cap, and the activity within the eligibility, which is at most 10^12
+pub record IsHeld (products : List Product) (held : Holding) : Type 0 where
+  pub row : IsRow products held.demands
+  pub within : activity products held.demands ≤ held.eligibility
+  pub most : held.eligibility ≤ 1000000000000
+
+-- a pair of prices for each product, in order, and from round 2 on the clock price above the start price; from then on some start price has risen in each round, so that the rounds are bounded
+pub record IsPriced (products : List Product) (now : Standing) : Type 0 where
+  pub each : length now.prices ≡ length products
+  pub ordered : All IsOrdered now.prices
+  pub highest : All (λ pair. pair.start ≤ highest_price) now.prices
+  pub rising : 2 ≤ now.round → All IsRising now.prices
+  pub bounded : 2 ≤ now.round → now.round + length products ≤ 2 + sum_by (λ pair. pair.start) now.prices
+
+-- the closed rounds, the newest first, have the numbers down to 1, and each has a slip for each bidder and a line for each product
+abbrev pub AreNumbered : ℕ → ℕ → List ClosedRound → Type 0
+AreNumbered bidders products [] = Unit {0}
+AreNumbered bidders products (round ∷ rounds) =
+    (round.sheet.round ≡ suc (length rounds)) × (length round.slips ≡ bidders) × (length round.sheet.lines ≡ products) × AreNumbered bidders products rounds
+
+-- the demands after a closed round
+abbrev pub grid_after : ClosedRound → List (List ℕ)
+grid_after round = map (λ slip. slip.demands) round.slips
+
+-- a product whose total was at supply after the earlier round is at supply after the later one
+abbrev pub StaysSupplied : List Product → ClosedRound → ClosedRound → Type 0
+StaysSupplied products later earlier =
+    (product : ℕ) → supply_of products product ≤ total_of (grid_after earlier) product → supply_of products product ≤ total_of (grid_after later) product
+
+-- bidders within their limits, prices in order, rounds in order, and no product that was sold out comes free again
+pub record IsSound (setup : SetupFields) (auction : Auction) : Type 0 where
+  pub numbered : AreNumbered (length setup.bidders) (length setup.products) auction.closed
+  pub held : (bidder : ℕ) → bidder < length setup.bidders → IsHeld setup.products (holding setup auction.closed bidder)
+  pub priced : (standing setup.products auction.closed).ended ≡ false → IsPriced setup.products (standing setup.products auction.closed)
+  pub supplied : AllPairs (StaysSupplied setup.products) auction.closed
