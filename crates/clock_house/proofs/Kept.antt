@@ -4,10 +4,14 @@ use Rattle.std.specs.Prelude.{Option, Some, None, reverse, slice_get}
 use Rattle.std.proofs.lemmas.Option.{none-some}
 use Rattle.std.proofs.lemmas.List.{reverse-reverse}
 use Rattle.std.proofs.lemmas.List.FromFn.{length-map-range_with_len}
+use Rattle.clock_setup.specs.Limits.{IsSetup}
+use Rattle.clock_bids.specs.declared.sheet.Bid.{Bid}
 use Rattle.clock_house.specs.Command.{Command}
-use Rattle.clock_house.specs.History.{ClosedRound, round_numbered}
-use Rattle.clock_house.specs.House.{HouseFields, StandsFor}
-use Rattle.clock_house.specs.Laws.{AreNumbered}
+use Rattle.clock_house.specs.Closing.{OpenRound}
+use Rattle.clock_house.specs.History.{ClosedRound, round_numbered, history, standing, holding, for_each_bidder, open_round}
+use Rattle.clock_house.specs.House.{HouseFields, StandsFor, standing_in, open_round_in}
+use Rattle.clock_house.specs.Laws.{AreNumbered, IsSound, IsOpen}
+use Rattle.clock_house.proofs.Sound.{sound, open_sound}
 use Rattle.clock_house.proofs.Numbers.{numbered, round_numbered-zero, round_numbered-suc, newest_slips, last-reverse}
 
 module _ (house : HouseFields) (commands : List Command) (stands : StandsFor commands house) where
@@ -39,3 +43,27 @@ pub numbered_slips : (bidders products n : ℕ) (closed : List ClosedRound) (one
 numbered_slips bidders products n [] one all e = absurd (none-some one e)
 numbered_slips bidders products n (round ∷ rounds) one all e =
     slips_by bidders round one (round_numbered n rounds) (round.sheet.round == n) e all.1 (numbered_slips bidders products n rounds one all.3)
+
+-- a house that stands for a list of commands is in order
+module _ (house : HouseFields) (limits : IsSetup house.setup) (commands : List Command) (stands : StandsFor commands house) where
+  pub stands_sound : IsSound house.setup (record { closed = house.closed; since = (history house.setup commands).since })
+  stands_sound =
+      let P = λ (closed : List ClosedRound). IsSound house.setup (record { closed = closed; since = (history house.setup commands).since }) in
+      let all : IsSound house.setup (history house.setup commands) = sound house.setup limits commands in
+      subst P (sym stands.closed) (record { numbered = all.numbered; held = all.held; priced = all.priced; supplied = all.supplied })
+
+  -- what a closing goes by is that of the commands
+  pub stands_open : open_round_in house ≡ open_round house.setup (history house.setup commands)
+  stands_open =
+      let at = λ (closed : List ClosedRound) (sheets : List (Option (List Bid))). let round : OpenRound = record {
+        standing = standing house.setup.products closed;
+        holdings = for_each_bidder house.setup (holding house.setup closed);
+        sheets = sheets;
+      } in round in
+      ap (λ (closed : List ClosedRound). at closed house.sheets) stands.closed ∙ ap (at (history house.setup commands).closed) stands.sheets
+
+  pub stands_going : (standing_in house).ended ≡ false → IsOpen house.setup.products (open_round_in house)
+  stands_going going =
+      subst (IsOpen house.setup.products) (sym stands_open)
+      (open_sound house.setup limits (history house.setup commands) (sound house.setup limits commands)
+      (ap (λ (closed : List ClosedRound). (standing house.setup.products closed).ended) (sym stands.closed) ∙ going))

@@ -19,17 +19,3 @@ pub good_sheet_changes : (products : List Product) (prices : List PricePair) (el
     length products ≤ 4096 → All IsProduct products → length prices ≡ length products → All IsRising prices → IsRow products demands → IsGoodSheet products prices eligibility demands bids →
     AreChangesOf products prices demands bidder (changes_of_sheet prices demands bidder bids)
 good_sheet_changes products prices eligibility demands bidder bids few limits each rising row good = ?
-
-pub empty_sheet_good : (products : List Product) (prices : List PricePair) (eligibility : ℕ) (demands : List ℕ) → IsGoodSheet products prices eligibility demands []
-empty_sheet_good products prices eligibility demands = ?
-
-pub good_sheet_row : (products : List Product) (prices : List PricePair) (eligibility : ℕ) (demands : List ℕ) (bids : List Bid) →
-    IsGoodSheet products prices eligibility demands bids → IsRow products (asked_demands (length products) bids)
-good_sheet_row products prices eligibility demands bids good = ?
-
-pub good_sheet_activity : (products : List Product) (prices : List PricePair) (eligibility : ℕ) (demands : List ℕ) (bids : List Bid) →
-    IsGoodSheet products prices eligibility demands bids → activity products (asked_demands (length products) bids) ≤ eligibility
-good_sheet_activity products prices eligibility demands bids good = ?
-
-pub processing_permutes : (ties : List Tie) (changes : List Change) → IsPermutation changes (processing_list ties changes)
-processing_permutes ties changes = ?

@@ -4,16 +4,19 @@
 --     AreNumbered bidders products closed      the closed rounds are numbered from 1 on
 --     StaysSupplied products later earlier      a product's total, once at supply, never falls below it
 --     IsSound setup auction      all of these
+--     IsOpen products now      an open round is in order
 use Rattle.std.specs.Prelude.{◌≡◌, ℕ, suc, ◌+◌, ◌<◌, ◌≤◌, List, [], ◌∷◌, false, length, map, sum_by, All}
 use Rattle.std.specs.List.{AllPairs}
 use Rattle.clock_money.specs.Price.{highest_price}
 use Rattle.clock_setup.specs.declared.setup.Product.{Product}
-use Rattle.clock_setup.specs.Limits.{SetupFields, IsRow, supply_of}
+use Rattle.clock_setup.specs.Limits.{SetupFields, IsProduct, IsRow, supply_of}
 use Rattle.clock_setup.specs.Demands.{total_of}
 use Rattle.clock_setup.specs.Eligibility.{activity}
+use Rattle.clock_bids.specs.Sheet.{IsGoodSheet}
 use Rattle.clock_posting.specs.Posting.{IsRising}
 use Rattle.clock_posting.specs.PostedPrice.{IsOrdered}
 use Rattle.clock_house.specs.Standing.{Standing, Holding}
+use Rattle.clock_house.specs.Closing.{OpenRound, holding_at, bids_at}
 use Rattle.clock_house.specs.History.{ClosedRound, Auction, standing, holding}
 
 -- a demand for each product, none above its cap, and the activity within the eligibility, which is at most 10^12
@@ -22,10 +25,11 @@ pub record IsHeld (products : List Product) (held : Holding) : Type 0 where
   pub within : activity products held.demands ≤ held.eligibility
   pub most : held.eligibility ≤ 1000000000000
 
--- a pair of prices for each product, in order, and from round 2 on the clock price above the start price; from then on some start price has risen in each round, so that the rounds are bounded
+-- a pair of prices for each product, in order, at start prices from 1 to 10^12, and from round 2 on the clock price above the start price; from then on some start price has risen in each round, so that the rounds are bounded
 pub record IsPriced (products : List Product) (now : Standing) : Type 0 where
   pub each : length now.prices ≡ length products
   pub ordered : All IsOrdered now.prices
+  pub some : All (λ pair. 1 ≤ pair.start) now.prices
   pub highest : All (λ pair. pair.start ≤ highest_price) now.prices
   pub rising : 2 ≤ now.round → All IsRising now.prices
   pub bounded : 2 ≤ now.round → now.round + length products ≤ 2 + sum_by (λ pair. pair.start) now.prices
@@ -51,3 +55,21 @@ pub record IsSound (setup : SetupFields) (auction : Auction) : Type 0 where
   pub held : (bidder : ℕ) → bidder < length setup.bidders → IsHeld setup.products (holding setup auction.closed bidder)
   pub priced : (standing setup.products auction.closed).ended ≡ false → IsPriced setup.products (standing setup.products auction.closed)
   pub supplied : AllPairs (StaysSupplied setup.products) auction.closed
+
+-- an open round of a set-up: bidders within their limits, prices in order, and a good sheet of each bidder, as an empty one is
+pub record IsOpen (products : List Product) (now : OpenRound) : Type 0 where
+  pub limits : All IsProduct products
+  pub few_products : length products ≤ 4096
+  pub few_bidders : length now.holdings ≤ 512
+  pub held : (bidder : ℕ) → bidder < length now.holdings → IsHeld products (holding_at now.holdings bidder)
+  pub priced : IsPriced products now.standing
+  pub good : (bidder : ℕ) → bidder < length now.holdings →
+      IsGoodSheet products now.standing.prices (holding_at now.holdings bidder).eligibility (holding_at now.holdings bidder).demands (bids_at now.sheets bidder)
+
+-- the eligibilities before the round
+abbrev pub eligibilities_of : OpenRound → List ℕ
+eligibilities_of now = map (λ holding. holding.eligibility) now.holdings
+
+-- the demands before the round
+abbrev pub grid_of : OpenRound → List (List ℕ)
+grid_of now = map (λ holding. holding.demands) now.holdings

@@ -1,5 +1,6 @@
 use clock_device::Items;
-use clock_posting::RoundSheet;
+use clock_order::Ties;
+use clock_posting::{Posting, RoundSheet};
 use clock_setup::Amounts;
 
 /// What a round leaves a bidder with: its slip.
@@ -23,4 +24,20 @@ pub type Slips = Items<Slip>;
 pub struct ClosedRound {
     pub sheet: RoundSheet,
     pub slips: Slips,
+}
+
+/// What a closing posts: the round's sheet with the next prices, and the slip of each bidder.
+#[derive(Drop)]
+pub struct Posted {
+    pub posting: Posting,
+    pub slips: Slips,
+}
+
+/// A closing that is prepared and not yet made: what was asked for, and what it posts.
+#[derive(Drop)]
+pub struct Prepared {
+    pub round: u64,
+    pub increment: u64,
+    pub ties: Ties,
+    pub posted: Posted,
 }

@@ -1,0 +1,54 @@
+-- All bidders' requests, one bidder's after another's.
+use Rattle.std.proofs.Common.{◌≡◌, ℕ, zero, suc, ◌+◌, ◌-◌, ◌<◌, ◌≤◌, inl, inr, List, [], ◌∷◌, ◌++◌, refl, ap, sym, subst, ◌∙◌, arith, get_or, length, All, length-append}
+use Rattle.std.specs.Prelude.{flat_map}
+use Rattle.std.specs.List.{range_with_len, AllPairs}
+use Rattle.std.proofs.lemmas.Bool.{cases_lt}
+use Rattle.std.proofs.lemmas.List.{get_or_append_left, get_or-append-add}
+use Rattle.std.proofs.lemmas.List.Elements.{All-append, All-nil, All-weaker}
+use Rattle.clock_bids.specs.declared.change.Change.{Change}
+use Rattle.clock_bids.specs.Requests.{AreApart}
+
+module _ {A : Type 0} (R : A → A → Type 0) (xs ys : List A) where
+  -- an element of the second list
+  in_second : (j : ℕ) (d : A) → length xs ≤ j → get_or (xs ++ ys) j d ≡ get_or ys (j - length xs) d
+  in_second j d from = ap (λ i. get_or (xs ++ ys) i d) (omega (arith, from)) ∙ get_or-append-add xs ys (j - length xs) d
+
+  -- pairs within each of two lists and across them
+  pub AllPairs-append : AllPairs R xs → AllPairs R ys → ((i j : ℕ) (d : A) → i < length xs → j < length ys → R (get_or xs i d) (get_or ys j d)) → AllPairs R (xs ++ ys)
+  AllPairs-append first second across i j d before within =
+      let long : length (xs ++ ys) ≡ length xs + length ys = length-append xs ys in
+      elim (cases_lt j (length xs)) as (λ _. R (get_or (xs ++ ys) i d) (get_or (xs ++ ys) j d)) [
+        | inl left ↦
+            subst (λ one. R one (get_or (xs ++ ys) j d)) (sym (get_or_append_left xs ys d i (omega (arith, before, left))))
+            (subst (R (get_or xs i d)) (sym (get_or_append_left xs ys d j left)) (first i j d before left))
+        | inr right ↦ elim (cases_lt i (length xs)) as (λ _. R (get_or (xs ++ ys) i d) (get_or (xs ++ ys) j d)) [
+          | inl left ↦
+              subst (λ one. R one (get_or (xs ++ ys) j d)) (sym (get_or_append_left xs ys d i left))
+              (subst (R (get_or xs i d)) (sym (in_second j d right)) (across i (j - length xs) d left (omega (arith, within, long, right))))
+          | inr beyond ↦
+              subst (λ one. R one (get_or (xs ++ ys) j d)) (sym (in_second i d beyond))
+              (subst (R (get_or ys (i - length xs) d)) (sym (in_second j d right)) (second (i - length xs) (j - length xs) d (omega (arith, before, beyond)) (omega (arith, within, long, right))))
+        ]
+      ]
+
+module _ (requests_of : ℕ → List Change) (bidders : ℕ) where
+  -- what holds of each bidder's requests holds of all
+  pub all_joined : (P : Change → Type 0) (a n : ℕ) → ((bidder : ℕ) → a ≤ bidder → bidder < bidders → All P (requests_of bidder)) → a + n ≤ bidders → All P (flat_map requests_of (range_with_len a n))
+  all_joined P a zero each within = All-nil P
+  all_joined P a (suc n) each within =
+      All-append P (requests_of a) (flat_map requests_of (range_with_len (a + 1) n)) (each a (omega arith) (omega (arith, within)))
+      (all_joined P (a + 1) n (λ bidder from to. each bidder (omega (arith, from)) to) (omega (arith, within)))
+
+  -- no two have one bidder, product and place
+  pub apart_joined : ((bidder : ℕ) → bidder < bidders → All (λ (change : Change). change.bidder ≡ bidder) (requests_of bidder)) → ((bidder : ℕ) → bidder < bidders → AllPairs AreApart (requests_of bidder)) →
+      (a n : ℕ) → a + n ≤ bidders → AllPairs AreApart (flat_map requests_of (range_with_len a n))
+  apart_joined own apart a zero within = λ i j d before in_range. absurd (omega (arith, in_range))
+  apart_joined own apart a (suc n) within =
+      let rest : List Change = flat_map requests_of (range_with_len (a + 1) n) in
+      let later : All (λ (change : Change). a + 1 ≤ change.bidder) rest
+      = all_joined (λ (change : Change). a + 1 ≤ change.bidder) (a + 1) n
+      (λ bidder from to. All-weaker (λ (change : Change). change.bidder ≡ bidder) (λ (change : Change). a + 1 ≤ change.bidder) (λ change is. omega (arith, is, from)) (requests_of bidder) (own bidder to))
+      (omega (arith, within)) in
+      let mine : All (λ (change : Change). change.bidder ≡ a) (requests_of a) = own a (omega (arith, within)) in
+      AllPairs-append AreApart (requests_of a) rest (apart a (omega (arith, within))) (apart_joined own apart (a + 1) n (omega (arith, within)))
+      (λ i j d i_in j_in bidder product place. omega (arith, mine i d i_in, later j d j_in, bidder))

@@ -1,0 +1,144 @@
+-- What putting a sheet does to the commands that a house stands for.
+use Rattle.std.proofs.Common.{◌≡◌, ◌≢◌, ℕ, ◌<◌, ◌+◌, inl, inr, List, [], ◌∷◌, Bool, true, false, cond, ◌&&◌, ◌==◌, not, refl, ap, sym, subst, ◌∙◌, arith, get_or, set, length, eq-eqb, ne_eqb}
+use Rattle.std.specs.Prelude.{Option, Some, None, Result, Ok, Err, map, is_none, slice_index_or}
+use Rattle.std.specs.List.{range_with_len}
+use Rattle.std.proofs.lemmas.Bool.{cases_eq}
+use Rattle.std.proofs.lemmas.Option.{none-some}
+use Rattle.std.proofs.lemmas.List.{get_or-set_same, get_or-set_other, length-set}
+use Rattle.std.proofs.lemmas.List.FromFn.{fill_by_all, length-map-range_with_len, get_or-map-range_with_len}
+use Rattle.clock_setup.specs.declared.setup.Product.{Product}
+use Rattle.clock_bids.specs.declared.sheet.Bid.{Bid}
+use Rattle.clock_bids.specs.declared.sheet.BidFault.{BidFault}
+use Rattle.clock_bids.specs.declared.sheet.BidFault.TheVariants as bid_faults
+use Rattle.clock_bids.specs.Sheet.{sheet_fault, IsFaultOf}
+use Rattle.clock_house.specs.declared.fault.PutFault.{PutFault}
+use Rattle.clock_house.specs.declared.fault.PutFault.TheVariants as put_faults
+use Rattle.clock_house.specs.Faults.{told_of_bid}
+use Rattle.clock_house.specs.Command.{Command, put}
+use Rattle.clock_house.specs.Standing.{Standing, Holding, put_fault, bid_fault_of}
+use Rattle.clock_house.specs.History.{ClosedRound, Auction, history, standing, holding, for_each_bidder, sheet_in_force}
+use Rattle.clock_house.specs.House.{HouseFields, StandsFor, standing_in, holding_in, put_fault_in, with_sheet}
+use Rattle.clock_house.proofs.Steps.{in_force-accepted, in_force-skipped}
+
+-- the tests of a sheet, one after another
+module _ (products : List Product) (now : Standing) (held : Holding) (round : ℕ) (bids : List Bid) where
+  abbrev after_end : Bool → Bool → Option PutFault
+  after_end ended current =
+      cond ended (Some put_faults.Ended) (cond (not current) (Some (put_faults.WrongRound now.round)) (bid_fault_of (sheet_fault products now.prices held.eligibility held.demands bids)))
+
+  pub put-ended : now.ended ≡ true → put_fault products now held round bids ≡ Some put_faults.Ended
+  put-ended e = ap (λ ended. after_end ended (round == now.round)) e
+
+  pub put-wrong_round : now.ended ≡ false → round ≢ now.round → put_fault products now held round bids ≡ Some (put_faults.WrongRound now.round)
+  put-wrong_round going differ = ap (λ ended. after_end ended (round == now.round)) going ∙ ap (after_end false) (ne_eqb round now.round differ)
+
+  pub put-judged : now.ended ≡ false → round ≡ now.round → put_fault products now held round bids ≡ bid_fault_of (sheet_fault products now.prices held.eligibility held.demands bids)
+  put-judged going same = ap (λ ended. after_end ended (round == now.round)) going ∙ ap (after_end false) (eq-eqb round now.round same)
+
+-- a fault that is told
+told_bid : (fault : BidFault) → told_of_bid fault ≢ put_faults.NoMemory → told_of_bid fault ≡ put_faults.Bid fault
+told_bid bid_faults.TooMany h = refl
+told_bid (bid_faults.UnknownProduct i) h = refl
+told_bid (bid_faults.PriceRange i) h = refl
+told_bid (bid_faults.OverCap i) h = refl
+told_bid (bid_faults.PriceOrder i) h = refl
+told_bid (bid_faults.MixedDirection i) h = refl
+told_bid (bid_faults.KeepPrice i) h = refl
+told_bid bid_faults.OverActivity h = refl
+told_bid bid_faults.NoMemory h = absurd (h refl)
+
+pub told_bid-other : (fault : BidFault) → fault ≢ bid_faults.NoMemory → told_of_bid fault ≡ put_faults.Bid fault
+told_bid-other bid_faults.TooMany h = refl
+told_bid-other (bid_faults.UnknownProduct i) h = refl
+told_bid-other (bid_faults.PriceRange i) h = refl
+told_bid-other (bid_faults.OverCap i) h = refl
+told_bid-other (bid_faults.PriceOrder i) h = refl
+told_bid-other (bid_faults.MixedDirection i) h = refl
+told_bid-other (bid_faults.KeepPrice i) h = refl
+told_bid-other bid_faults.OverActivity h = refl
+told_bid-other bid_faults.NoMemory h = absurd (h refl)
+
+-- want of memory is never told as a fault of the bids
+pub told_bid-held : (fault : BidFault) → told_of_bid fault ≢ put_faults.Bid bid_faults.NoMemory
+told_bid-held bid_faults.TooMany e = cc
+told_bid-held (bid_faults.UnknownProduct i) e = cc
+told_bid-held (bid_faults.PriceRange i) e = cc
+told_bid-held (bid_faults.OverCap i) e = cc
+told_bid-held (bid_faults.PriceOrder i) e = cc
+told_bid-held (bid_faults.MixedDirection i) e = cc
+told_bid-held (bid_faults.KeepPrice i) e = cc
+told_bid-held bid_faults.OverActivity e = cc
+told_bid-held bid_faults.NoMemory e = cc
+
+-- the first fault of the bids is told
+pub told_first : (products : List Product) (now : Standing) (held : Holding) (round : ℕ) (bids : List Bid) (fault : BidFault) → now.ended ≡ false → round ≡ now.round →
+    IsFaultOf products now.prices held.eligibility held.demands bids fault → told_of_bid fault ≢ put_faults.NoMemory →
+    put_fault products now held round bids ≡ Some (told_of_bid fault)
+told_first products now held round bids fault going same is other =
+    elim is as (λ _. put_fault products now held round bids ≡ Some (told_of_bid fault)) [
+      | inl none ↦ absurd (other (ap told_of_bid none))
+      | inr first ↦ put-judged products now held round bids going same ∙ ap bid_fault_of first ∙ ap Some (sym (told_bid fault other))
+    ]
+
+skip_by : (own good : Bool) → good ≡ false → own && good ≡ false
+skip_by true good e = e
+skip_by false good e = refl
+
+other_by : (own good : Bool) → own ≡ false → own && good ≡ false
+other_by true good e = let bad : true ≡ false = e in cc
+other_by false good e = refl
+
+module _ (house : HouseFields) (bidder round : ℕ) (bids : List Bid) (commands : List Command) (stands : StandsFor commands house) where
+  -- the fault by the commands is that by the house
+  fault_same : put_fault house.setup.products (standing house.setup.products (history house.setup commands).closed) (holding house.setup (history house.setup commands).closed bidder) round bids ≡ put_fault_in house bidder round bids
+  fault_same = ap (λ (closed : List ClosedRound). put_fault house.setup.products (standing house.setup.products closed) (holding house.setup closed bidder) round bids) (sym stands.closed)
+
+  -- the sheet in force that the house keeps
+  sheet_at : (who : ℕ) → who < length house.setup.bidders → get_or house.sheets who None ≡ sheet_in_force house.setup (history house.setup commands) who
+  sheet_at who lt =
+      ap (λ (sheets : List (Option (List Bid))). get_or sheets who None) stands.sheets
+      ∙ get_or-map-range_with_len (sheet_in_force house.setup (history house.setup commands)) 0 (length house.setup.bidders) who who None lt (omega arith)
+
+  many : length house.sheets ≡ length house.setup.bidders
+  many = ap length stands.sheets ∙ length-map-range_with_len (sheet_in_force house.setup (history house.setup commands)) 0 (length house.setup.bidders)
+
+  -- of another bidder, or refused, it is no accepted sheet
+  refused : (fault : PutFault) → put_fault_in house bidder round bids ≡ Some fault → (who : ℕ) →
+      (bidder == who) && is_none (put_fault house.setup.products (standing house.setup.products (history house.setup commands).closed) (holding house.setup (history house.setup commands).closed who) round bids) ≡ false
+  refused fault e who =
+      let judged = λ (one : ℕ). put_fault house.setup.products (standing house.setup.products (history house.setup commands).closed) (holding house.setup (history house.setup commands).closed one) round bids in
+      elim (cases_eq bidder who) as (λ _. (bidder == who) && is_none (judged who) ≡ false) [
+        | inl same ↦ skip_by (bidder == who) (is_none (judged who)) (ap is_none (ap judged (sym same) ∙ fault_same ∙ e))
+        | inr differ ↦ other_by (bidder == who) (is_none (judged who)) (ne_eqb bidder who differ)
+      ]
+
+  -- a refused sheet changes nothing
+  pub put-refused : (fault : PutFault) → put_fault_in house bidder round bids ≡ Some fault → StandsFor (put bidder round bids ∷ commands) house
+  put-refused fault e = record {
+    closed = stands.closed;
+    sheets = fill_by_all (sheet_in_force house.setup (history house.setup (put bidder round bids ∷ commands))) house.sheets (length house.setup.bidders) None many
+        (λ who lt. sheet_at who lt ∙ sym (in_force-skipped house.setup (history house.setup commands) bidder round bids who (refused fault e who)));
+  }
+
+  accepted_at : bidder < length house.setup.bidders → put_fault_in house bidder round bids ≡ None → (who : ℕ) → who < length house.setup.bidders →
+      get_or (set house.sheets bidder (Some bids)) who None ≡ sheet_in_force house.setup (history house.setup (put bidder round bids ∷ commands)) who
+  accepted_at lt e who who_in =
+      elim (cases_eq who bidder) as (λ _. get_or (set house.sheets bidder (Some bids)) who None ≡ sheet_in_force house.setup (history house.setup (put bidder round bids ∷ commands)) who) [
+        | inl same ↦
+            subst (λ (one : ℕ). get_or (set house.sheets bidder (Some bids)) one None ≡ sheet_in_force house.setup (history house.setup (put bidder round bids ∷ commands)) one) (sym same)
+            (get_or-set_same house.sheets bidder (Some bids) None (omega (arith, lt, many))
+            ∙ sym (in_force-accepted house.setup (history house.setup commands) bidder round bids (eq-eqb bidder bidder refl) (ap is_none (fault_same ∙ e))))
+        | inr differ ↦
+            get_or-set_other house.sheets bidder who (Some bids) None differ
+            ∙ sheet_at who who_in
+            ∙ sym (in_force-skipped house.setup (history house.setup commands) bidder round bids who
+            (other_by (bidder == who) (is_none (put_fault house.setup.products (standing house.setup.products (history house.setup commands).closed) (holding house.setup (history house.setup commands).closed who) round bids)) (ne_eqb bidder who (λ e. differ (sym e)))))
+      ]
+
+  -- a sheet that is put is in force, and the others stay
+  pub put-accepted : bidder < length house.setup.bidders → put_fault_in house bidder round bids ≡ None → StandsFor (put bidder round bids ∷ commands) (with_sheet house bidder bids)
+  put-accepted lt e = record {
+    closed = stands.closed;
+    sheets = fill_by_all (sheet_in_force house.setup (history house.setup (put bidder round bids ∷ commands))) (set house.sheets bidder (Some bids)) (length house.setup.bidders) None
+        (length-set house.sheets bidder (Some bids) ∙ many) (accepted_at lt e);
+  }

@@ -1,0 +1,239 @@
+-- After every list of commands the auction is in order.
+use Rattle.std.proofs.Common.{◌≡◌, ℕ, zero, suc, ◌+◌, ◌-◌, ◌<◌, ◌≤◌, inl, inr, List, [], ◌∷◌, Bool, true, false, cond, ◌&&◌, ◌==◌, refl, ap, sym, subst, ◌∙◌, arith, get_or, length, All, replicate}
+use Rattle.std.specs.Prelude.{Option, Some, None, Result, Ok, Err, Any, map, unwrap_or, slice_index_or}
+use Rattle.std.specs.List.{range_with_len, AllPairs}
+use Rattle.std.proofs.lemmas.Bool.{leb-true}
+use Rattle.std.proofs.lemmas.Option.{none-some}
+use Rattle.std.proofs.lemmas.List.{get_or-map, length-map, get_or_default}
+use Rattle.std.proofs.lemmas.List.FromFn.{length-map-range_with_len, get_or-map-range_with_len}
+use Rattle.std.proofs.lemmas.List.Elements.{All-weaker, All-map}
+use Rattle.clock_setup.specs.declared.setup.Product.{Product}
+use Rattle.clock_setup.specs.declared.setup.Bidder.{Bidder}
+use Rattle.clock_setup.specs.declared.prices.PricePair.{PricePair}
+use Rattle.clock_setup.specs.Limits.{SetupFields, IsSetup, IsProduct, IsBidder, IsRow, is_within, supply_of}
+use Rattle.clock_setup.specs.Demands.{row_of, total_of}
+use Rattle.clock_setup.specs.Eligibility.{activity}
+use Rattle.clock_setup.proofs.DemandLaws.{activity_zeros, zeros_row}
+use Rattle.clock_bids.specs.declared.sheet.Bid.{Bid}
+use Rattle.clock_bids.specs.Sheet.{IsGoodSheet}
+use Rattle.clock_bids.proofs.Good.{empty_sheet_good}
+use Rattle.clock_order.specs.declared.ties.Tie.{Tie}
+use Rattle.clock_processor.specs.Board.{IsWithinEligibility}
+use Rattle.clock_posting.specs.Posting.{has_ended, next_pair, lines_of_round}
+use Rattle.clock_house.specs.declared.slip.Slip.{Slip}
+use Rattle.clock_house.specs.declared.fault.CloseFault.{CloseFault}
+use Rattle.clock_house.specs.Command.{Command, put, close, other}
+use Rattle.clock_house.specs.Standing.{Standing, Holding, first_holding, holding_after}
+use Rattle.clock_house.specs.Closing.{OpenRound, Outcome, holding_at, bids_at, outcome, closed_round, slip_after, bidder_numbers}
+use Rattle.clock_house.specs.History.{ClosedRound, Auction, standing, holding, bidder_at, slip_of, no_slip, sheet_in_force, open_round, closing_of, after_closing, history}
+use Rattle.clock_house.specs.Laws.{IsHeld, IsPriced, AreNumbered, StaysSupplied, grid_after, IsSound, IsOpen, eligibilities_of, grid_of}
+use Rattle.clock_house.proofs.Closings.{IsClosing, closing_passed}
+use Rattle.clock_house.proofs.Numbers.{numbered, round-closed}
+use Rattle.clock_house.proofs.Sheets.{first_accepted_good}
+use Rattle.clock_house.proofs.Sums.{map-map, map-get_or}
+use Rattle.clock_house.proofs.Eligible.{next_eligibility_within}
+use Rattle.clock_house.proofs.Outcomes.{ArePosted, outcome_within, outcome_posted, outcome_risen, outcome_supplied, priced_next}
+
+and_left : (a b : Bool) → a && b ≡ true → a ≡ true
+and_left true b e = refl
+and_left false b e = e
+
+-- a pair of each later element with the first, and all pairs of the later ones
+AllPairs-cons : {A : Type 0} (R : A → A → Type 0) (x : A) (xs : List A) → All (R x) xs → AllPairs R xs → AllPairs R (x ∷ xs)
+AllPairs-cons R x xs first rest zero zero d before within = absurd (omega (arith, before))
+AllPairs-cons R x xs first rest zero (suc j) d before within = first j d (omega (arith, within))
+AllPairs-cons R x xs first rest (suc i) zero d before within = absurd (omega (arith, before))
+AllPairs-cons R x xs first rest (suc i) (suc j) d before within = rest i j d (omega (arith, before)) (omega (arith, within))
+
+-- what was sold out after each earlier round stays so
+supplied_all : (products : List Product) (done : ClosedRound) (closed : List ClosedRound) → AllPairs (StaysSupplied products) closed →
+    ((last : ClosedRound) (rounds : List ClosedRound) → closed ≡ last ∷ rounds → StaysSupplied products done last) → All (StaysSupplied products done) closed
+supplied_all products done [] pairs next k d lt = absurd (omega (arith, lt))
+supplied_all products done (last ∷ rounds) pairs next zero d lt = next last rounds refl
+supplied_all products done (last ∷ rounds) pairs next (suc k) d lt =
+    λ product sold. next last rounds refl product (pairs 0 (suc k) d (omega arith) lt product sold)
+
+module _ (setup : SetupFields) (limits : IsSetup setup) where
+  -- before the first round
+  pub first_held : (bidder : ℕ) → bidder < length setup.bidders → IsHeld setup.products (first_holding setup.products (bidder_at setup bidder))
+  first_held bidder lt = record {
+    row = zeros_row setup.products;
+    within = omega (arith, activity_zeros setup.products (length setup.products));
+    most = (limits.bidders bidder (record { name = []; token = []; eligibility = 0 }) lt).eligibility;
+  }
+
+  first_priced : IsPriced setup.products (standing setup.products [])
+  first_priced =
+      let opening = λ (product : Product). let pair : PricePair = record { start = product.opening; clock = product.opening } in pair in
+      record {
+        each = length-map setup.products _;
+        ordered = All-map (λ (pair : PricePair). pair.start ≤ pair.clock) opening setup.products (λ k d lt. omega arith);
+        some = All-map (λ (pair : PricePair). 1 ≤ pair.start) opening setup.products (λ k d lt. (limits.products k d lt).opening.0);
+        highest = All-map (λ (pair : PricePair). pair.start ≤ 1000000000000) opening setup.products (λ k d lt. (limits.products k d lt).opening.1);
+        rising = λ later. absurd (omega (arith, later));
+        bounded = λ later. absurd (omega (arith, later));
+      }
+
+  module _ (auction : Auction) (sound : IsSound setup auction) where
+    abbrev now : OpenRound
+    now = open_round setup auction
+
+    many : length (open_round setup auction).holdings ≡ length setup.bidders
+    many = length-map-range_with_len (holding setup auction.closed) 0 (length setup.bidders)
+
+    held_at : (bidder : ℕ) → bidder < length setup.bidders → holding_at (open_round setup auction).holdings bidder ≡ holding setup auction.closed bidder
+    held_at bidder lt = get_or-map-range_with_len (holding setup auction.closed) 0 (length setup.bidders) bidder bidder (record { eligibility = 0; demands = [] }) lt (omega arith)
+
+    bids_of : (bidder : ℕ) → bidder < length setup.bidders → bids_at (open_round setup auction).sheets bidder ≡ unwrap_or (sheet_in_force setup auction bidder) []
+    bids_of bidder lt = ap (λ sheet. unwrap_or sheet []) (get_or-map-range_with_len (sheet_in_force setup auction) 0 (length setup.bidders) bidder bidder None lt (omega arith))
+
+    -- a sheet in force is good, and so is none
+    good_or_none : (bidder : ℕ) (sheet : Option (List Bid)) → sheet_in_force setup auction bidder ≡ sheet →
+        IsGoodSheet setup.products (standing setup.products auction.closed).prices (holding setup auction.closed bidder).eligibility (holding setup auction.closed bidder).demands (unwrap_or sheet [])
+    good_or_none bidder None e =
+        empty_sheet_good setup.products (standing setup.products auction.closed).prices (holding setup auction.closed bidder).eligibility (holding setup auction.closed bidder).demands
+    good_or_none bidder (Some bids) e =
+        first_accepted_good setup.products (standing setup.products auction.closed) (holding setup auction.closed bidder) bidder auction.since bids e
+
+    -- an auction that goes on has an open round in order
+    pub open_sound : (standing setup.products auction.closed).ended ≡ false → IsOpen setup.products (open_round setup auction)
+    open_sound going = record {
+      limits = limits.products;
+      few_products = limits.product_count.1;
+      few_bidders = omega (arith, many, limits.bidder_count.1);
+      held = λ bidder lt. subst (IsHeld setup.products) (sym (held_at bidder (omega (arith, lt, many)))) (sound.held bidder (omega (arith, lt, many)));
+      priced = sound.priced going;
+      good = λ bidder lt.
+          subst (λ (held : Holding). IsGoodSheet setup.products (standing setup.products auction.closed).prices held.eligibility held.demands (bids_at (open_round setup auction).sheets bidder)) (sym (held_at bidder (omega (arith, lt, many))))
+          (subst (IsGoodSheet setup.products (standing setup.products auction.closed).prices (holding setup auction.closed bidder).eligibility (holding setup auction.closed bidder).demands) (sym (bids_of bidder (omega (arith, lt, many))))
+          (good_or_none bidder (sheet_in_force setup auction bidder) refl));
+    }
+
+    -- the current round is one more than the number of closed rounds
+    pub round_is : (standing setup.products auction.closed).ended ≡ false → (standing setup.products auction.closed).round ≡ suc (length auction.closed)
+    round_is going = round-closed setup auction.closed sound.numbered going
+
+    first_prices : (closed : List ClosedRound) → (standing setup.products closed).round ≡ suc (length closed) → (standing setup.products closed).round ≡ 1 →
+        (standing setup.products closed).prices ≡ (standing setup.products []).prices
+    first_prices [] number one = refl
+    first_prices (last ∷ rounds) number one = absurd (omega (arith, number, one))
+
+    -- the demands before a later round are those on the slips of the round before
+    before_later : (closed : List ClosedRound) (last : ClosedRound) (rounds : List ClosedRound) → closed ≡ last ∷ rounds → length last.slips ≡ length setup.bidders →
+        map (λ (held : Holding). held.demands) (map (holding setup closed) (range_with_len 0 (length setup.bidders))) ≡ grid_after last
+    before_later closed last rounds e slips =
+        ap (λ (list : List ClosedRound). map (λ (held : Holding). held.demands) (map (holding setup list) (range_with_len 0 (length setup.bidders)))) e
+        ∙ map-map (λ (held : Holding). held.demands) (holding setup (last ∷ rounds)) (range_with_len 0 (length setup.bidders))
+        ∙ sym (map-map (λ (slip : Slip). slip.demands) (λ b. get_or last.slips b no_slip) (range_with_len 0 (length setup.bidders)))
+        ∙ ap (map (λ (slip : Slip). slip.demands)) (map-get_or last.slips (length setup.bidders) no_slip slips)
+
+    last_slips : (last : ClosedRound) (rounds : List ClosedRound) → auction.closed ≡ last ∷ rounds → length last.slips ≡ length setup.bidders
+    last_slips last rounds e =
+        let all : AreNumbered (length setup.bidders) (length setup.products) (last ∷ rounds) = subst (AreNumbered (length setup.bidders) (length setup.products)) e sound.numbered in all.1
+
+    module _ (round increment : ℕ) (ties : List Tie) (done : ClosedRound) (is : IsClosing setup.products setup.requirement (open_round setup auction) round increment ties done) where
+      abbrev result : Outcome
+      result = outcome setup.products (open_round setup auction) ties
+
+      here : IsOpen setup.products (open_round setup auction)
+      here = open_sound is.going
+
+      some_round : 1 ≤ (standing setup.products auction.closed).round
+      some_round = omega (arith, round_is is.going)
+
+      within : IsWithinEligibility setup.products (eligibilities_of (open_round setup auction)) (outcome setup.products (open_round setup auction) ties).grid
+      within = outcome_within setup.products (open_round setup auction) here ties some_round
+
+      rows_many : length (outcome setup.products (open_round setup auction) ties).grid ≡ length setup.bidders
+      rows_many = within.bidders ∙ length-map (open_round setup auction).holdings _ ∙ many
+
+      -- the slip of a bidder
+      slip_is : (bidder : ℕ) → bidder < length setup.bidders →
+          slip_of bidder done ≡ slip_after setup.products setup.requirement (standing setup.products auction.closed).round (holding setup auction.closed bidder).eligibility (row_of (outcome setup.products (open_round setup auction) ties).grid bidder)
+      slip_is bidder lt =
+          ap (slip_of bidder) is.made
+          ∙ get_or-map-range_with_len (λ b. slip_after setup.products setup.requirement (standing setup.products auction.closed).round (holding_at (open_round setup auction).holdings b).eligibility (row_of (outcome setup.products (open_round setup auction) ties).grid b))
+          0 (length (open_round setup auction).holdings) bidder bidder no_slip (omega (arith, lt, many)) (omega arith)
+          ∙ ap (λ (held : Holding). slip_after setup.products setup.requirement (standing setup.products auction.closed).round held.eligibility (row_of (outcome setup.products (open_round setup auction) ties).grid bidder)) (held_at bidder lt)
+
+      -- each bidder stays within its limits
+      pub held_next : (bidder : ℕ) → bidder < length setup.bidders → IsHeld setup.products (holding_after (slip_of bidder done))
+      held_next bidder lt =
+          let row : List ℕ = row_of (outcome setup.products (open_round setup auction) ties).grid bidder in
+          let before : IsHeld setup.products (holding setup auction.closed bidder) = sound.held bidder lt in
+          let used : activity setup.products row ≤ (holding setup auction.closed bidder).eligibility =
+          omega (arith, within.within bidder (omega (arith, lt, rows_many)), get_or-map (λ (held : Holding). held.eligibility) (open_round setup auction).holdings bidder (record { eligibility = 0; demands = [] }) 0 (omega (arith, lt, many)), ap (λ (held : Holding). held.eligibility) (held_at bidder lt)) in
+          let kept = next_eligibility_within (holding setup auction.closed bidder).eligibility (activity setup.products row) setup.requirement used (omega (arith, limits.requirement.0)) limits.requirement.1 in
+          subst (λ (slip : Slip). IsHeld setup.products (holding_after slip)) (sym (slip_is bidder lt))
+          (record { row = within.rows bidder [] (omega (arith, lt, rows_many)); within = kept.0; most = omega (arith, kept.1, before.most) })
+
+      -- and so do the prices
+      pub priced_after : done.sheet.ended ≡ false → IsPriced setup.products (standing setup.products (done ∷ auction.closed))
+      priced_after going =
+          let result : Outcome = outcome setup.products (open_round setup auction) ties in
+          let before : Standing = standing setup.products auction.closed in
+          let made : closed_round setup.products setup.requirement (open_round setup auction) increment (outcome setup.products (open_round setup auction) ties) ≡ done = sym is.made in
+          let goes_on : has_ended setup.products (outcome setup.products (open_round setup auction) ties).grid ≡ false = ap (λ (one : ClosedRound). one.sheet.ended) made ∙ going in
+          let number : (standing setup.products (done ∷ auction.closed)).round ≡ (standing setup.products auction.closed).round + 1 =
+          ap (λ ended. cond ended done.sheet.round (done.sheet.round + 1)) going ∙ ap (λ (one : ClosedRound). one.sheet.round + 1) is.made in
+          priced_next setup.products (standing setup.products auction.closed) (sound.priced is.going)
+          (outcome setup.products (open_round setup auction) ties).grid (outcome setup.products (open_round setup auction) ties).posted increment
+          (outcome_posted setup.products (open_round setup auction) here ties some_round increment (first_prices auction.closed (round_is is.going)))
+          (leb-true 1 increment (and_left _ _ is.within)) goes_on is.possible
+          (λ later. outcome_risen setup.products (open_round setup auction) here ties some_round increment later goes_on)
+          (standing setup.products (done ∷ auction.closed)) number (ap (λ (one : ClosedRound). map next_pair one.sheet.lines) is.made) some_round
+
+      -- the demands on the slips are the round's grid
+      grid_is : grid_after done ≡ (outcome setup.products (open_round setup auction) ties).grid
+      grid_is =
+          ap grid_after is.made
+          ∙ map-map (λ (slip : Slip). slip.demands) (λ b. slip_after setup.products setup.requirement (standing setup.products auction.closed).round (holding_at (open_round setup auction).holdings b).eligibility (row_of (outcome setup.products (open_round setup auction) ties).grid b)) (bidder_numbers (open_round setup auction))
+          ∙ map-get_or (outcome setup.products (open_round setup auction) ties).grid (length (open_round setup auction).holdings) [] (rows_many ∙ sym many)
+
+      -- in a later round nothing that was sold out comes free
+      supplied_next : (last : ClosedRound) (rounds : List ClosedRound) → auction.closed ≡ last ∷ rounds → StaysSupplied setup.products done last
+      supplied_next last rounds e product sold =
+          let later : 2 ≤ (standing setup.products auction.closed).round = omega (arith, round_is is.going, ap length e) in
+          let kept = outcome_supplied setup.products (open_round setup auction) here ties some_round later product
+          (omega (arith, sold, ap (λ (grid : List (List ℕ)). total_of grid product) (sym (before_later auction.closed last rounds e (last_slips last rounds e))))) in
+          omega (arith, kept, ap (λ (grid : List (List ℕ)). total_of grid product) grid_is)
+
+      -- the auction after the closing is in order
+      pub sound_next : AreNumbered (length setup.bidders) (length setup.products) (done ∷ auction.closed) → IsSound setup (record { closed = done ∷ auction.closed; since = [] })
+      sound_next all = record {
+        numbered = all;
+        held = held_next;
+        priced = priced_after;
+        supplied = AllPairs-cons (StaysSupplied setup.products) done auction.closed (supplied_all setup.products done auction.closed sound.supplied supplied_next) sound.supplied;
+      }
+
+  -- nothing is closed yet
+  first_sound : IsSound setup (record { closed = []; since = [] })
+  first_sound = record {
+    numbered = tt;
+    held = first_held;
+    priced = λ going. first_priced;
+    supplied = λ i j d before within. absurd (omega (arith, within));
+  }
+
+  -- commands that close nothing
+  same_closed : (old new : Auction) → new.closed ≡ old.closed → IsSound setup old → IsSound setup new
+  same_closed old new same sound =
+      let P = λ (closed : List ClosedRound). IsSound setup (record { closed = closed; since = new.since }) in
+      subst P (sym same) (record { numbered = sound.numbered; held = sound.held; priced = sound.priced; supplied = sound.supplied })
+
+  after_closing_sound : (auction : Auction) (round increment : ℕ) (ties : List Tie) (answer : Result ClosedRound CloseFault) → closing_of setup auction round increment ties ≡ answer →
+      AreNumbered (length setup.bidders) (length setup.products) (after_closing auction (close round increment ties) answer).closed →
+      IsSound setup auction → IsSound setup (after_closing auction (close round increment ties) answer)
+  after_closing_sound auction round increment ties (Ok done) e all sound =
+      sound_next auction sound round increment ties done (closing_passed setup.products setup.requirement (open_round setup auction) round increment ties done e) all
+  after_closing_sound auction round increment ties (Err fault) e all sound = same_closed auction (after_closing auction (close round increment ties) (Err fault)) refl sound
+
+  -- the auction is in order after every list of commands
+  pub sound : (commands : List Command) → IsSound setup (history setup commands)
+  sound [] = first_sound
+  sound (put author round bids ∷ earlier) = same_closed (history setup earlier) (history setup (put author round bids ∷ earlier)) refl (sound earlier)
+  sound (close round increment ties ∷ earlier) =
+      after_closing_sound (history setup earlier) round increment ties (closing_of setup (history setup earlier) round increment ties) refl
+      (numbered setup (close round increment ties ∷ earlier)) (sound earlier)
+  sound (other ∷ earlier) = same_closed (history setup earlier) (history setup (other ∷ earlier)) refl (sound earlier)

@@ -1,0 +1,18 @@
+use Rattle.clock_house.proofs.Sound.{sound}
+use Rattle.clock_house.proofs.Kept.{stands_sound, stands_going, stands_sheets}
+use Rattle.clock_house.proofs.house.House.keeps.Goals as goal
+
+pub returns-clause-sound : goal.returns-clause-sound
+returns-clause-sound g c = rw (← c.self.view_is) (λ commands. sound c.self.inside.setup c.keep.ensures commands)
+
+pub returns-clause-held : goal.returns-clause-held
+returns-clause-held g c = rw (← c.self.view_is) (stands_sound _ c.keep.ensures c.self.invariant.commands c.self.invariant.stands).held
+
+pub returns-clause-priced : goal.returns-clause-priced
+returns-clause-priced g c = rw (← c.self.view_is) (stands_sound _ c.keep.ensures c.self.invariant.commands c.self.invariant.stands).priced
+
+pub returns-clause-going : goal.returns-clause-going
+returns-clause-going g c = rw (← c.self.view_is) (stands_going _ c.keep.ensures c.self.invariant.commands c.self.invariant.stands)
+
+pub returns-clause-sheets : goal.returns-clause-sheets
+returns-clause-sheets g c = rw (← c.self.view_is) (stands_sheets _ c.self.invariant.commands c.self.invariant.stands)

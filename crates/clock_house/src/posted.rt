@@ -1,0 +1,207 @@
+ghost use Rattle.std.specs.Prelude.{◌≡◌, ◌<◌, ◌≤◌, ℕ, List, [], false, length, map, flat_map, IfOk, IfErr};
+ghost use Rattle.std.specs.List.{range_with_len};
+ghost use Rattle.clock_setup.specs.Limits.{IsRow};
+ghost use Rattle.clock_setup.specs.Eligibility as eligibilities;
+ghost use Rattle.clock_bids.specs.Sheet as sheets;
+ghost use Rattle.clock_processor.specs.Board.{IsWithinEligibility};
+ghost use Rattle.clock_house.specs.Closing as rules;
+ghost use Rattle.clock_house.specs.House.{standing_in, holding_in, open_round_in};
+ghost use Rattle.clock_house.specs.Prepared.{IsPosted, IsTold, posting_in};
+ghost use Rattle.clock_house.specs.Laws.{eligibilities_of, grid_of};
+
+use crate::fault::CloseFault;
+use crate::house::House;
+use crate::slip::{Posted, Slip, Slips};
+use clock_bids::{Changes, asked_demands, changes_of};
+use clock_device::NoMemory;
+use clock_order::{Ties, ordered};
+use clock_posting::{post, post_first};
+use clock_processor::{Board, Processor};
+use clock_setup::{Amounts, Grid, Setup, activity, next_eligibility};
+
+impl<P: Processor> House<P> {
+    /// What a closing of the current round posts.
+    pub(crate) fn posted(&self, increment: u64, ties: &Ties) -> Result<Posted, CloseFault>
+        requires going { (standing_in self.now).ended ≡ false }
+        requires least { 1 ≤ increment }
+        requires most { increment ≤ 50 }
+
+        ensures ok { IfOk result (IsPosted (posting_in self.now increment ties.now)) }
+        ensures err { IfErr result (IsTold (posting_in self.now increment ties.now)) }
+    {
+        if self.round() == 1 {
+            self.first_posted(increment)
+        } else {
+            self.later_posted(increment, ties)
+        }
+    }
+
+    /// What the closing of the first round posts: the sheets' quantities stand as demands.
+    fn first_posted(&self, increment: u64) -> Result<Posted, CloseFault>
+        requires going { (standing_in self.now).ended ≡ false }
+        requires first { (standing_in self.now).round ≡ 1 }
+        requires least { 1 ≤ increment }
+        requires most { increment ≤ 50 }
+
+        ensures ok { IfOk result (IsPosted (rules.closing_with self.now.setup.products self.now.setup.requirement (open_round_in self.now) increment (rules.first_outcome self.now.setup.products (open_round_in self.now)))) }
+        ensures err { IfErr result (IsTold (rules.closing_with self.now.setup.products self.now.setup.requirement (open_round_in self.now) increment (rules.first_outcome self.now.setup.products (open_round_in self.now)))) }
+    {
+        self.keeps();
+        let grid = self.asked_grid()?;
+        let posting = post_first(self.alloc(), self.setup(), &grid, increment)?;
+        let slips = self.slips(&grid)?;
+        Ok(Posted { posting, slips })
+    }
+
+    /// What the closing of a later round posts: all bidders' requests are settled in their order.
+    fn later_posted(&self, increment: u64, ties: &Ties) -> Result<Posted, CloseFault>
+        requires going { (standing_in self.now).ended ≡ false }
+        requires later { 2 ≤ (standing_in self.now).round }
+        requires least { 1 ≤ increment }
+        requires most { increment ≤ 50 }
+
+        ensures ok { IfOk result (IsPosted (rules.closing_with self.now.setup.products self.now.setup.requirement (open_round_in self.now) increment (rules.later_outcome self.now.setup.products (open_round_in self.now) (rules.requests (open_round_in self.now) ties.now)))) }
+        ensures err { IfErr result (IsTold (rules.closing_with self.now.setup.products self.now.setup.requirement (open_round_in self.now) increment (rules.later_outcome self.now.setup.products (open_round_in self.now) (rules.requests (open_round_in self.now) ties.now)))) }
+    {
+        self.keeps();
+        let changes = self.changes()?;
+        let requests = ordered(self.alloc(), &changes, ties)?;
+        let eligibilities = self.eligibilities()?;
+        let demands = self.demands()?;
+        let board = Board::new(self.alloc(), self.setup(), &eligibilities, &demands)?;
+        let settled = self.processor().settle(self.alloc(), board, &requests)?;
+        let posting = post(
+            self.alloc(),
+            self.setup(),
+            self.round(),
+            self.prices(),
+            &requests,
+            &settled,
+            increment,
+        )?;
+        let slips = self.slips(settled.grid())?;
+        Ok(Posted { posting, slips })
+    }
+
+    /// The demands that the sheets in force ask for.
+    fn asked_grid(&self) -> Result<Grid, NoMemory>
+        requires { (standing_in self.now).ended ≡ false }
+        ensures { IfOk result (λ grid. grid ≡ rules.asked_grid self.now.setup.products (open_round_in self.now)) }
+    {
+        self.keeps();
+        let mut grid = Grid::zero(self.alloc(), self.setup())?;
+        for bidder in 0..bidders(self.setup()) {
+            let row = self.asked(bidder)?;
+            grid.set_row(bidder as usize, row.as_slice());
+        }
+        Ok(grid)
+    }
+
+    /// The demands that a bidder's sheet in force asks for.
+    fn asked(&self, bidder: u32) -> Result<Amounts, NoMemory>
+        requires going { (standing_in self.now).ended ≡ false }
+        requires bidder { bidder < length self.now.setup.bidders }
+        ensures asked { IfOk result (λ row. row ≡ sheets.asked_demands (length self.now.setup.products) (rules.bids_at self.now.sheets bidder)) }
+        ensures row { IfOk result (IsRow self.now.setup.products) }
+    {
+        self.keeps();
+        let bids = match self.bids(bidder) {
+            Some(sheet) => sheet.bids(),
+            None => &[],
+        };
+        asked_demands(self.alloc(), self.setup(), bids)
+    }
+
+    /// All bidders' requests, one bidder's after another's.
+    fn changes(&self) -> Result<Changes, NoMemory>
+        requires going { (standing_in self.now).ended ≡ false }
+        requires later { 2 ≤ (standing_in self.now).round }
+        ensures { IfOk result (λ changes. changes ≡ flat_map (rules.requests_of (open_round_in self.now)) (range_with_len 0 (length self.now.setup.bidders))) }
+    {
+        self.keeps();
+        let mut changes = Changes::new(self.alloc());
+        for bidder in 0..bidders(self.setup()) {
+            let own = changes_of(
+                self.alloc(),
+                self.setup(),
+                self.prices(),
+                self.own(bidder),
+                bidder,
+                self.bids(bidder),
+            )?;
+            changes.extend_from_slice(own.as_slice())?;
+        }
+        Ok(changes)
+    }
+
+    /// Each bidder's eligibility.
+    fn eligibilities(&self) -> Result<Amounts, NoMemory>
+        ensures { IfOk result (λ list. list ≡ eligibilities_of (open_round_in self.now)) }
+    {
+        let mut list = Amounts::new(self.alloc());
+        for bidder in 0..bidders(self.setup()) {
+            list.push(self.own(bidder).eligibility)?;
+        }
+        Ok(list)
+    }
+
+    /// Each bidder's demands.
+    fn demands(&self) -> Result<Grid, NoMemory>
+        ensures { IfOk result (λ grid. grid ≡ grid_of (open_round_in self.now)) }
+    {
+        self.keeps();
+        let mut grid = Grid::zero(self.alloc(), self.setup())?;
+        for bidder in 0..bidders(self.setup()) {
+            grid.set_row(bidder as usize, self.own(bidder).demands);
+        }
+        Ok(grid)
+    }
+
+    /// Each bidder's slip after a round with these demands.
+    fn slips(&self, grid: &Grid) -> Result<Slips, NoMemory>
+        requires going { (standing_in self.now).ended ≡ false }
+        requires within { IsWithinEligibility self.now.setup.products (eligibilities_of (open_round_in self.now)) grid.now }
+        ensures { IfOk result (λ slips. slips ≡ rules.slips_after self.now.setup.products self.now.setup.requirement (open_round_in self.now) grid.now) }
+    {
+        let mut slips = Slips::new(self.alloc());
+        for bidder in 0..bidders(self.setup()) {
+            slips.push(self.slip_after(bidder, grid.row(bidder as usize))?)?;
+        }
+        Ok(slips)
+    }
+
+    /// A bidder's slip after a round that leaves it these demands.
+    fn slip_after(&self, bidder: u32, demands: &[u64]) -> Result<Slip, NoMemory>
+        requires bidder { bidder < length self.now.setup.bidders }
+        requires row { IsRow self.now.setup.products demands.now }
+        requires within { eligibilities.activity self.now.setup.products demands.now ≤ (holding_in self.now bidder).eligibility }
+        ensures { IfOk result (λ slip. slip ≡ rules.slip_after self.now.setup.products self.now.setup.requirement (standing_in self.now).round (holding_in self.now bidder).eligibility demands.now) }
+    {
+        self.keeps();
+        let own = self.own(bidder);
+        let activity = activity(self.setup(), demands);
+        Ok(Slip {
+            round: own.round,
+            activity,
+            eligibility: next_eligibility(own.eligibility, activity, requirement(self.setup())),
+            demands: Amounts::from_slice(self.alloc(), demands)?,
+        })
+    }
+}
+
+/// How many bidders there are.
+fn bidders(setup: &Setup) -> u32
+    ensures count { result ≡ length setup.now.bidders }
+    ensures few { result ≤ 512 }
+{
+    setup.bidders.as_slice().len() as u32
+}
+
+/// The least activity that keeps an eligibility, in percent.
+fn requirement(setup: &Setup) -> u64
+    ensures is { result ≡ setup.now.requirement }
+    ensures least { 50 ≤ result }
+    ensures most { result ≤ 100 }
+{
+    setup.requirement
+}
