@@ -1,5 +1,5 @@
 -- What a house that stands for a list of commands keeps.
-use Rattle.std.proofs.Common.{◌≡◌, ℕ, zero, suc, ◌-◌, ◌≤◌, ◌<◌, List, [], ◌∷◌, Bool, true, false, cond, ◌==◌, length, refl, ap, sym, subst, ◌∙◌, arith}
+use Rattle.std.proofs.Common.{◌≡◌, ℕ, zero, suc, ◌-◌, ◌≤◌, List, [], ◌∷◌, Bool, true, false, cond, ◌==◌, length, refl, ap, sym, subst, ◌∙◌, arith}
 use Rattle.std.specs.Prelude.{Option, Some, None, reverse, slice_get}
 use Rattle.std.proofs.lemmas.Option.{none-some}
 use Rattle.std.proofs.lemmas.List.{reverse-reverse}
@@ -12,7 +12,7 @@ use Rattle.clock_house.specs.History.{ClosedRound, round_numbered, history, stan
 use Rattle.clock_house.specs.House.{HouseFields, StandsFor, standing_in, open_round_in}
 use Rattle.clock_house.specs.Laws.{AreNumbered, IsSound, IsOpen}
 use Rattle.clock_house.proofs.Sound.{sound, open_sound}
-use Rattle.clock_house.proofs.Numbers.{numbered, round_numbered-zero, round_numbered-suc, newest_slips, last-reverse}
+use Rattle.clock_house.proofs.Numbers.{numbered, round_numbered-zero, round_numbered-suc}
 
 module _ (house : HouseFields) (commands : List Command) (stands : StandsFor commands house) where
   -- its closed rounds are numbered
@@ -50,7 +50,7 @@ module _ (house : HouseFields) (limits : IsSetup house.setup) (commands : List C
   stands_sound =
       let P = λ (closed : List ClosedRound). IsSound house.setup (record { closed = closed; since = (history house.setup commands).since }) in
       let all : IsSound house.setup (history house.setup commands) = sound house.setup limits commands in
-      subst P (sym stands.closed) (record { numbered = all.numbered; held = all.held; priced = all.priced; supplied = all.supplied })
+      subst P (sym stands.closed) (record { numbered = all.numbered; held = all.held; priced = all.priced; supplied = all.supplied; few = all.few })
 
   -- what a closing goes by is that of the commands
   pub stands_open : open_round_in house ≡ open_round house.setup (history house.setup commands)

@@ -1,6 +1,6 @@
 -- Closed rounds are numbered from 1 on, and each has a slip for each bidder and a line for each product.
-use Rattle.std.proofs.Common.{◌≡◌, ℕ, zero, suc, ◌+◌, ◌-◌, ◌≤◌, ◌<◌, List, [], ◌∷◌, ◌++◌, Bool, true, false, cond, ◌==◌, inl, inr, length, refl, ap, sym, ◌∙◌, arith, eq-eqb, ne_eqb, length-append}
-use Rattle.std.specs.Prelude.{Option, Some, None, Result, Ok, Err, reverse, slice_get}
+use Rattle.std.proofs.Common.{◌≡◌, ℕ, zero, suc, ◌+◌, ◌-◌, ◌<◌, List, [], ◌∷◌, ◌++◌, false, cond, inl, inr, length, refl, ap, sym, ◌∙◌, arith, eq-eqb, ne_eqb}
+use Rattle.std.specs.Prelude.{Some, None, Result, Ok, Err, reverse, slice_get}
 use Rattle.std.proofs.lemmas.List.FromFn.{length-map-range_with_len}
 use Rattle.std.proofs.lemmas.List.{reverse-reverse, length-reverse, reverse-append}
 use Rattle.std.proofs.lemmas.Bool.{cases_order}
@@ -10,7 +10,6 @@ use Rattle.clock_order.specs.declared.ties.Tie.{Tie}
 use Rattle.clock_house.specs.declared.fault.CloseFault.{CloseFault}
 use Rattle.clock_house.specs.Standing.{first_holding, holding_after}
 use Rattle.clock_house.specs.Command.{Command, put, close, other}
-use Rattle.clock_house.specs.Closing.{outcome, closed_round}
 use Rattle.clock_house.specs.History.{ClosedRound, Auction, standing, holding, bidder_at, slip_of, open_round, closing_of, after_closing, history, round_numbered}
 use Rattle.clock_house.specs.Laws.{AreNumbered}
 use Rattle.clock_house.proofs.Closings.{IsClosing, closing_passed}

@@ -1,32 +1,28 @@
 -- An open round that is in order can be settled, and its outcome is in order again.
-use Rattle.std.proofs.Common.{◌≡◌, ℕ, zero, suc, ◌+◌, ◌-◌, ◌<◌, ◌≤◌, inl, inr, List, [], ◌∷◌, ◌++◌, Bool, true, false, cond, ◌==◌, refl, ap, sym, subst, ◌∙◌, arith, get_or, length, All}
-use Rattle.std.specs.Prelude.{None, flat_map, map, IsPermutation, slice_index, slice_index_or}
-use Rattle.std.specs.List.{range_with_len, AllPairs}
+use Rattle.std.proofs.Common.{◌≡◌, ℕ, ◌<◌, ◌≤◌, List, [], sym, subst, ◌∙◌, arith, get_or, length, All}
+use Rattle.std.specs.Prelude.{flat_map, IsPermutation}
+use Rattle.std.specs.List.{AllPairs}
 use Rattle.std.proofs.lemmas.List.{get_or-map, length-map, get_or_default}
 use Rattle.std.proofs.lemmas.List.FromFn.{length-map-range_with_len, get_or-map-range_with_len}
-use Rattle.std.proofs.lemmas.List.Elements.{All-append, All-nil, All-weaker, All-map}
-use Rattle.std.proofs.lemmas.List.Sorted.{All-permutation, length_permutation}
+use Rattle.std.proofs.lemmas.List.Elements.{All-weaker}
 use Rattle.clock_setup.specs.declared.setup.Product.{Product}
-use Rattle.clock_setup.specs.declared.prices.PricePair.{PricePair}
-use Rattle.clock_setup.specs.Limits.{IsProduct, IsRow}
+use Rattle.clock_setup.specs.Limits.{IsRow}
 use Rattle.clock_setup.specs.Demands.{row_of}
 use Rattle.clock_setup.specs.Eligibility.{activity}
 use Rattle.clock_bids.specs.declared.change.Change.{Change}
-use Rattle.clock_bids.specs.Sheet.{IsGoodSheet, asked_demands}
+use Rattle.clock_bids.specs.Sheet.{asked_demands}
 use Rattle.clock_bids.specs.Requests.{AreChangesOf, AreApart, IsChangeOf}
-use Rattle.clock_order.specs.declared.ties.Tie.{Tie}
-use Rattle.clock_order.specs.Order.{processing_list}
 use Rattle.clock_processor.specs.Board.{IsWithinEligibility, IsBoard, new_board}
 use Rattle.clock_processor.specs.Requests.{CanSettle}
 use Rattle.clock_processor.proofs.AllBidders.{can_settle_all}
 use Rattle.clock_processor.proofs.ProperEnd.{settled_board}
 use Rattle.clock_posting.specs.PostedPrice.{IsPricedBy}
-use Rattle.clock_house.specs.Standing.{Standing, Holding}
-use Rattle.clock_house.specs.Closing.{OpenRound, holding_at, bids_at, bidder_numbers, requests_of, requests, asked_grid, settlement}
-use Rattle.clock_house.specs.Laws.{IsHeld, IsPriced, IsOpen, eligibilities_of, grid_of}
+use Rattle.clock_house.specs.Standing.{Holding}
+use Rattle.clock_house.specs.Closing.{OpenRound, holding_at, bids_at, bidder_numbers, requests_of, asked_grid, settlement}
+use Rattle.clock_house.specs.Laws.{IsOpen, eligibilities_of, grid_of}
 use Rattle.clock_house.proofs.Joined.{all_joined, apart_joined}
 use Rattle.clock_bids.proofs.Good.{good_sheet_row, good_sheet_activity}
-use Rattle.clock_house.proofs.Pending.{good_sheet_changes}
+use Rattle.clock_bids.proofs.GoodChanges.{good_sheet_changes}
 
 module _ (products : List Product) (now : OpenRound) (sound : IsOpen products now) where
   no_holding : Holding

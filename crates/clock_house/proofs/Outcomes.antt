@@ -1,36 +1,31 @@
 -- What the closing of an open round leaves is in order.
-use Rattle.std.proofs.Common.{◌≡◌, ℕ, zero, suc, ◌+◌, ◌-◌, ◌<◌, ◌≤◌, ◌⊎◌, inl, inr, List, [], ◌∷◌, Bool, true, false, cond, ◌==◌, refl, ap, sym, subst, ◌∙◌, arith, get_or, length, All, eq-eqb, ne_eqb}
-use Rattle.std.specs.Prelude.{Option, Some, None, Any, flat_map, map, min, sum_by, slice_index, slice_index_or, IsPermutation}
+use Rattle.std.proofs.Common.{◌≡◌, ℕ, zero, suc, ◌+◌, ◌<◌, ◌≤◌, ◌⊎◌, inl, inr, List, Bool, true, false, cond, refl, ap, sym, subst, ◌∙◌, arith, get_or, length, All, eq-eqb, ne_eqb}
+use Rattle.std.specs.Prelude.{None, Any, map, sum_by, IsPermutation}
 use Rattle.std.specs.List.{range_with_len}
-use Rattle.std.proofs.lemmas.Bool.{leb-true}
-use Rattle.std.proofs.lemmas.List.{get_or-map, length-map, get_or_default}
-use Rattle.std.proofs.lemmas.List.FromFn.{length-map-range_with_len, get_or-map-range_with_len}
+use Rattle.std.proofs.lemmas.List.{length-map}
+use Rattle.std.proofs.lemmas.List.FromFn.{length-map-range_with_len}
 use Rattle.std.proofs.lemmas.List.Elements.{All-weaker, All-map}
 use Rattle.clock_money.specs.Price.{highest_price}
 use Rattle.clock_setup.specs.declared.setup.Product.{Product}
 use Rattle.clock_setup.specs.declared.prices.PricePair.{PricePair}
-use Rattle.clock_setup.specs.Limits.{IsProduct, IsRow, supply_of}
+use Rattle.clock_setup.specs.Limits.{supply_of}
 use Rattle.clock_setup.specs.Prices.{prices_at, opening_prices}
-use Rattle.clock_setup.specs.Demands.{row_of, total_of}
-use Rattle.clock_setup.specs.Eligibility.{activity, next_eligibility}
+use Rattle.clock_setup.specs.Demands.{total_of}
 use Rattle.clock_order.specs.declared.ties.Tie.{Tie}
 use Rattle.clock_processor.specs.Board.{IsWithinEligibility}
 use Rattle.clock_processor.proofs.Supply.{settled_supplied}
 use Rattle.clock_posting.specs.declared.sheet.Line.{Line}
-use Rattle.clock_posting.specs.Posting.{has_ended, opening_posted, first_at_limit, next_prices, price_limit_fault, sheet_line, lines_of_round, next_pair, IsBetween, IsRising, IsAtClock, round_sheet}
+use Rattle.clock_posting.specs.Posting.{has_ended, opening_posted, first_at_limit, next_prices, price_limit_fault, sheet_line, lines_of_round, next_pair, IsBetween, IsRising, IsAtClock}
 use Rattle.clock_posting.specs.PostedPrice.{posted_prices, IsOrdered, IsPricedBy}
 use Rattle.clock_posting.proofs.Ranges.{all_in_range}
 use Rattle.clock_posting.proofs.Laws.{lines_between, lines_show, next_rising, next_within, opening_between, opening_dollars}
 use Rattle.clock_posting.proofs.Posted.{length-posted_prices, posted_between, posted_dollars, some_at_clock}
-use Rattle.clock_house.specs.declared.slip.Slip.{Slip}
-use Rattle.clock_house.specs.Standing.{Standing, Holding, standing_after, holding_after}
-use Rattle.clock_house.specs.Closing.{OpenRound, Outcome, holding_at, bidder_numbers, requests_of, requests, first_outcome, later_outcome, outcome, slip_after, slips_after, closed_round, settlement}
-use Rattle.clock_house.specs.History.{ClosedRound, slip_of, no_slip}
-use Rattle.clock_house.specs.Laws.{IsHeld, IsPriced, IsOpen, eligibilities_of, grid_of, grid_after}
+use Rattle.clock_house.specs.Standing.{Standing}
+use Rattle.clock_house.specs.Closing.{OpenRound, Outcome, requests, first_outcome, later_outcome, outcome, settlement}
+use Rattle.clock_house.specs.Laws.{IsPriced, IsOpen, eligibilities_of, grid_of}
 use Rattle.clock_house.proofs.OpenRounds.{all_requests, asked_within, settled_within, priced_requests}
 use Rattle.clock_house.proofs.Permutes.{processing_permutes}
-use Rattle.clock_house.proofs.Sums.{sum_by-lt_sum_by, length-le-sum_by, sum_by-map, map-map, map-get_or}
-use Rattle.clock_house.proofs.Eligible.{next_eligibility_within}
+use Rattle.clock_house.proofs.Sums.{sum_by-lt_sum_by, length-le-sum_by, sum_by-map, map-get_or}
 use Rattle.std.proofs.lemmas.List.Sorted.{All-permutation}
 
 -- the outcome of the first round, and of a later one
@@ -182,6 +177,7 @@ module _ (products : List Product) (now : Standing) (priced : IsPriced products 
       let P = λ (list : List PricePair). IsPriced products (record { ended = standing.ended; round = standing.round; prices = list }) in
       subst P (sym prices)
       (record {
+        numbered = omega (arith, number);
         each = long_lines;
         ordered = All-weaker IsRising IsOrdered (λ pair is. omega (arith, is)) (map next_pair (lines_of_round products now.prices grid posted increment)) rising;
         some = next_some;

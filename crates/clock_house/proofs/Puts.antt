@@ -1,9 +1,7 @@
 -- What putting a sheet does to the commands that a house stands for.
-use Rattle.std.proofs.Common.{◌≡◌, ◌≢◌, ℕ, ◌<◌, ◌+◌, inl, inr, List, [], ◌∷◌, Bool, true, false, cond, ◌&&◌, ◌==◌, not, refl, ap, sym, subst, ◌∙◌, arith, get_or, set, length, eq-eqb, ne_eqb}
-use Rattle.std.specs.Prelude.{Option, Some, None, Result, Ok, Err, map, is_none, slice_index_or}
-use Rattle.std.specs.List.{range_with_len}
+use Rattle.std.proofs.Common.{◌≡◌, ◌≢◌, ℕ, ◌<◌, inl, inr, List, ◌∷◌, Bool, true, false, cond, ◌&&◌, ◌==◌, not, refl, ap, sym, subst, ◌∙◌, arith, get_or, set, length, eq-eqb, ne_eqb}
+use Rattle.std.specs.Prelude.{Option, Some, None, is_none}
 use Rattle.std.proofs.lemmas.Bool.{cases_eq}
-use Rattle.std.proofs.lemmas.Option.{none-some}
 use Rattle.std.proofs.lemmas.List.{get_or-set_same, get_or-set_other, length-set}
 use Rattle.std.proofs.lemmas.List.FromFn.{fill_by_all, length-map-range_with_len, get_or-map-range_with_len}
 use Rattle.clock_setup.specs.declared.setup.Product.{Product}
@@ -16,8 +14,8 @@ use Rattle.clock_house.specs.declared.fault.PutFault.TheVariants as put_faults
 use Rattle.clock_house.specs.Faults.{told_of_bid}
 use Rattle.clock_house.specs.Command.{Command, put}
 use Rattle.clock_house.specs.Standing.{Standing, Holding, put_fault, bid_fault_of}
-use Rattle.clock_house.specs.History.{ClosedRound, Auction, history, standing, holding, for_each_bidder, sheet_in_force}
-use Rattle.clock_house.specs.House.{HouseFields, StandsFor, standing_in, holding_in, put_fault_in, with_sheet}
+use Rattle.clock_house.specs.History.{ClosedRound, history, standing, holding, sheet_in_force}
+use Rattle.clock_house.specs.House.{HouseFields, StandsFor, put_fault_in, with_sheet}
 use Rattle.clock_house.proofs.Steps.{in_force-accepted, in_force-skipped}
 
 -- the tests of a sheet, one after another

@@ -1,10 +1,9 @@
 -- Sheets in force: each is good, and what a command does to them.
 use Rattle.std.proofs.Common.{◌≡◌, ℕ, List, [], ◌∷◌, ◌==◌, ◌&&◌, Bool, true, false, cond, not, refl, ap, sym, ◌∙◌}
-use Rattle.std.specs.Prelude.{Option, Some, None, is_none, slice_get, slice_index_or, filter_map, unwrap_or}
+use Rattle.std.specs.Prelude.{Option, Some, None, is_none, slice_get, filter_map}
 use Rattle.std.specs.List.{cons_option}
 use Rattle.std.proofs.lemmas.Option.{none-some}
 use Rattle.clock_setup.specs.declared.setup.Product.{Product}
-use Rattle.clock_setup.specs.Limits.{SetupFields}
 use Rattle.clock_bids.specs.declared.sheet.Bid.{Bid}
 use Rattle.clock_bids.specs.declared.sheet.BidFault.{BidFault}
 use Rattle.clock_bids.specs.Sheet.{sheet_fault, IsGoodSheet}
@@ -12,7 +11,7 @@ use Rattle.clock_house.specs.declared.fault.PutFault.{PutFault}
 use Rattle.clock_house.specs.declared.fault.PutFault.TheVariants as put_faults
 use Rattle.clock_house.specs.Command.{Command, put, close, other}
 use Rattle.clock_house.specs.Standing.{Standing, Holding, put_fault, bid_fault_of}
-use Rattle.clock_house.specs.History.{Auction, standing, holding, accepted_bids, sheet_in_force}
+use Rattle.clock_house.specs.History.{accepted_bids}
 
 no_bid_fault : (fault : Option BidFault) → bid_fault_of fault ≡ None → fault ≡ None
 no_bid_fault None e = refl

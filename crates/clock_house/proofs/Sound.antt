@@ -1,16 +1,14 @@
 -- After every list of commands the auction is in order.
-use Rattle.std.proofs.Common.{◌≡◌, ℕ, zero, suc, ◌+◌, ◌-◌, ◌<◌, ◌≤◌, inl, inr, List, [], ◌∷◌, Bool, true, false, cond, ◌&&◌, ◌==◌, refl, ap, sym, subst, ◌∙◌, arith, get_or, length, All, replicate}
-use Rattle.std.specs.Prelude.{Option, Some, None, Result, Ok, Err, Any, map, unwrap_or, slice_index_or}
+use Rattle.std.proofs.Common.{◌≡◌, ℕ, zero, suc, ◌+◌, ◌<◌, ◌≤◌, List, [], ◌∷◌, Bool, true, false, cond, ◌&&◌, refl, ap, sym, subst, ◌∙◌, arith, get_or, length, All}
+use Rattle.std.specs.Prelude.{Option, Some, None, Result, Ok, Err, map, unwrap_or}
 use Rattle.std.specs.List.{range_with_len, AllPairs}
 use Rattle.std.proofs.lemmas.Bool.{leb-true}
-use Rattle.std.proofs.lemmas.Option.{none-some}
-use Rattle.std.proofs.lemmas.List.{get_or-map, length-map, get_or_default}
+use Rattle.std.proofs.lemmas.List.{get_or-map, length-map}
 use Rattle.std.proofs.lemmas.List.FromFn.{length-map-range_with_len, get_or-map-range_with_len}
-use Rattle.std.proofs.lemmas.List.Elements.{All-weaker, All-map}
+use Rattle.std.proofs.lemmas.List.Elements.{All-map}
 use Rattle.clock_setup.specs.declared.setup.Product.{Product}
-use Rattle.clock_setup.specs.declared.setup.Bidder.{Bidder}
 use Rattle.clock_setup.specs.declared.prices.PricePair.{PricePair}
-use Rattle.clock_setup.specs.Limits.{SetupFields, IsSetup, IsProduct, IsBidder, IsRow, is_within, supply_of}
+use Rattle.clock_setup.specs.Limits.{SetupFields, IsSetup}
 use Rattle.clock_setup.specs.Demands.{row_of, total_of}
 use Rattle.clock_setup.specs.Eligibility.{activity}
 use Rattle.clock_setup.proofs.DemandLaws.{activity_zeros, zeros_row}
@@ -19,20 +17,21 @@ use Rattle.clock_bids.specs.Sheet.{IsGoodSheet}
 use Rattle.clock_bids.proofs.Good.{empty_sheet_good}
 use Rattle.clock_order.specs.declared.ties.Tie.{Tie}
 use Rattle.clock_processor.specs.Board.{IsWithinEligibility}
-use Rattle.clock_posting.specs.Posting.{has_ended, next_pair, lines_of_round}
+use Rattle.clock_posting.specs.Posting.{has_ended, next_pair}
 use Rattle.clock_house.specs.declared.slip.Slip.{Slip}
 use Rattle.clock_house.specs.declared.fault.CloseFault.{CloseFault}
 use Rattle.clock_house.specs.Command.{Command, put, close, other}
 use Rattle.clock_house.specs.Standing.{Standing, Holding, first_holding, holding_after}
 use Rattle.clock_house.specs.Closing.{OpenRound, Outcome, holding_at, bids_at, outcome, closed_round, slip_after, bidder_numbers}
 use Rattle.clock_house.specs.History.{ClosedRound, Auction, standing, holding, bidder_at, slip_of, no_slip, sheet_in_force, open_round, closing_of, after_closing, history}
-use Rattle.clock_house.specs.Laws.{IsHeld, IsPriced, AreNumbered, StaysSupplied, grid_after, IsSound, IsOpen, eligibilities_of, grid_of}
+use Rattle.clock_house.specs.Laws.{IsHeld, IsPriced, AreNumbered, StaysSupplied, grid_after, IsSound, IsOpen, eligibilities_of}
 use Rattle.clock_house.proofs.Closings.{IsClosing, closing_passed}
 use Rattle.clock_house.proofs.Numbers.{numbered, round-closed}
 use Rattle.clock_house.proofs.Sheets.{first_accepted_good}
 use Rattle.clock_house.proofs.Sums.{map-map, map-get_or}
 use Rattle.clock_house.proofs.Eligible.{next_eligibility_within}
-use Rattle.clock_house.proofs.Outcomes.{ArePosted, outcome_within, outcome_posted, outcome_risen, outcome_supplied, priced_next}
+use Rattle.clock_house.proofs.Bounds.{round_bounded}
+use Rattle.clock_house.proofs.Outcomes.{outcome_within, outcome_posted, outcome_risen, outcome_supplied, priced_next}
 
 and_left : (a b : Bool) → a && b ≡ true → a ≡ true
 and_left true b e = refl
@@ -66,6 +65,7 @@ module _ (setup : SetupFields) (limits : IsSetup setup) where
   first_priced =
       let opening = λ (product : Product). let pair : PricePair = record { start = product.opening; clock = product.opening } in pair in
       record {
+        numbered = omega arith;
         each = length-map setup.products _;
         ordered = All-map (λ (pair : PricePair). pair.start ≤ pair.clock) opening setup.products (λ k d lt. omega arith);
         some = All-map (λ (pair : PricePair). 1 ≤ pair.start) opening setup.products (λ k d lt. (limits.products k d lt).opening.0);
@@ -205,6 +205,7 @@ module _ (setup : SetupFields) (limits : IsSetup setup) where
         held = held_next;
         priced = priced_after;
         supplied = AllPairs-cons (StaysSupplied setup.products) done auction.closed (supplied_all setup.products done auction.closed sound.supplied supplied_next) sound.supplied;
+        few = omega (arith, round_is is.going, round_bounded setup.products (standing setup.products auction.closed) limits.product_count.1 (sound.priced is.going));
       }
 
   -- nothing is closed yet
@@ -214,13 +215,14 @@ module _ (setup : SetupFields) (limits : IsSetup setup) where
     held = first_held;
     priced = λ going. first_priced;
     supplied = λ i j d before within. absurd (omega (arith, within));
+    few = omega arith;
   }
 
   -- commands that close nothing
   same_closed : (old new : Auction) → new.closed ≡ old.closed → IsSound setup old → IsSound setup new
   same_closed old new same sound =
       let P = λ (closed : List ClosedRound). IsSound setup (record { closed = closed; since = new.since }) in
-      subst P (sym same) (record { numbered = sound.numbered; held = sound.held; priced = sound.priced; supplied = sound.supplied })
+      subst P (sym same) (record { numbered = sound.numbered; held = sound.held; priced = sound.priced; supplied = sound.supplied; few = sound.few })
 
   after_closing_sound : (auction : Auction) (round increment : ℕ) (ties : List Tie) (answer : Result ClosedRound CloseFault) → closing_of setup auction round increment ties ≡ answer →
       AreNumbered (length setup.bidders) (length setup.products) (after_closing auction (close round increment ties) answer).closed →

@@ -1,11 +1,10 @@
 -- Sums and maps of lists.
-use Rattle.std.proofs.Common.{◌≡◌, ℕ, zero, suc, ◌+◌, ◌*◌, ◌/◌, ◌-◌, ◌<◌, ◌≤◌, List, [], ◌∷◌, refl, ap, sym, ◌∙◌, arith, get_or, length, All}
-use Rattle.std.specs.Prelude.{sum_by, map, min}
+use Rattle.std.proofs.Common.{◌≡◌, ℕ, zero, suc, ◌<◌, ◌≤◌, List, [], ◌∷◌, refl, ap, sym, arith, get_or, length, All}
+use Rattle.std.specs.Prelude.{sum_by, map}
 use Rattle.std.specs.List.{range_with_len}
 use Rattle.std.proofs.lemmas.List.Sums.{sum_by-cons}
 use Rattle.std.proofs.lemmas.List.Elements.{All-head, All-tail}
 use Rattle.std.proofs.lemmas.List.FromFn.{fill_by_all}
-use Rattle.clock_setup.specs.Eligibility.{next_eligibility}
 
 module _ {A : Type 0} (f g : A → ℕ) where
   -- two sums, one part after another

@@ -25,8 +25,9 @@ pub record IsHeld (products : List Product) (held : Holding) : Type 0 where
   pub within : activity products held.demands ≤ held.eligibility
   pub most : held.eligibility ≤ 1000000000000
 
--- a pair of prices for each product, in order, at start prices from 1 to 10^12, and from round 2 on the clock price above the start price; from then on some start price has risen in each round, so that the rounds are bounded
+-- a round from 1 on, a pair of prices for each product, in order, at start prices from 1 to 10^12, and from round 2 on the clock price above the start price; from then on some start price has risen in each round, so that the rounds are bounded
 pub record IsPriced (products : List Product) (now : Standing) : Type 0 where
+  pub numbered : 1 ≤ now.round
   pub each : length now.prices ≡ length products
   pub ordered : All IsOrdered now.prices
   pub some : All (λ pair. 1 ≤ pair.start) now.prices
@@ -49,12 +50,13 @@ abbrev pub StaysSupplied : List Product → ClosedRound → ClosedRound → Type
 StaysSupplied products later earlier =
     (product : ℕ) → supply_of products product ≤ total_of (grid_after earlier) product → supply_of products product ≤ total_of (grid_after later) product
 
--- bidders within their limits, prices in order, rounds in order, and no product that was sold out comes free again
+-- bidders within their limits, prices in order, rounds in order, no product that was sold out comes free again, and at most as many rounds as highest prices together allow, and two
 pub record IsSound (setup : SetupFields) (auction : Auction) : Type 0 where
   pub numbered : AreNumbered (length setup.bidders) (length setup.products) auction.closed
   pub held : (bidder : ℕ) → bidder < length setup.bidders → IsHeld setup.products (holding setup auction.closed bidder)
   pub priced : (standing setup.products auction.closed).ended ≡ false → IsPriced setup.products (standing setup.products auction.closed)
   pub supplied : AllPairs (StaysSupplied setup.products) auction.closed
+  pub few : length auction.closed ≤ 4096000000000002
 
 -- an open round of a set-up: bidders within their limits, prices in order, and a good sheet of each bidder, as an empty one is
 pub record IsOpen (products : List Product) (now : OpenRound) : Type 0 where

@@ -4,7 +4,7 @@
 --     first_standing products, first_holding products row      before the first round
 --     standing_after sheet, holding_after slip      after a closed round
 --     put_fault products standing holding round bids      the first fault of a sheet put for a round
-use Rattle.std.specs.Prelude.{ℕ, ◌+◌, List, Bool, true, false, not, ◌==◌, if◌then◌else◌, Option, Some, None, length, map, replicate}
+use Rattle.std.specs.Prelude.{ℕ, ◌+◌, List, Bool, false, not, ◌==◌, if◌then◌else◌, Option, Some, None, length, map, replicate}
 use Rattle.clock_setup.specs.declared.setup.Product.{Product}
 use Rattle.clock_setup.specs.declared.setup.Bidder.{Bidder}
 use Rattle.clock_setup.specs.declared.prices.PricePair.{PricePair}

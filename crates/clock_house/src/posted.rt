@@ -10,9 +10,9 @@ ghost use Rattle.clock_house.specs.Prepared.{IsPosted, IsTold, posting_in};
 ghost use Rattle.clock_house.specs.Laws.{eligibilities_of, grid_of};
 
 use crate::fault::CloseFault;
-use crate::house::House;
+use crate::house::{House, bidder_count};
 use crate::slip::{Posted, Slip, Slips};
-use clock_bids::{Changes, asked_demands, changes_of};
+use clock_bids::{Bid, Changes, asked_demands, changes_of};
 use clock_device::NoMemory;
 use clock_order::{Ties, ordered};
 use clock_posting::{post, post_first};
@@ -29,6 +29,7 @@ impl<P: Processor> House<P> {
         ensures ok { IfOk result (IsPosted (posting_in self.now increment ties.now)) }
         ensures err { IfErr result (IsTold (posting_in self.now increment ties.now)) }
     {
+        self.keeps();
         if self.round() == 1 {
             self.first_posted(increment)
         } else {
@@ -90,7 +91,7 @@ impl<P: Processor> House<P> {
     {
         self.keeps();
         let mut grid = Grid::zero(self.alloc(), self.setup())?;
-        for bidder in 0..bidders(self.setup()) {
+        for bidder in 0..self.bidders() {
             let row = self.asked(bidder)?;
             grid.set_row(bidder as usize, row.as_slice());
         }
@@ -105,22 +106,37 @@ impl<P: Processor> House<P> {
         ensures row { IfOk result (IsRow self.now.setup.products) }
     {
         self.keeps();
-        let bids = match self.bids(bidder) {
+        asked_demands(self.alloc(), self.setup(), self.bids_in_force(bidder))
+    }
+
+    /// A bidder's bids in force. No sheet is the same as an empty one.
+    fn bids_in_force(&self, bidder: u32) -> &[Bid]
+        requires { bidder < length self.now.setup.bidders }
+        ensures { result.now ≡ rules.bids_at self.now.sheets bidder }
+    {
+        match self.bids(bidder) {
             Some(sheet) => sheet.bids(),
             None => &[],
-        };
-        asked_demands(self.alloc(), self.setup(), bids)
+        }
+    }
+
+    /// How many bidders there are.
+    fn bidders(&self) -> u32
+        ensures count { result ≡ length self.now.setup.bidders }
+        ensures few { result ≤ 512 }
+    {
+        bidder_count(self.setup())
     }
 
     /// All bidders' requests, one bidder's after another's.
     fn changes(&self) -> Result<Changes, NoMemory>
         requires going { (standing_in self.now).ended ≡ false }
         requires later { 2 ≤ (standing_in self.now).round }
-        ensures { IfOk result (λ changes. changes ≡ flat_map (rules.requests_of (open_round_in self.now)) (range_with_len 0 (length self.now.setup.bidders))) }
+        ensures { IfOk result (λ changes. changes ≡ flat_map (rules.requests_of (open_round_in self.now)) (rules.bidder_numbers (open_round_in self.now))) }
     {
         self.keeps();
         let mut changes = Changes::new(self.alloc());
-        for bidder in 0..bidders(self.setup()) {
+        for bidder in 0..self.bidders() {
             let own = changes_of(
                 self.alloc(),
                 self.setup(),
@@ -139,7 +155,7 @@ impl<P: Processor> House<P> {
         ensures { IfOk result (λ list. list ≡ eligibilities_of (open_round_in self.now)) }
     {
         let mut list = Amounts::new(self.alloc());
-        for bidder in 0..bidders(self.setup()) {
+        for bidder in 0..self.bidders() {
             list.push(self.own(bidder).eligibility)?;
         }
         Ok(list)
@@ -151,7 +167,7 @@ impl<P: Processor> House<P> {
     {
         self.keeps();
         let mut grid = Grid::zero(self.alloc(), self.setup())?;
-        for bidder in 0..bidders(self.setup()) {
+        for bidder in 0..self.bidders() {
             grid.set_row(bidder as usize, self.own(bidder).demands);
         }
         Ok(grid)
@@ -164,7 +180,7 @@ impl<P: Processor> House<P> {
         ensures { IfOk result (λ slips. slips ≡ rules.slips_after self.now.setup.products self.now.setup.requirement (open_round_in self.now) grid.now) }
     {
         let mut slips = Slips::new(self.alloc());
-        for bidder in 0..bidders(self.setup()) {
+        for bidder in 0..self.bidders() {
             slips.push(self.slip_after(bidder, grid.row(bidder as usize))?)?;
         }
         Ok(slips)
@@ -187,14 +203,6 @@ impl<P: Processor> House<P> {
             demands: Amounts::from_slice(self.alloc(), demands)?,
         })
     }
-}
-
-/// How many bidders there are.
-fn bidders(setup: &Setup) -> u32
-    ensures count { result ≡ length setup.now.bidders }
-    ensures few { result ≤ 512 }
-{
-    setup.bidders.as_slice().len() as u32
 }
 
 /// The least activity that keeps an eligibility, in percent.

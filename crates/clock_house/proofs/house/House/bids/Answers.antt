@@ -1,10 +1,7 @@
-use Rattle.std.proofs.Common.{◌≡◌, ℕ, ◌<◌, List, length, refl, ap, sym, ◌∙◌, subst, arith, rules, get_or}
+use Rattle.std.proofs.Common.{◌<◌, length, ap, ◌∙◌, arith}
 use Rattle.std.proofs.lemmas.List.{get_or_read}
-use Rattle.std.specs.Prelude.{Option, Some, None, option_map, option_copied, slice_get, slice_index_or}
-use Rattle.clock_house.specs.History.{ClosedRound, slip_of, round_numbered, holding}
-use Rattle.clock_house.specs.House.{HouseFields, holding_in}
-use Rattle.clock_house.proofs.Kept.{stands_numbered, stands_sheets, found_round, numbered_slips}
-use Rattle.clock_house.proofs.Numbers.{newest_slips, last-reverse, holding-newest, holding-first}
+use Rattle.std.specs.Prelude.{None}
+use Rattle.clock_house.proofs.Kept.{stands_sheets}
 use Rattle.clock_house.proofs.house.House.bids.Goals as goal
 
 pub bounds-as_slice-bidder : goal.bounds-as_slice-bidder

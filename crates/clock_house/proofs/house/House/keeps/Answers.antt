@@ -14,5 +14,8 @@ returns-clause-priced g c = rw (← c.self.view_is) (stands_sound _ c.keep.ensur
 pub returns-clause-going : goal.returns-clause-going
 returns-clause-going g c = rw (← c.self.view_is) (stands_going _ c.keep.ensures c.self.invariant.commands c.self.invariant.stands)
 
+pub returns-clause-rounds : goal.returns-clause-rounds
+returns-clause-rounds g c = rw (← c.self.view_is) (stands_sound _ c.keep.ensures c.self.invariant.commands c.self.invariant.stands).few
+
 pub returns-clause-sheets : goal.returns-clause-sheets
 returns-clause-sheets g c = rw (← c.self.view_is) (stands_sheets _ c.self.invariant.commands c.self.invariant.stands)

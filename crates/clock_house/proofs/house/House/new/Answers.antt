@@ -1,4 +1,4 @@
-use Rattle.std.proofs.Common.{◌≡◌, ℕ, List, ap, sym, ◌∙◌, refl}
+use Rattle.std.proofs.Common.{[], ap, ◌∙◌, refl, replicate}
 use Rattle.std.specs.Prelude.{None, map}
 use Rattle.std.specs.List.{range_with_len}
 use Rattle.clock_house.proofs.house.House.new.Goals as goal
@@ -12,5 +12,5 @@ invariant_of-result g c =
       ended_is = refl;
       round_is = refl;
       prices_are = λ going. c.in_ok-prices.ensures;
-      nothing_is = ?;
+      nothing_is = c.in_ok-nothing.ensures ∙ ap (λ n. replicate n 0) c.product_count.ensures;
     })

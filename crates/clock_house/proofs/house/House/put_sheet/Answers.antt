@@ -1,8 +1,7 @@
-use Rattle.std.proofs.Common.{◌≡◌, ◌≢◌, ℕ, ◌<◌, List, ◌∷◌, length, refl, ap, sym, ◌∙◌, subst, arith}
-use Rattle.std.specs.Prelude.{Option, Some, None, Err}
+use Rattle.std.proofs.Common.{◌∷◌, refl, ap, ◌∙◌, arith}
+use Rattle.std.specs.Prelude.{Err}
 use Rattle.std.proofs.lemmas.Result.{err_from_is_err_and}
 use Rattle.clock_house.specs.Command.{put}
-use Rattle.clock_house.specs.House.{HouseFields, StandsFor, IsFollowedBy, put_fault_in, with_sheet}
 use Rattle.clock_house.proofs.Kept.{stands_sheets}
 use Rattle.clock_house.proofs.Puts.{put-accepted, put-refused}
 use Rattle.clock_house.proofs.house.House.put_sheet.Goals as goal

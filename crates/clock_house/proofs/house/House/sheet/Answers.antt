@@ -1,9 +1,7 @@
-use Rattle.std.proofs.Common.{◌≡◌, ℕ, ◌<◌, List, length, refl, ap, sym, ◌∙◌, subst, arith, rules}
-use Rattle.std.specs.Prelude.{Option, Some, None, option_map, option_copied, slice_get, slice_index_or}
-use Rattle.clock_house.specs.History.{ClosedRound, slip_of, round_numbered, holding}
-use Rattle.clock_house.specs.House.{HouseFields, holding_in}
-use Rattle.clock_house.proofs.Kept.{stands_numbered, stands_sheets, found_round, numbered_slips}
-use Rattle.clock_house.proofs.Numbers.{newest_slips, last-reverse, holding-newest, holding-first}
+use Rattle.std.proofs.Common.{ap, sym}
+use Rattle.std.specs.Prelude.{Some, None, option_map}
+use Rattle.clock_house.specs.History.{ClosedRound}
+use Rattle.clock_house.proofs.Kept.{stands_numbered, found_round}
 use Rattle.clock_house.proofs.house.House.sheet.Goals as goal
 
 pub returns-in-Some : goal.returns-in-Some
