@@ -10,11 +10,11 @@ pub returns-in_err-sheet-clause-followed : goal.returns-in_err-sheet-clause-foll
 returns-in_err-sheet-clause-followed g c =
     let told = err_from_is_err_and c.from_residual.result c.from_residual.ensures.1 in
     λ other.
-        let fault = c.in_err-sheet.ensures.answer (λ none. other (told.1 ∙ ap Err (told.2 ∙ none))) in
-        record {
-          setup = refl;
-          stands = λ commands stands. put-refused c.args.self.now c.args.bidder c.args.round c.args.bids.now commands stands c.in_err-sheet.field-0.0 fault;
-        }
+    let fault = c.in_err-sheet.ensures.answer (λ none. other (told.1 ∙ ap Err (told.2 ∙ none))) in
+    record {
+      setup = refl;
+      stands = λ commands stands. put-refused c.args.self.now c.args.bidder c.args.round c.args.bids.now commands stands c.in_err-sheet.field-0.0 fault;
+    }
 
 pub set-requires : goal.set-requires
 set-requires g c =
