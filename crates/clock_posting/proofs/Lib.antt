@@ -1,5 +1,6 @@
 pub mod Ranges
 pub mod Excess
 pub mod Laws
+mod SheetExamples
 pub mod Posted
-mod Examples
+mod PostedExamples

@@ -8,7 +8,13 @@ use std::alloc::Global;
 
 /// The lines that tell a round's sheet: `round N`, then for each product
 /// `NAME START CLOCK POSTED DEMAND NEXT`, with `-` where there is no demand or next clock price.
-/// Fields are parted by one space, numbers are plain decimal, and each line ends with a line feed.
+/// Fields are parted by one space, numbers are plain decimal, and each line ends with a line feed:
+///
+/// ```text
+/// round 1
+/// A 100 100 100 - 110
+/// B 100 100 100 3 110
+/// ```
 pub fn sheet_lines(alloc: Global, setup: &Setup, sheet: &RoundSheet) -> Result<Text, NoMemory>
     requires { length sheet.now.lines ≡ length setup.now.products }
     ensures { IfOk result (λ text. text ≡ sheet_text setup.now.products sheet.now) }
