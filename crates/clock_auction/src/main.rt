@@ -1,6 +1,8 @@
 //! The program: reads a document on standard input and prints the lines that it asks for.
 #![tactic(auto)]
 
+ghost use Rattle.std.specs.Prelude.{◌≡◌, map, string_bytes, IfOk};
+
 mod answer;
 mod command;
 mod fault;
@@ -50,7 +52,10 @@ fn given_words(rt: &(impl Env + Alloc<A = Global>)) -> io::Result<Vec<String>> {
     Ok(words)
 }
 
-fn texts_of(alloc: Global, words: &[String]) -> Result<Vec<&str>, AllocError> {
+/// The words as texts, in order.
+fn texts_of(alloc: Global, words: &[String]) -> Result<Vec<&str>, AllocError>
+    ensures { IfOk result (λ texts. map (λ text. text.now) texts.items ≡ map string_bytes words.now) }
+{
     words.iter().map(|word| word.as_str()).collect(alloc)
 }
 

@@ -92,6 +92,6 @@ impl<T: Copy> Items<T> {
     pub fn copy(&self, alloc: Global) -> Result<Items<T>, NoMemory>
         ensures { IfOk result (λ copy. copy ≡ self.now) }
     {
-        Items::from_slice(alloc, self.held.as_slice())
+        Items::from_slice(alloc, self.as_slice())
     }
 }
