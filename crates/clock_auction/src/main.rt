@@ -56,7 +56,11 @@ fn given_words(rt: &(impl Env + Alloc<A = Global>)) -> io::Result<Vec<String>> {
 fn texts_of(alloc: Global, words: &[String]) -> Result<Vec<&str>, AllocError>
     ensures { IfOk result (λ texts. map (λ text. text.now) texts.items ≡ map string_bytes words.now) }
 {
-    words.iter().map(|word| word.as_str()).collect(alloc)
+    let mut texts = Vec::new(alloc);
+    for word in words {
+        texts.push(word.as_str())?;
+    }
+    Ok(texts)
 }
 
 /// Shows that the program's own words found no memory.
