@@ -8,6 +8,10 @@ pub const ONE_PRODUCT: &[u8] =
 pub const HIGHEST_OPENING: &[u8] =
     b"{\"bidders\":[{\"eligibility\":10,\"name\":\"X\",\"token\":\"XXXXXXXXXXXXXXXX\"},{\"eligibility\":10,\"name\":\"Y\",\"token\":\"YYYYYYYYYYYYYYYY\"}],\"operator\":\"OPERATOROPERATOR\",\"products\":[{\"cap\":2,\"name\":\"A\",\"opening\":1000000000000,\"supply\":2,\"units\":1}],\"requirement\":95,\"version\":1}";
 
+/// The same, opening at the highest price that can be raised by one percent.
+pub const LAST_RAISE: &[u8] =
+    b"{\"bidders\":[{\"eligibility\":10,\"name\":\"X\",\"token\":\"XXXXXXXXXXXXXXXX\"},{\"eligibility\":10,\"name\":\"Y\",\"token\":\"YYYYYYYYYYYYYYYY\"}],\"operator\":\"OPERATOROPERATOR\",\"products\":[{\"cap\":2,\"name\":\"A\",\"opening\":990099009900,\"supply\":2,\"units\":1}],\"requirement\":95,\"version\":1}";
+
 /// Two products A and B of two blocks each, and the bidders X, Y and Z of eligibility 2, 2 and 1.
 pub const TWO_PRODUCTS: &[u8] =
     b"{\"bidders\":[{\"eligibility\":2,\"name\":\"X\",\"token\":\"XXXXXXXXXXXXXXXX\"},{\"eligibility\":2,\"name\":\"Y\",\"token\":\"YYYYYYYYYYYYYYYY\"},{\"eligibility\":1,\"name\":\"Z\",\"token\":\"ZZZZZZZZZZZZZZZZ\"}],\"operator\":\"OPERATOROPERATOR\",\"products\":[{\"cap\":2,\"name\":\"A\",\"opening\":100,\"supply\":2,\"units\":1},{\"cap\":2,\"name\":\"B\",\"opening\":100,\"supply\":2,\"units\":1}],\"requirement\":100,\"version\":1}";
