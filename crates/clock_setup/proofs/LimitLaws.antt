@@ -1,20 +1,23 @@
 -- A set-up whose checks all pass is within the limits that the type of set-ups keeps.
-use Rattle.std.proofs.Common.{◌≡◌, ℕ, ◌+◌, ◌≤◌, Bool, true, false, not, ◌||◌, nat_le, List, [], ◌∷◌, length, map, Some, None, refl, ◌∙◌, arith}
+use Rattle.std.proofs.Common.{◌≡◌, ℕ, ◌+◌, ◌≤◌, Bool, true, false, not, ◌||◌, nat_le, List, [], ◌∷◌, length, map, Some, None, refl, ◌∙◌, arith, ◌&&◌, Ok, codes}
 use Rattle.std.specs.List.{list_any, list_all, IsDistinct, AllByRecursion}
 use Rattle.std.specs.Str.{bytes_eq}
 use Rattle.std.proofs.lemmas.Bool.{and_parts}
 use Rattle.std.proofs.lemmas.Bool.Decides.{nat_tests}
-use Rattle.std.proofs.lemmas.List.Sums.{AllPass-from_list_all}
-use Rattle.std.proofs.lemmas.List.Elements.{All-from_recursion}
-use Rattle.std.proofs.lemmas.Map.Made.{AllPairs-from_IsDistinct}
+use Rattle.std.proofs.lemmas.List.Sums.{AllPass-from_list_all, list_all-from_AllPass}
+use Rattle.std.proofs.lemmas.List.Elements.{All-from_recursion, recursion_from_All}
+use Rattle.std.proofs.lemmas.Map.Made.{AllPairs-from_IsDistinct, IsDistinct-from_AllPairs}
 use Rattle.std.proofs.lemmas.Slice.Eq.{bytes_eq-Decides}
+use Rattle.serde_json.specs.Data.{Data}
 use Rattle.clock_setup.specs.declared.setup.Product.{Product}
 use Rattle.clock_setup.specs.declared.setup.Bidder.{Bidder}
 use Rattle.clock_setup.specs.declared.fault.SetupFault.{SetupFault}
 use Rattle.clock_setup.specs.Limits.{SetupFields, IsWithin, is_within, IsName, is_name, IsToken, is_token, is_name_character, is_letter_or_digit, AreDistinct, is_distinct, IsProduct, IsBidder, IsSetup}
+use Rattle.clock_setup.specs.Members.{number_at}
+use Rattle.clock_setup.specs.SetupShape.{fields_of}
 use Rattle.clock_setup.proofs.FaultLaws.{passed, failed, both_pass}
 use Rattle.clock_setup.specs.Faults.{first_fault, in_turn}
-use Rattle.clock_setup.specs.SetupDocument.{product_checks, bidder_checks, setup_checks, has_distinct_names, has_distinct_tokens}
+use Rattle.clock_setup.specs.SetupDocument.{product_checks, bidder_checks, setup_checks, has_distinct_names, has_distinct_tokens, setup_of}
 
 -- every check passes
 abbrev pub Passing : {F : Type 0} → List (F × Bool) → Type 0
@@ -129,3 +132,75 @@ unfolding setup_checks
 bidder_fault_first setup fault requirement operator product_count products bidder_count bidders =
     rw (requirement, operator, product_count)
     (passed (in_turn product_checks 0 setup.products) _ products ∙ rw bidder_count (failed (in_turn bidder_checks 0 setup.bidders) _ fault bidders))
+
+-- ---- the other way: what is within the limits passes every check
+
+two_true : (x y : Bool) → x ≡ true → y ≡ true → (x && y) ≡ true
+two_true true y first second = second
+two_true false y first second = cc
+
+test_of_le : (a b : ℕ) → a ≤ b → nat_le a b ≡ true
+test_of_le a b h = grind (arith, nat_tests)
+
+test_of_within : (low high n : ℕ) → IsWithin low high n → is_within low high n ≡ true
+test_of_within low high n h = two_true (nat_le low n) (nat_le n high) (test_of_le low n h.0) (test_of_le n high h.1)
+
+test_of_name : (text : List ℕ) → IsName text → is_name text ≡ true
+test_of_name text h =
+    two_true (is_within 1 32 (length text)) (list_all is_name_character text) (test_of_within 1 32 (length text) h.0) (list_all-from_AllPass is_name_character text h.1)
+
+test_of_token : (text : List ℕ) → IsToken text → is_token text ≡ true
+test_of_token text h =
+    two_true (is_within 16 64 (length text)) (list_all is_letter_or_digit text) (test_of_within 16 64 (length text) h.0) (list_all-from_AllPass is_letter_or_digit text h.1)
+
+no_any : (test : List ℕ → Bool) (texts : List (List ℕ)) → AllByRecursion (λ text. test text ≡ false) texts → not (list_any test texts) ≡ true
+no_any test [] h = refl
+no_any test (text ∷ texts) h = rw h.0 (no_any test texts h.1)
+
+test_by_distinct : (texts : List (List ℕ)) → IsDistinct bytes_eq texts → is_distinct texts ≡ true
+unfolding IsDistinct
+test_by_distinct [] h = refl
+test_by_distinct (text ∷ texts) h =
+    two_true (not (list_any (bytes_eq text) texts)) (is_distinct texts) (no_any (bytes_eq text) texts h.0) (test_by_distinct texts h.1)
+
+test_of_distinct : (texts : List (List ℕ)) → AreDistinct texts → is_distinct texts ≡ true
+test_of_distinct texts h = test_by_distinct texts (IsDistinct-from_AllPairs bytes_eq-Decides texts h)
+
+checks_of_product : (i : ℕ) (product : Product) → IsProduct product → first_fault (product_checks i product) ≡ None
+unfolding product_checks
+checks_of_product i product h =
+    rw (
+      test_of_name product.name h.name,
+      test_of_within 1 1000000 product.units h.units,
+      test_of_within 1 1000 product.supply h.supply,
+      test_of_within 1 product.supply product.cap h.cap,
+      test_of_within 1 1000000000000 product.opening h.opening,
+    ) refl
+
+checks_of_bidder : (i : ℕ) (bidder : Bidder) → IsBidder bidder → first_fault (bidder_checks i bidder) ≡ None
+unfolding bidder_checks
+checks_of_bidder i bidder h =
+    rw (test_of_name bidder.name h.name, test_of_token bidder.token h.token, test_of_le bidder.eligibility 1000000000000 h.eligibility) refl
+
+each_within : {X F : Type 0} (checks : ℕ → X → List (F × Bool)) (P : X → Type 0) → ((i : ℕ) (x : X) → P x → first_fault (checks i x) ≡ None)
+    → (i : ℕ) (items : List X) → AllByRecursion P items → first_fault (in_turn checks i items) ≡ None
+each_within checks P means i [] h = refl
+each_within checks P means i (x ∷ xs) h =
+    passed (checks i x) (in_turn checks (i + 1) xs) (means i x h.0) ∙ each_within checks P means (i + 1) xs h.1
+
+checks_of_setup : (setup : SetupFields) → IsSetup setup → first_fault (setup_checks setup) ≡ None
+unfolding setup_checks
+checks_of_setup setup h =
+    let products = each_within product_checks IsProduct checks_of_product 0 setup.products (recursion_from_All IsProduct setup.products h.products) in
+    let bidders = each_within bidder_checks IsBidder checks_of_bidder 0 setup.bidders (recursion_from_All IsBidder setup.bidders h.bidders) in
+    let names : has_distinct_names setup ≡ true =
+    two_true (is_distinct (map (λ product. product.name) setup.products)) (is_distinct (map (λ bidder. bidder.name) setup.bidders)) (test_of_distinct (map (λ product. product.name) setup.products) h.product_names) (test_of_distinct (map (λ bidder. bidder.name) setup.bidders) h.bidder_names) in
+    let tokens : has_distinct_tokens setup ≡ true = test_of_distinct (setup.operator ∷ map (λ bidder. bidder.token) setup.bidders) h.tokens in
+    rw (test_of_within 50 100 setup.requirement h.requirement, test_of_token setup.operator h.operator, test_of_within 1 4096 (length setup.products) h.product_count)
+    (passed (in_turn product_checks 0 setup.products) _ products
+    ∙ rw (test_of_within 1 512 (length setup.bidders) h.bidder_count) (passed (in_turn bidder_checks 0 setup.bidders) _ bidders ∙ rw (names, tokens) refl))
+
+-- a document of version 1 and of the right shape whose set-up is within the limits means that set-up
+pub accepted : (value : Data) (setup : SetupFields) → number_at (codes "version") value ≡ Some 1 → fields_of value ≡ Some setup → IsSetup setup → setup_of value ≡ Ok setup
+unfolding setup_of
+accepted value setup one shape within = rw (one, shape, checks_of_setup setup within) refl

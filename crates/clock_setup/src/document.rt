@@ -1,6 +1,9 @@
-ghost use Rattle.std.specs.Prelude.{◌≡◌, ◌≢◌, None, Some, Ok, Err, IfOk, IfErr};
+ghost use Rattle.std.specs.Prelude.{◌≡◌, ◌≢◌, codes, None, Some, Ok, Err, IfOk, IfErr};
 ghost use Rattle.serde_json.specs.View.{view};
 ghost use Rattle.clock_setup.specs.Faults.{first_fault};
+ghost use Rattle.clock_setup.specs.Limits.{SetupFields, IsSetup};
+ghost use Rattle.clock_setup.specs.Members.{number_at};
+ghost use Rattle.clock_setup.specs.SetupShape.{fields_of};
 ghost use Rattle.clock_setup.specs.SetupDocument as document;
 
 use crate::entries::{SetupEntries, setup_entries};
@@ -69,6 +72,12 @@ fn within_limits(alloc: Global, entries: &SetupEntries) -> Result<Setup, SetupFa
 }
 
 /// The set-up that the bytes of a document mean, or the document's first fault.
+///
+/// A document is one JSON value (RFC 8259), in any order of keys and with any white space:
+/// `{"version":1,"requirement":R,"operator":TOKEN,"products":[{"name":T,"units":N,"supply":N,"cap":N,"opening":N},..],
+/// "bidders":[{"name":T,"token":T,"eligibility":N},..]}`. Its objects have exactly these keys, and its numbers are whole
+/// numbers below 2^64. [`SetupFault`] has the faults in the order in which they are looked at, and [`Place`] the limits.
+/// Reading takes time and memory in proportion to the document's length. Nothing is kept of a document that is refused.
 #[tactic(auto, unfolding(crate::specs::SetupDocument::document_setup))]
 pub fn read_setup(alloc: Global, bytes: &[u8]) -> Result<Setup, SetupFault>
     ensures ok { IfOk result (λ setup. document.document_setup bytes.now ≡ Ok setup) }
@@ -79,12 +88,19 @@ pub fn read_setup(alloc: Global, bytes: &[u8]) -> Result<Setup, SetupFault>
     setup_of(alloc, &value)
 }
 
-/// The set-up that a JSON value means, or its first fault. It is never `NotJson`.
-#[tactic(auto, unfolding(crate::specs::SetupDocument::setup_of))]
+/// The set-up that a JSON value means, or its first fault: what [`read_setup`] answers for a text that reads as this
+/// value. It is never `NotJson`.
+#[tactic(auto, using(crate::proofs::LimitLaws::accepted), unfolding(crate::specs::SetupDocument::setup_of))]
 pub fn setup_of(alloc: Global, value: &Value) -> Result<Setup, SetupFault>
     ensures ok { IfOk result (λ setup. document.setup_of (view value.now) ≡ Ok setup) }
     ensures err { IfErr result
         (λ fault. fault ≢ SetupFault.NoMemory → document.setup_of (view value.now) ≡ Err fault) }
+
+    // The checks refuse nothing that is within the limits: with the limits that the type of
+    // set-ups keeps, a document is accepted exactly where its set-up is within them.
+    ensures accepts { (setup : SetupFields) → number_at (codes "version") (view value.now) ≡ Some 1
+        → fields_of (view value.now) ≡ Some setup → IsSetup setup
+        → document.setup_of (view value.now) ≡ Ok setup }
 {
     let version = number_at(value, "version").ok_or(SetupFault::Shape)?;
     if version != 1 {

@@ -6,10 +6,11 @@ use clock_device::{Items, NoMemory};
 use std::alloc::Global;
 use std::marker::Model;
 
-/// Numbers, one for each product or one for each change.
+/// Numbers of blocks or of bidding units: one for each product, each bidder or each change.
 pub type Amounts = Items<u64>;
 
-/// A row of demands for each bidder, and in it the demand in blocks for each product. Contracts see the list of rows.
+/// A row of demands for each bidder, and in it the demand in blocks for each product. Contracts see the list of rows,
+/// and nothing of how it is kept.
 #[derive(Drop)]
 pub struct Grid {
     rows: Vec<Amounts>,

@@ -19,7 +19,8 @@ use serde_json::Value;
 use std::alloc::{AllocError, AllocFailed, Global};
 use thiserror::Error;
 
-/// What round 1 can be posted from.
+/// What round 1 can be posted from: a set-up, and what each bidder demands at the opening prices. No demand is above
+/// its product's cap, and no bidder's activity above its eligibility.
 #[derive(Drop)]
 pub struct Opening {
     pub setup: Setup,
@@ -136,6 +137,9 @@ fn opening_in(alloc: Global, value: &Value) -> Result<Opening, OpeningFault>
 }
 
 /// The opening that the bytes of a document mean, or the document's first fault.
+///
+/// The document is `{"demands":[[N,..],..],"increment":N,"setup":SETUP}` with a row for each bidder, a number of blocks
+/// for each product, and a set-up as [`read_setup`](crate::read_setup) reads it.
 #[tactic(auto, unfolding(crate::specs::OpeningDocument::document_opening))]
 pub fn read_opening(alloc: Global, bytes: &[u8]) -> Result<Opening, OpeningFault>
     ensures ok { IfOk result (λ opening. document_opening bytes.now ≡ Ok opening) }

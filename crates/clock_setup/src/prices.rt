@@ -6,14 +6,14 @@ use clock_device::{Items, NoMemory};
 use clock_money::Price;
 use std::alloc::Global;
 
-/// The start price and the clock price of a product in a round.
+/// The start price and the clock price of a product in a round: bids are made from the one to the other.
 #[derive(Clone, Copy, Debug)]
 pub struct PricePair {
     pub start: Price,
     pub clock: Price,
 }
 
-/// A pair of prices for each product.
+/// The prices of a round: a pair for each product, in the order of the products' numbers.
 pub type Prices = Items<PricePair>;
 
 /// Gives [`Prices`] the call `Prices::opening`.

@@ -5,35 +5,49 @@ use clock_money::Price;
 use std::alloc::Global;
 use std::marker::Model;
 
-/// A product: blocks of one kind.
+/// A product: generic blocks of one kind, which bidders want in numbers and not one by one.
 #[derive(Drop)]
 pub struct Product {
+    /// 1 to 32 ASCII letters, digits, dashes and underscores; no other product has this name.
     pub name: Text,
+    /// The bidding units of one block, 1 to 1,000,000.
     pub units: u64,
+    /// How many blocks there are, 1 to 1,000.
     pub supply: u64,
+    /// How many blocks one bidder may demand, from 1 to the supply.
     pub cap: u64,
+    /// The price of a block in the first round.
     pub opening: Price,
 }
 
 /// A bidder, and its eligibility before the first round.
 #[derive(Drop)]
 pub struct Bidder {
+    /// 1 to 32 ASCII letters, digits, dashes and underscores; no other bidder has this name.
     pub name: Text,
+    /// 16 to 64 ASCII letters and digits; neither another bidder nor the operator has this token.
     pub token: Text,
+    /// How many bidding units the bidder's demands may take in the first round, up to 10^12.
     pub eligibility: u64,
 }
 
-/// Products in the order of their numbers.
+/// Products in the order of their numbers, from 0.
 pub type Products = Items<Product>;
 
-/// Bidders in the order of their numbers.
+/// Bidders in the order of their numbers, from 0.
 pub type Bidders = Items<Bidder>;
 
-/// What an auction is set up with.
+/// What an auction is set up with. The type keeps the limits of each part, so every set-up that a function is
+/// given is within them: 1 to 4,096 products and 1 to 512 bidders with distinct names and tokens. The limits are
+/// this auction's own; the parts are those of an ascending clock auction of generic blocks as the FCC's
+/// procedures for Auction 105 have it.
 #[derive(Drop)]
 pub struct Setup {
+    /// The version of the document that the set-up was read from, 1.
     pub version: u64,
+    /// The activity requirement, 50 to 100 percent of a bidder's eligibility.
     pub requirement: u64,
+    /// The operator's token, 16 to 64 ASCII letters and digits.
     pub operator: Text,
     pub products: Products,
     pub bidders: Bidders,
@@ -50,7 +64,7 @@ impl Model for Setup {
 }
 
 impl Product {
-    /// An equal product.
+    /// An equal product with a name of its own.
     pub fn copy(&self, alloc: Global) -> Result<Product, NoMemory>
         ensures { IfOk result (λ copy. copy ≡ self.now) }
     {
@@ -65,7 +79,7 @@ impl Product {
 }
 
 impl Bidder {
-    /// An equal bidder.
+    /// An equal bidder with texts of its own.
     pub fn copy(&self, alloc: Global) -> Result<Bidder, NoMemory>
         ensures { IfOk result (λ copy. copy ≡ self.now) }
     {
@@ -100,7 +114,7 @@ fn bidders_copy(alloc: Global, bidders: &[Bidder]) -> Result<Bidders, NoMemory>
 }
 
 impl Setup {
-    /// An equal set-up.
+    /// An equal set-up with lists of its own.
     pub fn copy(&self, alloc: Global) -> Result<Setup, NoMemory>
         ensures { IfOk result (λ copy. copy ≡ self.now) }
     {
