@@ -14,6 +14,7 @@ use Rattle.clock_bids.specs.declared.change.Change.{Change}
 use Rattle.clock_bids.specs.declared.change.Kind.{Kind}
 use Rattle.clock_bids.specs.declared.change.Kind.TheVariants.{Increase, Reduction}
 
+-- both are increases, or both reductions
 abbrev pub same_kind : Kind → Kind → Bool
 same_kind Increase Increase = true
 same_kind Increase Reduction = false

@@ -4,7 +4,10 @@ use clock_money::Point;
 /// Which way a change goes.
 #[derive(Clone, Copy, Debug, PartialEq, Eq)]
 pub enum Kind {
+    /// The demand is to rise.
     Increase,
+
+    /// The demand is to fall.
     Reduction,
 }
 
@@ -19,6 +22,8 @@ pub struct Change {
 
     /// The number of the bid in the sheet's chain for the product, from 0.
     pub place: u32,
+
+    /// Whether the demand is to rise or to fall.
     pub kind: Kind,
 
     /// In blocks.
