@@ -23,7 +23,9 @@ mod tests;
 ///
 /// The increment is a percentage from 1 to 50. End, next prices and refusals are those of
 /// [`post_first`](crate::post_first) (ascending clock auction, FCC Auction 105; the posted price is
-/// an own rule).
+/// an own rule). The round is 2 or later. There is a pair of prices for each product, its start
+/// price not above its clock price; each change is of a product, at a price from its start to its
+/// clock price; and of each change it is known how much was left.
 pub fn post(
     alloc: Global,
     setup: &Setup,
