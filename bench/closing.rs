@@ -1,4 +1,5 @@
 //! Times two closings of a house that rescans: each bidder asks for many blocks of each product, and then for fewer.
+//! Uses: clock_house clock_processor clock_order clock_bids clock_money clock_setup clock_device anyhow
 #![tactic(auto)]
 
 use clock_bids::Bid;

@@ -1,4 +1,5 @@
 //! Times the judging of a full sheet: 8,192 bids, two for each of 4,096 products.
+//! Uses: clock_bids clock_money clock_setup clock_device anyhow
 #![tactic(auto)]
 
 use clock_bids::{Bid, Own, changes_of, check_sheet};

@@ -1,4 +1,5 @@
 //! Times the order of processing: 500,000 changes with 16,384 tie numbers.
+//! Uses: clock_order clock_bids clock_money clock_setup clock_device anyhow
 #![tactic(auto)]
 
 use clock_bids::{Change, Changes, Kind};
