@@ -15,7 +15,7 @@ use Rattle.clock_bids.specs.declared.change.Change.{Change}
 use Rattle.clock_bids.specs.declared.change.Kind.{Kind}
 use Rattle.clock_bids.specs.declared.change.Kind.TheVariants.{Increase, Reduction}
 use Rattle.clock_bids.specs.Requests.{same_kind, is_request_of, asked_of, IsChangeOf, KeepWithinCap, AreChangesOf}
-use Rattle.clock_processor.specs.Board.{BoardFields, new_board}
+use Rattle.clock_processor.specs.Board.{new_board}
 use Rattle.clock_processor.specs.Requests.{IsRequest, CanSettle}
 use Rattle.clock_processor.proofs.CapsKept.{first_fails}
 use Rattle.clock_processor.proofs.Supply.{same_or_not}
@@ -103,15 +103,3 @@ module _ (products : List Product) (prices : List PricePair) (eligibilities : Li
             let total : (kind : Kind) → asked_of kind b p list ≡ asked_of kind b p (requests_of b) = λ kind. asked_of-permutation kind b p all list same ∙ asked_of-all requests_of bidders own_requests kind b p 0 bidders (omega arith) (omega arith) (omega (arith, lt)) in
             record { raised = omega (arith, keep.raised, total Increase); reduced = omega (arith, keep.reduced, total Reduction) });
       }
-
--- the order of requests does not matter to whether they can be settled
-pub can_settle-permutation : (board : BoardFields) (changes list : List Change) → IsPermutation changes list → CanSettle board changes → CanSettle board list
-can_settle-permutation board changes list same can = record {
-  applied = can.applied;
-  tests = can.tests;
-  few = omega (arith, can.few, length_permutation changes list same);
-  requests = All-permutation (IsRequest (length board.eligibilities) (length board.products)) changes list same can.requests;
-  caps = λ b p b_in p_in.
-      (let keep : KeepWithinCap board.products (row_of board.grid b) b changes p = can.caps b p b_in p_in in
-      record { raised = omega (arith, keep.raised, asked_of-permutation Increase b p changes list same); reduced = omega (arith, keep.reduced, asked_of-permutation Reduction b p changes list same) });
-}

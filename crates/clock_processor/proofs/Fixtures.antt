@@ -1,24 +1,22 @@
 -- The tests' set-up, board and requests are such as the calls ask for.
-use Rattle.std.proofs.Common.{◌≡◌, ◌≢◌, ℕ, ◌+◌, ◌<◌, ◌≤◌, List, [], ◌∷◌, ◌++◌, Bool, true, false, ◌&&◌, refl, ap, sym, subst, ◌∙◌, arith, get_or, length, All, leb-true, ltb-true, eqb-true, zero-add}
-use Rattle.std.specs.Prelude.{nat_le, nat_lt, nat_eq, slice_index}
+use Rattle.std.proofs.Common.{◌≡◌, ◌≢◌, ℕ, ◌+◌, ◌<◌, ◌≤◌, List, [], ◌∷◌, ◌++◌, Bool, true, false, ◌&&◌, refl, ap, sym, subst, ◌∙◌, arith, get_or, length, All, leb-true, ltb-true, zero-add}
+use Rattle.std.specs.Prelude.{nat_le, nat_lt}
 use Rattle.std.specs.List.{list_all, range_with_len}
 use Rattle.std.proofs.lemmas.Bool.{false≢true}
 use Rattle.std.proofs.lemmas.List.Sums.{AllPass-from_list_all}
-use Rattle.std.proofs.lemmas.List.Elements.{All-cons, All-nil, All-weaker, All-from_get_or}
+use Rattle.std.proofs.lemmas.List.Elements.{All-cons, All-nil, All-weaker}
 use Rattle.std.proofs.lemmas.List.Kept.{AllPairs-cons}
 use Rattle.std.proofs.lemmas.List.FromFn.{get_or-range_with_len, length-range_with_len}
 use Rattle.clock_setup.specs.declared.setup.Product.{Product}
 use Rattle.clock_setup.specs.declared.setup.Bidder.{Bidder}
-use Rattle.clock_setup.specs.Limits.{IsProduct, IsBidder, IsSetup, IsRow, IsName, IsToken, AreDistinct, is_name_character, is_letter_or_digit, cap_of}
+use Rattle.clock_setup.specs.Limits.{IsProduct, IsBidder, IsSetup, IsName, IsToken, AreDistinct, is_name_character, is_letter_or_digit, cap_of}
 use Rattle.clock_setup.specs.Examples.{two_products, two_blocks, bidder_named}
-use Rattle.clock_setup.specs.Demands.{row_of, demand_at}
-use Rattle.clock_setup.specs.Eligibility.{activity}
+use Rattle.clock_setup.specs.Demands.{demand_at}
 use Rattle.clock_bids.specs.declared.change.Change.{Change}
 use Rattle.clock_bids.specs.declared.change.Kind.TheVariants.{Increase}
 use Rattle.clock_bids.specs.Requests.{asked_of}
-use Rattle.clock_processor.specs.Board.{IsWithinEligibility}
 use Rattle.clock_processor.specs.Requests.{IsRequest, CanSettle}
-use Rattle.clock_processor.specs.Examples.{board, eligibilities, before, products, is_request, keeps_cap, can_be_settled}
+use Rattle.clock_processor.specs.Examples.{board, before, products, is_request, keeps_cap, can_be_settled}
 
 -- a name and a token are tested by computing
 name_of : (text : List ℕ) → 1 ≤ length text → length text ≤ 32 → list_all is_name_character text ≡ true → IsName text
@@ -95,25 +93,6 @@ passes_at test n i all lt =
 both : (a b : Bool) → (a && b) ≡ true → (a ≡ true) × (b ≡ true)
 both true b h = (refl, h)
 both false b h = absurd (false≢true h)
-
--- the activity and the demands before the round, row by row
-abbrev is_row_within : ℕ → Bool
-is_row_within b = nat_eq (length (row_of before b)) 2 && (nat_le (activity products (row_of before b)) (slice_index eligibilities b) && list_all (λ p. nat_le (demand_at before b p) (cap_of products p)) (range_with_len 0 2))
-
-pub before_held : IsWithinEligibility products eligibilities before
-before_held =
-    let row : (b : ℕ) → b < 3 → is_row_within b ≡ true = λ b lt. passes_at is_row_within 3 b refl lt in
-    record {
-      bidders = refl;
-      rows = All-from_get_or (IsRow products) before [] (λ b lt.
-          (let parts = both (nat_eq (length (row_of before b)) 2) _ (row b lt) in
-          let each : length (row_of before b) ≡ 2 = eqb-true _ _ parts.0 in
-          record {
-            each = each;
-            capped = λ p p_in. leb-true _ _ (passes_at (λ q. nat_le (demand_at before b q) (cap_of products q)) 2 p (both (nat_le (activity products (row_of before b)) (slice_index eligibilities b)) _ parts.1).1 (omega (arith, each, p_in)));
-          }));
-      within = λ b lt. leb-true _ _ (both (nat_le (activity products (row_of before b)) (slice_index eligibilities b)) _ (both (nat_eq (length (row_of before b)) 2) _ (row b lt)).1).0;
-    }
 
 request_of : (change : Change) → is_request change ≡ true → IsRequest 3 2 change
 request_of change passes =
