@@ -13,15 +13,19 @@ use Rattle.serde_json.specs.Events.{members_len}
 abbrev pub number_from : Data → Option ℕ
 number_from value = option_and_then as_u64 (as_number value)
 
+-- a whole number under a key
 abbrev pub number_at : List ℕ → Data → Option ℕ
 number_at key value = option_and_then number_from (get key value)
 
+-- a text under a key, by its bytes, escapes undone
 abbrev pub text_at : List ℕ → Data → Option (List ℕ)
 text_at key value = option_and_then as_str (get key value)
 
+-- the items of a list under a key
 abbrev pub items_at : List ℕ → Data → Option Items
 items_at key value = option_and_then as_array (get key value)
 
+-- there are members, and so many
 abbrev pub is_count : ℕ → Option Members → Bool
 is_count count None = false
 is_count count (Some members) = members_len members == count

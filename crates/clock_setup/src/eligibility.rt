@@ -4,11 +4,9 @@ ghost use Rattle.clock_setup.specs.Limits.{IsProduct, IsRow};
 
 use crate::setup::{Product, Setup};
 
-/// A bidder's eligibility after a round, in bidding units: the least number of which its activity is the required
-/// percentage, rounded up, but never more than it held.
-///
-/// `requirement` is the activity requirement of the set-up in percent. The FCC's procedures for Auction 105 reduce
-/// eligibility so; that it is rounded up is this auction's own rule.
+/// The eligibility after a round, in bidding units: the smaller of the eligibility held and the least whole number of
+/// which the required percentage is at least the activity. Held is at most 10^12, the activity at most held, the
+/// requirement 50 to 100 percent (the FCC's procedures for Auction 105; rounding up is an own rule).
 pub fn next_eligibility(held: u64, activity: u64, requirement: u64) -> u64
     requires activity { activity ≤ held }
     requires held { held ≤ 1000000000000 }
@@ -21,7 +19,7 @@ pub fn next_eligibility(held: u64, activity: u64, requirement: u64) -> u64
     held.min((100 * activity + (requirement - 1)) / requirement)
 }
 
-/// The bidding units that a row of demands takes: of each product its units times the demand in blocks.
+/// What [`activity`] is of a set-up with these products, where the set-up itself is not at hand.
 pub fn units_taken(products: &[Product], demands: &[u64]) -> u64
     requires limits { All IsProduct products.now }
     requires few { length products.now ≤ 4096 }
@@ -36,8 +34,8 @@ pub fn units_taken(products: &[Product], demands: &[u64]) -> u64
     total
 }
 
-/// The activity of a row of demands in a set-up, in bidding units. The row has a demand for each product, and none
-/// above the product's cap.
+/// The bidding units that a row of demands takes: the sum of units times demand. There is one demand for each product,
+/// at most its cap. It takes no memory.
 pub fn activity(setup: &Setup, demands: &[u64]) -> u64
     requires { IsRow setup.now.products demands.now }
     ensures { result ≡ eligibility.activity setup.now.products demands.now }

@@ -10,7 +10,7 @@ use std::marker::Model;
 pub type Amounts = Items<u64>;
 
 /// A row of demands for each bidder, and in it the demand in blocks for each product. Contracts see the list of rows,
-/// and nothing of how it is kept.
+/// and nothing of how it is kept. No demand is above 1,000 blocks.
 #[derive(Drop)]
 pub struct Grid {
     rows: Vec<Amounts>,
@@ -53,7 +53,7 @@ impl Grid {
         })
     }
 
-    /// A bidder's demand for a product, in blocks.
+    /// A bidder's demand for a product, in blocks. Bidder and product are those of the grid.
     pub fn get(&self, bidder: usize, product: usize) -> u64
         requires bidder { bidder < length self.now }
         requires product { All (λ row. product < length row) self.now }
@@ -62,7 +62,7 @@ impl Grid {
         self.row(bidder)[product]
     }
 
-    /// A bidder's demands.
+    /// A bidder's demands, one for each product. The bidder is one of the grid's.
     pub fn row(&self, bidder: usize) -> &[u64]
         requires { bidder < length self.now }
         ensures { result.now ≡ row_of self.now bidder }
@@ -70,7 +70,8 @@ impl Grid {
         self.rows.as_slice()[bidder].as_slice()
     }
 
-    /// The demand for a product over all bidders, in blocks. It is one read, no walk over the bidders.
+    /// The demand for a product over all bidders, in blocks. It is one read, no walk over the bidders. The product is
+    /// one of the grid's.
     pub fn total(&self, product: usize) -> u64
         requires { All (λ row. product < length row) self.now }
         ensures { result ≡ total_of self.now product }
@@ -78,7 +79,8 @@ impl Grid {
         self.totals.as_slice()[product]
     }
 
-    /// Changes one demand, and no other.
+    /// Changes one demand, and no other. Bidder and product are those of the grid, and the demand is at most 1,000
+    /// blocks.
     pub fn set(&mut self, bidder: usize, product: usize, demand: u64)
         requires bidder { bidder < length self.old }
         requires product { All (λ row. product < length row) self.old }
@@ -91,7 +93,7 @@ impl Grid {
         row.set(product, demand);
     }
 
-    /// Changes a bidder's demands, and no others.
+    /// Changes a bidder's demands, and no others. There is one demand for each product, at most 1,000 blocks.
     pub fn set_row(&mut self, bidder: usize, demands: &[u64])
         requires bidder { bidder < length self.old }
         requires each { All (λ row. length demands.now ≡ length row) self.old }

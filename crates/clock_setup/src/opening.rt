@@ -23,6 +23,7 @@ use thiserror::Error;
 /// its product's cap, and no bidder's activity above its eligibility.
 #[derive(Drop)]
 pub struct Opening {
+    /// The set-up that the document holds.
     pub setup: Setup,
     /// A row for each bidder, and in it the demand for each product, in blocks.
     pub grid: Grid,

@@ -9,7 +9,9 @@ use std::alloc::Global;
 /// The start price and the clock price of a product in a round: bids are made from the one to the other.
 #[derive(Clone, Copy, Debug)]
 pub struct PricePair {
+    /// In whole dollars; in round 1 the opening price, later the price posted the round before.
     pub start: Price,
+    /// In whole dollars; in round 1 the opening price, later the start price raised by the increment.
     pub clock: Price,
 }
 

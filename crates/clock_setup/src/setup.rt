@@ -49,7 +49,9 @@ pub struct Setup {
     pub requirement: u64,
     /// The operator's token, 16 to 64 ASCII letters and digits.
     pub operator: Text,
+    /// At least one, in the order of their numbers from 0.
     pub products: Products,
+    /// At least one, in the order of their numbers from 0.
     pub bidders: Bidders,
 }
 
