@@ -37,8 +37,12 @@ fn prices_command<'a>(alloc: Global) -> Result<Command<'a>, Error>
     let increment = Arg::new(alloc, "increment")
         .long("increment")
         .value_parser(increment_parser())
-        .default_value("10");
-    Ok(Command::new(alloc, "prices").arg(increment)?)
+        .default_value("10")
+        .help("By how many percent prices rise, from 1 to 50");
+    let prices = Command::new(alloc, "prices").about(
+        "Prints the opening and clock price of each product of a set-up document",
+    );
+    Ok(prices.arg(increment)?)
 }
 
 /// The program's commands.
@@ -47,7 +51,9 @@ fn program<'a>(alloc: Global) -> Result<Command<'a>, Error>
     ensures err { IfErr result (λ error. kind_of error ≡ ErrorKind.OutOfMemory) }
 {
     let prices = prices_command(alloc)?;
-    let opening = Command::new(alloc, "opening");
+    let opening = Command::new(alloc, "opening").about(
+        "Prints the sheet of round 1 of an opening document",
+    );
     Ok(
         Command::new(alloc, "clock_auction")
             .no_binary_name(true)
