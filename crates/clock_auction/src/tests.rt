@@ -59,6 +59,21 @@ fn run(alloc: Global, words: &[&str], document: &[u8]) -> Result<Ending, NoMemor
     })
 }
 
+/// Asserts that a run of these words prints these lines.
+fn assert_printed(
+    rt: &impl Abort,
+    alloc: Global,
+    words: &[&str],
+    document: &str,
+    lines: &str,
+) -> Result<(), NoMemory> {
+    let run = run(alloc, words, document.as_bytes())?;
+    assert_eq!(rt; run.output.bytes(), lines.as_bytes());
+    assert_eq!(rt; run.faults.bytes(), b"".as_slice());
+    assert_eq!(rt; run.status, 0);
+    Ok(())
+}
+
 #[test]
 fn clock_prices_round_up_and_stop_at_the_highest(rt: HostRuntime) -> Result<(), Fail> {
     let alloc = rt.alloc();
@@ -68,26 +83,24 @@ fn clock_prices_round_up_and_stop_at_the_highest(rt: HostRuntime) -> Result<(), 
     let d = product(alloc, "D", 1_000_000_000_000)?;
     let products = format!(in alloc; "{a},{b},{c},{d}")?;
     let setup = document(alloc, 95, OPERATOR, products.as_str(), X)?;
-    let lines = b"A 101 112\nB 110 121\nC 1 2\nD 1000000000000 -\n".as_slice();
-    for words in [
-        [].as_slice(),
-        ["prices"].as_slice(),
-        ["prices", "--increment", "10"].as_slice(),
-    ] {
-        let run = run(alloc, words, setup.as_bytes())?;
-        assert_eq!(rt; run.output.bytes(), lines);
-        assert_eq!(rt; run.faults.bytes(), b"".as_slice());
-        assert_eq!(rt; run.status, 0);
-    }
-    let run = run(
+    let lines = "A 101 112\nB 110 121\nC 1 2\nD 1000000000000 -\n";
+    assert_printed(&rt, alloc, &[], setup.as_str(), lines)?;
+    assert_printed(&rt, alloc, &["prices"], setup.as_str(), lines)?;
+    assert_printed(
+        &rt,
         alloc,
-        ["prices", "--increment=1"].as_slice(),
-        setup.as_bytes(),
+        &["prices", "--increment", "10"],
+        setup.as_str(),
+        lines,
     )?;
-    assert_eq!(rt;
-        run.output.bytes(),
-        b"A 101 103\nB 110 112\nC 1 2\nD 1000000000000 -\n".as_slice()
-    );
+    let lower = "A 101 103\nB 110 112\nC 1 2\nD 1000000000000 -\n";
+    assert_printed(
+        &rt,
+        alloc,
+        &["prices", "--increment=1"],
+        setup.as_str(),
+        lower,
+    )?;
     Ok(())
 }
 
@@ -339,7 +352,7 @@ fn a_line_that_cannot_be_shown_leaves_the_status(rt: HostRuntime) -> Result<(), 
 /// A source of so many spaces, which tells no bytes.
 #[derive(Drop)]
 struct Spaces {
-    left: u64,
+    left: usize,
     calls: u64,
 }
 
@@ -354,15 +367,11 @@ impl Source for Spaces {
 
     fn read(&mut self, buffer: &mut [u8]) -> Result<usize, Stop> {
         self.calls = self.calls.saturating_add(1);
-        let mut count = 0;
-        for byte in buffer.iter_mut() {
-            if self.left == 0 {
-                break;
-            }
+        let count = buffer.len().min(self.left);
+        for byte in &mut buffer[..count] {
             *byte = b' ';
-            self.left -= 1;
-            count += 1;
         }
+        self.left -= count;
         Ok(count)
     }
 }
