@@ -67,3 +67,14 @@ module _ (house : HouseFields) (limits : IsSetup house.setup) (commands : List C
       subst (IsOpen house.setup.products) (sym stands_open)
       (open_sound house.setup limits (history house.setup commands) (sound house.setup limits commands)
       (ap (λ (closed : List ClosedRound). (standing house.setup.products closed).ended) (sym stands.closed) ∙ going))
+
+lines_by : (products : ℕ) (round one : ClosedRound) (rest : Option ClosedRound) (here : Bool) → cond here (Some round) rest ≡ Some one →
+    length round.sheet.lines ≡ products → (rest ≡ Some one → length one.sheet.lines ≡ products) → length one.sheet.lines ≡ products
+lines_by products round one rest true e same later = let is : round ≡ one = cc in ap (λ r. length r.sheet.lines) (sym is) ∙ same
+lines_by products round one rest false e same later = later e
+
+-- the sheet of a closed round has a line for each product
+pub numbered_lines : (bidders products n : ℕ) (closed : List ClosedRound) (one : ClosedRound) → AreNumbered bidders products closed → round_numbered n closed ≡ Some one → length one.sheet.lines ≡ products
+numbered_lines bidders products n [] one all e = absurd (none-some one e)
+numbered_lines bidders products n (round ∷ rounds) one all e =
+    lines_by products round one (round_numbered n rounds) (round.sheet.round == n) e all.2 (numbered_lines bidders products n rounds one all.3)

@@ -25,9 +25,6 @@ use Rattle.clock_bids.proofs.Good.{good_sheet_row, good_sheet_activity}
 use Rattle.clock_bids.proofs.GoodChanges.{good_sheet_changes}
 
 module _ (products : List Product) (now : OpenRound) (sound : IsOpen products now) where
-  no_holding : Holding
-  no_holding = record { eligibility = 0; demands = [] }
-
   eligibility_at : (bidder : ℕ) → bidder < length now.holdings → get_or (eligibilities_of now) bidder 0 ≡ (holding_at now.holdings bidder).eligibility
   eligibility_at bidder lt = get_or-map (λ (holding : Holding). holding.eligibility) now.holdings bidder (record { eligibility = 0; demands = [] }) 0 lt
 

@@ -38,10 +38,6 @@ module _ (products : List Product) (requirement : ℕ) (now : OpenRound) (increm
   posts-refused (post_faults.PriceLimit product) is = λ other. ap (λ limit. closed_unless limit (closed_round products requirement now increment result)) is
   posts-refused post_faults.NoMemory is = λ other. absurd (other refl)
 
--- want of memory is a refusal of any closing
-pub memory_told : (closing : Result ClosedRound CloseFault) (told : CloseFault) → told ≡ close_faults.NoMemory → IsTold closing told
-memory_told closing told is = λ other. absurd (other is)
-
 module _ (products : List Product) (requirement : ℕ) (now : OpenRound) (round increment : ℕ) (ties : List Tie) where
   abbrev by_tests : Bool → Bool → Bool → Result ClosedRound CloseFault
   by_tests ended current within =
@@ -76,10 +72,3 @@ module _ (products : List Product) (requirement : ℕ) (now : OpenRound) (round 
 
 pub increment_within : (increment : ℕ) → 1 ≤ increment → increment ≤ 50 → is_within 1 50 increment ≡ true
 increment_within increment least most = ap (λ b. b && nat_le increment 50) (le-leb 1 increment least) ∙ le-leb increment 50 most
-
--- want of memory is never told as a fault of the tie numbers
-pub told_tie-held : (fault : TieFault) → told_of_tie fault ≢ close_faults.Tie tie_faults.NoMemory
-told_tie-held (tie_faults.Range i) e = cc
-told_tie-held (tie_faults.Repeated i) e = cc
-told_tie-held tie_faults.TooMany e = cc
-told_tie-held tie_faults.NoMemory e = cc

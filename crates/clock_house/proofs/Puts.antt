@@ -18,66 +18,6 @@ use Rattle.clock_house.specs.History.{ClosedRound, history, standing, holding, s
 use Rattle.clock_house.specs.House.{HouseFields, StandsFor, put_fault_in, with_sheet}
 use Rattle.clock_house.proofs.Steps.{in_force-accepted, in_force-skipped}
 
--- the tests of a sheet, one after another
-module _ (products : List Product) (now : Standing) (held : Holding) (round : ℕ) (bids : List Bid) where
-  abbrev after_end : Bool → Bool → Option PutFault
-  after_end ended current =
-      cond ended (Some put_faults.Ended) (cond (not current) (Some (put_faults.WrongRound now.round)) (bid_fault_of (sheet_fault products now.prices held.eligibility held.demands bids)))
-
-  pub put-ended : now.ended ≡ true → put_fault products now held round bids ≡ Some put_faults.Ended
-  put-ended e = ap (λ ended. after_end ended (round == now.round)) e
-
-  pub put-wrong_round : now.ended ≡ false → round ≢ now.round → put_fault products now held round bids ≡ Some (put_faults.WrongRound now.round)
-  put-wrong_round going differ = ap (λ ended. after_end ended (round == now.round)) going ∙ ap (after_end false) (ne_eqb round now.round differ)
-
-  pub put-judged : now.ended ≡ false → round ≡ now.round → put_fault products now held round bids ≡ bid_fault_of (sheet_fault products now.prices held.eligibility held.demands bids)
-  put-judged going same = ap (λ ended. after_end ended (round == now.round)) going ∙ ap (after_end false) (eq-eqb round now.round same)
-
--- a fault that is told
-told_bid : (fault : BidFault) → told_of_bid fault ≢ put_faults.NoMemory → told_of_bid fault ≡ put_faults.Bid fault
-told_bid bid_faults.TooMany h = refl
-told_bid (bid_faults.UnknownProduct i) h = refl
-told_bid (bid_faults.PriceRange i) h = refl
-told_bid (bid_faults.OverCap i) h = refl
-told_bid (bid_faults.PriceOrder i) h = refl
-told_bid (bid_faults.MixedDirection i) h = refl
-told_bid (bid_faults.KeepPrice i) h = refl
-told_bid bid_faults.OverActivity h = refl
-told_bid bid_faults.NoMemory h = absurd (h refl)
-
-pub told_bid-other : (fault : BidFault) → fault ≢ bid_faults.NoMemory → told_of_bid fault ≡ put_faults.Bid fault
-told_bid-other bid_faults.TooMany h = refl
-told_bid-other (bid_faults.UnknownProduct i) h = refl
-told_bid-other (bid_faults.PriceRange i) h = refl
-told_bid-other (bid_faults.OverCap i) h = refl
-told_bid-other (bid_faults.PriceOrder i) h = refl
-told_bid-other (bid_faults.MixedDirection i) h = refl
-told_bid-other (bid_faults.KeepPrice i) h = refl
-told_bid-other bid_faults.OverActivity h = refl
-told_bid-other bid_faults.NoMemory h = absurd (h refl)
-
--- want of memory is never told as a fault of the bids
-pub told_bid-held : (fault : BidFault) → told_of_bid fault ≢ put_faults.Bid bid_faults.NoMemory
-told_bid-held bid_faults.TooMany e = cc
-told_bid-held (bid_faults.UnknownProduct i) e = cc
-told_bid-held (bid_faults.PriceRange i) e = cc
-told_bid-held (bid_faults.OverCap i) e = cc
-told_bid-held (bid_faults.PriceOrder i) e = cc
-told_bid-held (bid_faults.MixedDirection i) e = cc
-told_bid-held (bid_faults.KeepPrice i) e = cc
-told_bid-held bid_faults.OverActivity e = cc
-told_bid-held bid_faults.NoMemory e = cc
-
--- the first fault of the bids is told
-pub told_first : (products : List Product) (now : Standing) (held : Holding) (round : ℕ) (bids : List Bid) (fault : BidFault) → now.ended ≡ false → round ≡ now.round →
-    IsFaultOf products now.prices held.eligibility held.demands bids fault → told_of_bid fault ≢ put_faults.NoMemory →
-    put_fault products now held round bids ≡ Some (told_of_bid fault)
-told_first products now held round bids fault going same is other =
-    elim is as (λ _. put_fault products now held round bids ≡ Some (told_of_bid fault)) [
-      | inl none ↦ absurd (other (ap told_of_bid none))
-      | inr first ↦ put-judged products now held round bids going same ∙ ap bid_fault_of first ∙ ap Some (sym (told_bid fault other))
-    ]
-
 skip_by : (own good : Bool) → good ≡ false → own && good ≡ false
 skip_by true good e = e
 skip_by false good e = refl

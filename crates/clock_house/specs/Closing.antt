@@ -85,6 +85,7 @@ settled_outcome products prices changes end = record {
 abbrev pub later_outcome : List Product → OpenRound → List Change → Outcome
 later_outcome products now changes = settled_outcome products now.standing.prices changes (settlement products now changes)
 
+-- the demands and the posted prices of the current round
 abbrev pub outcome : List Product → OpenRound → List Tie → Outcome
 outcome products now ties =
     if now.standing.round == 1 then first_outcome products now else later_outcome products now (requests now ties)
