@@ -1,12 +1,8 @@
 -- A grid that is filled row by row.
-use Rattle.std.proofs.Common.{◌≡◌, ℕ, ◌+◌, ◌<◌, inl, inr, List, [], ap, sym, subst, ◌∙◌, arith, get_or, set, length, replicate, All}
+use Rattle.std.proofs.Common.{◌≡◌, ℕ, ◌<◌, List, [], get_or, length, All}
 use Rattle.std.specs.Prelude.{map}
 use Rattle.std.specs.List.{range_with_len}
-use Rattle.std.proofs.lemmas.Bool.{cases_eq, cases_lt}
-use Rattle.std.proofs.lemmas.List.{get_or-set_same, get_or-set_other, length-set, length-replicate, get_or-replicate}
-use Rattle.std.proofs.lemmas.List.Elements.{All-set}
 use Rattle.std.proofs.lemmas.List.FromFn.{fill_by_all}
-use Rattle.clock_setup.specs.Demands.{no_demands}
 
 -- the first rows are those of a function, and all rows have the same width
 pub record IsFilled (f : ℕ → List ℕ) (width bidders filled : ℕ) (grid : List (List ℕ)) : Type 0 where

@@ -1,19 +1,13 @@
 -- What putting a sheet does to the commands that a house stands for.
-use Rattle.std.proofs.Common.{◌≡◌, ◌≢◌, ℕ, ◌<◌, inl, inr, List, ◌∷◌, Bool, true, false, cond, ◌&&◌, ◌==◌, not, refl, ap, sym, subst, ◌∙◌, arith, get_or, set, length, eq-eqb, ne_eqb}
+use Rattle.std.proofs.Common.{◌≡◌, ℕ, ◌<◌, inl, inr, List, ◌∷◌, Bool, true, false, ◌&&◌, ◌==◌, refl, ap, sym, subst, ◌∙◌, arith, get_or, set, length, eq-eqb, ne_eqb}
 use Rattle.std.specs.Prelude.{Option, Some, None, is_none}
 use Rattle.std.proofs.lemmas.Bool.{cases_eq}
 use Rattle.std.proofs.lemmas.List.{get_or-set_same, get_or-set_other, length-set}
 use Rattle.std.proofs.lemmas.List.FromFn.{fill_by_all, length-map-range_with_len, get_or-map-range_with_len}
-use Rattle.clock_setup.specs.declared.setup.Product.{Product}
 use Rattle.clock_bids.specs.declared.sheet.Bid.{Bid}
-use Rattle.clock_bids.specs.declared.sheet.BidFault.{BidFault}
-use Rattle.clock_bids.specs.declared.sheet.BidFault.TheVariants as bid_faults
-use Rattle.clock_bids.specs.Sheet.{sheet_fault, IsFaultOf}
 use Rattle.clock_house.specs.declared.fault.PutFault.{PutFault}
-use Rattle.clock_house.specs.declared.fault.PutFault.TheVariants as put_faults
-use Rattle.clock_house.specs.Faults.{told_of_bid}
 use Rattle.clock_house.specs.Command.{Command, put}
-use Rattle.clock_house.specs.Standing.{Standing, Holding, put_fault, bid_fault_of}
+use Rattle.clock_house.specs.Standing.{put_fault}
 use Rattle.clock_house.specs.History.{ClosedRound, history, standing, holding, sheet_in_force}
 use Rattle.clock_house.specs.House.{HouseFields, StandsFor, put_fault_in, with_sheet}
 use Rattle.clock_house.proofs.Steps.{in_force-accepted, in_force-skipped}
