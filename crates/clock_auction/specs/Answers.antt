@@ -34,6 +34,7 @@ first_round opening =
     unless_limited (price_limit_fault products opening.grid posted opening.increment)
     (sheet_text products (round_sheet 1 products (opening_prices products) opening.grid posted opening.increment))
 
+-- the lines of round 1 of the opening that was read
 abbrev pub opening_lines_of : Result Opening OpeningFault → Result (List ℕ) Fault
 opening_lines_of (Ok opening) = first_round opening
 opening_lines_of (Err inner) = Err (fault.Opening inner)

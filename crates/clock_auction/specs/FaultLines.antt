@@ -45,6 +45,7 @@ opening_words (in_opening.Activity bidder) = codes "activity " ++ decimal bidder
 opening_words in_opening.Increment = codes "increment"
 opening_words in_opening.NoMemory = codes "memory"
 
+-- a fault of a document has the document's words
 abbrev pub fault_words : Fault → List ℕ
 fault_words fault.Input = codes "input"
 fault_words fault.LongInput = codes "long_input"
@@ -54,5 +55,6 @@ fault_words (fault.PriceLimit product) = codes "price_limit " ++ decimal product
 fault_words fault.Output = codes "output"
 fault_words fault.Memory = codes "memory"
 
+-- the whole line
 abbrev pub fault_line : Fault → List ℕ
 fault_line cause = codes "fault: " ++ fault_words cause ++ codes "\n"

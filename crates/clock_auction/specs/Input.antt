@@ -1,8 +1,9 @@
 -- How much of the input is read, and how reading ends. Own limits: 64 MiB, in a hundred million reads.
 --     ReadsWhole     all bytes that there were are the document
 --     HasReadUpTo     so many bytes were taken at most
---     HasReadCount     exactly so many bytes were taken
+--     ReadsTooMuch     one byte more than the program reads was taken
 --     IsReadingOf     how reading ended, by its result
+--     IsStepOf     what one read came to
 use Rattle.std.specs.Prelude.{◌≡◌, ◌≤◌, ◌⊎◌, ◌+◌, ◌++◌, ℕ, List, [], length, Option, Bool, true, false, Result, Ok, Err}
 use Rattle.clock_device.specs.Streams.{HasRead, IsReadOut}
 use Rattle.clock_auction.specs.declared.fault.Fault.{Fault}

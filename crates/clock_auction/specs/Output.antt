@@ -1,5 +1,5 @@
 -- What was written to a sink.
---     Writes     the text was written, all of it unless a write failed
+--     WritesWhole, WritesFront     all of the text was written, or a write failed and a front of it was
 --     IsUntouched     no write was made
 use Rattle.std.specs.Prelude.{◌≡◌, ℕ, List, take, Option, Bool, true, false}
 use Rattle.clock_device.specs.Streams.{HasWritten, HasWrittenNothing}

@@ -41,6 +41,7 @@ pub data Outcome : Type 0 where
   stopped : Fault → Outcome
   refused : Outcome
 
+-- the exit status
 abbrev pub status_of : Outcome → ℕ
 status_of printed = 0
 status_of (stopped cause) = 1
@@ -50,7 +51,7 @@ status_of refused = 2
 abbrev pub Shows : Writing → List ℕ → Type 0
 Shows shown text = WritesWhole shown text ⊎ WritesFront shown text
 
--- no read was made, so nothing was read
+-- no read was made, so nothing was read: the same bytes are left
 pub record IsUnread (reading : Reading) : Type 0 where
   pub bytes : HasWrittenNothing reading.before reading.after
   pub none : reading.calls ≡ 0

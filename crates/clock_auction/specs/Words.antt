@@ -52,6 +52,7 @@ job_named name options =
     then option_map Prices (option_and_then increment_from (one_of (codes "increment") options))
     else (if bytes_eq name (codes "opening") then Some Opening else None)
 
+-- what the command that was met asks for
 abbrev pub job_met : Option (Text × List Row) → Option Job
 job_met None = None
 job_met (Some met) = job_named met.0 met.1
