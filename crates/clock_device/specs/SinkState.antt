@@ -1,5 +1,5 @@
 -- A sink that keeps its bytes in memory.
-use Rattle.std.specs.Prelude.{◌==◌, ◌-◌, ◌||◌, ◌++◌, ℕ, Bool, true, false, List, [], length, take, min, Option, Some, None, if◌then◌else◌, is_some, not}
+use Rattle.std.specs.Prelude.{◌==◌, ◌-◌, ◌||◌, ◌++◌, ℕ, Bool, false, List, [], length, take, min, Option, Some, None, if◌then◌else◌, is_some, not}
 use Rattle.clock_device.specs.Calls.{count_after}
 
 -- what it has taken, how many bytes it has room for in all, how many one write takes at most, the
@@ -28,6 +28,7 @@ abbrev pub is_stop_at : Option ℕ → ℕ → Bool
 is_stop_at None call = false
 is_stop_at (Some k) call = k == call
 
+-- so many bytes, where there is at least one
 abbrev pub some_above_zero : ℕ → Option ℕ
 some_above_zero count = if count == 0 then None else Some count
 
@@ -37,10 +38,12 @@ abbrev pub write_count : SinkState → ℕ → Option ℕ
 write_count s offered = if is_stop_at s.stop s.calls then None
     else some_above_zero (min (min s.piece (s.room - length s.taken)) offered)
 
+-- how many bytes that are, and none where the write fails
 abbrev pub count_or_zero : Option ℕ → ℕ
 count_or_zero None = 0
 count_or_zero (Some count) = count
 
+-- the sink after a write of these bytes
 abbrev pub after_write : SinkState → List ℕ → SinkState
 after_write s bytes = let count = write_count s (length bytes) in record s {
   taken = s.taken ++ take (count_or_zero count) bytes;

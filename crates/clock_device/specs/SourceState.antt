@@ -26,6 +26,7 @@ abbrev pub stop_at : Option (ℕ × Stop) → ℕ → Option Stop
 stop_at None call = None
 stop_at (Some p) call = if p.0 == call then Some p.1 else None
 
+-- the stop where there is one, else so many bytes
 abbrev pub stopped_or : Option Stop → ℕ → Result ℕ Stop
 stopped_or (Some stop) count = Err stop
 stopped_or None count = Ok count
@@ -40,6 +41,7 @@ abbrev pub count_of : Result ℕ Stop → ℕ
 count_of (Ok count) = count
 count_of (Err stop) = 0
 
+-- the source after a read with this answer
 abbrev pub after_read : SourceState → Result ℕ Stop → SourceState
 after_read s answer = record s {
   left = drop (count_of answer) s.left;
