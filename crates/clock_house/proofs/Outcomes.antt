@@ -24,7 +24,7 @@ use Rattle.clock_house.specs.Standing.{Standing}
 use Rattle.clock_house.specs.Closing.{OpenRound, Outcome, requests, first_outcome, later_outcome, outcome, settlement}
 use Rattle.clock_house.specs.Laws.{IsPriced, IsOpen, eligibilities_of, grid_of}
 use Rattle.clock_house.proofs.OpenRounds.{all_requests, asked_within, settled_within, priced_requests}
-use Rattle.clock_house.proofs.Permutes.{processing_permutes}
+use Rattle.clock_order.proofs.InOrder.{processing_permutes}
 use Rattle.clock_house.proofs.Sums.{sum_by-lt_sum_by, length-le-sum_by, sum_by-map, map-get_or}
 use Rattle.std.proofs.lemmas.List.Sorted.{All-permutation}
 

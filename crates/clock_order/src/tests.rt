@@ -1,11 +1,12 @@
 ghost use Rattle.std.specs.Prelude.{◌≡◌, ◌≢◌};
 
-use crate::{Tie, TieFault, Ties, ordered};
+use crate::{OrderKey, Tie, TieFault, Ties, ordered};
 use clock_bids::{Change, Changes, Kind};
 use clock_device::NoMemory;
 use clock_money::Point;
 use clock_setup::{Setup, read_setup};
 use std::alloc::Global;
+use std::cmp::Ordering;
 use std::test::Fail;
 
 /// One product A of two blocks opening at 100, and the bidders X and Y.
@@ -138,5 +139,40 @@ fn a_tie_list_is_refused_for_its_first_fault(rt: HostRuntime) -> Result<(), Fail
     );
     let too_many = vec![in alloc; tie(0, 1, 5); 16_385]?;
     assert_eq!(rt; fault_of(alloc, &setup, &too_many), Some(TieFault::TooMany));
+    Ok(())
+}
+
+/// The key of a first bid for product A.
+fn key(point: Point, tie: u64, bidder: u32) -> OrderKey {
+    // A point that is read is known to have a denominator, as a key asks.
+    let _span = point.span;
+    OrderKey {
+        point,
+        tie,
+        bidder,
+        product: 0,
+        place: 0,
+    }
+}
+
+#[test]
+fn keys_compare_points_as_values(rt: HostRuntime) -> Result<(), Fail> {
+    let tenths = Point::of(100, 105, 110).ok_or("105")?;
+    let hundredths = Point::of(1000, 1050, 1100).ok_or("1050")?;
+    let later = Point::of(100, 106, 110).ok_or("106")?;
+    assert_eq!(rt;
+        key(hundredths, 1, 1).cmp(&key(tenths, 2, 0)),
+        Ordering::Less
+    );
+    assert_eq!(rt;
+        key(tenths, 0, 1).cmp(&key(hundredths, 0, 0)),
+        Ordering::Greater
+    );
+    assert_eq!(rt;
+        key(later, 0, 0).partial_cmp(&key(tenths, 9, 9)),
+        Some(Ordering::Greater)
+    );
+    assert!(rt; key(tenths, 0, 0) == key(tenths, 0, 0));
+    assert!(rt; key(tenths, 0, 0) != key(hundredths, 0, 0));
     Ok(())
 }

@@ -67,6 +67,14 @@ fn reads_a_setup(rt: HostRuntime) -> Result<(), Fail> {
 }
 
 #[test]
+fn a_value_means_what_its_text_means(rt: HostRuntime) -> Result<(), Fail> {
+    let value = Value::from_str(rt.alloc(), TWO_PRODUCTS)?;
+    let setup = setup_of(rt.alloc(), &value)?;
+    assert_eq!(rt; setup.bidders.as_slice().len(), 3);
+    Ok(())
+}
+
+#[test]
 fn refuses_what_is_no_setup(rt: HostRuntime) -> Result<(), Fail> {
     let alloc = rt.alloc();
     for text in ["{", "", "\u{feff}{}", "{\"version\":1e400}", "\"\\ud800\""] {

@@ -2,7 +2,7 @@ use Rattle.std.proofs.lemmas.Result.{err_from_is_err_and}
 use Rattle.clock_house.specs.Closing.{requests, later_outcome}
 use Rattle.clock_house.specs.House.{standing_in, open_round_in}
 use Rattle.clock_house.proofs.InHouse.{within_grid}
-use Rattle.clock_house.proofs.Permutes.{processing_permutes}
+use Rattle.clock_order.proofs.InOrder.{processing_permutes}
 use Rattle.std.proofs.lemmas.List.Sorted.{All-permutation}
 use Rattle.clock_posting.specs.PostedPrice.{IsPricedBy}
 use Rattle.clock_house.proofs.Posts.{posts, posts-refused}
