@@ -1,0 +1,75 @@
+-- What the page of a refusal shows, and which refusal each fault is.
+--     Shown      a code, with the place and the round that stand beside it
+--     IsShown shown      they stand in a page together
+--     shown_bid fault, shown_tie fault, shown_put fault, shown_close fault      what the page of a fault shows
+use Rattle.std.specs.Prelude.{◌≡◌, ℕ, Option, Some, None, is_some, IsTrue}
+use Rattle.clock_bids.specs.declared.sheet.BidFault.{BidFault}
+use Rattle.clock_bids.specs.declared.sheet.BidFault.TheVariants as bid
+use Rattle.clock_order.specs.declared.ties.TieFault.{TieFault}
+use Rattle.clock_order.specs.declared.ties.TieFault.TheVariants as tie
+use Rattle.clock_house.specs.declared.fault.PutFault.{PutFault}
+use Rattle.clock_house.specs.declared.fault.PutFault.TheVariants as put
+use Rattle.clock_house.specs.declared.fault.CloseFault.{CloseFault}
+use Rattle.clock_house.specs.declared.fault.CloseFault.TheVariants as close
+use Rattle.clock_views.specs.declared.code.Code.{Code}
+use Rattle.clock_views.specs.declared.code.Code.TheVariants as reply
+use Rattle.clock_views.specs.Codes.{has_place, has_round, is_refusal}
+
+-- a code, with the place and the round that stand beside it
+pub record Shown : Type 0 where
+  pub code : Code
+  pub place : Option ℕ
+  pub round : Option ℕ
+
+-- the code is one of a refusal, and a place and a round stand beside it exactly where it has them
+pub record IsShown (shown : Shown) : Type 0 where
+  pub refused : IsTrue (is_refusal shown.code)
+  pub placed : is_some shown.place ≡ has_place shown.code
+  pub timed : is_some shown.round ≡ has_round shown.code
+
+-- a code alone
+abbrev pub alone : Code → Shown
+alone code = record { code = code; place = None; round = None }
+
+-- a code with a place
+abbrev pub at_place : Code → ℕ → Shown
+at_place code place = record { code = code; place = Some place; round = None }
+
+-- the request is for another round than the current one, which is shown
+abbrev pub wrong_round : ℕ → Shown
+wrong_round current = record { code = reply.WrongRound; place = None; round = Some current }
+
+-- a fault of the bids, with the bid's place in the list
+abbrev pub shown_bid : BidFault → Shown
+shown_bid bid.TooMany = alone reply.TooMany
+shown_bid (bid.UnknownProduct i) = at_place reply.UnknownProduct i
+shown_bid (bid.PriceRange i) = at_place reply.PriceRange i
+shown_bid (bid.OverCap i) = at_place reply.OverCap i
+shown_bid (bid.PriceOrder i) = at_place reply.PriceOrder i
+shown_bid (bid.MixedDirection i) = at_place reply.MixedDirection i
+shown_bid (bid.KeepPrice i) = at_place reply.KeepPrice i
+shown_bid bid.OverActivity = alone reply.OverActivity
+shown_bid bid.NoMemory = alone reply.Memory
+
+-- a fault of the tie numbers, with the entry's place in the list
+abbrev pub shown_tie : TieFault → Shown
+shown_tie (tie.Range i) = at_place reply.TieRange i
+shown_tie (tie.Repeated i) = at_place reply.TieRepeated i
+shown_tie tie.TooMany = alone reply.TooManyTies
+shown_tie tie.NoMemory = alone reply.Memory
+
+-- why a sheet is not put in force
+abbrev pub shown_put : PutFault → Shown
+shown_put put.Ended = alone reply.Ended
+shown_put (put.WrongRound current) = wrong_round current
+shown_put (put.Bid fault) = shown_bid fault
+shown_put put.NoMemory = alone reply.Memory
+
+-- why a round is not closed
+abbrev pub shown_close : CloseFault → Shown
+shown_close close.Ended = alone reply.Ended
+shown_close (close.WrongRound current) = wrong_round current
+shown_close close.Increment = alone reply.Increment
+shown_close (close.Tie fault) = shown_tie fault
+shown_close (close.PriceLimit product) = at_place reply.PriceLimit product
+shown_close close.NoMemory = alone reply.Memory
