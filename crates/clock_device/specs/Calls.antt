@@ -1,5 +1,8 @@
--- What is remembered of the calls that were made on a source or a sink: how many, and whether one failed.
--- Own rule: the count stays at the greatest u64.
+-- What is remembered of the calls that were made on a source or a sink. Own rule: a count stays at the greatest u64.
+--     count_after     a count after one more call
+--     interruptions_after     how many reads were interrupted, after one more
+--     is_failed_read     the read has failed
+--     IsUnused, IsUnread     no call was made before, no read was made before
 use Rattle.std.specs.Prelude.{◌≡◌, ℕ, ◌+◌, ◌-◌, ◌^◌, min, Bool, true, false, Result, Ok, Err}
 use Rattle.clock_device.specs.declared.stream.Stop.{Stop}
 use Rattle.clock_device.specs.declared.stream.Stop.TheVariants.{Interrupted, Failed}
@@ -13,6 +16,12 @@ pub record IsUnused (calls : ℕ) (has_failed : Bool) : Type 0 where
   pub uncounted : calls ≡ 0
   pub unfailed : has_failed ≡ false
 
+-- no read was made before: none is counted, none was interrupted, and none has failed
+pub record IsUnread (calls interruptions : ℕ) (has_failed : Bool) : Type 0 where
+  pub uncounted : calls ≡ 0
+  pub uninterrupted : interruptions ≡ 0
+  pub unfailed : has_failed ≡ false
+
 -- a read that was interrupted has not failed
 abbrev pub is_failure : Stop → Bool
 is_failure Interrupted = false
@@ -22,3 +31,8 @@ is_failure Failed = true
 abbrev pub is_failed_read : {N : Type 0} → Result N Stop → Bool
 is_failed_read (Ok n) = false
 is_failed_read (Err stop) = is_failure stop
+
+-- how many reads were interrupted, after a read that ended so
+abbrev pub interruptions_after : {N : Type 0} → ℕ → Result N Stop → ℕ
+interruptions_after interruptions (Err Interrupted) = count_after interruptions
+interruptions_after interruptions _ = interruptions

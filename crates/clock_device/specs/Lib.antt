@@ -1,4 +1,5 @@
 pub mod Calls
+pub mod Decimal
 pub mod Streams
 pub mod SourceState
 pub mod SinkState

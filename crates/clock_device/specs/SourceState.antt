@@ -1,6 +1,6 @@
 -- A source of bytes that stand in memory.
 use Rattle.std.specs.Prelude.{◌==◌, ◌||◌, ℕ, Bool, false, List, length, drop, min, Option, Some, None, Result, Ok, Err, if◌then◌else◌}
-use Rattle.clock_device.specs.Calls.{count_after, is_failed_read}
+use Rattle.clock_device.specs.Calls.{count_after, interruptions_after, is_failed_read}
 use Rattle.clock_device.specs.declared.stream.Stop.{Stop}
 
 -- what is left, how much of it one read gives at most, the read at which it stops, and what was done
@@ -9,6 +9,7 @@ pub record SourceState : Type 0 where
   pub piece : ℕ
   pub stop : Option (ℕ × Stop)
   pub calls : ℕ
+  pub interruptions : ℕ
   pub has_failed : Bool
 
 -- no read was made yet
@@ -18,6 +19,7 @@ new_source bytes piece stop = record {
   piece = piece;
   stop = stop;
   calls = 0;
+  interruptions = 0;
   has_failed = false;
 }
 
@@ -46,5 +48,6 @@ abbrev pub after_read : SourceState → Result ℕ Stop → SourceState
 after_read s answer = record s {
   left = drop (count_of answer) s.left;
   calls = count_after s.calls;
+  interruptions = interruptions_after s.interruptions answer;
   has_failed = s.has_failed || is_failed_read answer;
 }

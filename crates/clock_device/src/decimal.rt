@@ -1,4 +1,5 @@
 ghost use Rattle.std.specs.Prelude.{◌≡◌, ◌++◌, List, ℕ, decimal, OnOk, OnErr};
+ghost use Rattle.clock_device.specs.Decimal.{number_or_dash};
 
 use crate::items::Items;
 use crate::no_memory::NoMemory;
@@ -12,5 +13,16 @@ impl Items<u8> {
     {
         let mut buffer = Buffer::new();
         self.extend_from_slice(buffer.format(number).as_bytes())
+    }
+
+    /// Adds a number in plain decimal, or a dash where there is none.
+    pub fn push_or_dash(&mut self, number: Option<u64>) -> Result<(), NoMemory>
+        ensures ok { OnOk result (self.new ≡ self.old ++ number_or_dash number) }
+        ensures err { OnErr result (self.new ≡ self.old) }
+    {
+        match number {
+            Some(number) => self.push_number(number),
+            None => self.push(b'-'),
+        }
     }
 }

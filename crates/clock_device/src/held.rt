@@ -2,7 +2,7 @@ ghost use Rattle.std.specs.Prelude.{◌≡◌, ◌≤◌, ◌||◌, ◌++◌, �
 ghost use Rattle.std.specs.Result.{result_ok};
 ghost use Rattle.std.specs.Io.{ReadsAtMost};
 ghost use Rattle.std.specs.Io.KnownBytes.{ReadConsumes, WriteAppends};
-ghost use Rattle.clock_device.specs.Calls.{count_after, is_failed_read};
+ghost use Rattle.clock_device.specs.Calls.{count_after, interruptions_after, is_failed_read, is_failure};
 ghost use Rattle.clock_device.specs.Streams.{CountsTaken};
 ghost use Rattle.clock_device.specs.SourceState.{SourceState, after_read, new_source, read_answer, stop_at};
 ghost use Rattle.clock_device.specs.SinkState.{SinkState, after_write, new_sink, write_count};
@@ -20,13 +20,14 @@ pub struct ListSource<'a> {
     piece: usize,
     stop: Option<(u64, Stop)>,
     calls: u64,
+    interruptions: u64,
     has_failed: bool,
 }
 
 impl<'a> Model for ListSource<'a> {
     ghost Value = { SourceState };
 
-    ghost view = { λ s. record { left = s.left.now; piece = s.piece; stop = s.stop; calls = s.calls; has_failed = s.has_failed } };
+    ghost view = { λ s. record { left = s.left.now; piece = s.piece; stop = s.stop; calls = s.calls; interruptions = s.interruptions; has_failed = s.has_failed } };
 
     ghost invariant = { λ s. 1 ≤ s.piece };
 }
@@ -42,6 +43,7 @@ impl<'a> ListSource<'a> {
             piece,
             stop,
             calls: 0,
+            interruptions: 0,
             has_failed: false,
         }
     }
@@ -55,12 +57,27 @@ impl<'a> ListSource<'a> {
             _ => None,
         }
     }
+
+    // Remembers a read that was stopped.
+    fn note(&mut self, stop: Stop)
+        ensures { self.new ≡ record self.old {
+          interruptions = interruptions_after {N = ℕ} self.old.interruptions (Err stop);
+          has_failed = self.old.has_failed || is_failure stop;
+        } }
+    {
+        match stop {
+            Stop::Interrupted => self.interruptions = self.interruptions.saturating_add(1),
+            Stop::Failed => self.has_failed = true,
+        }
+    }
 }
 
 impl Source for ListSource<'_> {
     ghost bytes_left = { λ source. Some source.left };
 
     ghost calls = { λ source. source.calls };
+
+    ghost interruptions = { λ source. source.interruptions };
 
     ghost has_failed = { λ source. source.has_failed };
 
@@ -69,6 +86,7 @@ impl Source for ListSource<'_> {
         ensures within { ReadsAtMost result buffer.new }
         ensures bytes { ReadConsumes (Some self.old.left) (Some self.new.left) result buffer.new }
         ensures counted { self.new.calls ≡ count_after self.old.calls }
+        ensures interrupted { self.new.interruptions ≡ interruptions_after self.old.interruptions result }
         ensures failed { self.new.has_failed ≡ (self.old.has_failed || is_failed_read result) }
 
         ensures answer { result ≡ read_answer self.old (length buffer.old) }
@@ -79,7 +97,7 @@ impl Source for ListSource<'_> {
         let stop = self.stop_now();
         self.calls = self.calls.saturating_add(1);
         if let Some(stop) = stop {
-            self.has_failed = self.has_failed || stop == Stop::Failed;
+            self.note(stop);
             return Err(stop);
         }
         let count = self.piece.min(buffer.len()).min(self.left.len());

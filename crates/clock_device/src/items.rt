@@ -1,4 +1,4 @@
-ghost use Rattle.std.specs.Prelude.{◌≡◌, [], ◌∷◌, ◌++◌, ◌<◌, length, slice_set, OnOk, OnErr, IfOk};
+ghost use Rattle.std.specs.Prelude.{◌≡◌, [], ◌∷◌, ◌++◌, ◌<◌, length, replicate, slice_set, OnOk, OnErr, IfOk};
 
 use crate::no_memory::NoMemory;
 use std::alloc::Global;
@@ -93,5 +93,16 @@ impl<T: Copy> Items<T> {
         ensures { IfOk result (λ copy. copy ≡ self.now) }
     {
         Items::from_slice(alloc, self.as_slice())
+    }
+}
+
+impl Items<u64> {
+    /// So many zeros.
+    pub fn zeros(alloc: Global, count: usize) -> Result<Items<u64>, NoMemory>
+        ensures { IfOk result (λ zeros. zeros ≡ replicate count 0) }
+    {
+        Ok(Items {
+            held: vec![in alloc; 0; count]?,
+        })
     }
 }

@@ -1,7 +1,8 @@
 use std::alloc::{AllocError, AllocFailed};
 use thiserror::Error;
 
-/// A growth was refused: there was no memory for it. Nothing has changed.
+/// A growth was refused: there was no memory for it. The values that the call was to change are as
+/// they were, though room that was taken before the refusal may stay theirs.
 #[derive(Clone, Copy, Debug, PartialEq, Eq, Error)]
 #[error("out of memory")]
 pub struct NoMemory;

@@ -1,7 +1,7 @@
 ghost use Rattle.std.specs.Prelude.{◌≡◌, ◌≤◌, ◌||◌, ℕ, Bool, List, Option, length, IfOk, is_err};
 ghost use Rattle.std.specs.Io.{ReadsAtMost};
 ghost use Rattle.std.specs.Io.KnownBytes.{ReadConsumes, WriteAppends};
-ghost use Rattle.clock_device.specs.Calls.{count_after, is_failed_read};
+ghost use Rattle.clock_device.specs.Calls.{count_after, interruptions_after, is_failed_read};
 ghost use Rattle.clock_device.specs.Streams.{CountsTaken};
 
 use thiserror::Error;
@@ -26,11 +26,14 @@ pub struct Failed;
 /// Where bytes come from.
 ///
 /// Contracts see the bytes that reads will still give, where the source tells them; how many
-/// reads were made, a number that stays at the greatest `u64`; and whether one of them failed.
+/// reads were made and how many of them were interrupted, numbers that stay at the greatest
+/// `u64`; and whether one of them failed.
 pub trait Source {
     ghost bytes_left: { Self → Option (List ℕ) };
 
     ghost calls: { Self → ℕ };
+
+    ghost interruptions: { Self → ℕ };
 
     ghost has_failed: { Self → Bool };
 
@@ -41,6 +44,7 @@ pub trait Source {
         ensures within { ReadsAtMost result buffer.new }
         ensures bytes { ReadConsumes (bytes_left self.old) (bytes_left self.new) result buffer.new }
         ensures counted { calls self.new ≡ count_after (calls self.old) }
+        ensures interrupted { interruptions self.new ≡ interruptions_after (interruptions self.old) result }
         ensures failed { has_failed self.new ≡ (has_failed self.old || is_failed_read result) };
 }
 

@@ -3,7 +3,7 @@ use crate::{
     Failed, FromReader, Items, ListSink, ListSource, NoMemory, Sink, Source, Stop, Text, ToWriter,
 };
 use std::io;
-use std::io::{ErrorKind, Read};
+use std::io::{ErrorKind, Read, Write};
 use std::test::Fail;
 
 #[test]
@@ -17,6 +17,10 @@ fn lists_grow_and_change(rt: HostRuntime) -> Result<(), Fail> {
     let mut text = Text::from_slice(alloc, b"round ")?;
     text.push_number(18_446_744_073_709_551_615)?;
     assert_eq!(rt; text.as_slice(), b"round 18446744073709551615".as_slice());
+    text.push_or_dash(None)?;
+    text.push_or_dash(Some(0))?;
+    assert_eq!(rt; text.as_slice(), b"round 18446744073709551615-0".as_slice());
+    assert_eq!(rt; Items::zeros(alloc, 2)?.as_slice(), [0, 0].as_slice());
     let taken = Items::from_vec(vec![in alloc; 7u8, 8]?);
     assert_eq!(rt; taken.as_slice(), [7, 8].as_slice());
     Ok(())
@@ -105,6 +109,47 @@ fn a_reader_is_interrupted_or_fails(rt: HostRuntime) {
     assert_eq!(rt; source.read(&mut buffer), Ok(1));
     assert_eq!(rt; buffer, *b"x-");
     assert_eq!(rt; source.read(&mut buffer), Err(Stop::Failed));
+}
+
+/// A reader and a writer that tell how many calls they have had: by the byte that a read gives,
+/// and by how many bytes a write takes.
+#[derive(Drop)]
+struct Counter {
+    calls: u8,
+}
+
+impl Read for Counter {
+    fn read(&mut self, buffer: &mut [u8]) -> io::Result<usize> {
+        self.calls = self.calls.saturating_add(1);
+        if buffer.is_empty() {
+            return Ok(0);
+        }
+        buffer[0] = self.calls;
+        Ok(1)
+    }
+}
+
+impl Write for Counter {
+    fn write(&mut self, bytes: &[u8]) -> io::Result<usize> {
+        self.calls = self.calls.saturating_add(1);
+        Ok(bytes.len().min(usize::from(self.calls)))
+    }
+
+    fn flush(&mut self) -> io::Result<()> {
+        Ok(())
+    }
+}
+
+#[test]
+fn each_call_is_one_call_of_the_reader_or_writer_below(rt: HostRuntime) {
+    let mut source = FromReader::new(Counter { calls: 0 });
+    let mut sink = ToWriter::new(Counter { calls: 0 });
+    let mut byte = [0];
+    for call in 1..=8u8 {
+        assert_eq!(rt; source.read(&mut byte), Ok(1));
+        assert_eq!(rt; byte, [call]);
+        assert_eq!(rt; sink.write(b"12345678"), Ok(usize::from(call)));
+    }
 }
 
 #[test]

@@ -1,7 +1,7 @@
 ghost use Rattle.std.specs.Prelude.{◌≡◌, ◌||◌, is_err};
 ghost use Rattle.std.specs.Io.{ReadsAtMost};
 ghost use Rattle.std.specs.Io.KnownBytes.{ReadConsumes, WriteAppends};
-ghost use Rattle.clock_device.specs.Calls.{IsUnused, count_after, is_failed_read};
+ghost use Rattle.clock_device.specs.Calls.{IsUnread, IsUnused, count_after, interruptions_after, is_failed_read};
 
 use crate::stream::{Failed, Sink, Source, Stop};
 use std::io::{ErrorKind, Read, Write};
@@ -14,6 +14,7 @@ use std::io::{ErrorKind, Read, Write};
 pub struct FromReader<R> {
     reader: R,
     calls: u64,
+    interruptions: u64,
     has_failed: bool,
 }
 
@@ -21,11 +22,12 @@ impl<R: Read> FromReader<R> {
     /// The reader, on which no read was made through this yet.
     pub fn new(reader: R) -> FromReader<R>
         ensures bytes { ⟦<FromReader<R> as Source>⟧.bytes_left result ≡ R.remaining reader }
-        ensures unused { IsUnused (⟦<FromReader<R> as Source>⟧.calls result) (⟦<FromReader<R> as Source>⟧.has_failed result) }
+        ensures unread { IsUnread (⟦<FromReader<R> as Source>⟧.calls result) (⟦<FromReader<R> as Source>⟧.interruptions result) (⟦<FromReader<R> as Source>⟧.has_failed result) }
     {
         FromReader {
             reader,
             calls: 0,
+            interruptions: 0,
             has_failed: false,
         }
     }
@@ -36,6 +38,8 @@ impl<R: Read> Source for FromReader<R> {
 
     ghost calls = { λ source. source.calls };
 
+    ghost interruptions = { λ source. source.interruptions };
+
     ghost has_failed = { λ source. source.has_failed };
 
     fn read(&mut self, buffer: &mut [u8]) -> Result<usize, Stop> {
@@ -44,6 +48,7 @@ impl<R: Read> Source for FromReader<R> {
             Ok(count) => Ok(count),
             Err(error) => {
                 if error.kind() == ErrorKind::Interrupted {
+                    self.interruptions = self.interruptions.saturating_add(1);
                     Err(Stop::Interrupted)
                 } else {
                     self.has_failed = true;
