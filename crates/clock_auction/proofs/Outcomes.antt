@@ -1,6 +1,6 @@
 -- Each way in which a run can stop is one of the outcomes.
 use Rattle.std.proofs.Common.{◌≡◌, ℕ, List, [], Bool, Option, Some, Err, refl, inl, inr, arith}
-use Rattle.clock_device.specs.Calls.{IsUnused}
+use Rattle.clock_device.specs.Calls.{IsUnread, IsUnused}
 use Rattle.clock_auction.specs.Input.{IsReadingOf, Reading, ReadsWhole}
 use Rattle.clock_auction.specs.Output.{IsUntouched, Writing}
 use Rattle.clock_auction.specs.Run.{ComesTo, HasAnswer, IsRunOf, IsShown, IsShownOrMemory, Shows, stopped}
@@ -21,9 +21,9 @@ untouched bytes calls failed unused =
     record { bytes = same_bytes bytes; none = unused.uncounted; unfailed = unused.unfailed }
 
 -- nothing was read for want of memory
-pub unread_for_memory : (bytes : Option (List ℕ)) (calls : ℕ) (failed : Bool) → IsUnused calls failed
+pub unread_for_memory : (bytes : Option (List ℕ)) (calls interruptions : ℕ) (failed : Bool) → IsUnread calls interruptions failed
     → IsReadingOf (record { before = bytes; after = bytes; calls = calls; has_failed = failed }) (Err fault.Memory)
-unread_for_memory bytes calls failed unused =
+unread_for_memory bytes calls interruptions failed unused =
     (([], read_nothing bytes bytes (same_bytes bytes), omega arith), unused.unfailed)
 
 module _ (asked : Option Job) (job : Job) (asks : asked ≡ Some job) (reading : Reading) (output shown : Writing) where

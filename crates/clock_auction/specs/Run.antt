@@ -52,7 +52,7 @@ abbrev pub Shows : Writing → List ℕ → Type 0
 Shows shown text = WritesWhole shown text ⊎ WritesFront shown text
 
 -- no read was made, so nothing was read: the same bytes are left
-pub record IsUnread (reading : Reading) : Type 0 where
+pub record MakesNoRead (reading : Reading) : Type 0 where
   pub bytes : HasWrittenNothing reading.before reading.after
   pub none : reading.calls ≡ 0
   pub unfailed : reading.has_failed ≡ false
@@ -70,7 +70,7 @@ HasOutcome asked reading output shown (stopped fault.Memory) =
     IsReadingOf reading (Err fault.Memory) × IsUntouched output × Shows shown (fault_line fault.Memory)
 HasOutcome asked reading output shown (stopped cause) =
     RunsJob {U = Unit {0}} asked reading output (Err cause) × Shows shown (fault_line cause)
-HasOutcome asked reading output shown refused = (asked ≡ None) × IsUnread reading × IsUntouched output
+HasOutcome asked reading output shown refused = (asked ≡ None) × MakesNoRead reading × IsUntouched output
 
 -- the run ends in one of these ways, and its status tells which
 abbrev pub ComesTo : Option Job → Reading → Writing → Writing → ℕ → Type 0

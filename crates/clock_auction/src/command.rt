@@ -1,5 +1,5 @@
 ghost use Rattle.std.specs.Prelude.{◌≡◌, ◌≤◌, map};
-ghost use Rattle.clock_device.specs.Calls.{IsUnused};
+ghost use Rattle.clock_device.specs.Calls.{IsUnread, IsUnused};
 ghost use Rattle.clock_auction.specs.Input.{most_reads};
 ghost use Rattle.clock_auction.specs.Run.{ComesTo, IsRunOf, IsShown, IsShownOrMemory, Shows};
 ghost use Rattle.clock_auction.specs.Words.{IsJob, job_of};
@@ -33,7 +33,7 @@ pub fn command<R: Source, W: Sink, F: Sink>(
     writer: &mut W,
     faults: &mut F,
 ) -> u8
-    requires unread { IsUnused (R.calls reader.old) (R.has_failed reader.old) }
+    requires unread { IsUnread (R.calls reader.old) (R.interruptions reader.old) (R.has_failed reader.old) }
     requires unwritten { IsUnused (W.calls writer.old) (W.has_failed writer.old) }
     requires unshown { IsUnused (F.calls faults.old) (F.has_failed faults.old) }
     ensures outcome { ComesTo (job_of (map (λ word. word.now) words.entry.now))
@@ -71,7 +71,7 @@ fn run<R: Source, W: Sink>(
     writer: &mut W,
 ) -> Result<(), Fault>
     requires job { IsJob job }
-    requires unread { IsUnused (R.calls reader.old) (R.has_failed reader.old) }
+    requires unread { IsUnread (R.calls reader.old) (R.interruptions reader.old) (R.has_failed reader.old) }
     requires unwritten { IsUnused (W.calls writer.old) (W.has_failed writer.old) }
     ensures run { IsRunOf job
         (record { before = R.bytes_left reader.old; after = R.bytes_left reader.new; calls = R.calls reader.new; has_failed = R.has_failed reader.new })

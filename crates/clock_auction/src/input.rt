@@ -1,5 +1,5 @@
 ghost use Rattle.std.specs.Prelude.{◌≡◌, ◌≤◌, ◌<◌, ◌||◌, length, vec_len, IfOk};
-ghost use Rattle.clock_device.specs.Calls.{IsUnused, count_after};
+ghost use Rattle.clock_device.specs.Calls.{IsUnread, count_after};
 ghost use Rattle.clock_auction.specs.Input.{IsReadingOf, IsStepOf, is_input_fault, most_bytes, most_reads};
 
 use crate::fault::Fault;
@@ -17,7 +17,7 @@ const PIECE: usize = 65_536;
 
 /// All bytes of the input. An interrupted read is tried again.
 pub fn read_all<R: Source>(alloc: Global, reader: &mut R) -> Result<Text, Fault>
-    requires { IsUnused (R.calls reader.old) (R.has_failed reader.old) }
+    requires { IsUnread (R.calls reader.old) (R.interruptions reader.old) (R.has_failed reader.old) }
     ensures reading { IsReadingOf (record { before = R.bytes_left reader.old; after = R.bytes_left reader.new; calls = R.calls reader.new; has_failed = R.has_failed reader.new }) result }
     ensures calls { R.calls reader.new ≤ most_reads }
 {

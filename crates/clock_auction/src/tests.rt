@@ -363,6 +363,8 @@ impl Source for Spaces {
 
     ghost calls = { λ source. source.calls };
 
+    ghost interruptions = { λ _. 0 };
+
     ghost has_failed = { λ _. false };
 
     fn read(&mut self, buffer: &mut [u8]) -> Result<usize, Stop> {

@@ -6,7 +6,7 @@ use Rattle.clock_auction.proofs.command.command.Goals as goal
 
 pub returns-then-eq-clause-outcome : goal.returns-then-eq-clause-outcome
 returns-then-eq-clause-outcome g c =
-    (stopped fault.Memory, refl, (unread_for_memory _ _ _ c.requires.unread, untouched _ _ _ c.requires.unwritten, c.show_fault-then-eq.ensures))
+    (stopped fault.Memory, refl, (unread_for_memory _ _ _ _ c.requires.unread, untouched _ _ _ c.requires.unwritten, c.show_fault-then-eq.ensures))
 
 pub returns-in-Err-run-clause-outcome : goal.returns-in-Err-run-clause-outcome
 returns-in-Err-run-clause-outcome g c =
