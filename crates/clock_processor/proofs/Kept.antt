@@ -6,9 +6,11 @@ use Rattle.clock_bids.specs.declared.change.Change.{Change}
 use Rattle.clock_processor.specs.Settling.{Progress, next_by, first_with_room, with_application, with_admission, after_steps, settled, start_of, most_steps}
 
 module _ (products : List Product) (eligibilities : List ℕ) (changes : List Change) (P : Progress → Type 0)
-    (applied : (s : Progress) (i : ℕ) → first_with_room products eligibilities changes s ≡ Some i → P s → P (with_application products eligibilities changes s i))
+    (applied : (s : Progress) (i : ℕ) → first_with_room products eligibilities changes s ≡ Some i → P s →
+    P (with_application products eligibilities changes s i))
     (admitted : (s : Progress) → s.admitted < length changes → P s → P (with_admission products eligibilities changes s)) where
-  after_next : (n : ℕ) → ((s : Progress) → P s → P (after_steps products eligibilities changes n s)) → (s : Progress) (more : Bool) → nat_lt s.admitted (length changes) ≡ more → P s →
+  after_next : (n : ℕ) → ((s : Progress) → P s → P (after_steps products eligibilities changes n s)) → (s : Progress) (more : Bool) →
+      nat_lt s.admitted (length changes) ≡ more → P s →
       P (elim (cond more (Some (with_admission products eligibilities changes s)) None) [ None ↦ s | Some t ↦ after_steps products eligibilities changes n t ])
   after_next n later s true is h = later (with_admission products eligibilities changes s) (admitted s (ltb-true s.admitted (length changes) is) h)
   after_next n later s false is h = h

@@ -26,7 +26,8 @@ module _ {A B : Type 0} (test : A × B → Bool) (d : A) (e : B) where
   here_fails true k rest h = absurd (none-some k (sym h))
   here_fails false k rest h = (refl, h)
 
-  fails_at : (k n : ℕ) (xs : List A) (ys : List B) → position_from test k (take n (zip xs ys)) ≡ None → (j : ℕ) → j < n → j < length xs → j < length ys → test (get_or xs j d, get_or ys j e) ≡ false
+  fails_at : (k n : ℕ) (xs : List A) (ys : List B) → position_from test k (take n (zip xs ys)) ≡ None → (j : ℕ) → j < n → j < length xs →
+      j < length ys → test (get_or xs j d, get_or ys j e) ≡ false
   fails_at k zero xs ys h j a b c = absurd (omega (arith, a))
   fails_at k (suc n) [] ys h j a b c = absurd (omega (arith, b))
   fails_at k (suc n) (x ∷ xs) [] h j a b c = absurd (omega (arith, c))
@@ -36,17 +37,21 @@ module _ {A B : Type 0} (test : A × B → Bool) (d : A) (e : B) where
 
 module _ (products : List Product) (eligibilities : List ℕ) (changes : List Change) where
   -- at the end all requests are admitted and none has room
-  ended_by : (s : Progress) (choice : Option ℕ) (more : Bool) → next_by products eligibilities changes s choice ≡ None → nat_lt s.admitted (length changes) ≡ more →
+  ended_by : (s : Progress) (choice : Option ℕ) (more : Bool) → next_by products eligibilities changes s choice ≡ None →
+      nat_lt s.admitted (length changes) ≡ more →
       (choice ≡ None) × (length changes ≤ s.admitted)
   ended_by s (Some i) more ended is = absurd (none-some _ (sym ended))
   ended_by s None true ended is = absurd (none-some _ (sym (ap (λ b. cond b (Some (with_admission products eligibilities changes s)) None) (sym is) ∙ ended)))
   ended_by s None false ended is = (refl, ltb-false s.admitted (length changes) is)
 
-  no_room : (s : Progress) → HasEnded products eligibilities changes s → length s.left ≡ length changes → (i : ℕ) → i < length changes → room_at products eligibilities changes s i ≡ 0
+  no_room : (s : Progress) → HasEnded products eligibilities changes s → length s.left ≡ length changes → (i : ℕ) → i < length changes →
+      room_at products eligibilities changes s i ≡ 0
   no_room s ended each i lt =
-      let done : (first_with_room products eligibilities changes s ≡ None) × (length changes ≤ s.admitted) = ended_by s (first_with_room products eligibilities changes s) (nat_lt s.admitted (length changes)) ended refl in
+      let done : (first_with_room products eligibilities changes s ≡ None) × (length changes ≤ s.admitted) =
+      ended_by s (first_with_room products eligibilities changes s) (nat_lt s.admitted (length changes)) ended refl in
       let fails : nat_lt 0 (room_at products eligibilities changes s i) ≡ false =
-      fails_at (λ line. nat_lt 0 (room products eligibilities s.grid line.0 line.1)) no_change 0 0 s.admitted changes s.left done.0 i (omega (arith, done.1, lt)) lt (omega (arith, each, lt)) in
+      fails_at (λ line. nat_lt 0 (room products eligibilities s.grid line.0 line.1)) no_change 0 0 s.admitted changes s.left done.0 i
+      (omega (arith, done.1, lt)) lt (omega (arith, each, lt)) in
       omega (arith, ltb-false 0 (room_at products eligibilities changes s i) fails)
 
   -- each request has at most its amount left
@@ -60,7 +65,8 @@ module _ (products : List Product) (eligibilities : List ℕ) (changes : List Ch
     each = length-set left i (get_or left i 0 - r) ∙ was.each;
     within = λ k k_in. elim (same_or_not k i) as (λ _. get_or (set left i (get_or left i 0 - r)) k 0 ≤ (get_or changes k no_change).amount) [
       | inl same ↦
-          let at : get_or (set left i (get_or left i 0 - r)) k 0 ≡ get_or left i 0 - r = ap (λ j. get_or (set left i (get_or left i 0 - r)) j 0) same ∙ get_or-set_same left i (get_or left i 0 - r) 0 lt in
+          let at : get_or (set left i (get_or left i 0 - r)) k 0 ≡ get_or left i 0 - r =
+          ap (λ j. get_or (set left i (get_or left i 0 - r)) j 0) same ∙ get_or-set_same left i (get_or left i 0 - r) 0 lt in
           let before : get_or left k 0 ≡ get_or left i 0 = ap (λ j. get_or left j 0) same in
           omega (arith, at, before, was.within k k_in)
       | inr differ ↦
@@ -81,59 +87,84 @@ module _ (products : List Product) (eligibilities : List ℕ) (changes : List Ch
       (λ s more was. was)
       grid (record { each = length_amounts changes; within = λ i lt. omega (arith, amount_at changes i lt) })
 
-  pub settled_no_room : (grid : List (List ℕ)) (i : ℕ) → i < length changes → room_at products eligibilities changes (settled products eligibilities changes grid) i ≡ 0
-  settled_no_room grid i lt = no_room (settled products eligibilities changes grid) (settled_ended products eligibilities changes grid) (settled_left grid).each i lt
+  pub settled_no_room : (grid : List (List ℕ)) (i : ℕ) → i < length changes →
+      room_at products eligibilities changes (settled products eligibilities changes grid) i ≡ 0
+  settled_no_room grid i lt = no_room (settled products eligibilities changes grid) (settled_ended products eligibilities changes grid)
+      (settled_left grid).each i lt
 
   settled_admitted : (grid : List (List ℕ)) → (settled products eligibilities changes grid).admitted ≤ length changes
   settled_admitted grid =
-      settled_keep products eligibilities changes (λ s. s.admitted ≤ length changes) (λ s i chosen was. was) (λ s more was. omega (arith, more)) grid (omega arith)
+      settled_keep products eligibilities changes (λ s. s.admitted ≤ length changes) (λ s i chosen was. was)
+      (λ s more was. omega (arith, more)) grid (omega arith)
 
   -- at the end all requests are admitted
   pub all_admitted : (grid : List (List ℕ)) → (settled products eligibilities changes grid).admitted ≡ length changes
   all_admitted grid =
       let end : Progress = settled products eligibilities changes grid in
-      let done : (first_with_room products eligibilities changes end ≡ None) × (length changes ≤ end.admitted) = ended_by end (first_with_room products eligibilities changes end) (nat_lt end.admitted (length changes)) (settled_ended products eligibilities changes grid) refl in
+      let done : (first_with_room products eligibilities changes end ≡ None) × (length changes ≤ end.admitted) =
+      ended_by end (first_with_room products eligibilities changes end) (nat_lt end.admitted (length changes))
+      (settled_ended products eligibilities changes grid) refl in
       omega (arith, done.1, settled_admitted grid)
 
 -- what a processor needs to show of its end: that it is the settlement, and that the board's type kept its demands
-pub proper_end : (board : BoardFields) (changes : List Change) (end : SettledFields) → IsSettlement board changes end → IsWithinEligibility board.products board.eligibilities end.grid → IsProperEnd board changes end
+pub proper_end : (board : BoardFields) (changes : List Change) (end : SettledFields) → IsSettlement board changes end →
+    IsWithinEligibility board.products board.eligibilities end.grid → IsProperEnd board changes end
 proper_end board changes end is held =
     let final : Progress = settled board.products board.eligibilities changes board.grid in
-    let left : IsLeft board.products board.eligibilities changes end.left = subst (IsLeft board.products board.eligibilities changes) (sym is.left) (settled_left board.products board.eligibilities changes board.grid) in
+    let left : IsLeft board.products board.eligibilities changes end.left =
+    subst (IsLeft board.products board.eligibilities changes) (sym is.left)
+    (settled_left board.products board.eligibilities changes board.grid) in
     let is_end : end_of changes end ≡ final =
-    λ k. record { admitted = sym (all_admitted board.products board.eligibilities changes board.grid) k; left = is.left k; grid = is.grid k; applied = is.applied k } in
+    λ k. record {
+      admitted = sym (all_admitted board.products board.eligibilities changes board.grid) k;
+      left = is.left k;
+      grid =
+          is.grid k;
+      applied = is.applied k;
+    } in
     record {
-      settles = subst (Settles board.products board.eligibilities changes (start_of board.products board.eligibilities changes board.grid)) (sym is_end) (settled_settles board.products board.eligibilities changes board.grid);
+      settles = subst (Settles board.products board.eligibilities changes (start_of board.products board.eligibilities changes board.grid))
+          (sym is_end) (settled_settles board.products board.eligibilities changes board.grid);
       each = left.each;
       left = left.within;
       no_room = λ i lt.
           ap (λ grid. room board.products board.eligibilities grid (get_or changes i no_change) (get_or end.left i 0)) is.grid
           ∙ ap (λ (list : List ℕ). room board.products board.eligibilities final.grid (get_or changes i no_change) (get_or list i 0)) is.left
           ∙ settled_no_room board.products board.eligibilities changes board.grid i lt;
-      supply = λ product. omega (arith, settled_supplied board.products board.eligibilities changes board.grid product, ap (λ grid. total_of grid product) is.grid);
+      supply = λ product. omega (
+        arith,
+        settled_supplied board.products board.eligibilities changes board.grid product,
+        ap (λ grid. total_of grid product) is.grid,
+      );
       held = held;
     }
 
 -- of the definition alone: from a board within its eligibilities, the settling ends within them
-module _ (products : List Product) (eligibilities : List ℕ) (changes : List Change) (requests : All (IsRequest (length eligibilities) (length products)) changes) where
+module _ (products : List Product) (eligibilities : List ℕ) (changes : List Change)
+    (requests : All (IsRequest (length eligibilities) (length products)) changes) where
   -- the demands are within the eligibilities, and what is left keeps them within the caps
   record IsHeld (s : Progress) : Type 0 where
     is_board : IsBoard products eligibilities s.grid
     each : length s.left ≡ length changes
     caps : StaysWithinCaps products s.grid changes s.left
 
-  held_applied : (s : Progress) (i : ℕ) → first_with_room products eligibilities changes s ≡ Some i → IsHeld s → IsHeld (with_application products eligibilities changes s i)
+  held_applied : (s : Progress) (i : ℕ) → first_with_room products eligibilities changes s ≡ Some i → IsHeld s →
+      IsHeld (with_application products eligibilities changes s i)
   held_applied s i chosen was =
-      let found : (i < length changes) × (i < length s.left) × (0 < room_at products eligibilities changes s i) = has_room products eligibilities changes s i chosen in
+      let found : (i < length changes) × (i < length s.left) × (0 < room_at products eligibilities changes s i) =
+      has_room products eligibilities changes s i chosen in
       let board : BoardFields = record { products = products; eligibilities = eligibilities; grid = s.grid; applied = 0; tests = 0 } in
-      let may : MayApply board (get_or changes i no_change) (room_at products eligibilities changes s i) = may_apply board changes s.left i found.0 was.each requests was.is_board was.caps found.2 in
+      let may : MayApply board (get_or changes i no_change) (room_at products eligibilities changes s i) =
+      may_apply board changes s.left i found.0 was.each requests was.is_board was.caps found.2 in
       record {
         is_board = board_applied board (get_or changes i no_change) (room_at products eligibilities changes s i) was.is_board may;
         each = length-set s.left i (get_or s.left i 0 - room_at products eligibilities changes s i) ∙ was.each;
         caps = caps_after board changes s.left i found.0 was.each requests was.is_board was.caps;
       }
 
-  settled_held : (grid : List (List ℕ)) → IsBoard products eligibilities grid → StaysWithinCaps products grid changes (map (λ change. change.amount) changes) → IsBoard products eligibilities (settled products eligibilities changes grid).grid
+  settled_held : (grid : List (List ℕ)) → IsBoard products eligibilities grid →
+      StaysWithinCaps products grid changes (map (λ change. change.amount) changes) →
+      IsBoard products eligibilities (settled products eligibilities changes grid).grid
   settled_held grid is caps =
       (settled_keep products eligibilities changes IsHeld held_applied (λ s more was. record { is_board = was.is_board; each = was.each; caps = was.caps }) grid
       (record { is_board = is; each = length_amounts changes; caps = caps })).is_board
@@ -144,7 +175,8 @@ settled_board board changes is can =
     settled_held board.products board.eligibilities changes can.requests board.grid is (caps_at_start board.products board.grid changes can.caps)
 
 -- the end hands on the grid of a board of the same products and eligibilities
-pub held_at_end : (old new : BoardFields) (grid : List (List ℕ)) → (new.products ≡ old.products) × (new.eligibilities ≡ old.eligibilities) → grid ≡ new.grid → IsBoard new.products new.eligibilities new.grid → IsWithinEligibility old.products old.eligibilities grid
+pub held_at_end : (old new : BoardFields) (grid : List (List ℕ)) → (new.products ≡ old.products) × (new.eligibilities ≡ old.eligibilities) →
+    grid ≡ new.grid → IsBoard new.products new.eligibilities new.grid → IsWithinEligibility old.products old.eligibilities grid
 held_at_end old new grid terms same is =
     subst (λ products. IsWithinEligibility products old.eligibilities grid) terms.0
     (subst (λ eligibilities. IsWithinEligibility new.products eligibilities grid) terms.1

@@ -21,7 +21,8 @@ abbrev pub AskWithinCaps : List Product → List (List ℕ) → List Change → 
 AskWithinCaps products grid changes =
     (bidder product : ℕ) → bidder < length grid → product < length products → KeepWithinCap products (row_of grid bidder) bidder changes product
 
--- nothing was done on the board yet; there are at most 512 * (8,192 + 4,096) requests, each of the board's bidders and products; together they keep each demand within 0 and the cap
+-- nothing was done on the board yet; there are at most 512 * (8,192 + 4,096) requests, each of the board's bidders and products; together they keep
+-- each demand within 0 and the cap
 pub record CanSettle (board : BoardFields) (changes : List Change) : Type 0 where
   pub applied : board.applied ≡ 0
   pub tests : board.tests ≡ 0

@@ -40,7 +40,8 @@ fn amounts_of(alloc: Global, changes: &[Change]) -> Result<Amounts, NoMemory>
 /// Steps to the end.
 fn rescan(board: &mut Board, changes: &[Change], left: &mut Amounts)
     requires { IsUnderWay board.old changes.now left.old 0 }
-    ensures ended { (n : ℕ) × settling.Settles board.old.products board.old.eligibilities changes.now (progress_of board.old 0 left.old) (progress_of board.new n left.new) }
+    ensures ended { (n : ℕ) × settling.Settles board.old.products board.old.eligibilities changes.now (progress_of board.old 0 left.old)
+        (progress_of board.new n left.new) }
     ensures terms { (board.new.products ≡ board.old.products) × (board.new.eligibilities ≡ board.old.eligibilities) }
 {
     let mut admitted: usize = 0;
@@ -57,7 +58,8 @@ fn advance(
     admitted: usize,
 ) -> Option<usize>
     requires { IsUnderWay board.old changes.now left.old admitted }
-    ensures step { IfSome result (λ now. settling.next board.old.products board.old.eligibilities changes.now (progress_of board.old admitted left.old) ≡ Some (progress_of board.new now left.new)) }
+    ensures step { IfSome result (λ now. settling.next board.old.products board.old.eligibilities changes.now
+        (progress_of board.old admitted left.old) ≡ Some (progress_of board.new now left.new)) }
     ensures under_way { IfSome result (λ now. IsUnderWay board.new changes.now left.new now) }
     ensures end { IfNone result (settling.HasEnded board.old.products board.old.eligibilities changes.now (progress_of board.old admitted left.old)) }
     ensures same { IfNone result (SameButTests board.old board.new × (left.new ≡ left.old)) }
@@ -108,8 +110,10 @@ fn apply_at(board: &mut Board, changes: &[Change], left: &mut Amounts, place: us
     requires caps { StaysWithinCaps board.old.products board.old.grid changes.now left.old }
     requires is_board { IsBoard board.old.products board.old.eligibilities board.old.grid }
     requires room { 0 < settling.room_at board.old.products board.old.eligibilities changes.now (progress_of board.old 0 left.old) place }
-    ensures grid { board.new.grid ≡ with_change board.old.grid (slice_index_or changes.now place settling.no_change) (settling.room_at board.old.products board.old.eligibilities changes.now (progress_of board.old 0 left.old) place) }
-    ensures left { left.new ≡ slice_set left.old place (slice_index left.old place - settling.room_at board.old.products board.old.eligibilities changes.now (progress_of board.old 0 left.old) place) }
+    ensures grid { board.new.grid ≡ with_change board.old.grid (slice_index_or changes.now place settling.no_change)
+        (settling.room_at board.old.products board.old.eligibilities changes.now (progress_of board.old 0 left.old) place) }
+    ensures left { left.new ≡ slice_set left.old place (slice_index left.old place - settling.room_at board.old.products
+        board.old.eligibilities changes.now (progress_of board.old 0 left.old) place) }
     ensures applied { board.new.applied ≡ one_more board.old.applied }
     ensures terms { (board.new.products ≡ board.old.products) × (board.new.eligibilities ≡ board.old.eligibilities) }
 {

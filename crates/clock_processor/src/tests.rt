@@ -1,148 +1,188 @@
 //! Examples of settling, which any processor can be put through.
 
-ghost use Rattle.std.specs.Prelude.{◌≡◌, ◌≤◌, ◌<◌, ◌-◌, [], ◌∷◌, length, IfOk, IsTrue};
-ghost use Rattle.clock_setup.specs.Examples.{two_products, two_blocks, bidder_named};
-ghost use Rattle.clock_processor.specs.Examples as example;
-ghost use Rattle.clock_processor.specs.Examples.{can_be_settled};
+ghost use Rattle.std.specs.Prelude.{◌≡◌, ◌≤◌, ◌<◌, ℕ, length, All, IfOk, IsTrue};
+ghost use Rattle.clock_setup.specs.Demands.{IsGrid};
+ghost use Rattle.clock_bids.specs.Requests.{KeepWithinCap, asked_of, is_request_of};
+ghost use Rattle.clock_processor.specs.Board.{IsWithinEligibility};
+ghost use Rattle.clock_processor.specs.Requests.{AskWithinCaps, IsRequest};
 
 use crate::{Board, Plain, Processor, Settled};
 use clock_bids::{Change, Changes, Kind};
-use clock_device::{NoMemory, Text};
-use clock_money::{Point, Price};
-use clock_setup::{Amounts, Bidder, Bidders, Grid, Product, Products, Setup};
+use clock_device::NoMemory;
+use clock_money::Point;
+use clock_setup::{Amounts, Grid, Product, Setup, read_setup};
 use std::alloc::Global;
 use std::process::Abort;
 use std::test::Fail;
 
-/// A product of two blocks of one unit each, opening at 100.
-fn product_of_two(alloc: Global, name: u8) -> Result<Product, NoMemory>
-    ensures { IfOk result (λ product. product ≡ two_blocks (name ∷ [])) }
-{
-    Ok(Product {
-        name: Text::from_slice(alloc, &[name])?,
-        units: 1,
-        supply: 2,
-        cap: 2,
-        opening: Price::new(100).unwrap(),
-    })
-}
+/// Two products A and B of two blocks, and the bidders X, Y and Z of eligibility 2, 2 and 1.
+const SETUP: &str = "{\"bidders\":[\
+    {\"eligibility\":2,\"name\":\"X\",\"token\":\"XXXXXXXXXXXXXXXX\"},\
+    {\"eligibility\":2,\"name\":\"Y\",\"token\":\"YYYYYYYYYYYYYYYY\"},\
+    {\"eligibility\":1,\"name\":\"Z\",\"token\":\"ZZZZZZZZZZZZZZZZ\"}\
+    ],\"operator\":\"OPERATOROPERATOR\",\"products\":[\
+    {\"cap\":2,\"name\":\"A\",\"opening\":100,\"supply\":2,\"units\":1},\
+    {\"cap\":2,\"name\":\"B\",\"opening\":100,\"supply\":2,\"units\":1}\
+    ],\"requirement\":100,\"version\":1}";
 
-/// A bidder whose token is sixteen times its name.
-fn bidder_of(alloc: Global, name: u8, eligibility: u64) -> Result<Bidder, NoMemory>
-    ensures { IfOk result (λ bidder. bidder ≡ bidder_named name eligibility) }
-{
-    Ok(Bidder {
-        name: Text::from_slice(alloc, &[name])?,
-        token: Text::from_slice(alloc, &[name; 16])?,
-        eligibility,
-    })
-}
+/// A request as data: its kind, bidder, product, blocks and price.
+type Asked = (Kind, u32, u32, u64, u64);
 
-/// Two products A and B, and the bidders X, Y and Z of eligibility 2, 2 and 1.
-fn setup_of_two(alloc: Global) -> Result<Setup, NoMemory>
-    ensures { IfOk result (λ setup. setup ≡ two_products) }
-{
-    let mut products = Products::new(alloc);
-    products.push(product_of_two(alloc, b'A')?)?;
-    products.push(product_of_two(alloc, b'B')?)?;
-    let mut bidders = Bidders::new(alloc);
-    bidders.push(bidder_of(alloc, b'X', 2)?)?;
-    bidders.push(bidder_of(alloc, b'Y', 2)?)?;
-    bidders.push(bidder_of(alloc, b'Z', 1)?)?;
-    Ok(Setup {
-        version: 1,
-        requirement: 100,
-        operator: Text::from_slice(alloc, b"OPERATOROPERATOR")?,
-        products,
-        bidders,
-    })
-}
+/// What a settling comes to: the demands of A and B for X, Y and Z, what each request has left, and the applications.
+type End<'a> = ([[u64; 2]; 3], &'a [u64], u64);
 
-/// After the first round X holds two of B, Y two of A and Z one of B.
-fn board_after_first_round(alloc: Global) -> Result<Board, NoMemory>
-    ensures { IfOk result (λ board. board ≡ example.board) }
-{
-    let setup = setup_of_two(alloc)?;
-    let mut grid = Grid::zero(alloc, &setup)?;
-    grid.set(0, 1, 2);
-    grid.set(1, 0, 2);
-    grid.set(2, 1, 1);
-    let eligibilities = Amounts::from_slice(alloc, &[2, 2, 1])?;
-    Board::new(alloc, &setup, &eligibilities, &grid)
-}
+/// X takes two of B, Y two of A and Z one of B.
+const FIRST: [Asked; 3] = [
+    (Kind::Increase, 0, 1, 2, 100),
+    (Kind::Increase, 1, 0, 2, 100),
+    (Kind::Increase, 2, 1, 1, 100),
+];
 
-/// A request of a bidder in a round from 100 to 110.
-fn request(kind: Kind, bidder: u32, product: u32, amount: u64, price: u64) -> Change
-    requires low { 100 ≤ price }
-    requires high { price ≤ 110 }
-    ensures { result ≡ example.change kind bidder product amount price }
-{
-    Change {
-        bidder,
-        product,
-        place: 0,
-        kind,
-        amount,
-        price,
-        point: Point {
-            above: price - 100,
-            span: 10,
-        },
+/// The requests in order, in a round from 100 to 110.
+fn requests(alloc: Global, asked: &[Asked]) -> Result<Changes, Fail> {
+    let mut changes = Changes::new(alloc);
+    for &(kind, bidder, product, amount, price) in asked {
+        let point = Point::of(100, price, 110).ok_or("no price of the round")?;
+        changes.push(Change {
+            bidder,
+            product,
+            place: 0,
+            kind,
+            amount,
+            price,
+            point,
+        })?;
     }
-}
-
-/// Y reduces A and X raises it.
-fn without_the_last(alloc: Global) -> Result<Changes, NoMemory>
-    ensures { IfOk result (λ changes. changes ≡ example.without_the_last) }
-{
-    let mut changes = Changes::new(alloc);
-    changes.push(request(Kind::Reduction, 1, 0, 1, 102))?;
-    changes.push(request(Kind::Increase, 0, 0, 1, 104))?;
     Ok(changes)
 }
 
-/// Y reduces A, X raises it, and X reduces B.
-fn in_turn(alloc: Global) -> Result<Changes, NoMemory>
-    ensures { IfOk result (λ changes. changes ≡ example.in_turn) }
+/// What each bidder may demand, in bidding units.
+fn eligibilities(alloc: Global, setup: &Setup) -> Result<Amounts, NoMemory>
+    ensures { IfOk result (λ amounts. length amounts ≡ length setup.now.bidders) }
 {
-    let mut changes = without_the_last(alloc)?;
-    changes.push(request(Kind::Reduction, 0, 1, 1, 106))?;
-    Ok(changes)
+    let mut amounts = Amounts::new(alloc);
+    for bidder in setup.bidders.as_slice() {
+        amounts.push(bidder.eligibility)?;
+    }
+    Ok(amounts)
 }
 
-/// Z drops B, and so does X.
-fn two_drops(alloc: Global) -> Result<Changes, NoMemory>
-    ensures { IfOk result (λ changes. changes ≡ example.two_drops) }
+/// Whether a request is of this kind, bidder and product.
+fn is_of(change: &Change, kind: Kind, bidder: usize, product: usize) -> bool
+    ensures { result ≡ is_request_of kind bidder product change.now }
 {
-    let mut changes = Changes::new(alloc);
-    changes.push(request(Kind::Reduction, 2, 1, 1, 100))?;
-    changes.push(request(Kind::Reduction, 0, 1, 2, 106))?;
-    Ok(changes)
+    let same = match (kind, change.kind) {
+        (Kind::Increase, Kind::Increase) => true,
+        (Kind::Increase, Kind::Reduction) => false,
+        (Kind::Reduction, Kind::Increase) => false,
+        (Kind::Reduction, Kind::Reduction) => true,
+    };
+    same && change.bidder as usize == bidder && change.product as usize == product
 }
 
-/// Settles requests after the first round.
+/// What a bidder's requests of one kind for a product ask for together.
+fn asked(changes: &[Change], kind: Kind, bidder: usize, product: usize) -> u64
+    requires few { length changes.now ≤ 100 }
+    requires small { All (λ change. change.amount ≤ 1000) changes.now }
+    ensures { result ≡ asked_of kind bidder product changes.now }
+{
+    let mut blocks = 0;
+    for change in changes {
+        if is_of(change, kind, bidder, product) {
+            blocks += change.amount;
+        }
+    }
+    blocks
+}
+
+/// Whether each request is of a bidder and a product, for 1 to 1,000 blocks.
+fn are_requests(bidders: usize, products: usize, changes: &[Change]) -> bool
+    ensures { IsTrue result → All (IsRequest bidders products) changes.now }
+{
+    for change in changes {
+        let known = (change.bidder as usize) < bidders && (change.product as usize) < products;
+        if !known || change.amount < 1 || change.amount > 1000 {
+            return false;
+        }
+    }
+    true
+}
+
+/// Whether a bidder's requests keep its demands within 0 and the caps.
+fn row_keeps_caps(products: &[Product], demands: &[u64], bidder: usize, changes: &[Change]) -> bool
+    requires row { length demands.now ≡ length products.now }
+    requires few { length changes.now ≤ 100 }
+    requires small { All (λ change. change.amount ≤ 1000) changes.now }
+    ensures { IsTrue result → ((product : ℕ) → product < length products.now
+        → KeepWithinCap products.now demands.now bidder changes.now product) }
+{
+    for (i, product) in products.iter().enumerate() {
+        let raised = asked(changes, Kind::Increase, bidder, i);
+        let reduced = asked(changes, Kind::Reduction, bidder, i);
+        if raised > product.cap || demands[i] > product.cap - raised || reduced > demands[i] {
+            return false;
+        }
+    }
+    true
+}
+
+/// Whether each bidder's requests do.
+fn keep_caps(setup: &Setup, grid: &Grid, changes: &[Change]) -> bool
+    requires grid { IsGrid (length setup.now.bidders) (length setup.now.products) grid.now }
+    requires few { length changes.now ≤ 100 }
+    requires small { All (λ change. change.amount ≤ 1000) changes.now }
+    ensures { IsTrue result → AskWithinCaps setup.now.products grid.now changes.now }
+{
+    for bidder in 0..setup.bidders.as_slice().len() {
+        if !row_keeps_caps(setup.products.as_slice(), grid.row(bidder), bidder, changes) {
+            return false;
+        }
+    }
+    true
+}
+
+/// Whether the requests can be settled.
+fn can_settle(setup: &Setup, grid: &Grid, changes: &[Change]) -> bool
+    requires { IsGrid (length setup.now.bidders) (length setup.now.products) grid.now }
+    ensures few { IsTrue result → length changes.now ≤ 100 }
+    ensures requests { IsTrue result
+        → All (IsRequest (length setup.now.bidders) (length setup.now.products)) changes.now }
+    ensures caps { IsTrue result → AskWithinCaps setup.now.products grid.now changes.now }
+{
+    let bidders = setup.bidders.as_slice().len();
+    let products = setup.products.as_slice().len();
+    changes.len() <= 100
+        && are_requests(bidders, products, changes)
+        && keep_caps(setup, grid, changes)
+}
+
+/// Settles requests on the demands of a round.
 fn settle<P: Processor>(
     alloc: Global,
     processor: &P,
-    changes: &Changes,
-) -> Result<Settled, NoMemory>
-    requires { IsTrue (can_be_settled changes.now) }
-    ensures { IfOk result (λ settled. length settled.grid ≡ 3) }
+    setup: &Setup,
+    eligibilities: &Amounts,
+    grid: &Grid,
+    asked: &[Asked],
+) -> Result<Settled, Fail>
+    requires bidders { length eligibilities.now ≡ length setup.now.bidders }
+    requires held { IsWithinEligibility setup.now.products eligibilities.now grid.now }
+    ensures { IfOk result
+        (λ settled. IsWithinEligibility setup.now.products eligibilities.now settled.grid) }
 {
-    let board = board_after_first_round(alloc)?;
-    processor.settle(alloc, board, changes)
+    let changes = requests(alloc, asked)?;
+    if !can_settle(setup, grid, changes.as_slice()) {
+        return Err("requests that cannot be settled".into());
+    }
+    let board = Board::new(alloc, setup, eligibilities, grid)?;
+    Ok(processor.settle(alloc, board, &changes)?)
 }
 
-/// Compares an end with the demands of A and B for X, Y and Z, what is left, and the number of applications.
-fn assert_settled(
-    rt: &impl Abort,
-    settled: &Settled,
-    grid: [[u64; 2]; 3],
-    left: &[u64],
-    applied: u64,
-)
+/// Compares an end with what is expected.
+fn assert_end(rt: &impl Abort, settled: &Settled, expected: End)
     requires { length settled.now.grid ≡ 3 }
 {
+    let (grid, left, applied) = expected;
     for bidder in 0..3 {
         assert_eq!(rt;
             settled.grid().row(bidder),
@@ -154,47 +194,53 @@ fn assert_settled(
     assert_eq!(rt; settled.applied(), applied);
 }
 
-/// Puts a processor through the examples.
-fn settles_examples<P: Processor>(
+/// Puts a processor through the examples: requests after the first round, and what they come to.
+fn settles<P: Processor>(
     rt: &impl Abort,
     alloc: Global,
     processor: &P,
-) -> Result<(), NoMemory> {
-    let end = settle(alloc, processor, &in_turn(alloc)?)?;
-    assert_settled(rt, &end, [[1, 1], [1, 0], [0, 1]], &[0, 0, 0], 3);
-
-    let end = settle(alloc, processor, &without_the_last(alloc)?)?;
-    assert_settled(rt, &end, [[0, 2], [2, 0], [0, 1]], &[1, 1], 0);
-
-    let end = settle(alloc, processor, &Changes::new(alloc))?;
-    assert_settled(rt, &end, [[0, 2], [2, 0], [0, 1]], &[], 0);
-
-    let end = settle(alloc, processor, &two_drops(alloc)?)?;
-    assert_settled(rt, &end, [[0, 2], [2, 0], [0, 0]], &[0, 2], 1);
+    examples: &[(&[Asked], End)],
+) -> Result<(), Fail> {
+    let setup = read_setup(alloc, SETUP.as_bytes())?;
+    let eligibilities = eligibilities(alloc, &setup)?;
+    let none = Grid::zero(alloc, &setup)?;
+    let first = settle(alloc, processor, &setup, &eligibilities, &none, &FIRST)?;
+    for &(asked, expected) in examples {
+        let end = settle(
+            alloc,
+            processor,
+            &setup,
+            &eligibilities,
+            first.grid(),
+            asked,
+        )?;
+        assert!(rt; setup.bidders.as_slice().len() == 3);
+        assert_end(rt, &end, expected);
+    }
     Ok(())
 }
 
 #[test]
 fn plain_settles_the_examples(rt: HostRuntime) -> Result<(), Fail> {
-    settles_examples(&rt, rt.alloc(), &Plain)?;
-    Ok(())
-}
-
-#[test]
-fn a_board_tells_rooms_and_counts(rt: HostRuntime) -> Result<(), Fail> {
-    let mut board = board_after_first_round(rt.alloc())?;
-    let z_drops_b = request(Kind::Reduction, 2, 1, 1, 100);
-    let x_raises_a = request(Kind::Increase, 0, 0, 1, 104);
-    let z_raises_a = request(Kind::Increase, 2, 0, 2, 104);
-    assert_eq!(rt; board.room(&x_raises_a, 1), 0);
-    assert_eq!(rt; board.room(&z_raises_a, 2), 0);
-    assert_eq!(rt; board.room(&z_drops_b, 1), 1);
-    board.apply(&z_drops_b, 1);
-    assert_eq!(rt; board.room(&z_drops_b, 1), 0);
-    assert_eq!(rt; board.room(&z_raises_a, 2), 1);
-    let settled = board.end(Amounts::from_slice(rt.alloc(), &[7])?);
-    assert_eq!(rt; settled.left(), [7].as_slice());
-    assert_eq!(rt; settled.applied(), 1);
-    assert_eq!(rt; settled.tests(), 5);
-    Ok(())
+    let y_reduces_a = (Kind::Reduction, 1, 0, 1, 102);
+    let x_raises_a = (Kind::Increase, 0, 0, 1, 104);
+    let x_reduces_b = (Kind::Reduction, 0, 1, 1, 106);
+    let z_drops_b = (Kind::Reduction, 2, 1, 1, 100);
+    let x_drops_b = (Kind::Reduction, 0, 1, 2, 106);
+    let examples: [(&[Asked], End); 4] = [
+        (
+            &[y_reduces_a, x_raises_a, x_reduces_b],
+            ([[1, 1], [1, 0], [0, 1]], &[0, 0, 0], 3),
+        ),
+        (
+            &[y_reduces_a, x_raises_a],
+            ([[0, 2], [2, 0], [0, 1]], &[1, 1], 0),
+        ),
+        (&[], ([[0, 2], [2, 0], [0, 1]], &[], 0)),
+        (
+            &[z_drops_b, x_drops_b],
+            ([[0, 2], [2, 0], [0, 0]], &[0, 2], 1),
+        ),
+    ];
+    settles(&rt, rt.alloc(), &Plain, &examples)
 }
