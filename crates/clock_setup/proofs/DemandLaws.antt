@@ -5,17 +5,17 @@ use Rattle.std.proofs.lemmas.List.Sums.{sum_by-set, sum_by-le, sum_by-cons, get_
 use Rattle.std.proofs.lemmas.List.Elements.{All-set, All-replicate}
 use Rattle.std.proofs.lemmas.Bool.{cases_lt, cases_eq}
 use Rattle.clock_setup.specs.declared.setup.Product.{Product}
-use Rattle.clock_setup.specs.Limits.{IsRow}
+use Rattle.clock_setup.specs.Limits.{IsRow, most_bidders, most_supply}
 use Rattle.clock_setup.specs.Eligibility.{activity}
 use Rattle.clock_setup.specs.Demands.{total_of, demand_at, row_of, with_demand, no_demands, IsGrid, IsKeptGrid}
 
--- a demand is at most a thousand
-demand_small : (row : List ℕ) (p : ℕ) → All (λ demand. demand ≤ 1000) row → get_or row p 0 ≤ 1000
+-- a demand is at most a product's whole supply
+demand_small : (row : List ℕ) (p : ℕ) → All (λ demand. demand ≤ most_supply) row → get_or row p 0 ≤ most_supply
 demand_small row p small = ⊎_elim (λ h. small p 0 h) (λ (h : length row ≤ p). rw (get_or_past row p 0 h) (omega arith)) (cases_lt p (length row))
 
 -- a total is at most a thousand for each bidder
-pub total_small : (grid : List (List ℕ)) (p : ℕ) → All (λ row. All (λ demand. demand ≤ 1000) row) grid → total_of grid p ≤ length grid * 1000
-total_small grid p small = sum_by-le (λ row. get_or row p 0) 1000 grid (λ k d h. demand_small (get_or grid k d) p (small k d h))
+pub total_small : (grid : List (List ℕ)) (p : ℕ) → All (λ row. All (λ demand. demand ≤ most_supply) row) grid → total_of grid p ≤ length grid * most_supply
+total_small grid p small = sum_by-le (λ row. get_or row p 0) most_supply grid (λ k d h. demand_small (get_or grid k d) p (small k d h))
 
 -- a demand is part of its total
 pub demand-le-total : (grid : List (List ℕ)) (b p : ℕ) → b < length grid → demand_at grid b p ≤ total_of grid p
@@ -34,7 +34,7 @@ total-with_demand_other grid b p v q h differ =
     omega (arith, e, f)
 
 -- what the type of grids keeps, after a change of one demand
-pub kept_with_demand : (grid : List (List ℕ)) (totals : List ℕ) (b p v n : ℕ) → IsKeptGrid grid totals → b < length grid → p < length totals → v ≤ 1000
+pub kept_with_demand : (grid : List (List ℕ)) (totals : List ℕ) (b p v n : ℕ) → IsKeptGrid grid totals → b < length grid → p < length totals → v ≤ most_supply
     → n + demand_at grid b p ≡ total_of grid p + v → IsKeptGrid (with_demand grid b p v) (set totals p n)
 kept_with_demand grid totals b p v n kept h k low is =
     let row_length : length (row_of grid b) ≡ length totals = kept.small.same_length b [] h in
@@ -44,7 +44,7 @@ kept_with_demand grid totals b p v n kept h k low is =
         few_products = rw (length-set totals p n) kept.small.few_products;
         few_bidders = rw (length-set grid b (set (row_of grid b) p v)) kept.small.few_bidders;
         same_length = rw (length-set totals p n) (All-set (λ row. length row ≡ length totals) grid b (set (row_of grid b) p v) (length-set (row_of grid b) p v ∙ row_length) kept.small.same_length);
-        small = All-set (λ row. All (λ demand. demand ≤ 1000) row) grid b (set (row_of grid b) p v) (All-set (λ demand. demand ≤ 1000) (row_of grid b) p v low (kept.small.small b [] h)) kept.small.small;
+        small = All-set (λ row. All (λ demand. demand ≤ most_supply) row) grid b (set (row_of grid b) p v) (All-set (λ demand. demand ≤ most_supply) (row_of grid b) p v low (kept.small.small b [] h)) kept.small.small;
       };
       some_bidder = rw (length-set grid b (set (row_of grid b) p v)) kept.some_bidder;
       kept = λ q j.
@@ -63,12 +63,12 @@ in_totals grid totals p kept wide =
     omega arith
 
 -- a total, less one demand and with another in its place
-pub total_after : (grid : List (List ℕ)) (totals : List ℕ) (b p v : ℕ) → IsKeptGrid grid totals → b < length grid → v ≤ 1000
+pub total_after : (grid : List (List ℕ)) (totals : List ℕ) (b p v : ℕ) → IsKeptGrid grid totals → b < length grid → v ≤ most_supply
     → ((total_of grid p - demand_at grid b p) + v + demand_at grid b p ≡ total_of grid p + v) × ((total_of grid p - demand_at grid b p) + v ≤ 1000000)
 total_after grid totals b p v kept h low =
-    let most : total_of grid p ≤ length grid * 1000 = total_small grid p kept.small.small in
+    let most : total_of grid p ≤ length grid * most_supply = total_small grid p kept.small.small in
     let part : demand_at grid b p ≤ total_of grid p = demand-le-total grid b p h in
-    let few : length grid ≤ 512 = kept.small.few_bidders in
+    let few : length grid ≤ most_bidders = kept.small.few_bidders in
     (omega arith, omega arith)
 
 -- one more item of a list takes the place of another list's

@@ -9,10 +9,11 @@ use Rattle.std.proofs.lemmas.List.Elements.{All-from_recursion, recursion_from_A
 use Rattle.std.proofs.lemmas.Map.Made.{AllPairs-from_IsDistinct, IsDistinct-from_AllPairs}
 use Rattle.std.proofs.lemmas.Slice.Eq.{bytes_eq-Decides}
 use Rattle.serde_json.specs.Data.{Data}
+use Rattle.clock_money.specs.Price.{highest_price}
 use Rattle.clock_setup.specs.declared.setup.Product.{Product}
 use Rattle.clock_setup.specs.declared.setup.Bidder.{Bidder}
 use Rattle.clock_setup.specs.declared.fault.SetupFault.{SetupFault}
-use Rattle.clock_setup.specs.Limits.{SetupFields, IsWithin, is_within, IsName, is_name, IsToken, is_token, is_name_character, is_letter_or_digit, AreDistinct, is_distinct, IsProduct, IsBidder, IsSetup}
+use Rattle.clock_setup.specs.Limits.{SetupFields, IsWithin, is_within, IsName, is_name, IsToken, is_token, is_name_character, is_letter_or_digit, AreDistinct, is_distinct, IsProduct, IsBidder, IsSetup, IsOfFirstVersion, latest_version, most_products, most_bidders, most_units, most_supply, most_granule, most_eligibility, least_requirement, most_requirement, least_limit, most_limit}
 use Rattle.clock_setup.specs.Members.{number_at}
 use Rattle.clock_setup.specs.SetupShape.{fields_of}
 use Rattle.clock_setup.proofs.FaultLaws.{passed, failed, both_pass}
@@ -81,10 +82,11 @@ product_of_checks i product h =
     let pass = passing (product_checks i product) h in
     record {
       name = name_of_test product.name pass.0;
-      units = within_of_test 1 1000000 product.units pass.1.0;
-      supply = within_of_test 1 1000 product.supply pass.1.1.0;
+      units = within_of_test 1 most_units product.units pass.1.0;
+      supply = within_of_test 1 most_supply product.supply pass.1.1.0;
       cap = within_of_test 1 product.supply product.cap pass.1.1.1.0;
-      opening = within_of_test 1 1000000000000 product.opening pass.1.1.1.1.0;
+      opening = within_of_test 1 highest_price product.opening pass.1.1.1.1.0;
+      granule = within_of_test 1 most_granule product.granule pass.1.1.1.1.1.0;
     }
 
 bidder_of_checks : (i : ℕ) (bidder : Bidder) → first_fault (bidder_checks i bidder) ≡ None → IsBidder bidder
@@ -94,23 +96,27 @@ bidder_of_checks i bidder h =
     record {
       name = name_of_test bidder.name pass.0;
       token = token_of_test bidder.token pass.1.0;
-      eligibility = le_of_test bidder.eligibility 1000000000000 pass.1.1.0;
+      eligibility = le_of_test bidder.eligibility most_eligibility pass.1.1.0;
     }
 
--- a set-up of version 1 of which every check passes
-pub setup_within : (setup : SetupFields) → setup.version ≡ 1 → is_within 50 100 setup.requirement ≡ true → is_token setup.operator ≡ true
-    → is_within 1 4096 (length setup.products) ≡ true → first_fault (in_turn product_checks 0 setup.products) ≡ None
-    → is_within 1 512 (length setup.bidders) ≡ true → first_fault (in_turn bidder_checks 0 setup.bidders) ≡ None
+-- a set-up of a known version of which every check passes
+pub setup_within : (setup : SetupFields) → IsWithin 1 latest_version setup.version → (setup.version ≡ 1 → IsOfFirstVersion setup)
+    → is_within least_requirement most_requirement setup.requirement ≡ true
+    → is_within least_limit most_limit setup.limit ≡ true → is_token setup.operator ≡ true
+    → is_within 1 most_products (length setup.products) ≡ true → first_fault (in_turn product_checks 0 setup.products) ≡ None
+    → is_within 1 most_bidders (length setup.bidders) ≡ true → first_fault (in_turn bidder_checks 0 setup.bidders) ≡ None
     → has_distinct_names setup ≡ true → has_distinct_tokens setup ≡ true → IsSetup setup
-setup_within setup one requirement operator product_count products bidder_count bidders names tokens =
+setup_within setup version first_version requirement limit operator product_count products bidder_count bidders names tokens =
     let apart = and_parts (is_distinct (map (λ product. product.name) setup.products)) (is_distinct (map (λ bidder. bidder.name) setup.bidders)) names in
     record {
-      version = one;
-      requirement = within_of_test 50 100 setup.requirement requirement;
+      version = version;
+      first_version = first_version;
+      requirement = within_of_test least_requirement most_requirement setup.requirement requirement;
+      limit = within_of_test least_limit most_limit setup.limit limit;
       operator = token_of_test setup.operator operator;
-      product_count = within_of_test 1 4096 (length setup.products) product_count;
+      product_count = within_of_test 1 most_products (length setup.products) product_count;
       products = All-from_recursion IsProduct setup.products (each_passes product_checks IsProduct product_of_checks 0 setup.products products);
-      bidder_count = within_of_test 1 512 (length setup.bidders) bidder_count;
+      bidder_count = within_of_test 1 most_bidders (length setup.bidders) bidder_count;
       bidders = All-from_recursion IsBidder setup.bidders (each_passes bidder_checks IsBidder bidder_of_checks 0 setup.bidders bidders);
       product_names = distinct_of_test (map (λ product. product.name) setup.products) apart.0;
       bidder_names = distinct_of_test (map (λ bidder. bidder.name) setup.bidders) apart.1;
@@ -118,19 +124,21 @@ setup_within setup one requirement operator product_count products bidder_count 
     }
 
 -- the first fault of a set-up, where it is a product's
-pub product_fault_first : (setup : SetupFields) (fault : SetupFault) → is_within 50 100 setup.requirement ≡ true → is_token setup.operator ≡ true
-    → is_within 1 4096 (length setup.products) ≡ true → first_fault (in_turn product_checks 0 setup.products) ≡ Some fault → first_fault (setup_checks setup) ≡ Some fault
+pub product_fault_first : (setup : SetupFields) (fault : SetupFault) → is_within least_requirement most_requirement setup.requirement ≡ true
+    → is_within least_limit most_limit setup.limit ≡ true → is_token setup.operator ≡ true
+    → is_within 1 most_products (length setup.products) ≡ true → first_fault (in_turn product_checks 0 setup.products) ≡ Some fault → first_fault (setup_checks setup) ≡ Some fault
 unfolding setup_checks
-product_fault_first setup fault requirement operator product_count products =
-    rw (requirement, operator, product_count) (failed (in_turn product_checks 0 setup.products) _ fault products)
+product_fault_first setup fault requirement limit operator product_count products =
+    rw (requirement, limit, operator, product_count) (failed (in_turn product_checks 0 setup.products) _ fault products)
 
 -- the first fault of a set-up, where it is a bidder's
-pub bidder_fault_first : (setup : SetupFields) (fault : SetupFault) → is_within 50 100 setup.requirement ≡ true → is_token setup.operator ≡ true
-    → is_within 1 4096 (length setup.products) ≡ true → first_fault (in_turn product_checks 0 setup.products) ≡ None
-    → is_within 1 512 (length setup.bidders) ≡ true → first_fault (in_turn bidder_checks 0 setup.bidders) ≡ Some fault → first_fault (setup_checks setup) ≡ Some fault
+pub bidder_fault_first : (setup : SetupFields) (fault : SetupFault) → is_within least_requirement most_requirement setup.requirement ≡ true
+    → is_within least_limit most_limit setup.limit ≡ true → is_token setup.operator ≡ true
+    → is_within 1 most_products (length setup.products) ≡ true → first_fault (in_turn product_checks 0 setup.products) ≡ None
+    → is_within 1 most_bidders (length setup.bidders) ≡ true → first_fault (in_turn bidder_checks 0 setup.bidders) ≡ Some fault → first_fault (setup_checks setup) ≡ Some fault
 unfolding setup_checks
-bidder_fault_first setup fault requirement operator product_count products bidder_count bidders =
-    rw (requirement, operator, product_count)
+bidder_fault_first setup fault requirement limit operator product_count products bidder_count bidders =
+    rw (requirement, limit, operator, product_count)
     (passed (in_turn product_checks 0 setup.products) _ products ∙ rw bidder_count (failed (in_turn bidder_checks 0 setup.bidders) _ fault bidders))
 
 -- ---- the other way: what is within the limits passes every check
@@ -171,16 +179,17 @@ unfolding product_checks
 checks_of_product i product h =
     rw (
       test_of_name product.name h.name,
-      test_of_within 1 1000000 product.units h.units,
-      test_of_within 1 1000 product.supply h.supply,
+      test_of_within 1 most_units product.units h.units,
+      test_of_within 1 most_supply product.supply h.supply,
       test_of_within 1 product.supply product.cap h.cap,
-      test_of_within 1 1000000000000 product.opening h.opening,
+      test_of_within 1 highest_price product.opening h.opening,
+      test_of_within 1 most_granule product.granule h.granule,
     ) refl
 
 checks_of_bidder : (i : ℕ) (bidder : Bidder) → IsBidder bidder → first_fault (bidder_checks i bidder) ≡ None
 unfolding bidder_checks
 checks_of_bidder i bidder h =
-    rw (test_of_name bidder.name h.name, test_of_token bidder.token h.token, test_of_le bidder.eligibility 1000000000000 h.eligibility) refl
+    rw (test_of_name bidder.name h.name, test_of_token bidder.token h.token, test_of_le bidder.eligibility most_eligibility h.eligibility) refl
 
 each_within : {X F : Type 0} (checks : ℕ → X → List (F × Bool)) (P : X → Type 0) → ((i : ℕ) (x : X) → P x → first_fault (checks i x) ≡ None)
     → (i : ℕ) (items : List X) → AllByRecursion P items → first_fault (in_turn checks i items) ≡ None
@@ -196,11 +205,12 @@ checks_of_setup setup h =
     let names : has_distinct_names setup ≡ true =
     two_true (is_distinct (map (λ product. product.name) setup.products)) (is_distinct (map (λ bidder. bidder.name) setup.bidders)) (test_of_distinct (map (λ product. product.name) setup.products) h.product_names) (test_of_distinct (map (λ bidder. bidder.name) setup.bidders) h.bidder_names) in
     let tokens : has_distinct_tokens setup ≡ true = test_of_distinct (setup.operator ∷ map (λ bidder. bidder.token) setup.bidders) h.tokens in
-    rw (test_of_within 50 100 setup.requirement h.requirement, test_of_token setup.operator h.operator, test_of_within 1 4096 (length setup.products) h.product_count)
+    rw (test_of_within least_requirement most_requirement setup.requirement h.requirement, test_of_within least_limit most_limit setup.limit h.limit, test_of_token setup.operator h.operator, test_of_within 1 most_products (length setup.products) h.product_count)
     (passed (in_turn product_checks 0 setup.products) _ products
-    ∙ rw (test_of_within 1 512 (length setup.bidders) h.bidder_count) (passed (in_turn bidder_checks 0 setup.bidders) _ bidders ∙ rw (names, tokens) refl))
+    ∙ rw (test_of_within 1 most_bidders (length setup.bidders) h.bidder_count) (passed (in_turn bidder_checks 0 setup.bidders) _ bidders ∙ rw (names, tokens) refl))
 
--- a document of version 1 and of the right shape whose set-up is within the limits means that set-up
-pub accepted : (value : Data) (setup : SetupFields) → number_at (codes "version") value ≡ Some 1 → fields_of value ≡ Some setup → IsSetup setup → setup_of value ≡ Ok setup
+-- a document of the right shape whose set-up is within the limits means that set-up
+pub accepted : (value : Data) (setup : SetupFields) → number_at (codes "version") value ≡ Some setup.version → fields_of value ≡ Some setup → IsSetup setup → setup_of value ≡ Ok setup
 unfolding setup_of
-accepted value setup one shape within = rw (one, shape, checks_of_setup setup within) refl
+accepted value setup version shape within =
+    rw (version, test_of_within 1 latest_version setup.version within.version, shape, checks_of_setup setup within) refl

@@ -1,5 +1,5 @@
 -- Laws of the checks of an opening document.
-use Rattle.std.proofs.Common.{◌≡◌, ℕ, ◌+◌, ◌<◌, ◌≤◌, ◌==◌, Bool, true, false, nat_le, if◌then◌else◌, List, length, get_or, drop, zip, Option, Some, None, Ok, Err, refl, sym, ap, ◌∙◌, subst, arith}
+use Rattle.std.proofs.Common.{◌≡◌, ℕ, ◌+◌, ◌<◌, ◌≤◌, All, ◌==◌, Bool, true, false, nat_le, if◌then◌else◌, List, length, get_or, drop, zip, Option, Some, None, Ok, Err, refl, sym, ap, ◌∙◌, subst, arith}
 use Rattle.std.specs.List.{list_all, AllPass}
 use Rattle.std.proofs.lemmas.Bool.{and_parts}
 use Rattle.std.proofs.lemmas.Bool.Decides.{nat_tests}
@@ -13,7 +13,7 @@ use Rattle.clock_setup.specs.declared.opening.OpeningFault.{OpeningFault}
 use Rattle.clock_setup.specs.declared.opening.OpeningFault.TheVariants.{Shape, Demand, Increment}
 use Rattle.clock_setup.specs.Demands.{IsGrid}
 use Rattle.clock_setup.specs.Faults.{first_fault, in_turn, unless, or_fault}
-use Rattle.clock_setup.specs.Limits.{SetupFields, is_within, cap_of, no_product}
+use Rattle.clock_setup.specs.Limits.{SetupFields, IsProduct, IsRow, is_within, cap_of, no_product, most_supply, least_increment, most_increment}
 use Rattle.clock_setup.specs.SetupDocument.{setup_of}
 use Rattle.clock_setup.specs.OpeningShape.{OpeningParts, parts_of}
 use Rattle.clock_setup.specs.OpeningDocument.{has_counts, demand_checks, row_checks, opening_checks, in_opening, opening_of}
@@ -119,9 +119,17 @@ opening_rows value parts setup fault read held counts rows =
 
 -- a document with rows within their limits is judged by its increment
 pub opening_increment : (value : Data) (parts : OpeningParts) (setup : SetupFields) (b : Bool) → parts_of value ≡ Some parts → setup_of parts.setup ≡ Ok setup
-    → has_counts setup parts.demands ≡ true → first_fault (in_turn (row_checks setup.products) 0 (zip setup.bidders parts.demands)) ≡ None → is_within 1 50 parts.increment ≡ b
+    → has_counts setup parts.demands ≡ true → first_fault (in_turn (row_checks setup.products) 0 (zip setup.bidders parts.demands)) ≡ None → is_within least_increment most_increment parts.increment ≡ b
     → opening_of value ≡ (if b then Ok (whole setup parts) else Err Increment)
 unfolding opening_checks
 opening_increment value parts setup b read held counts rows increment =
     opening_at value parts setup read held
     ∙ rw counts (ap (λ (o : Option OpeningFault). unless o (whole setup parts)) (passed (in_turn (row_checks setup.products) 0 (zip setup.bidders parts.demands)) _ rows) ∙ rw increment (by_increment (whole setup parts) b))
+
+-- a row within the caps is within the most that a product's supply may be
+pub row_small : (products : List Product) (row : List ℕ) → All IsProduct products → IsRow products row → All (λ demand. demand ≤ most_supply) row
+row_small products row limits is k d within =
+    let product = limits k no_product (omega (arith, is.each, within)) in
+    let demand : get_or row k 0 ≤ cap_of products k = is.capped k within in
+    let same : get_or row k d ≡ get_or row k 0 = get_or_default row k d 0 within in
+    omega (arith, same, demand, product.cap.1, product.supply.1)

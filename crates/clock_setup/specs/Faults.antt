@@ -3,7 +3,9 @@
 --     in_turn checks i items      the checks of each item, by rising number
 --     unless fault value      the value, where there is no fault
 --     or_fault fault value      the value that is there, or the fault
-use Rattle.std.specs.Prelude.{ℕ, ◌+◌, Bool, List, [], ◌∷◌, ◌++◌, if◌then◌else◌, Option, Some, None, Result, Ok, Err}
+--     IsFirstFault no_memory first fault      the fault is the first one, or there was no memory
+--     IsRefusal no_memory answer fault      the fault is the rules' answer, or there was no memory
+use Rattle.std.specs.Prelude.{◌≡◌, ◌≢◌, ℕ, ◌+◌, Bool, List, [], ◌∷◌, ◌++◌, if◌then◌else◌, Option, Some, None, Result, Ok, Err}
 
 -- the fault of the first check that fails
 abbrev pub first_fault : {F : Type 0} → List (F × Bool) → Option F
@@ -24,6 +26,14 @@ unless (Some fault) value = Err fault
 abbrev pub or_fault : {A F : Type 0} → F → Option A → Result A F
 or_fault fault None = Err fault
 or_fault fault (Some value) = Ok value
+
+-- a fault is the first one that the rules find, or there was no memory
+abbrev pub IsFirstFault : {F : Type 0} → F → Option F → F → Type 0
+IsFirstFault no_memory first fault = fault ≢ no_memory → first ≡ Some fault
+
+-- a refusal is what the rules answer, or there was no memory
+abbrev pub IsRefusal : {A F : Type 0} → F → Result A F → F → Type 0
+IsRefusal no_memory answer fault = fault ≢ no_memory → answer ≡ Err fault
 
 -- in a do block: go on with a value, or stop at a fault
 infixl 10 ◌>>=◌

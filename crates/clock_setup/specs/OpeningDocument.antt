@@ -12,7 +12,7 @@ use Rattle.clock_setup.specs.declared.fault.SetupFault.{SetupFault}
 use Rattle.clock_setup.specs.declared.opening.Opening.{Opening}
 use Rattle.clock_setup.specs.declared.opening.OpeningFault.{OpeningFault}
 use Rattle.clock_setup.specs.declared.opening.OpeningFault.TheVariants.{NotJson, Shape, Setup, Demand, Activity, Increment}
-use Rattle.clock_setup.specs.Limits.{SetupFields, is_within}
+use Rattle.clock_setup.specs.Limits.{SetupFields, is_within, least_increment, most_increment}
 use Rattle.clock_setup.specs.Eligibility.{activity}
 use Rattle.clock_setup.specs.Faults.{first_fault, in_turn, unless, or_fault, ◌>>=◌}
 use Rattle.clock_setup.specs.SetupDocument.{json, setup_of}
@@ -39,7 +39,7 @@ unfoldable pub opening_checks : SetupFields → OpeningParts → List (OpeningFa
 opening_checks setup parts =
     (Shape, has_counts setup parts.demands)
     ∷ (in_turn (row_checks setup.products) 0 (zip setup.bidders parts.demands)
-    ++ ((Increment, is_within 1 50 parts.increment)
+    ++ ((Increment, is_within least_increment most_increment parts.increment)
     ∷ []))
 
 -- a set-up's fault is one of the document that holds it

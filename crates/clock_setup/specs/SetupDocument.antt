@@ -2,28 +2,30 @@
 --     setup_checks setup      the limits of a set-up in the order in which they are looked at
 --     setup_of value      what a JSON value means as a set-up
 --     document_setup bytes      what bytes mean as a set-up
-use Rattle.std.specs.Prelude.{ℕ, Bool, ◌&&◌, ◌==◌, List, [], ◌∷◌, ◌++◌, map, length, nat_le, if◌then◌else◌, Option, None, Result, Ok, Err, codes}
+use Rattle.std.specs.Prelude.{ℕ, Bool, ◌&&◌, List, [], ◌∷◌, ◌++◌, map, length, nat_le, if◌then◌else◌, Option, None, Result, Ok, Err, codes}
 use Rattle.std.specs.Str.{is_utf8}
 use Rattle.serde_json.specs.Data.{Data}
 use Rattle.serde_json.specs.Read.{read}
+use Rattle.clock_money.specs.Price.{highest_price}
 use Rattle.clock_setup.specs.declared.setup.Product.{Product}
 use Rattle.clock_setup.specs.declared.setup.Bidder.{Bidder}
-use Rattle.clock_setup.specs.declared.fault.Place.TheVariants.{Requirement, Operator, Products, Name, Units, Supply, Cap, Opening, Bidders, BidderName, Token, Eligibility}
+use Rattle.clock_setup.specs.declared.fault.Place.TheVariants.{Requirement, Limit, Operator, Products, Name, Units, Supply, Cap, Opening, Granule, Bidders, BidderName, Token, Eligibility}
 use Rattle.clock_setup.specs.declared.fault.SetupFault.{SetupFault}
 use Rattle.clock_setup.specs.declared.fault.SetupFault.TheVariants.{NotJson, Shape, Version, Range, DuplicateName, DuplicateToken}
-use Rattle.clock_setup.specs.Limits.{SetupFields, is_within, is_name, is_token, is_distinct}
+use Rattle.clock_setup.specs.Limits.{SetupFields, is_within, is_name, is_token, is_distinct, most_products, most_bidders, most_units, most_supply, most_granule, most_eligibility, least_requirement, most_requirement, least_limit, most_limit, latest_version}
 use Rattle.clock_setup.specs.Members.{number_at}
 use Rattle.clock_setup.specs.SetupShape.{fields_of}
 use Rattle.clock_setup.specs.Faults.{first_fault, in_turn, unless, or_fault, ◌>>=◌}
 
--- of a product its name, units, supply, cap (at most the supply) and opening price
+-- of a product its name, units, supply, cap (at most the supply), opening price and granule
 unfoldable pub product_checks : ℕ → Product → List (SetupFault × Bool)
 product_checks i product =
     (Range (Name i), is_name product.name)
-    ∷ (Range (Units i), is_within 1 1000000 product.units)
-    ∷ (Range (Supply i), is_within 1 1000 product.supply)
+    ∷ (Range (Units i), is_within 1 most_units product.units)
+    ∷ (Range (Supply i), is_within 1 most_supply product.supply)
     ∷ (Range (Cap i), is_within 1 product.supply product.cap)
-    ∷ (Range (Opening i), is_within 1 1000000000000 product.opening)
+    ∷ (Range (Opening i), is_within 1 highest_price product.opening)
+    ∷ (Range (Granule i), is_within 1 most_granule product.granule)
     ∷ []
 
 -- of a bidder its name, token and eligibility
@@ -31,7 +33,7 @@ unfoldable pub bidder_checks : ℕ → Bidder → List (SetupFault × Bool)
 bidder_checks i bidder =
     (Range (BidderName i), is_name bidder.name)
     ∷ (Range (Token i), is_token bidder.token)
-    ∷ (Range (Eligibility i), nat_le bidder.eligibility 1000000000000)
+    ∷ (Range (Eligibility i), nat_le bidder.eligibility most_eligibility)
     ∷ []
 
 -- no two products, and no two bidders, have one name; a product and a bidder may share one
@@ -46,21 +48,22 @@ has_distinct_tokens setup = is_distinct (setup.operator ∷ map (λ bidder. bidd
 -- the limits of a set-up, in the order in which they are looked at
 unfoldable pub setup_checks : SetupFields → List (SetupFault × Bool)
 setup_checks setup =
-    (Range Requirement, is_within 50 100 setup.requirement)
+    (Range Requirement, is_within least_requirement most_requirement setup.requirement)
+    ∷ (Range Limit, is_within least_limit most_limit setup.limit)
     ∷ (Range Operator, is_token setup.operator)
-    ∷ (Range Products, is_within 1 4096 (length setup.products))
+    ∷ (Range Products, is_within 1 most_products (length setup.products))
     ∷ (in_turn product_checks 0 setup.products
-    ++ ((Range Bidders, is_within 1 512 (length setup.bidders))
+    ++ ((Range Bidders, is_within 1 most_bidders (length setup.bidders))
     ∷ (in_turn bidder_checks 0 setup.bidders
     ++ ((DuplicateName, has_distinct_names setup)
     ∷ (DuplicateToken, has_distinct_tokens setup)
     ∷ []))))
 
--- a number under "version", then that it is 1, then the rest of the shape, then the limits
+-- a number under "version", then that this version is known, then the rest of the shape, then the limits
 unfoldable pub setup_of : Data → Result SetupFields SetupFault
 setup_of value = do
   version ← or_fault Shape (number_at (codes "version") value)
-  one ← if version == 1 then Ok version else Err Version
+  known ← if is_within 1 latest_version version then Ok version else Err Version
   setup ← or_fault Shape (fields_of value)
   unless (first_fault (setup_checks setup)) setup
 

@@ -1,14 +1,17 @@
-ghost use Rattle.std.specs.Prelude.{◌≡◌, ◌≢◌, codes, None, Some, Ok, Err, IfOk, IfErr};
+ghost use Rattle.std.specs.Prelude.{◌≡◌, codes, None, Some, Ok, IfOk, IfErr};
 ghost use Rattle.serde_json.specs.View.{view};
-ghost use Rattle.clock_setup.specs.Faults.{first_fault};
-ghost use Rattle.clock_setup.specs.Limits.{SetupFields, IsSetup};
+ghost use Rattle.clock_setup.specs.Faults.{IsFirstFault, IsRefusal, first_fault};
+ghost use Rattle.clock_setup.specs.Limits.{SetupFields, IsOfFirstVersion, IsSetup, IsWithin, latest_version};
 ghost use Rattle.clock_setup.specs.Members.{number_at};
 ghost use Rattle.clock_setup.specs.SetupShape.{fields_of};
 ghost use Rattle.clock_setup.specs.SetupDocument as document;
 
 use crate::entries::{SetupEntries, setup_entries};
 use crate::fault::{Place, SetupFault};
-use crate::limits::{bidders_within, is_token, is_within, products_within};
+use crate::limits::{
+    LATEST_VERSION, LEAST_LIMIT, LEAST_REQUIREMENT, MOST_BIDDERS, MOST_LIMIT, MOST_PRODUCTS,
+    MOST_REQUIREMENT, bidders_within, is_token, is_within, products_within,
+};
 use crate::members::{number_at, read_value};
 use crate::names::{bidder_names, is_distinct, product_names, tokens};
 use crate::setup::Setup;
@@ -36,23 +39,26 @@ fn has_distinct_tokens(alloc: Global, entries: &SetupEntries) -> Result<bool, Al
 /// The set-up, where it is within its limits, or the first fault.
 #[tactic(auto, using(crate::proofs::FaultLaws::fault_lists), unfolding(crate::specs::SetupDocument::setup_checks))]
 fn within_limits(alloc: Global, entries: &SetupEntries) -> Result<Setup, SetupFault>
-    requires { entries.now.version ≡ 1 }
+    requires version { IsWithin 1 latest_version entries.now.version }
+    requires first_version { entries.now.version ≡ 1 → IsOfFirstVersion entries.now }
     ensures same { IfOk result (λ setup. setup ≡ entries.now) }
     ensures ok { IfOk result (λ _. first_fault (document.setup_checks entries.now) ≡ None) }
-    ensures err { IfErr result (λ fault. fault ≢ SetupFault.NoMemory
-        → first_fault (document.setup_checks entries.now) ≡ Some fault) }
+    ensures err { IfErr result (IsFirstFault SetupFault.NoMemory (first_fault (document.setup_checks entries.now))) }
 {
-    if !is_within(50, 100, entries.requirement) {
+    if !is_within(LEAST_REQUIREMENT, MOST_REQUIREMENT, entries.requirement) {
         return Err(SetupFault::Range(Place::Requirement));
+    }
+    if !is_within(LEAST_LIMIT, MOST_LIMIT, entries.limit) {
+        return Err(SetupFault::Range(Place::Limit));
     }
     if !is_token(entries.operator) {
         return Err(SetupFault::Range(Place::Operator));
     }
-    if !is_within(1, 4096, entries.products.len() as u64) {
+    if !is_within(1, MOST_PRODUCTS, entries.products.len() as u64) {
         return Err(SetupFault::Range(Place::Products));
     }
     let products = products_within(alloc, entries.products.as_slice())?;
-    if !is_within(1, 512, entries.bidders.len() as u64) {
+    if !is_within(1, MOST_BIDDERS, entries.bidders.len() as u64) {
         return Err(SetupFault::Range(Place::Bidders));
     }
     let bidders = bidders_within(alloc, entries.bidders.as_slice())?;
@@ -64,6 +70,7 @@ fn within_limits(alloc: Global, entries: &SetupEntries) -> Result<Setup, SetupFa
     }
     Ok(Setup {
         version: entries.version,
+        limit: entries.limit,
         requirement: entries.requirement,
         operator: Text::from_slice(alloc, entries.operator.as_bytes())?,
         products,
@@ -75,14 +82,14 @@ fn within_limits(alloc: Global, entries: &SetupEntries) -> Result<Setup, SetupFa
 ///
 /// A document is one JSON value (RFC 8259), in any order of keys and with any white space:
 /// `{"version":1,"requirement":R,"operator":TOKEN,"products":[{"name":T,"units":N,"supply":N,"cap":N,"opening":N},..],
-/// "bidders":[{"name":T,"token":T,"eligibility":N},..]}`. Its objects have exactly these keys, and its numbers are whole
+/// "bidders":[{"name":T,"token":T,"eligibility":N},..]}`, and in version 2 with `"limit":N` as well, and `"granule":N` in
+/// each product. Version 1 means a limit of 100 percent and granules of one dollar. Its objects have exactly these keys, and its numbers are whole
 /// numbers below 2^64. [`SetupFault`] has the faults in the order in which they are looked at, and [`Place`] the limits.
 /// Reading takes time and memory in proportion to the document's length. Nothing is kept of a document that is refused.
 #[tactic(auto, unfolding(crate::specs::SetupDocument::document_setup))]
 pub fn read_setup(alloc: Global, bytes: &[u8]) -> Result<Setup, SetupFault>
     ensures ok { IfOk result (λ setup. document.document_setup bytes.now ≡ Ok setup) }
-    ensures err { IfErr result
-        (λ fault. fault ≢ SetupFault.NoMemory → document.document_setup bytes.now ≡ Err fault) }
+    ensures err { IfErr result (IsRefusal SetupFault.NoMemory (document.document_setup bytes.now)) }
 {
     let value = read_value(alloc, bytes)?.ok_or(SetupFault::NotJson)?;
     setup_of(alloc, &value)
@@ -93,17 +100,16 @@ pub fn read_setup(alloc: Global, bytes: &[u8]) -> Result<Setup, SetupFault>
 #[tactic(auto, using(crate::proofs::LimitLaws::accepted), unfolding(crate::specs::SetupDocument::setup_of))]
 pub fn setup_of(alloc: Global, value: &Value) -> Result<Setup, SetupFault>
     ensures ok { IfOk result (λ setup. document.setup_of (view value.now) ≡ Ok setup) }
-    ensures err { IfErr result
-        (λ fault. fault ≢ SetupFault.NoMemory → document.setup_of (view value.now) ≡ Err fault) }
+    ensures err { IfErr result (IsRefusal SetupFault.NoMemory (document.setup_of (view value.now))) }
 
     // The checks refuse nothing that is within the limits: with the limits that the type of
     // set-ups keeps, a document is accepted exactly where its set-up is within them.
-    ensures accepts { (setup : SetupFields) → number_at (codes "version") (view value.now) ≡ Some 1
+    ensures accepts { (setup : SetupFields) → number_at (codes "version") (view value.now) ≡ Some setup.version
         → fields_of (view value.now) ≡ Some setup → IsSetup setup
         → document.setup_of (view value.now) ≡ Ok setup }
 {
     let version = number_at(value, "version").ok_or(SetupFault::Shape)?;
-    if version != 1 {
+    if !is_within(1, LATEST_VERSION, version) {
         return Err(SetupFault::Version);
     }
     let entries = setup_entries(alloc, value)?;

@@ -1,6 +1,15 @@
 ghost use Rattle.std.specs.Prelude.{◌≡◌, ◌≤◌, ◌*◌, length, All};
 ghost use Rattle.clock_setup.specs.Eligibility as eligibility;
-ghost use Rattle.clock_setup.specs.Limits.{IsProduct, IsRow};
+ghost use Rattle.clock_setup.specs.Limits.{
+  IsProduct,
+  IsRow,
+  least_requirement,
+  most_eligibility,
+  most_products,
+  most_requirement,
+  most_supply,
+  most_units,
+};
 
 use crate::setup::{Product, Setup};
 
@@ -9,9 +18,9 @@ use crate::setup::{Product, Setup};
 /// requirement 50 to 100 percent (the FCC's procedures for Auction 105; rounding up is an own rule).
 pub fn next_eligibility(held: u64, activity: u64, requirement: u64) -> u64
     requires activity { activity ≤ held }
-    requires held { held ≤ 1000000000000 }
-    requires low { 50 ≤ requirement }
-    requires high { requirement ≤ 100 }
+    requires held { held ≤ most_eligibility }
+    requires low { least_requirement ≤ requirement }
+    requires high { requirement ≤ most_requirement }
     ensures exact { result ≡ eligibility.next_eligibility held activity requirement }
     ensures supported { eligibility.IsSupported activity requirement
         (eligibility.supported_eligibility activity requirement) }
@@ -22,10 +31,10 @@ pub fn next_eligibility(held: u64, activity: u64, requirement: u64) -> u64
 /// What [`activity`] is of a set-up with these products, where the set-up itself is not at hand.
 pub fn units_taken(products: &[Product], demands: &[u64]) -> u64
     requires limits { All IsProduct products.now }
-    requires few { length products.now ≤ 4096 }
+    requires few { length products.now ≤ most_products }
     requires row { IsRow products.now demands.now }
     ensures exact { result ≡ eligibility.activity products.now demands.now }
-    ensures most { result ≤ 4096000000000 }
+    ensures most { result ≤ most_products * (most_units * most_supply) }
 {
     let mut total: u64 = 0;
     for (i, product) in products.iter().enumerate() {

@@ -1,8 +1,10 @@
-ghost use Rattle.std.specs.Prelude.{◌≡◌, ◌≢◌, codes, Some, Ok, Err, IfOk, IfErr};
+ghost use Rattle.std.specs.Prelude.{◌≡◌, ◌≤◌, codes, Some, All, IfOk, IfErr, IfSome};
 ghost use Rattle.serde_json.specs.View.{view, items_view};
-ghost use Rattle.clock_setup.specs.Faults.{or_fault};
+ghost use Rattle.clock_setup.specs.Faults.{IsRefusal, or_fault};
 ghost use Rattle.clock_setup.specs.Members as members;
 ghost use Rattle.clock_setup.specs.Members.{each};
+ghost use Rattle.clock_setup.specs.Limits.{IsOfFirstVersion};
+ghost use Rattle.clock_setup.specs.SetupShape as shape;
 ghost use Rattle.clock_setup.specs.SetupShape.{product_of, bidder_of, fields_of};
 
 use crate::fault::SetupFault;
@@ -10,6 +12,12 @@ use crate::members::{has_members, items_at, number_at, text_at};
 use serde_json::Value;
 use std::alloc::{AllocError, AllocFailed, Global};
 use std::marker::Model;
+
+/// The limit of a set-up of version 1, in percent.
+const FIRST_LIMIT: u64 = 100;
+
+/// The granule of each product of a set-up of version 1, in dollars.
+const FIRST_GRANULE: u64 = 1;
 
 /// A product as a document has it, with no limit tested yet. Contracts see a product.
 #[derive(Drop)]
@@ -19,6 +27,7 @@ pub(crate) struct ProductEntry<'v> {
     pub supply: u64,
     pub cap: u64,
     pub opening: u64,
+    pub granule: u64,
 }
 
 impl<'v> Model for ProductEntry<'v> {
@@ -26,7 +35,7 @@ impl<'v> Model for ProductEntry<'v> {
 
     ghost Value = { Product };
 
-    ghost view = { λ e. record { name = e.name.now; units = e.units; supply = e.supply; cap = e.cap; opening = e.opening } };
+    ghost view = { λ e. record { name = e.name.now; units = e.units; supply = e.supply; cap = e.cap; opening = e.opening; granule = e.granule } };
 }
 
 /// A bidder as a document has it, with no limit tested yet. Contracts see a bidder.
@@ -49,6 +58,7 @@ impl<'v> Model for BidderEntry<'v> {
 #[derive(Drop)]
 pub(crate) struct SetupEntries<'v> {
     pub version: u64,
+    pub limit: u64,
     pub requirement: u64,
     pub operator: &'v str,
     pub products: Vec<ProductEntry<'v>>,
@@ -60,26 +70,52 @@ impl<'v> Model for SetupEntries<'v> {
 
     ghost Value = { SetupFields };
 
-    ghost view = { λ e. record { version = e.version; requirement = e.requirement; operator = e.operator.now; products = e.products.items; bidders = e.bidders.items } };
+    ghost view = { λ e. record { version = e.version; limit = e.limit; requirement = e.requirement; operator = e.operator.now; products = e.products.items; bidders = e.bidders.items } };
+}
+
+/// A number that documents have from version 2 on.
+fn added_number(value: &Value, version: u64, in_first: u64, key: &str) -> Option<u64>
+    ensures { result ≡ shape.added_number version in_first key.now (view value.now) }
+{
+    if version == 1 {
+        Some(in_first)
+    } else {
+        number_at(value, key)
+    }
+}
+
+/// Whether an object to which version 2 adds a key has its number of members.
+fn has_keys(value: &Value, version: u64, in_first: usize) -> bool
+    requires { in_first ≤ 5 }
+    ensures { result ≡ members.has_members (shape.key_count version in_first) (view value.now) }
+{
+    if version == 1 {
+        has_members(value, in_first)
+    } else {
+        has_members(value, in_first + 1)
+    }
 }
 
 /// A product of the right shape.
 #[tactic(auto, unfolding(crate::specs::SetupShape::product_of))]
-fn product_entry(value: &Value) -> Option<ProductEntry<'_>>
-    ensures { result ≡ product_of (view value.now) }
+fn product_entry(value: &Value, version: u64) -> Option<ProductEntry<'_>>
+    ensures value { result ≡ product_of version (view value.now) }
+    ensures first_version { IfSome result (λ entry. version ≡ 1 → entry.granule ≡ 1) }
 {
     let name = text_at(value, "name")?;
     let units = number_at(value, "units")?;
     let supply = number_at(value, "supply")?;
     let cap = number_at(value, "cap")?;
     let opening = number_at(value, "opening")?;
-    if has_members(value, 5) {
+    let granule = added_number(value, version, FIRST_GRANULE, "granule")?;
+    if has_keys(value, version, 5) {
         Some(ProductEntry {
             name,
             units,
             supply,
             cap,
             opening,
+            granule,
         })
     } else {
         None
@@ -106,14 +142,19 @@ fn bidder_entry(value: &Value) -> Option<BidderEntry<'_>>
 }
 
 /// Products of the right shape.
-fn product_entries(alloc: Global, items: &[Value]) -> Result<Vec<ProductEntry<'_>>, SetupFault>
-    ensures ok { IfOk result (λ entries. each product_of (items_view items.now) ≡ Some entries.items) }
-    ensures err { IfErr result (λ fault. fault ≢ SetupFault.NoMemory
-        → or_fault SetupFault.Shape (each product_of (items_view items.now)) ≡ Err fault) }
+fn product_entries(
+    alloc: Global,
+    items: &[Value],
+    version: u64,
+) -> Result<Vec<ProductEntry<'_>>, SetupFault>
+    ensures ok { IfOk result (λ entries. each (product_of version) (items_view items.now) ≡ Some entries.items) }
+    ensures first_version { IfOk result (λ entries. version ≡ 1 → All (λ entry. entry.granule ≡ 1) entries.items) }
+    ensures err { IfErr result (IsRefusal SetupFault.NoMemory
+        (or_fault SetupFault.Shape (each (product_of version) (items_view items.now)))) }
 {
     let mut entries = Vec::new(alloc);
     for item in items {
-        let entry = product_entry(item).ok_or(SetupFault::Shape)?;
+        let entry = product_entry(item, version).ok_or(SetupFault::Shape)?;
         entries.push(entry)?;
     }
     Ok(entries)
@@ -122,8 +163,8 @@ fn product_entries(alloc: Global, items: &[Value]) -> Result<Vec<ProductEntry<'_
 /// Bidders of the right shape.
 fn bidder_entries(alloc: Global, items: &[Value]) -> Result<Vec<BidderEntry<'_>>, SetupFault>
     ensures ok { IfOk result (λ entries. each bidder_of (items_view items.now) ≡ Some entries.items) }
-    ensures err { IfErr result (λ fault. fault ≢ SetupFault.NoMemory
-        → or_fault SetupFault.Shape (each bidder_of (items_view items.now)) ≡ Err fault) }
+    ensures err { IfErr result (IsRefusal SetupFault.NoMemory
+        (or_fault SetupFault.Shape (each bidder_of (items_view items.now)))) }
 {
     let mut entries = Vec::new(alloc);
     for item in items {
@@ -137,23 +178,25 @@ fn bidder_entries(alloc: Global, items: &[Value]) -> Result<Vec<BidderEntry<'_>>
 #[tactic(auto, unfolding(crate::specs::SetupShape::fields_of))]
 pub(crate) fn setup_entries(alloc: Global, value: &Value) -> Result<SetupEntries<'_>, SetupFault>
     ensures ok { IfOk result (λ entries. fields_of (view value.now) ≡ Some entries) }
+    ensures first_version { IfOk result (λ entries. entries.version ≡ 1 → IsOfFirstVersion entries) }
     ensures version { IfOk result
         (λ entries. members.number_at (codes "version") (view value.now) ≡ Some entries.version) }
-    ensures err { IfErr result (λ fault. fault ≢ SetupFault.NoMemory
-        → or_fault SetupFault.Shape (fields_of (view value.now)) ≡ Err fault) }
+    ensures err { IfErr result (IsRefusal SetupFault.NoMemory (or_fault SetupFault.Shape (fields_of (view value.now)))) }
 {
     let version = number_at(value, "version").ok_or(SetupFault::Shape)?;
+    let limit = added_number(value, version, FIRST_LIMIT, "limit").ok_or(SetupFault::Shape)?;
     let requirement = number_at(value, "requirement").ok_or(SetupFault::Shape)?;
     let operator = text_at(value, "operator").ok_or(SetupFault::Shape)?;
     let products = items_at(value, "products").ok_or(SetupFault::Shape)?;
-    let products = product_entries(alloc, products)?;
+    let products = product_entries(alloc, products, version)?;
     let bidders = items_at(value, "bidders").ok_or(SetupFault::Shape)?;
     let bidders = bidder_entries(alloc, bidders)?;
-    if !has_members(value, 5) {
+    if !has_keys(value, version, 5) {
         return Err(SetupFault::Shape);
     }
     Ok(SetupEntries {
         version,
+        limit,
         requirement,
         operator,
         products,

@@ -7,6 +7,8 @@ use thiserror::Error;
 pub enum Place {
     /// The requirement, 50 to 100 percent.
     Requirement,
+    /// The limit on the activity that a sheet asks for, 100 to 140 percent.
+    Limit,
     /// The operator's token.
     Operator,
     /// The number of products, 1 to 4,096.
@@ -21,6 +23,8 @@ pub enum Place {
     Cap(u64),
     /// A product's opening price, 1 to 10^12 whole dollars.
     Opening(u64),
+    /// A product's granule, 1 to 1,000,000 whole dollars.
+    Granule(u64),
     /// The number of bidders, 1 to 512.
     Bidders,
     /// A bidder's name.
@@ -41,7 +45,7 @@ pub enum SetupFault {
     /// Not an object with a number under `version`, or, in a document of a known version, any other fault of its shape.
     #[error("not of the shape of a set-up")]
     Shape,
-    /// The version is another than 1.
+    /// The version is another than 1 and 2.
     #[error("not a version that is known")]
     Version,
     /// A value is outside its limits.

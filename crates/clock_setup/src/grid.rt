@@ -1,4 +1,5 @@
 ghost use Rattle.std.specs.Prelude.{◌≡◌, List, ℕ, ◌≤◌, ◌<◌, length, All, IfOk, replicate, slice_set};
+ghost use Rattle.clock_setup.specs.Limits.{most_supply};
 ghost use Rattle.clock_setup.specs.Demands.{total_of, demand_at, row_of, with_demand, no_demands};
 
 use crate::setup::Setup;
@@ -84,7 +85,7 @@ impl Grid {
     pub fn set(&mut self, bidder: usize, product: usize, demand: u64)
         requires bidder { bidder < length self.old }
         requires product { All (λ row. product < length row) self.old }
-        requires small { demand ≤ 1000 }
+        requires small { demand ≤ most_supply }
         ensures { self.new ≡ with_demand self.old bidder product demand }
     {
         let total = self.total(product) - self.get(bidder, product) + demand;
@@ -97,7 +98,7 @@ impl Grid {
     pub fn set_row(&mut self, bidder: usize, demands: &[u64])
         requires bidder { bidder < length self.old }
         requires each { All (λ row. length demands.now ≡ length row) self.old }
-        requires small { All (λ demand. demand ≤ 1000) demands.now }
+        requires small { All (λ demand. demand ≤ most_supply) demands.now }
         ensures { self.new ≡ slice_set self.old bidder demands.now }
     {
         for (product, demand) in demands.iter().enumerate() {

@@ -1,15 +1,45 @@
-ghost use Rattle.std.specs.Prelude.{◌≡◌, ◌≢◌, None, Some, IfOk, IfErr};
+ghost use Rattle.std.specs.Prelude.{◌≡◌, None, IfOk, IfErr};
 ghost use Rattle.std.specs.List.{list_all};
 ghost use Rattle.clock_setup.specs.Limits as limits;
-ghost use Rattle.clock_setup.specs.Faults.{first_fault, in_turn};
+ghost use Rattle.clock_setup.specs.Faults.{IsFirstFault, first_fault, in_turn};
 ghost use Rattle.clock_setup.specs.SetupDocument.{product_checks, bidder_checks};
 
 use crate::entries::{BidderEntry, ProductEntry};
 use crate::fault::{Place, SetupFault};
 use crate::setup::{Bidder, Bidders, Product, Products};
 use clock_device::Text;
-use clock_money::Price;
+use clock_money::{MOST_GRANULE, Price};
 use std::alloc::Global;
+
+/// The latest version of the set-up document, the first of which is 1.
+pub const LATEST_VERSION: u64 = 2;
+
+/// The most products of a set-up.
+pub const MOST_PRODUCTS: u64 = 4096;
+
+/// The most bidders of a set-up.
+pub const MOST_BIDDERS: u64 = 512;
+
+/// The most bidding units of a block.
+pub const MOST_UNITS: u64 = 1_000_000;
+
+/// The most blocks of a product.
+pub const MOST_SUPPLY: u64 = 1000;
+
+/// The most bidding units of an eligibility.
+pub const MOST_ELIGIBILITY: u64 = 1_000_000_000_000;
+
+/// The least percentage of its eligibility that a bidder must use to keep it.
+pub const LEAST_REQUIREMENT: u64 = 50;
+
+/// The most percent of its eligibility that a bidder must use to keep it.
+pub const MOST_REQUIREMENT: u64 = 100;
+
+/// The least limit on the activity that a sheet asks for, in percent of the eligibility.
+pub const LEAST_LIMIT: u64 = 100;
+
+/// The highest limit on the activity that a sheet asks for, in percent of the eligibility.
+pub const MOST_LIMIT: u64 = 140;
 
 /// An ASCII letter or digit.
 fn is_letter_or_digit(byte: u8) -> bool
@@ -65,16 +95,15 @@ pub(crate) fn is_token(token: &str) -> bool
 fn product_within(alloc: Global, i: u64, entry: &ProductEntry) -> Result<Product, SetupFault>
     ensures same { IfOk result (λ product. product ≡ entry.now) }
     ensures ok { IfOk result (λ _. first_fault (product_checks i entry.now) ≡ None) }
-    ensures err { IfErr result (λ fault. fault ≢ SetupFault.NoMemory
-        → first_fault (product_checks i entry.now) ≡ Some fault) }
+    ensures err { IfErr result (IsFirstFault SetupFault.NoMemory (first_fault (product_checks i entry.now))) }
 {
     if !is_name(entry.name) {
         return Err(SetupFault::Range(Place::Name(i)));
     }
-    if !is_within(1, 1_000_000, entry.units) {
+    if !is_within(1, MOST_UNITS, entry.units) {
         return Err(SetupFault::Range(Place::Units(i)));
     }
-    if !is_within(1, 1000, entry.supply) {
+    if !is_within(1, MOST_SUPPLY, entry.supply) {
         return Err(SetupFault::Range(Place::Supply(i)));
     }
     if !is_within(1, entry.supply, entry.cap) {
@@ -83,12 +112,16 @@ fn product_within(alloc: Global, i: u64, entry: &ProductEntry) -> Result<Product
     let Some(opening) = Price::new(entry.opening) else {
         return Err(SetupFault::Range(Place::Opening(i)));
     };
+    if !is_within(1, MOST_GRANULE, entry.granule) {
+        return Err(SetupFault::Range(Place::Granule(i)));
+    }
     Ok(Product {
         name: Text::from_slice(alloc, entry.name.as_bytes())?,
         units: entry.units,
         supply: entry.supply,
         cap: entry.cap,
         opening,
+        granule: entry.granule,
     })
 }
 
@@ -97,8 +130,7 @@ fn product_within(alloc: Global, i: u64, entry: &ProductEntry) -> Result<Product
 fn bidder_within(alloc: Global, i: u64, entry: &BidderEntry) -> Result<Bidder, SetupFault>
     ensures same { IfOk result (λ bidder. bidder ≡ entry.now) }
     ensures ok { IfOk result (λ _. first_fault (bidder_checks i entry.now) ≡ None) }
-    ensures err { IfErr result (λ fault. fault ≢ SetupFault.NoMemory
-        → first_fault (bidder_checks i entry.now) ≡ Some fault) }
+    ensures err { IfErr result (IsFirstFault SetupFault.NoMemory (first_fault (bidder_checks i entry.now))) }
 {
     if !is_name(entry.name) {
         return Err(SetupFault::Range(Place::BidderName(i)));
@@ -106,7 +138,7 @@ fn bidder_within(alloc: Global, i: u64, entry: &BidderEntry) -> Result<Bidder, S
     if !is_token(entry.token) {
         return Err(SetupFault::Range(Place::Token(i)));
     }
-    if entry.eligibility > 1_000_000_000_000 {
+    if entry.eligibility > MOST_ELIGIBILITY {
         return Err(SetupFault::Range(Place::Eligibility(i)));
     }
     Ok(Bidder {
@@ -124,8 +156,7 @@ pub(crate) fn products_within(
 ) -> Result<Products, SetupFault>
     ensures same { IfOk result (λ products. products ≡ entries.now) }
     ensures ok { IfOk result (λ _. first_fault (in_turn product_checks 0 entries.now) ≡ None) }
-    ensures err { IfErr result (λ fault. fault ≢ SetupFault.NoMemory
-        → first_fault (in_turn product_checks 0 entries.now) ≡ Some fault) }
+    ensures err { IfErr result (IsFirstFault SetupFault.NoMemory (first_fault (in_turn product_checks 0 entries.now))) }
 {
     let mut products = Vec::with_capacity(alloc, entries.len())?;
     for (i, entry) in entries.iter().enumerate() {
@@ -140,8 +171,7 @@ pub(crate) fn products_within(
 pub(crate) fn bidders_within(alloc: Global, entries: &[BidderEntry]) -> Result<Bidders, SetupFault>
     ensures same { IfOk result (λ bidders. bidders ≡ entries.now) }
     ensures ok { IfOk result (λ _. first_fault (in_turn bidder_checks 0 entries.now) ≡ None) }
-    ensures err { IfErr result (λ fault. fault ≢ SetupFault.NoMemory
-        → first_fault (in_turn bidder_checks 0 entries.now) ≡ Some fault) }
+    ensures err { IfErr result (IsFirstFault SetupFault.NoMemory (first_fault (in_turn bidder_checks 0 entries.now))) }
 {
     let mut bidders = Vec::with_capacity(alloc, entries.len())?;
     for (i, entry) in entries.iter().enumerate() {

@@ -1,8 +1,8 @@
 ghost use Rattle.std.specs.Prelude.{◌≡◌, ◌≢◌, ◌≤◌, None, Some, length, Ok, Err, All, IfOk, IfErr};
 ghost use Rattle.serde_json.specs.View.{view};
 ghost use Rattle.clock_setup.specs.Demands.{IsGrid};
-ghost use Rattle.clock_setup.specs.Faults.{first_fault};
-ghost use Rattle.clock_setup.specs.Limits.{IsWithin};
+ghost use Rattle.clock_setup.specs.Faults.{IsRefusal, first_fault};
+ghost use Rattle.clock_setup.specs.Limits.{IsWithin, least_increment, most_increment};
 ghost use Rattle.clock_setup.specs.OpeningDocument.{document_opening, opening_of, in_opening};
 ghost use Rattle.clock_setup.specs.SetupDocument as document;
 
@@ -15,6 +15,7 @@ use crate::parts::opening_parts;
 use crate::rows::{grid_within, has_counts};
 use crate::setup::Setup;
 use clock_device::NoMemory;
+use clock_money::{LEAST_INCREMENT, MOST_INCREMENT};
 use serde_json::Value;
 use std::alloc::{AllocError, AllocFailed, Global};
 use thiserror::Error;
@@ -95,8 +96,7 @@ impl<T: Drop> From<AllocFailed<T>> for OpeningFault {
 /// The set-up under a document's key, its faults as those of the document.
 fn held_setup(alloc: Global, value: &Value) -> Result<Setup, OpeningFault>
     ensures ok { IfOk result (λ setup. document.setup_of (view value.now) ≡ Ok setup) }
-    ensures err { IfErr result (λ fault. fault ≢ OpeningFault.NoMemory
-        → in_opening (document.setup_of (view value.now)) ≡ Err fault) }
+    ensures err { IfErr result (IsRefusal OpeningFault.NoMemory (in_opening (document.setup_of (view value.now)))) }
     ensures held { IfErr result (λ fault. fault ≢ OpeningFault.Setup SetupFault.NoMemory) }
 {
     match setup_of(alloc, value) {
@@ -116,9 +116,9 @@ fn opening_in(alloc: Global, value: &Value) -> Result<Opening, OpeningFault>
     ensures ok { IfOk result (λ opening. opening_of (view value.now) ≡ Ok opening) }
     ensures grid { IfOk result
         (λ opening. IsGrid (length opening.setup.bidders) (length opening.setup.products) opening.grid) }
-    ensures increment { IfOk result (λ opening. IsWithin 1 50 opening.increment) }
+    ensures increment { IfOk result (λ opening. IsWithin least_increment most_increment opening.increment) }
     ensures err { IfErr result
-        (λ fault. fault ≢ OpeningFault.NoMemory → opening_of (view value.now) ≡ Err fault) }
+        (IsRefusal OpeningFault.NoMemory (opening_of (view value.now))) }
     ensures held { IfErr result (λ fault. fault ≢ OpeningFault.Setup SetupFault.NoMemory) }
 {
     let parts = opening_parts(alloc, value)?;
@@ -127,7 +127,7 @@ fn opening_in(alloc: Global, value: &Value) -> Result<Opening, OpeningFault>
         return Err(OpeningFault::Shape);
     }
     let grid = grid_within(alloc, &setup, parts.demands.as_slice())?;
-    if !is_within(1, 50, parts.increment) {
+    if !is_within(LEAST_INCREMENT, MOST_INCREMENT, parts.increment) {
         return Err(OpeningFault::Increment);
     }
     Ok(Opening {
@@ -146,9 +146,9 @@ pub fn read_opening(alloc: Global, bytes: &[u8]) -> Result<Opening, OpeningFault
     ensures ok { IfOk result (λ opening. document_opening bytes.now ≡ Ok opening) }
     ensures grid { IfOk result
         (λ opening. IsGrid (length opening.setup.bidders) (length opening.setup.products) opening.grid) }
-    ensures increment { IfOk result (λ opening. IsWithin 1 50 opening.increment) }
+    ensures increment { IfOk result (λ opening. IsWithin least_increment most_increment opening.increment) }
     ensures err { IfErr result
-        (λ fault. fault ≢ OpeningFault.NoMemory → document_opening bytes.now ≡ Err fault) }
+        (IsRefusal OpeningFault.NoMemory (document_opening bytes.now)) }
     ensures held { IfErr result (λ fault. fault ≢ OpeningFault.Setup SetupFault.NoMemory) }
 {
     let value = read_value(alloc, bytes)?.ok_or(OpeningFault::NotJson)?;

@@ -1,6 +1,6 @@
 ghost use Rattle.std.specs.Prelude.{◌≡◌, ◌≢◌, Some, Ok, Err, IfOk, IfErr};
 ghost use Rattle.serde_json.specs.View.{view, items_view};
-ghost use Rattle.clock_setup.specs.Faults.{or_fault};
+ghost use Rattle.clock_setup.specs.Faults.{IsRefusal, or_fault};
 ghost use Rattle.clock_setup.specs.Members.{each, number_from};
 ghost use Rattle.clock_setup.specs.OpeningShape as shape;
 
@@ -22,8 +22,7 @@ pub(crate) struct OpeningEntries<'v> {
 /// The numbers of a list.
 fn numbers(alloc: Global, items: &[Value]) -> Result<Amounts, OpeningFault>
     ensures ok { IfOk result (λ row. each number_from (items_view items.now) ≡ Some row) }
-    ensures err { IfErr result (λ fault. fault ≢ OpeningFault.NoMemory
-        → or_fault OpeningFault.Shape (each number_from (items_view items.now)) ≡ Err fault) }
+    ensures err { IfErr result (IsRefusal OpeningFault.NoMemory (or_fault OpeningFault.Shape (each number_from (items_view items.now)))) }
     ensures held { IfErr result (λ fault. fault ≢ OpeningFault.Setup SetupFault.NoMemory) }
 {
     let mut row = Amounts::new(alloc);
@@ -38,8 +37,7 @@ fn numbers(alloc: Global, items: &[Value]) -> Result<Amounts, OpeningFault>
 #[tactic(auto, unfolding(crate::specs::OpeningShape::row_of))]
 fn row_entry(alloc: Global, value: &Value) -> Result<Amounts, OpeningFault>
     ensures ok { IfOk result (λ row. shape.row_of (view value.now) ≡ Some row) }
-    ensures err { IfErr result (λ fault. fault ≢ OpeningFault.NoMemory
-        → or_fault OpeningFault.Shape (shape.row_of (view value.now)) ≡ Err fault) }
+    ensures err { IfErr result (IsRefusal OpeningFault.NoMemory (or_fault OpeningFault.Shape (shape.row_of (view value.now)))) }
     ensures held { IfErr result (λ fault. fault ≢ OpeningFault.Setup SetupFault.NoMemory) }
 {
     let items = value.as_array().ok_or(OpeningFault::Shape)?;
@@ -49,8 +47,7 @@ fn row_entry(alloc: Global, value: &Value) -> Result<Amounts, OpeningFault>
 /// The rows of demands.
 fn row_entries(alloc: Global, items: &[Value]) -> Result<Vec<Amounts>, OpeningFault>
     ensures ok { IfOk result (λ rows. each shape.row_of (items_view items.now) ≡ Some rows.items) }
-    ensures err { IfErr result (λ fault. fault ≢ OpeningFault.NoMemory
-        → or_fault OpeningFault.Shape (each shape.row_of (items_view items.now)) ≡ Err fault) }
+    ensures err { IfErr result (IsRefusal OpeningFault.NoMemory (or_fault OpeningFault.Shape (each shape.row_of (items_view items.now)))) }
     ensures held { IfErr result (λ fault. fault ≢ OpeningFault.Setup SetupFault.NoMemory) }
 {
     let mut rows = Vec::new(alloc);
@@ -69,8 +66,7 @@ pub(crate) fn opening_parts(
 ) -> Result<OpeningEntries<'_>, OpeningFault>
     ensures ok { IfOk result (λ parts. shape.parts_of (view value.now)
         ≡ Some (record { setup = view parts.setup.now; demands = parts.demands.items; increment = parts.increment })) }
-    ensures err { IfErr result (λ fault. fault ≢ OpeningFault.NoMemory
-        → or_fault OpeningFault.Shape (shape.parts_of (view value.now)) ≡ Err fault) }
+    ensures err { IfErr result (IsRefusal OpeningFault.NoMemory (or_fault OpeningFault.Shape (shape.parts_of (view value.now)))) }
     ensures held { IfErr result (λ fault. fault ≢ OpeningFault.Setup SetupFault.NoMemory) }
 {
     let setup = value.get("setup").ok_or(OpeningFault::Shape)?;

@@ -1,8 +1,8 @@
 ghost use Rattle.std.specs.Prelude.{◌≡◌, ◌≢◌, ◌≤◌, ◌==◌, None, Some, length, zip, All, IfOk, IfErr, IfNone};
 ghost use Rattle.std.specs.List.{list_all};
 ghost use Rattle.clock_setup.specs.Demands.{IsGrid};
-ghost use Rattle.clock_setup.specs.Faults.{first_fault, in_turn};
-ghost use Rattle.clock_setup.specs.Limits.{IsRow};
+ghost use Rattle.clock_setup.specs.Faults.{IsFirstFault, first_fault, in_turn};
+ghost use Rattle.clock_setup.specs.Limits.{IsRow, most_supply};
 ghost use Rattle.clock_setup.specs.OpeningDocument as document;
 ghost use Rattle.clock_setup.specs.OpeningDocument.{demand_checks, row_checks};
 
@@ -49,7 +49,7 @@ fn demand_fault(number: u64, products: &[Product], row: &[u64]) -> Option<Openin
 fn row_fault(number: u64, setup: &Setup, bidder: &Bidder, row: &[u64]) -> Option<OpeningFault>
     requires { length row.now ≡ length setup.now.products }
     ensures fault { result ≡ first_fault (row_checks setup.now.products number (bidder.now, row.now)) }
-    ensures small { IfNone result (All (λ demand. demand ≤ 1000) row.now) }
+    ensures small { IfNone result (All (λ demand. demand ≤ most_supply) row.now) }
     ensures held { result ≢ Some (OpeningFault.Setup SetupFault.NoMemory) }
 {
     if let Some(fault) = demand_fault(number, setup.products.as_slice(), row) {
@@ -71,8 +71,8 @@ pub(crate) fn grid_within(
     ensures same { IfOk result (λ grid. grid ≡ demands.now) }
     ensures ok { IfOk result (λ _. first_fault
         (in_turn (row_checks setup.now.products) 0 (zip setup.now.bidders demands.now)) ≡ None) }
-    ensures err { IfErr result (λ fault. fault ≢ OpeningFault.NoMemory → first_fault
-        (in_turn (row_checks setup.now.products) 0 (zip setup.now.bidders demands.now)) ≡ Some fault) }
+    ensures err { IfErr result (IsFirstFault OpeningFault.NoMemory (first_fault
+        (in_turn (row_checks setup.now.products) 0 (zip setup.now.bidders demands.now)))) }
     ensures held { IfErr result (λ fault. fault ≢ OpeningFault.Setup SetupFault.NoMemory) }
 {
     let bidders = setup.bidders.as_slice();

@@ -18,6 +18,8 @@ pub struct Product {
     pub cap: u64,
     /// The price of a block in the first round.
     pub opening: Price,
+    /// Clock prices from round 2 on are whole multiples of this, 1 to 1,000,000 dollars; in version 1 it is 1.
+    pub granule: u64,
 }
 
 /// A bidder, and its eligibility before the first round.
@@ -43,8 +45,11 @@ pub type Bidders = Items<Bidder>;
 /// procedures for Auction 105 have it.
 #[derive(Drop)]
 pub struct Setup {
-    /// The version of the document that the set-up was read from, 1.
+    /// The version of the document that the set-up was read from, 1 or 2.
     pub version: u64,
+    /// How many percent of its eligibility a bidder's sheet may ask to use from round 2 on, 100 to 140; in version 1
+    /// it is 100.
+    pub limit: u64,
     /// The activity requirement, 50 to 100 percent of a bidder's eligibility.
     pub requirement: u64,
     /// The operator's token, 16 to 64 ASCII letters and digits.
@@ -60,9 +65,9 @@ impl Model for Setup {
 
     ghost Value = { SetupFields };
 
-    ghost view = { λ s. record { version = s.version; requirement = s.requirement; operator = s.operator; products = s.products; bidders = s.bidders } };
+    ghost view = { λ s. record { version = s.version; limit = s.limit; requirement = s.requirement; operator = s.operator; products = s.products; bidders = s.bidders } };
 
-    ghost invariant = { λ s. IsSetup (record { version = s.version; requirement = s.requirement; operator = s.operator; products = s.products; bidders = s.bidders }) };
+    ghost invariant = { λ s. IsSetup (record { version = s.version; limit = s.limit; requirement = s.requirement; operator = s.operator; products = s.products; bidders = s.bidders }) };
 }
 
 impl Product {
@@ -76,6 +81,7 @@ impl Product {
             supply: self.supply,
             cap: self.cap,
             opening: self.opening,
+            granule: self.granule,
         })
     }
 }
@@ -125,6 +131,7 @@ impl Setup {
         let bidders = bidders_copy(alloc, self.bidders.as_slice())?;
         Ok(Setup {
             version: self.version,
+            limit: self.limit,
             requirement: self.requirement,
             operator,
             products,

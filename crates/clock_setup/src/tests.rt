@@ -91,10 +91,11 @@ fn refuses_what_is_no_setup(rt: HostRuntime) -> Result<(), Fail> {
         "{\"version\":-1}",
         "{\"version\":18446744073709551616}",
         "{\"version\":1}",
+        "{\"version\":2}",
     ] {
         assert_eq!(rt; setup_fault(alloc, text), Some(SetupFault::Shape), "{text}");
     }
-    for text in ["{\"version\":2}", "{\"version\":0}"] {
+    for text in ["{\"version\":3}", "{\"version\":0}"] {
         assert_eq!(rt;
             setup_fault(alloc, text),
             Some(SetupFault::Version),
@@ -263,10 +264,10 @@ fn refuses_each_fault_of_an_opening(rt: HostRuntime) -> Result<(), Fail> {
         (
             "[]",
             "0",
-            "{\"version\":2}",
+            "{\"version\":3}",
             OpeningFault::Setup(SetupFault::Version),
         ),
-        ("[7]", "0", "{\"version\":2}", OpeningFault::Shape),
+        ("[7]", "0", "{\"version\":3}", OpeningFault::Shape),
     ];
     for (demands, increment, setup, fault) in cases {
         let text = opening_text(alloc, demands, increment, setup)?;

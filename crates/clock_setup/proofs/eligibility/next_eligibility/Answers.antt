@@ -1,5 +1,5 @@
 use Rattle.std.proofs.Common.{◌*◌, arith}
-use Rattle.clock_setup.proofs.RoundingLaws.{rounded_up_least}
+use Rattle.clock_money.proofs.RoundingLaws.{rounded_up_least}
 use Rattle.clock_setup.proofs.eligibility.next_eligibility.Goals as goal
 
 pub returns-clause-supported : goal.returns-clause-supported

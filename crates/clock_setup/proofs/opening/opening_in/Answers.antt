@@ -1,7 +1,7 @@
 use Rattle.std.proofs.Common.{◌≡◌, true, false, rules}
 use Rattle.std.proofs.lemmas.Result.{err_from_is_err_and}
 use Rattle.serde_json.specs.View.{view}
-use Rattle.clock_setup.specs.Limits.{is_within}
+use Rattle.clock_setup.specs.Limits.{is_within, least_increment, most_increment}
 use Rattle.clock_setup.specs.OpeningDocument.{has_counts}
 use Rattle.clock_setup.proofs.OpeningLaws.{grid_of_counts, opening_shape, opening_setup, opening_counts, opening_rows, opening_increment}
 use Rattle.clock_setup.proofs.opening.opening_in.Goals as goal
@@ -40,7 +40,7 @@ returns-in_err-grid-clause-err c =
 pub returns-then-not-is_within-clause-err : goal.returns-then-not-is_within-clause-err
 returns-then-not-is_within-clause-err c =
     let counts : has_counts c.in_ok-setup.setup c.as_slice.result.now ≡ true = search rules in
-    let increment : is_within 1 50 c.in_ok-parts.parts.increment ≡ false = search rules in
+    let increment : is_within least_increment most_increment c.in_ok-parts.parts.increment ≡ false = search rules in
     let e = c.as_slice.ensures.value in
     let f = c.as_slice-2.ensures.value in
     λ known. opening_increment (view c.args.value.now) _ c.in_ok-setup.setup false c.in_ok-parts.ensures.ok c.in_ok-setup.ensures.ok (rw (← e) counts) (rw (← f) c.in_ok-grid.ensures.ok) increment
@@ -48,7 +48,7 @@ returns-then-not-is_within-clause-err c =
 pub returns-clause-ok : goal.returns-clause-ok
 returns-clause-ok c =
     let counts : has_counts c.in_ok-setup.setup c.as_slice.result.now ≡ true = search rules in
-    let increment : is_within 1 50 c.in_ok-parts.parts.increment ≡ true = search rules in
+    let increment : is_within least_increment most_increment c.in_ok-parts.parts.increment ≡ true = search rules in
     let e = c.as_slice.ensures.value in
     let f = c.as_slice-2.ensures.value in
     rw (c.in_ok-grid.ensures.same, f)

@@ -1,0 +1,3 @@
+pub mod RoundingLaws
+pub mod Raising
+mod Examples
