@@ -1,5 +1,4 @@
 mod IncrementText
 mod Grammar
-mod Streams
 mod Reading
 mod Outcomes

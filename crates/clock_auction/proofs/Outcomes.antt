@@ -1,18 +1,14 @@
 -- Each way in which a run can stop is one of the outcomes.
 use Rattle.std.proofs.Common.{◌≡◌, ℕ, List, [], Bool, Option, Some, Err, refl, inl, inr, arith}
 use Rattle.clock_device.specs.Calls.{IsUnread, IsUnused}
-use Rattle.clock_auction.specs.Input.{IsReadingOf, Reading, ReadsWhole}
+use Rattle.clock_auction.specs.Input.{IsReadingOf, Reading}
 use Rattle.clock_auction.specs.Output.{IsUntouched, Writing}
-use Rattle.clock_auction.specs.Run.{ComesTo, HasAnswer, IsRunOf, IsShown, IsShownOrMemory, Shows, stopped}
+use Rattle.clock_auction.specs.Run.{ComesTo, IsRunOf, Shows, stopped}
 use Rattle.clock_auction.specs.FaultLines.{fault_line}
 use Rattle.clock_auction.specs.declared.words.Job.{Job}
 use Rattle.clock_auction.specs.declared.fault.Fault.{Fault}
 use Rattle.clock_auction.specs.declared.fault.Fault.TheVariants as fault
-use Rattle.clock_auction.proofs.Streams.{read_nothing, same_bytes}
-
--- a document that was read whole was read for want of memory too
-read_for_memory : (reading : Reading) (document : List ℕ) → ReadsWhole reading document → IsReadingOf reading (Err fault.Memory)
-read_for_memory reading document whole = ((document, whole.bytes, whole.few), whole.unfailed)
+use Rattle.clock_device.proofs.Streams.{read_nothing, same_bytes}
 
 -- a sink on which no call is made stays untouched
 pub untouched : (bytes : Option (List ℕ)) (calls : ℕ) (failed : Bool) → IsUnused calls failed
@@ -22,27 +18,17 @@ untouched bytes calls failed unused =
 
 -- nothing was read for want of memory
 pub unread_for_memory : (bytes : Option (List ℕ)) (calls interruptions : ℕ) (failed : Bool) → IsUnread calls interruptions failed
-    → IsReadingOf (record { before = bytes; after = bytes; calls = calls; has_failed = failed }) (Err fault.Memory)
+    → IsReadingOf (record { before = bytes; after = bytes; calls = calls; interruptions = interruptions; has_failed = failed }) (Err fault.Memory)
 unread_for_memory bytes calls interruptions failed unused =
-    (([], read_nothing bytes bytes (same_bytes bytes), omega arith), unused.unfailed)
+    (([], record { read = read_nothing bytes bytes (same_bytes bytes); used = omega (arith, unused.uncounted) }, omega arith), unused.unfailed)
 
 module _ (asked : Option Job) (job : Job) (asks : asked ≡ Some job) (reading : Reading) (output shown : Writing) where
-  -- the fault of the document, or want of memory for its line
-  document_fault : (cause : Fault) → HasAnswer job reading (Err cause) → IsUntouched output
-      → (Shows shown (fault_line cause) → ComesTo asked reading output shown 1) → IsShownOrMemory cause shown → ComesTo asked reading output shown 1
-  document_fault cause answer quiet as_it_is (inl line) = as_it_is line
-  document_fault cause answer quiet as_it_is (inr line) =
-      (stopped fault.Memory, refl, (read_for_memory reading answer.0 answer.1, quiet, line))
-
-  pub stopped_run : (cause : Fault) → IsRunOf {U = Unit {0}} job reading output (Err cause) → IsShown cause shown
+  pub stopped_run : (cause : Fault) → IsRunOf {U = Unit {0}} job reading output (Err cause) → Shows shown (fault_line cause)
       → ComesTo asked reading output shown 1
   stopped_run fault.Input run line = (stopped fault.Input, refl, ((job, asks, run), line))
   stopped_run fault.LongInput run line = (stopped fault.LongInput, refl, ((job, asks, run), line))
   stopped_run fault.Output run line = (stopped fault.Output, refl, ((job, asks, run), line))
   stopped_run fault.Memory run line = (stopped fault.Memory, refl, (run.0, run.1, line))
-  stopped_run (fault.Setup inner) run line =
-      document_fault (fault.Setup inner) run.0 run.1 (λ own. (stopped (fault.Setup inner), refl, ((job, asks, run), own))) line
-  stopped_run (fault.Opening inner) run line =
-      document_fault (fault.Opening inner) run.0 run.1 (λ own. (stopped (fault.Opening inner), refl, ((job, asks, run), own))) line
-  stopped_run (fault.PriceLimit product) run line =
-      document_fault (fault.PriceLimit product) run.0 run.1 (λ own. (stopped (fault.PriceLimit product), refl, ((job, asks, run), own))) line
+  stopped_run (fault.Setup inner) run line = (stopped (fault.Setup inner), refl, ((job, asks, run), line))
+  stopped_run (fault.Opening inner) run line = (stopped (fault.Opening inner), refl, ((job, asks, run), line))
+  stopped_run (fault.PriceLimit product) run line = (stopped (fault.PriceLimit product), refl, ((job, asks, run), line))

@@ -1,24 +1,36 @@
 -- How a read that stops the reading ends it.
-use Rattle.std.proofs.Common.{◌≡◌, ℕ, ◌≤◌, Bool, false, ◌||◌, List, [], ◌++◌, Option, Err, length, refl, ◌∙◌, inl}
-use Rattle.std.proofs.lemmas.List.{append-nil}
+use Rattle.std.proofs.Common.{◌≡◌, ℕ, ◌+◌, ◌≤◌, Bool, false, ◌||◌, List, [], ◌++◌, Option, Err, length, refl, ◌∙◌, inl, arith}
+use Rattle.std.proofs.lemmas.List.{append-nil, length-append}
 use Rattle.clock_device.specs.Streams.{HasRead}
-use Rattle.clock_auction.specs.Input.{IsReadingOf, IsStepOf, is_input_fault, most_bytes}
+use Rattle.clock_device.proofs.Streams.{read_twice}
+use Rattle.clock_auction.specs.Input.{IsReadingOf, IsStepOf, Reading, Takes, is_input_fault, most_bytes}
 use Rattle.clock_auction.specs.declared.fault.Fault.{Fault}
 use Rattle.clock_auction.specs.declared.fault.Fault.TheVariants as fault
-use Rattle.clock_auction.proofs.Streams.{read_twice}
 
-module _ (before mid after : Option (List ℕ)) (document document_after : List ℕ) (calls : ℕ) (failed failed_after : Bool)
-    (read : HasRead before mid document) (few : length document ≤ most_bytes) (unfailed : failed ≡ false) where
-  pub stopped : (cause : Fault) → failed_after ≡ (failed || is_input_fault {A = Bool} (Err cause))
-      → IsStepOf mid after document document_after (Err cause)
-      → IsReadingOf (record { before = before; after = after; calls = calls; has_failed = failed_after }) (Err cause)
-  stopped fault.Input fails step =
-      ((document ++ [], read_twice before mid after document [] read step, rw append-nil few), inl (fails ∙ rw unfailed refl))
-  stopped fault.LongInput fails step =
-      ((document ++ step.0, read_twice before mid after document step.0 read step.1, step.2), fails ∙ rw unfailed refl)
-  stopped fault.Memory fails step =
-      ((document ++ step.0, read_twice before mid after document step.0 read step.1, step.2), fails ∙ rw unfailed refl)
-  stopped (fault.Setup inner) fails step = absurd step
-  stopped (fault.Opening inner) fails step = absurd step
-  stopped (fault.PriceLimit product) fails step = absurd step
-  stopped fault.Output fails step = absurd step
+module _ (before mid : Option (List ℕ)) (document : List ℕ) (calls interruptions : ℕ) (failed : Bool)
+    (read : HasRead before mid document) (few : length document ≤ most_bytes) (used : calls ≤ length document + interruptions)
+    (unfailed : failed ≡ false) (reading : Reading) (from : reading.before ≡ before)
+    (once : reading.calls ≤ calls + 1) (kept : interruptions ≤ reading.interruptions) where
+  -- with one further read, which gave these bytes
+  took : (bytes : List ℕ) (others : ℕ) → HasRead mid reading.after bytes
+      → reading.calls ≤ length (document ++ bytes) + reading.interruptions + others → Takes reading others (document ++ bytes)
+  took bytes others further count =
+      record { read = rw from (read_twice before mid reading.after document bytes read further); used = count }
+
+  -- that read was the one that was for nothing
+  took_at_last : (bytes : List ℕ) → HasRead mid reading.after bytes → Takes reading 1 (document ++ bytes)
+  took_at_last bytes further = took bytes 1 further (rw length-append (omega arith))
+
+  pub stopped : (cause : Fault) → reading.has_failed ≡ (failed || is_input_fault {A = Bool} (Err cause))
+      → (document_after : List ℕ) → IsStepOf mid reading.after document document_after (Err cause) → IsReadingOf reading (Err cause)
+  stopped fault.Input fails document_after step =
+      inl ((document ++ [], took_at_last [] step, rw append-nil few), fails ∙ rw unfailed refl)
+  stopped fault.LongInput fails document_after step =
+      let long : length document + length step.0 ≡ most_bytes + 1 = rw length-append at step.2 in
+      ((document ++ step.0, took step.0 0 step.1 (rw length-append (omega (arith, long))), step.2), fails ∙ rw unfailed refl)
+  stopped fault.Memory fails document_after step =
+      ((document ++ step.0, took_at_last step.0 step.1, step.2), fails ∙ rw unfailed refl)
+  stopped (fault.Setup inner) fails document_after step = absurd step
+  stopped (fault.Opening inner) fails document_after step = absurd step
+  stopped (fault.PriceLimit product) fails document_after step = absurd step
+  stopped fault.Output fails document_after step = absurd step

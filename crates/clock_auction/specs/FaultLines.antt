@@ -40,7 +40,7 @@ abbrev pub opening_words : OpeningFault → List ℕ
 opening_words in_opening.NotJson = codes "not_json"
 opening_words in_opening.Shape = codes "shape"
 opening_words (in_opening.Setup inner) = setup_words inner
-opening_words (in_opening.Demand bidder product) = codes "demand " ++ decimal bidder ++ codes " " ++ decimal product
+opening_words (in_opening.Demand bidder product) = codes "demand " ++ decimal bidder ++ (codes " " ++ decimal product)
 opening_words (in_opening.Activity bidder) = codes "activity " ++ decimal bidder
 opening_words in_opening.Increment = codes "increment"
 opening_words in_opening.NoMemory = codes "memory"

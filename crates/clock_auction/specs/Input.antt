@@ -1,6 +1,8 @@
 -- How much of the input is read, and how reading ends. Own limits: 64 MiB, in a hundred million reads.
+--     Takes     these bytes were read, and what each read was for
 --     ReadsWhole     all bytes that there were are the document
---     HasReadUpTo     so many bytes were taken at most
+--     TakesUpTo     so many bytes were read at most
+--     HasFailedRead, RunsOutOfReads     the two causes of the fault `input`
 --     ReadsTooMuch     one byte more than the program reads was taken
 --     IsReadingOf     how reading ended, by its result
 --     IsStepOf     what one read came to
@@ -18,38 +20,49 @@ abbrev pub most_reads : ℕ
 most_reads = 100000000
 
 -- what is seen of a source over a run: the bytes left before and after it, where the source tells them, how many reads
--- were made, and whether one failed
+-- were made, how many of them were interrupted, and whether one failed
 pub record Reading : Type 0 where
   pub before : Option (List ℕ)
   pub after : Option (List ℕ)
   pub calls : ℕ
+  pub interruptions : ℕ
   pub has_failed : Bool
 
--- the document is all that there was, and no more than the program reads
+-- these bytes were read, and each read took one of them at least or was interrupted, but for so many other reads
+pub record Takes (reading : Reading) (others : ℕ) (bytes : List ℕ) : Type 0 where
+  pub read : HasRead reading.before reading.after bytes
+  pub used : reading.calls ≤ length bytes + reading.interruptions + others
+
+-- the document is all that there was, and no more than the program reads. One read found the end.
 pub record ReadsWhole (reading : Reading) (document : List ℕ) : Type 0 where
-  pub bytes : HasRead reading.before reading.after document
+  pub takes : Takes reading 1 document
   pub out : IsReadOut reading.after
   pub few : length document ≤ most_bytes
   pub unfailed : reading.has_failed ≡ false
 
--- so many bytes were taken, and no more
-abbrev pub HasReadUpTo : ℕ → Reading → Type 0
-HasReadUpTo most reading =
-    (bytes : List ℕ) × HasRead reading.before reading.after bytes × (length bytes ≤ most)
+-- no more bytes were taken than the program reads
+abbrev pub TakesUpTo : ℕ → Reading → Type 0
+TakesUpTo others reading = (bytes : List ℕ) × Takes reading others bytes × (length bytes ≤ most_bytes)
+
+-- a read failed, and it was the only one that neither took a byte nor was interrupted
+abbrev pub HasFailedRead : Reading → Type 0
+HasFailedRead reading = TakesUpTo 1 reading × (reading.has_failed ≡ true)
+
+-- bytes and interruptions used all reads up
+abbrev pub RunsOutOfReads : Reading → Type 0
+RunsOutOfReads reading = TakesUpTo 0 reading × (reading.calls ≡ most_reads) × (reading.has_failed ≡ false)
 
 -- one byte more than the program reads was taken
 abbrev pub ReadsTooMuch : Reading → Type 0
-ReadsTooMuch reading =
-    (bytes : List ℕ) × HasRead reading.before reading.after bytes × (length bytes ≡ most_bytes + 1)
+ReadsTooMuch reading = (bytes : List ℕ) × Takes reading 0 bytes × (length bytes ≡ most_bytes + 1)
 
 -- how reading ends: with the document; where a read failed, or all reads were made; with one byte too many; or for want
 -- of memory. An interrupted read is none of these, so it is tried again.
 abbrev pub IsReadingOf : Reading → Result (List ℕ) Fault → Type 0
 IsReadingOf reading (Ok document) = ReadsWhole reading document
-IsReadingOf reading (Err fault.Input) =
-    HasReadUpTo most_bytes reading × ((reading.has_failed ≡ true) ⊎ (reading.calls ≡ most_reads))
+IsReadingOf reading (Err fault.Input) = HasFailedRead reading ⊎ RunsOutOfReads reading
 IsReadingOf reading (Err fault.LongInput) = ReadsTooMuch reading × (reading.has_failed ≡ false)
-IsReadingOf reading (Err fault.Memory) = HasReadUpTo most_bytes reading × (reading.has_failed ≡ false)
+IsReadingOf reading (Err fault.Memory) = TakesUpTo 1 reading × (reading.has_failed ≡ false)
 IsReadingOf reading (Err other) = ⊥
 
 -- one read gave these bytes, and they were added to the document
@@ -69,6 +82,11 @@ IsStepOf left left_after document document_after (Err fault.LongInput) =
 IsStepOf left left_after document document_after (Err fault.Memory) =
     (bytes : List ℕ) × HasRead left left_after bytes × (length (document ++ bytes) ≤ most_bytes)
 IsStepOf left left_after document document_after (Err other) = ⊥
+
+-- a count that grew by one at most
+pub record GrowsByOneAtMost (old new : ℕ) : Type 0 where
+  pub least : old ≤ new
+  pub most : new ≤ old + 1
 
 -- the read failed
 abbrev pub is_input_fault : {A : Type 0} → Result A Fault → Bool

@@ -1,8 +1,8 @@
--- What was written to a sink.
+-- What was written to a sink over a run.
 --     WritesWhole, WritesFront     all of the text was written, or a write failed and a front of it was
 --     IsUntouched     no write was made
-use Rattle.std.specs.Prelude.{◌≡◌, ℕ, List, take, Option, Bool, true, false}
-use Rattle.clock_device.specs.Streams.{HasWritten, HasWrittenNothing}
+use Rattle.std.specs.Prelude.{◌≡◌, ℕ, List, Option, Bool, true, false}
+use Rattle.clock_device.specs.Streams.{HasWritten, HasWrittenFront, HasWrittenNothing}
 
 -- what is seen of a sink over a run: the bytes taken before and after it, where the sink tells them, how many writes
 -- were made, and whether one failed
@@ -11,10 +11,6 @@ pub record Writing : Type 0 where
   pub after : Option (List ℕ)
   pub calls : ℕ
   pub has_failed : Bool
-
--- so many bytes of the text were written, and no others
-abbrev pub HasWrittenFront : Option (List ℕ) → Option (List ℕ) → List ℕ → Type 0
-HasWrittenFront old new text = (count : ℕ) × HasWritten old new (take count text)
 
 -- all of the text was written
 pub record WritesWhole (writing : Writing) (text : List ℕ) : Type 0 where

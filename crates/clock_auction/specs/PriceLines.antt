@@ -1,19 +1,15 @@
 -- The lines that `prices` prints: a product's name, its opening price and its first clock price above that. (Own format.)
 --     price_lines increment products     the lines
-use Rattle.std.specs.Prelude.{ℕ, List, ◌++◌, Option, Some, None, codes, decimal}
+use Rattle.std.specs.Prelude.{ℕ, List, ◌++◌, codes, decimal}
 use Rattle.std.specs.List.{flat_map}
+use Rattle.clock_device.specs.Decimal.{number_or_dash}
 use Rattle.clock_money.specs.Price.{raise}
 use Rattle.clock_setup.specs.declared.setup.Product.{Product}
-
--- a price in decimal, or a dash where there is none
-abbrev pub price_or_dash : Option ℕ → List ℕ
-price_or_dash None = codes "-"
-price_or_dash (Some price) = decimal price
 
 -- NAME OPENING CLOCK, parted by one space, where the clock price is the opening price raised by so many percent
 abbrev pub price_line : ℕ → Product → List ℕ
 price_line increment product =
-    product.name ++ codes " " ++ decimal product.opening ++ codes " " ++ price_or_dash (raise product.opening increment) ++ codes "\n"
+    product.name ++ codes " " ++ decimal product.opening ++ codes " " ++ number_or_dash (raise product.opening increment) ++ codes "\n"
 
 -- a line for each product
 abbrev pub price_lines : ℕ → List Product → List ℕ

@@ -3,7 +3,7 @@
 --     HasOutcome job reading output shown outcome     how a run ends whose words ask for that job, if any
 --     ComesTo job reading output shown status     a run with this status ends so
 use Rattle.std.specs.Prelude.{◌≡◌, ◌⊎◌, ℕ, List, Option, Some, None, Result, Ok, Err, false}
-use Rattle.clock_device.specs.Streams.{HasWrittenNothing}
+use Rattle.std.specs.Io.KnownBytes.{Keeps}
 use Rattle.clock_auction.specs.Input.{IsReadingOf, Reading, ReadsWhole}
 use Rattle.clock_auction.specs.Output.{IsUntouched, Writing, WritesFront, WritesWhole}
 use Rattle.clock_auction.specs.Answers.{answer_of}
@@ -51,9 +51,9 @@ status_of refused = 2
 abbrev pub Shows : Writing → List ℕ → Type 0
 Shows shown text = WritesWhole shown text ⊎ WritesFront shown text
 
--- no read was made, so nothing was read: the same bytes are left
+-- no read was made, so nothing was read: the bytes that the source tells are left as they were
 pub record MakesNoRead (reading : Reading) : Type 0 where
-  pub bytes : HasWrittenNothing reading.before reading.after
+  pub bytes : Keeps reading.before reading.after
   pub none : reading.calls ≡ 0
   pub unfailed : reading.has_failed ≡ false
 
@@ -76,14 +76,3 @@ HasOutcome asked reading output shown refused = (asked ≡ None) × MakesNoRead 
 abbrev pub ComesTo : Option Job → Reading → Writing → Writing → ℕ → Type 0
 ComesTo asked reading output shown status =
     (outcome : Outcome) × (status ≡ status_of outcome) × HasOutcome asked reading output shown outcome
-
--- the line of the fault is shown, or that of want of memory
-abbrev pub IsShownOrMemory : Fault → Writing → Type 0
-IsShownOrMemory cause shown = Shows shown (fault_line cause) ⊎ Shows shown (fault_line fault.Memory)
-
--- the line of the fault is shown, which takes memory where the fault is the document's
-abbrev pub IsShown : Fault → Writing → Type 0
-IsShown (fault.Setup inner) shown = IsShownOrMemory (fault.Setup inner) shown
-IsShown (fault.Opening inner) shown = IsShownOrMemory (fault.Opening inner) shown
-IsShown (fault.PriceLimit product) shown = IsShownOrMemory (fault.PriceLimit product) shown
-IsShown other shown = Shows shown (fault_line other)

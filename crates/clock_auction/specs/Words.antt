@@ -26,9 +26,9 @@ increment_option = record (new_rule (codes "increment")) {
 abbrev pub prices_grammar : App
 prices_grammar = with_rule (new_app (codes "prices")) increment_option
 
--- the words begin with a command, and not with the program's own name
+-- the words begin with a command, and not with the program's own name, or ask for help or the version
 abbrev pub asks_for_a_command : Shape → Shape
-asks_for_a_command shape = record shape { no_binary_name = true; subcommand_required = true }
+asks_for_a_command shape = record shape { no_binary_name = true; subcommand_required = true; has_version = true }
 
 -- the commands `prices` and `opening`, one of which must be named
 abbrev pub grammar : App

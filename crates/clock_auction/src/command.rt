@@ -1,18 +1,18 @@
 ghost use Rattle.std.specs.Prelude.{◌≡◌, ◌≤◌, map};
 ghost use Rattle.clock_device.specs.Calls.{IsUnread, IsUnused};
+ghost use Rattle.clock_auction.specs.FaultLines.{fault_line};
 ghost use Rattle.clock_auction.specs.Input.{most_reads};
-ghost use Rattle.clock_auction.specs.Run.{ComesTo, IsRunOf, IsShown, IsShownOrMemory, Shows};
+ghost use Rattle.clock_auction.specs.Run.{ComesTo, IsRunOf, Shows};
 ghost use Rattle.clock_auction.specs.Words.{IsJob, job_of};
 
 use crate::answer::answer;
 use crate::fault::Fault;
-use crate::fault_lines::line_of_fault;
+use crate::fault_lines::write_fault;
 use crate::input::read_all;
-use crate::output::write_all;
 use crate::words::{Job, job_asked};
 use clap::Error;
 use clap::error::ErrorKind;
-use clock_device::{Sink, Source};
+use clock_device::{Sink, Source, write_all};
 use std::alloc::Global;
 
 /// One run of the program: does what the words after its name ask for, with a document from the
@@ -37,7 +37,7 @@ pub fn command<R: Source, W: Sink, F: Sink>(
     requires unwritten { IsUnused (W.calls writer.old) (W.has_failed writer.old) }
     requires unshown { IsUnused (F.calls faults.old) (F.has_failed faults.old) }
     ensures outcome { ComesTo (job_of (map (λ word. word.now) words.entry.now))
-        (record { before = R.bytes_left reader.old; after = R.bytes_left reader.new; calls = R.calls reader.new; has_failed = R.has_failed reader.new })
+        (record { before = R.bytes_left reader.old; after = R.bytes_left reader.new; calls = R.calls reader.new; interruptions = R.interruptions reader.new; has_failed = R.has_failed reader.new })
         (record { before = W.bytes_taken writer.old; after = W.bytes_taken writer.new; calls = W.calls writer.new; has_failed = W.has_failed writer.new })
         (record { before = F.bytes_taken faults.old; after = F.bytes_taken faults.new; calls = F.calls faults.new; has_failed = F.has_failed faults.new })
         result }
@@ -47,14 +47,14 @@ pub fn command<R: Source, W: Sink, F: Sink>(
         Ok(Some(job)) => match run(alloc, job, reader, writer) {
             Ok(()) => 0,
             Err(fault) => {
-                show_fault(alloc, fault, faults);
+                show_fault(fault, faults);
                 1
             }
         },
         Ok(None) => 2,
         Err(error) => {
             if error.kind() == ErrorKind::OutOfMemory {
-                show_fault(alloc, Fault::Memory, faults);
+                show_fault(Fault::Memory, faults);
                 return 1;
             }
             show_usage(alloc, &error, faults);
@@ -74,7 +74,7 @@ fn run<R: Source, W: Sink>(
     requires unread { IsUnread (R.calls reader.old) (R.interruptions reader.old) (R.has_failed reader.old) }
     requires unwritten { IsUnused (W.calls writer.old) (W.has_failed writer.old) }
     ensures run { IsRunOf job
-        (record { before = R.bytes_left reader.old; after = R.bytes_left reader.new; calls = R.calls reader.new; has_failed = R.has_failed reader.new })
+        (record { before = R.bytes_left reader.old; after = R.bytes_left reader.new; calls = R.calls reader.new; interruptions = R.interruptions reader.new; has_failed = R.has_failed reader.new })
         (record { before = W.bytes_taken writer.old; after = W.bytes_taken writer.new; calls = W.calls writer.new; has_failed = W.has_failed writer.new })
         result }
     ensures reads { R.calls reader.new ≤ most_reads }
@@ -87,40 +87,12 @@ fn run<R: Source, W: Sink>(
     }
 }
 
-/// Shows the line of a fault. A fault of the document has the line of want of memory where there is
-/// no memory for its own.
-fn show_fault<F: Sink>(alloc: Global, fault: Fault, faults: &mut F)
+/// Shows the line of a fault, or a front of it where it cannot all be shown.
+fn show_fault<F: Sink>(fault: Fault, faults: &mut F)
     requires { IsUnused (F.calls faults.old) (F.has_failed faults.old) }
-    ensures { IsShown fault (record { before = F.bytes_taken faults.old; after = F.bytes_taken faults.new; calls = F.calls faults.new; has_failed = F.has_failed faults.new }) }
+    ensures { Shows (record { before = F.bytes_taken faults.old; after = F.bytes_taken faults.new; calls = F.calls faults.new; has_failed = F.has_failed faults.new }) (fault_line fault) }
 {
-    match fault {
-        Fault::Input => show(faults, b"fault: input\n"),
-        Fault::LongInput => show(faults, b"fault: long_input\n"),
-        Fault::Output => show(faults, b"fault: output\n"),
-        Fault::Memory => show(faults, b"fault: memory\n"),
-        Fault::Setup(_) => show_line(alloc, fault, faults),
-        Fault::Opening(_) => show_line(alloc, fault, faults),
-        Fault::PriceLimit(_) => show_line(alloc, fault, faults),
-    }
-}
-
-/// Shows the line of a fault where there is memory for it, and else that of want of memory.
-fn show_line<F: Sink>(alloc: Global, fault: Fault, faults: &mut F)
-    requires { IsUnused (F.calls faults.old) (F.has_failed faults.old) }
-    ensures { IsShownOrMemory fault (record { before = F.bytes_taken faults.old; after = F.bytes_taken faults.new; calls = F.calls faults.new; has_failed = F.has_failed faults.new }) }
-{
-    match line_of_fault(alloc, fault) {
-        Ok(line) => show(faults, line.as_slice()),
-        Err(_) => show(faults, b"fault: memory\n"),
-    }
-}
-
-/// Shows a text, or a front of it where it cannot all be shown.
-fn show<F: Sink>(faults: &mut F, text: &[u8])
-    requires { IsUnused (F.calls faults.old) (F.has_failed faults.old) }
-    ensures { Shows (record { before = F.bytes_taken faults.old; after = F.bytes_taken faults.new; calls = F.calls faults.new; has_failed = F.has_failed faults.new }) text.now }
-{
-    let _ = write_all(faults, text);
+    let _ = write_fault(faults, fault);
 }
 
 /// Shows what clap says of words that it refuses, or the help that they ask for.

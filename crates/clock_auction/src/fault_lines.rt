@@ -1,92 +1,97 @@
-ghost use Rattle.std.specs.Prelude.{◌≡◌, ◌++◌, codes, decimal, IfOk, OnOk};
+ghost use Rattle.std.specs.Prelude.{◌≡◌, ◌++◌, ◌||◌, codes, decimal, is_err};
+ghost use Rattle.clock_device.specs.Streams.{WritesText};
 ghost use Rattle.clock_auction.specs.FaultLines.{fault_line, fault_words, opening_words, place_words, setup_words};
 
 use crate::fault::Fault;
-use clock_device::{NoMemory, Text};
+use clock_device::{Failed, Sink, write_all, write_number};
 use clock_setup::{OpeningFault, Place, SetupFault};
-use std::alloc::Global;
 
-/// The line that a run shows of its fault: `fault: WORDS` and a line feed.
-pub fn line_of_fault(alloc: Global, fault: Fault) -> Result<Text, NoMemory>
-    ensures { IfOk result (λ line. line ≡ fault_line fault) }
+/// Writes the line of a fault, `fault: WORDS` and a line feed. It takes no memory.
+pub fn write_fault<W: Sink>(sink: &mut W, fault: Fault) -> Result<(), Failed>
+    ensures bytes { WritesText (W.bytes_taken sink.old) (W.bytes_taken sink.new) (fault_line fault) result }
+    ensures failed { W.has_failed sink.new ≡ (W.has_failed sink.old || is_err result) }
 {
-    let mut line = Text::from_slice(alloc, b"fault: ")?;
-    push_fault(&mut line, fault)?;
-    line.push(b'\n')?;
-    Ok(line)
+    write_all(sink, b"fault: ")?;
+    write_words(sink, fault)?;
+    write_all(sink, b"\n")
 }
 
-fn push_fault(line: &mut Text, fault: Fault) -> Result<(), NoMemory>
-    ensures { OnOk result (line.new ≡ line.old ++ fault_words fault) }
+fn write_words<W: Sink>(sink: &mut W, fault: Fault) -> Result<(), Failed>
+    ensures bytes { WritesText (W.bytes_taken sink.old) (W.bytes_taken sink.new) (fault_words fault) result }
+    ensures failed { W.has_failed sink.new ≡ (W.has_failed sink.old || is_err result) }
 {
     match fault {
-        Fault::Input => line.extend_from_slice(b"input"),
-        Fault::LongInput => line.extend_from_slice(b"long_input"),
-        Fault::Setup(fault) => push_setup_fault(line, fault),
-        Fault::Opening(fault) => push_opening_fault(line, fault),
-        Fault::PriceLimit(product) => push_numbered(line, "price_limit ", product),
-        Fault::Output => line.extend_from_slice(b"output"),
-        Fault::Memory => line.extend_from_slice(b"memory"),
+        Fault::Input => write_all(sink, b"input"),
+        Fault::LongInput => write_all(sink, b"long_input"),
+        Fault::Setup(fault) => write_setup_words(sink, fault),
+        Fault::Opening(fault) => write_opening_words(sink, fault),
+        Fault::PriceLimit(product) => write_numbered(sink, "price_limit ", product),
+        Fault::Output => write_all(sink, b"output"),
+        Fault::Memory => write_all(sink, b"memory"),
     }
 }
 
-fn push_opening_fault(line: &mut Text, fault: OpeningFault) -> Result<(), NoMemory>
-    ensures { OnOk result (line.new ≡ line.old ++ opening_words fault) }
+fn write_opening_words<W: Sink>(sink: &mut W, fault: OpeningFault) -> Result<(), Failed>
+    ensures bytes { WritesText (W.bytes_taken sink.old) (W.bytes_taken sink.new) (opening_words fault) result }
+    ensures failed { W.has_failed sink.new ≡ (W.has_failed sink.old || is_err result) }
 {
     match fault {
-        OpeningFault::NotJson => line.extend_from_slice(b"not_json"),
-        OpeningFault::Shape => line.extend_from_slice(b"shape"),
-        OpeningFault::Setup(fault) => push_setup_fault(line, fault),
+        OpeningFault::NotJson => write_all(sink, b"not_json"),
+        OpeningFault::Shape => write_all(sink, b"shape"),
+        OpeningFault::Setup(fault) => write_setup_words(sink, fault),
         OpeningFault::Demand(bidder, product) => {
-            push_numbered(line, "demand ", bidder)?;
-            push_numbered(line, " ", product)
+            write_numbered(sink, "demand ", bidder)?;
+            write_numbered(sink, " ", product)
         }
-        OpeningFault::Activity(bidder) => push_numbered(line, "activity ", bidder),
-        OpeningFault::Increment => line.extend_from_slice(b"increment"),
-        OpeningFault::NoMemory => line.extend_from_slice(b"memory"),
+        OpeningFault::Activity(bidder) => write_numbered(sink, "activity ", bidder),
+        OpeningFault::Increment => write_all(sink, b"increment"),
+        OpeningFault::NoMemory => write_all(sink, b"memory"),
     }
 }
 
-fn push_setup_fault(line: &mut Text, fault: SetupFault) -> Result<(), NoMemory>
-    ensures { OnOk result (line.new ≡ line.old ++ setup_words fault) }
+fn write_setup_words<W: Sink>(sink: &mut W, fault: SetupFault) -> Result<(), Failed>
+    ensures bytes { WritesText (W.bytes_taken sink.old) (W.bytes_taken sink.new) (setup_words fault) result }
+    ensures failed { W.has_failed sink.new ≡ (W.has_failed sink.old || is_err result) }
 {
     match fault {
-        SetupFault::NotJson => line.extend_from_slice(b"setup_not_json"),
-        SetupFault::Shape => line.extend_from_slice(b"setup_shape"),
-        SetupFault::Version => line.extend_from_slice(b"setup_version"),
+        SetupFault::NotJson => write_all(sink, b"setup_not_json"),
+        SetupFault::Shape => write_all(sink, b"setup_shape"),
+        SetupFault::Version => write_all(sink, b"setup_version"),
         SetupFault::Range(place) => {
-            line.extend_from_slice(b"setup_range ")?;
-            push_place(line, place)
+            write_all(sink, b"setup_range ")?;
+            write_place(sink, place)
         }
-        SetupFault::DuplicateName => line.extend_from_slice(b"setup_duplicate_name"),
-        SetupFault::DuplicateToken => line.extend_from_slice(b"setup_duplicate_token"),
-        SetupFault::NoMemory => line.extend_from_slice(b"memory"),
+        SetupFault::DuplicateName => write_all(sink, b"setup_duplicate_name"),
+        SetupFault::DuplicateToken => write_all(sink, b"setup_duplicate_token"),
+        SetupFault::NoMemory => write_all(sink, b"memory"),
     }
 }
 
-fn push_place(line: &mut Text, place: Place) -> Result<(), NoMemory>
-    ensures { OnOk result (line.new ≡ line.old ++ place_words place) }
+fn write_place<W: Sink>(sink: &mut W, place: Place) -> Result<(), Failed>
+    ensures bytes { WritesText (W.bytes_taken sink.old) (W.bytes_taken sink.new) (place_words place) result }
+    ensures failed { W.has_failed sink.new ≡ (W.has_failed sink.old || is_err result) }
 {
     match place {
-        Place::Requirement => line.extend_from_slice(b"requirement"),
-        Place::Operator => line.extend_from_slice(b"operator"),
-        Place::Products => line.extend_from_slice(b"products"),
-        Place::Name(i) => push_numbered(line, "name ", i),
-        Place::Units(i) => push_numbered(line, "units ", i),
-        Place::Supply(i) => push_numbered(line, "supply ", i),
-        Place::Cap(i) => push_numbered(line, "cap ", i),
-        Place::Opening(i) => push_numbered(line, "opening ", i),
-        Place::Bidders => line.extend_from_slice(b"bidders"),
-        Place::BidderName(i) => push_numbered(line, "bidder_name ", i),
-        Place::Token(i) => push_numbered(line, "token ", i),
-        Place::Eligibility(i) => push_numbered(line, "eligibility ", i),
+        Place::Requirement => write_all(sink, b"requirement"),
+        Place::Operator => write_all(sink, b"operator"),
+        Place::Products => write_all(sink, b"products"),
+        Place::Name(i) => write_numbered(sink, "name ", i),
+        Place::Units(i) => write_numbered(sink, "units ", i),
+        Place::Supply(i) => write_numbered(sink, "supply ", i),
+        Place::Cap(i) => write_numbered(sink, "cap ", i),
+        Place::Opening(i) => write_numbered(sink, "opening ", i),
+        Place::Bidders => write_all(sink, b"bidders"),
+        Place::BidderName(i) => write_numbered(sink, "bidder_name ", i),
+        Place::Token(i) => write_numbered(sink, "token ", i),
+        Place::Eligibility(i) => write_numbered(sink, "eligibility ", i),
     }
 }
 
-/// Adds a word and a number.
-fn push_numbered(line: &mut Text, word: &str, number: u64) -> Result<(), NoMemory>
-    ensures { OnOk result (line.new ≡ line.old ++ (word.now ++ decimal number)) }
+/// Writes a word and a number.
+fn write_numbered<W: Sink>(sink: &mut W, word: &str, number: u64) -> Result<(), Failed>
+    ensures bytes { WritesText (W.bytes_taken sink.old) (W.bytes_taken sink.new) (word.now ++ decimal number) result }
+    ensures failed { W.has_failed sink.new ≡ (W.has_failed sink.old || is_err result) }
 {
-    line.extend_from_slice(word.as_bytes())?;
-    line.push_number(number)
+    write_all(sink, word.as_bytes())?;
+    write_number(sink, number)
 }

@@ -1,6 +1,6 @@
-ghost use Rattle.std.specs.Prelude.{◌≡◌, ◌≤◌, ◌<◌, ◌||◌, length, vec_len, IfOk};
+ghost use Rattle.std.specs.Prelude.{◌≡◌, ◌≤◌, ◌<◌, ◌+◌, ◌||◌, false, length, vec_len, IfOk};
 ghost use Rattle.clock_device.specs.Calls.{IsUnread, count_after};
-ghost use Rattle.clock_auction.specs.Input.{IsReadingOf, IsStepOf, is_input_fault, most_bytes, most_reads};
+ghost use Rattle.clock_auction.specs.Input.{GrowsByOneAtMost, IsReadingOf, IsStepOf, is_input_fault, most_bytes, most_reads};
 
 use crate::fault::Fault;
 use clock_device::{Source, Stop, Text};
@@ -18,7 +18,7 @@ const PIECE: usize = 65_536;
 /// All bytes of the input. An interrupted read is tried again.
 pub fn read_all<R: Source>(alloc: Global, reader: &mut R) -> Result<Text, Fault>
     requires { IsUnread (R.calls reader.old) (R.interruptions reader.old) (R.has_failed reader.old) }
-    ensures reading { IsReadingOf (record { before = R.bytes_left reader.old; after = R.bytes_left reader.new; calls = R.calls reader.new; has_failed = R.has_failed reader.new }) result }
+    ensures reading { IsReadingOf (record { before = R.bytes_left reader.old; after = R.bytes_left reader.new; calls = R.calls reader.new; interruptions = R.interruptions reader.new; has_failed = R.has_failed reader.new }) result }
     ensures calls { R.calls reader.new ≤ most_reads }
 {
     let mut piece = empty_piece(alloc, PIECE)?;
@@ -38,7 +38,8 @@ fn empty_piece(alloc: Global, size: usize) -> Result<Vec<u8>, AllocError>
     vec![in alloc; 0; size]
 }
 
-/// Makes one read and adds its bytes to the document. Answers whether the input has ended.
+/// Makes one read and adds its bytes to the document. Answers whether the input has ended. A read
+/// that leaves more to come has taken a byte, or was interrupted.
 fn read_more<R: Source>(
     reader: &mut R,
     piece: &mut [u8],
@@ -46,8 +47,12 @@ fn read_more<R: Source>(
 ) -> Result<bool, Fault>
     requires room { 0 < length piece.old }
     requires few { length document.old ≤ most_bytes }
+    requires uncounted { R.interruptions reader.old < most_reads }
     ensures step { IsStepOf (R.bytes_left reader.old) (R.bytes_left reader.new) document.old document.new result }
+    ensures used { IfOk result (λ ended. ended ≡ false
+        → length document.old + R.interruptions reader.old < length document.new + R.interruptions reader.new) }
     ensures counted { R.calls reader.new ≡ count_after (R.calls reader.old) }
+    ensures interrupted { GrowsByOneAtMost (R.interruptions reader.old) (R.interruptions reader.new) }
     ensures failed { R.has_failed reader.new ≡ (R.has_failed reader.old || is_input_fault result) }
 {
     let free = MOST_BYTES - document.as_slice().len();

@@ -8,7 +8,6 @@ mod command;
 mod fault;
 mod fault_lines;
 mod input;
-mod output;
 mod prices;
 #[cfg(test)]
 mod tests;

@@ -1,8 +1,8 @@
 ghost use Rattle.std.specs.Prelude.{◌≡◌, ◌≤◌, ◌++◌, IfOk, OnOk};
-ghost use Rattle.clock_auction.specs.PriceLines.{price_line, price_lines, price_or_dash};
+ghost use Rattle.clock_auction.specs.PriceLines.{price_line, price_lines};
 
 use clock_device::{NoMemory, Text};
-use clock_money::{Price, clock_price};
+use clock_money::clock_price;
 use clock_setup::{Product, Setup};
 use std::alloc::Global;
 
@@ -30,16 +30,7 @@ fn push_line(text: &mut Text, product: &Product, increment: u64) -> Result<(), N
     text.push(b' ')?;
     text.push_number(product.opening.get())?;
     text.push(b' ')?;
-    push_or_dash(text, clock_price(product.opening, increment))?;
+    let clock = clock_price(product.opening, increment);
+    text.push_or_dash(clock.map(|price| price.get()))?;
     text.push(b'\n')
-}
-
-/// Adds a price, or a dash where there is none.
-fn push_or_dash(text: &mut Text, price: Option<Price>) -> Result<(), NoMemory>
-    ensures { OnOk result (text.new ≡ text.old ++ price_or_dash price) }
-{
-    match price {
-        Some(price) => text.push_number(price.get()),
-        None => text.push(b'-'),
-    }
 }

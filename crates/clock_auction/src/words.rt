@@ -1,8 +1,9 @@
 ghost use Rattle.std.specs.Prelude.{◌≡◌, ◌≢◌, ◌&&◌, if◌then◌else◌, nat_le, Some, None, false, codes, map, option_and_then, IfSome, IfOk, IfErr};
 ghost use Rattle.clock_setup.specs.Limits.{IsWithin};
-ghost use Rattle.clap.specs.Words.{app_of, found_of, kind_of, one_of, rows_of, subcommand_rows_of};
+ghost use Rattle.clap.specs.Words.{app_of, found_of, kind_of, new_app, one_of, rows_of, subcommand_rows_of};
+ghost use Rattle.clap.specs.Simple.{on_top};
 ghost use Rattle.clap.specs.declared.builder.Command.TheViews.{out-Command};
-ghost use Rattle.clock_auction.specs.Words.{IsJob, grammar, increment_from, job_meant, job_met, job_of, prices_grammar};
+ghost use Rattle.clock_auction.specs.Words.{IsJob, asks_for_a_command, grammar, increment_from, job_meant, job_met, job_of, prices_grammar};
 
 use clap::builder::ValueParser;
 use clap::error::ErrorKind;
@@ -20,6 +21,10 @@ pub enum Job {
 
 /// What a run without any word does.
 static WITHOUT_WORDS: [&str; 3] = ["prices", "--increment", "10"];
+
+/// What the help says of documents and of a run without words.
+static HELP_ON_DOCUMENTS: &str =
+    "The document is read from standard input. Without any word the program does `prices --increment 10`.\nA fault is one line on standard error, with status 1. For help and for words that are refused the status is 2.";
 
 /// What `--increment` takes.
 fn increment_parser<'a>() -> ValueParser<'a>
@@ -40,9 +45,25 @@ fn prices_command<'a>(alloc: Global) -> Result<Command<'a>, Error>
         .default_value("10")
         .help("By how many percent prices rise, from 1 to 50");
     let prices = Command::new(alloc, "prices").about(
-        "Prints the opening and clock price of each product of a set-up document",
+        "Reads a set-up document and prints each product's opening price and next clock price",
     );
     Ok(prices.arg(increment)?)
+}
+
+/// The program without its commands.
+fn program_alone<'a>(alloc: Global) -> Result<Command<'a>, Error>
+    ensures shape { IfOk result (λ command. app_of command ≡ on_top asks_for_a_command (new_app (codes "clock_auction"))) }
+    ensures err { IfErr result (λ error. kind_of error ≡ ErrorKind.OutOfMemory) }
+{
+    let named = Command::new(alloc, "clock_auction").bin_name("clock_auction")?;
+    Ok(
+        named
+            .version("0.1.0")
+            .about("The bidding system of an ascending clock auction")
+            .after_help(HELP_ON_DOCUMENTS)
+            .no_binary_name(true)
+            .subcommand_required(true),
+    )
 }
 
 /// The program's commands.
@@ -52,12 +73,10 @@ fn program<'a>(alloc: Global) -> Result<Command<'a>, Error>
 {
     let prices = prices_command(alloc)?;
     let opening = Command::new(alloc, "opening").about(
-        "Prints the sheet of round 1 of an opening document",
+        "Reads an opening document and prints the sheet of round 1",
     );
     Ok(
-        Command::new(alloc, "clock_auction")
-            .no_binary_name(true)
-            .subcommand_required(true)
+        program_alone(alloc)?
             .subcommand(prices)?
             .subcommand(opening)?,
     )

@@ -1,8 +1,10 @@
-ghost use Rattle.std.specs.Prelude.{◌≡◌, ◌++◌, List, ℕ, decimal, OnOk, OnErr};
+ghost use Rattle.std.specs.Prelude.{◌≡◌, ◌++◌, ◌||◌, List, ℕ, decimal, OnOk, OnErr, is_err};
 ghost use Rattle.clock_device.specs.Decimal.{number_or_dash};
+ghost use Rattle.clock_device.specs.Streams.{WritesText};
 
 use crate::items::Items;
 use crate::no_memory::NoMemory;
+use crate::stream::{Failed, Sink, write_all};
 use itoa::Buffer;
 
 impl Items<u8> {
@@ -25,4 +27,13 @@ impl Items<u8> {
             None => self.push(b'-'),
         }
     }
+}
+
+/// Writes a number in plain decimal, or a front of it where a write fails.
+pub fn write_number<W: Sink>(sink: &mut W, number: u64) -> Result<(), Failed>
+    ensures bytes { WritesText (W.bytes_taken sink.old) (W.bytes_taken sink.new) (decimal number) result }
+    ensures failed { W.has_failed sink.new ≡ (W.has_failed sink.old || is_err result) }
+{
+    let mut buffer = Buffer::new();
+    write_all(sink, buffer.format(number).as_bytes())
 }

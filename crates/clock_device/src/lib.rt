@@ -10,8 +10,9 @@ mod stream;
 mod tests;
 mod wrapped;
 
+pub use decimal::write_number;
 pub use held::{ListSink, ListSource};
 pub use items::{Items, Text};
 pub use no_memory::NoMemory;
-pub use stream::{Failed, Sink, Source, Stop};
+pub use stream::{Failed, Sink, Source, Stop, write_all};
 pub use wrapped::{FromReader, ToWriter};

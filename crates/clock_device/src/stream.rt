@@ -2,7 +2,7 @@ ghost use Rattle.std.specs.Prelude.{◌≡◌, ◌≤◌, ◌||◌, ℕ, Bool, L
 ghost use Rattle.std.specs.Io.{ReadsAtMost};
 ghost use Rattle.std.specs.Io.KnownBytes.{ReadConsumes, WriteAppends};
 ghost use Rattle.clock_device.specs.Calls.{count_after, interruptions_after, is_failed_read};
-ghost use Rattle.clock_device.specs.Streams.{CountsTaken};
+ghost use Rattle.clock_device.specs.Streams.{CountsTaken, WritesText};
 
 use thiserror::Error;
 
@@ -65,4 +65,16 @@ pub trait Sink {
         ensures bytes { WriteAppends (bytes_taken self.old) (bytes_taken self.new) result bytes.now }
         ensures counted { calls self.new ≡ count_after (calls self.old) }
         ensures failed { has_failed self.new ≡ (has_failed self.old || is_err result) };
+}
+
+/// Writes all of the bytes, or a front of them where a write fails.
+pub fn write_all<W: Sink>(sink: &mut W, bytes: &[u8]) -> Result<(), Failed>
+    ensures bytes { WritesText (W.bytes_taken sink.old) (W.bytes_taken sink.new) bytes.now result }
+    ensures failed { W.has_failed sink.new ≡ (W.has_failed sink.old || is_err result) }
+{
+    let mut done = 0;
+    while done < bytes.len() {
+        done += sink.write(&bytes[done..])?;
+    }
+    Ok(())
 }

@@ -1,14 +1,16 @@
-use Rattle.std.proofs.Common.{◌≡◌, ◌≤◌, ◌<◌, false, length, vec_len}
+use Rattle.std.proofs.Common.{◌≡◌, ◌≤◌, ◌<◌, ◌+◌, false, length, vec_len}
 use Rattle.clock_device.specs.Streams.{HasRead}
 use Rattle.clock_auction.specs.Input.{most_bytes}
 use Rattle.clock_auction.proofs.input.read_all.Given as goal
 
--- the document so far was read, in so many reads, and none has failed
+-- the document so far was read, in so many reads, of which each took a byte or was interrupted, and none has failed
 abbrev pub invariant-loop-call : goal.invariant-loop-call
 invariant-loop-call g l = record {
   room : 0 < vec_len l.piece;
   few : length l.document ≤ most_bytes;
   read : HasRead (g.R.Source.bytes_left l.initial.reader) (g.R.Source.bytes_left l.reader) l.document;
   counted : g.R.Source.calls l.reader ≡ l._call;
+  used : l._call ≤ length l.document + g.R.Source.interruptions l.reader;
+  interrupted : g.R.Source.interruptions l.reader ≤ l._call;
   unfailed : g.R.Source.has_failed l.reader ≡ false;
 }

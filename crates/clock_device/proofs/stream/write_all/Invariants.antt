@@ -1,6 +1,6 @@
 use Rattle.std.proofs.Common.{length, take, ◌-◌, ◌≡◌, ◌≤◌}
 use Rattle.clock_device.specs.Streams.{HasWritten}
-use Rattle.clock_auction.proofs.output.write_all.Given as goal
+use Rattle.clock_device.proofs.stream.write_all.Given as goal
 
 -- the bytes so far are written, and no write has failed
 abbrev pub invariant-loop-done : goal.invariant-loop-done

@@ -1,8 +1,8 @@
 use Rattle.std.proofs.Common.{List, ℕ, subst, arith, rules, length-drop}
 use Rattle.std.proofs.lemmas.List.{take_rest}
 use Rattle.clock_device.specs.Streams.{HasWritten}
-use Rattle.clock_auction.proofs.Streams.{take_further, written_twice}
-use Rattle.clock_auction.proofs.output.write_all.Goals as goal
+use Rattle.clock_device.proofs.Streams.{take_further, written_twice}
+use Rattle.clock_device.proofs.stream.write_all.Goals as goal
 
 pub loop-done-preserved : goal.loop-done-preserved
 loop-done-preserved g c =
