@@ -1,16 +1,18 @@
 -- What an accepted closing tells.
-use Rattle.std.proofs.Common.{◌≡◌, ℕ, List, Bool, true, false, cond, not, ◌==◌, refl}
+use Rattle.std.proofs.Common.{◌≡◌, ℕ, List, ◌∷◌, ◌++◌, Bool, true, false, not, ◌==◌, refl}
 use Rattle.std.specs.Prelude.{Option, Some, None, Result, Ok, Err, length}
 use Rattle.clock_setup.specs.declared.setup.Product.{Product}
 use Rattle.clock_setup.specs.Limits.{is_within}
+use Rattle.clock_setup.specs.Faults.{first_fault, unless}
 use Rattle.clock_order.specs.declared.ties.Tie.{Tie}
 use Rattle.clock_order.specs.declared.ties.TieFault.{TieFault}
 use Rattle.clock_order.specs.Ties.{tie_fault}
 use Rattle.clock_posting.specs.Posting.{price_limit_fault}
-use Rattle.clock_house.specs.declared.slip.ClosedRound.{ClosedRound}
+use Rattle.clock_house.specs.declared.closed_round.ClosedRound.{ClosedRound}
 use Rattle.clock_house.specs.declared.fault.CloseFault.{CloseFault}
 use Rattle.clock_house.specs.declared.fault.CloseFault.TheVariants as close_faults
-use Rattle.clock_house.specs.Closing.{OpenRound, Outcome, outcome, closed_round, closed_unless, closing_with, closing_unless, closing}
+use Rattle.clock_house.specs.Faults.{fault_check}
+use Rattle.clock_house.specs.Closing.{OpenRound, Outcome, outcome, closed_round, closing}
 
 -- the auction goes on, the round is the current one, increment and tie numbers have no fault, no next clock price is too high, and the round is that of the outcome
 pub record IsClosing (products : List Product) (requirement : ℕ) (now : OpenRound) (round increment : ℕ) (ties : List Tie) (closed : ClosedRound) : Type 0 where
@@ -21,39 +23,33 @@ pub record IsClosing (products : List Product) (requirement : ℕ) (now : OpenRo
   pub possible : price_limit_fault products (outcome products now ties).grid (outcome products now ties).posted increment ≡ None
   pub made : closed ≡ closed_round products requirement now increment (outcome products now ties)
 
--- the tests before the tie numbers
-abbrev pub tested : Bool → Bool → Bool → ℕ → Result ClosedRound CloseFault → Result ClosedRound CloseFault
-tested ended current within round later =
-    cond ended (Err close_faults.Ended) (cond (not current) (Err (close_faults.WrongRound round)) (cond (not within) (Err close_faults.Increment) later))
+-- the checks of a closing
+abbrev pub checks : Bool → Bool → Bool → ℕ → Option TieFault → Option ℕ → List (CloseFault × Bool)
+checks ended current within round tied limit =
+    (close_faults.Ended, not ended) ∷ (close_faults.WrongRound round, current) ∷ (close_faults.Increment, within)
+    ∷ fault_check close_faults.Tie tied ++ fault_check close_faults.PriceLimit limit
 
-abbrev Passed : Bool → Bool → Bool → Result ClosedRound CloseFault → ClosedRound → Type 0
-Passed ended current within later closed = (ended ≡ false) × (current ≡ true) × (within ≡ true) × (later ≡ Ok closed)
+abbrev Passed : Bool → Bool → Bool → Option TieFault → Option ℕ → ClosedRound → ClosedRound → Type 0
+Passed ended current within tied limit made closed =
+    (ended ≡ false) × (current ≡ true) × (within ≡ true) × (tied ≡ None) × (limit ≡ None) × (closed ≡ made)
 
-passed : (ended current within : Bool) (round : ℕ) (later : Result ClosedRound CloseFault) (closed : ClosedRound) →
-    tested ended current within round later ≡ Ok closed → Passed ended current within later closed
-passed true current within round later closed e = let bad : Err close_faults.Ended ≡ Ok closed = e in cc
-passed false false within round later closed e = let bad : Err (close_faults.WrongRound round) ≡ Ok closed = e in cc
-passed false true false round later closed e = let bad : Err close_faults.Increment ≡ Ok closed = e in cc
-passed false true true round later closed e = (refl, refl, refl, e)
+passed : (ended current within : Bool) (round : ℕ) (tied : Option TieFault) (limit : Option ℕ) (made closed : ClosedRound) →
+    unless (first_fault (checks ended current within round tied limit)) made ≡ Ok closed → Passed ended current within tied limit made closed
+passed true current within round tied limit made closed e = let bad : Err close_faults.Ended ≡ Ok closed = e in cc
+passed false false within round tied limit made closed e = let bad : Err (close_faults.WrongRound round) ≡ Ok closed = e in cc
+passed false true false round tied limit made closed e = let bad : Err close_faults.Increment ≡ Ok closed = e in cc
+passed false true true round (Some fault) limit made closed e = let bad : Err (close_faults.Tie fault) ≡ Ok closed = e in cc
+passed false true true round None (Some product) made closed e = let bad : Err (close_faults.PriceLimit product) ≡ Ok closed = e in cc
+passed false true true round None None made closed e = (refl, refl, refl, refl, refl, cc)
 
-possible_of : (limit : Option ℕ) (made closed : ClosedRound) → closed_unless limit made ≡ Ok closed → (limit ≡ None) × (closed ≡ made)
-possible_of None made closed e = (refl, cc)
-possible_of (Some product) made closed e = let bad : Err (close_faults.PriceLimit product) ≡ Ok closed = e in cc
-
-module _ (products : List Product) (requirement : ℕ) (now : OpenRound) (round increment : ℕ) (ties : List Tie) (closed : ClosedRound) where
-  abbrev result : Outcome
-  result = outcome products now ties
-
-  fair_of : (fault : Option TieFault) → closing_unless fault products requirement now increment ties ≡ Ok closed →
-      (fault ≡ None) × (closing_with products requirement now increment result ≡ Ok closed)
-  fair_of None e = (refl, e)
-  fair_of (Some fault) e = let bad : Err (close_faults.Tie fault) ≡ Ok closed = e in cc
-
-  -- an accepted closing passes all tests
-  pub closing_passed : closing products requirement now round increment ties ≡ Ok closed → IsClosing products requirement now round increment ties closed
-  closing_passed e =
-      let tests : Passed now.standing.ended (round == now.standing.round) (is_within 1 50 increment) (closing_unless (tie_fault (length now.holdings) (length products) ties) products requirement now increment ties) closed
-      = passed now.standing.ended (round == now.standing.round) (is_within 1 50 increment) now.standing.round (closing_unless (tie_fault (length now.holdings) (length products) ties) products requirement now increment ties) closed e in
-      let fair = fair_of (tie_fault (length now.holdings) (length products) ties) tests.3 in
-      let last = possible_of (price_limit_fault products result.grid result.posted increment) (closed_round products requirement now increment result) closed fair.1 in
-      record { going = tests.0; current = tests.1; within = tests.2; fair = fair.0; possible = last.0; made = last.1 }
+-- an accepted closing passes all checks
+pub closing_passed : (products : List Product) (requirement : ℕ) (now : OpenRound) (round increment : ℕ) (ties : List Tie) (closed : ClosedRound) →
+    closing products requirement now round increment ties ≡ Ok closed → IsClosing products requirement now round increment ties closed
+closing_passed products requirement now round increment ties closed e =
+    let tests : Passed now.standing.ended (round == now.standing.round) (is_within 1 50 increment) (tie_fault (length now.holdings) (length products) ties)
+    (price_limit_fault products (outcome products now ties).grid (outcome products now ties).posted increment)
+    (closed_round products requirement now increment (outcome products now ties)) closed
+    = passed now.standing.ended (round == now.standing.round) (is_within 1 50 increment) now.standing.round (tie_fault (length now.holdings) (length products) ties)
+    (price_limit_fault products (outcome products now ties).grid (outcome products now ties).posted increment)
+    (closed_round products requirement now increment (outcome products now ties)) closed e in
+    record { going = tests.0; current = tests.1; within = tests.2; fair = tests.3; possible = tests.4; made = tests.5 }

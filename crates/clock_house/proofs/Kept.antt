@@ -1,18 +1,19 @@
 -- What a house that stands for a list of commands keeps.
-use Rattle.std.proofs.Common.{◌≡◌, ℕ, zero, suc, ◌-◌, ◌≤◌, List, [], ◌∷◌, Bool, true, false, cond, ◌==◌, length, refl, ap, sym, subst, ◌∙◌, arith}
+use Rattle.std.proofs.Common.{◌≡◌, ℕ, zero, suc, ◌-◌, ◌≤◌, List, [], ◌∷◌, ◌++◌, false, length, refl, ap, sym, subst, ◌∙◌, arith, All}
 use Rattle.std.specs.Prelude.{Option, Some, None, reverse, slice_get}
-use Rattle.std.proofs.lemmas.Option.{none-some}
+use Rattle.std.proofs.lemmas.Option.{none-some, slice_get_within, get_or_from_slice_get}
+use Rattle.std.proofs.lemmas.List.Elements.{All-nil, All-cons, All-head, All-tail, All-append}
 use Rattle.std.proofs.lemmas.List.{reverse-reverse}
 use Rattle.std.proofs.lemmas.List.FromFn.{length-map-range_with_len}
 use Rattle.clock_setup.specs.Limits.{IsSetup}
 use Rattle.clock_bids.specs.declared.sheet.Bid.{Bid}
 use Rattle.clock_house.specs.Command.{Command}
 use Rattle.clock_house.specs.Closing.{OpenRound}
-use Rattle.clock_house.specs.History.{ClosedRound, round_numbered, history, standing, holding, for_each_bidder, open_round}
+use Rattle.clock_house.specs.History.{ClosedRound, round_at, history, standing, holding, for_each_bidder, open_round}
 use Rattle.clock_house.specs.House.{HouseFields, StandsFor, standing_in, open_round_in}
 use Rattle.clock_house.specs.Laws.{AreNumbered, IsSound, IsOpen}
 use Rattle.clock_house.proofs.Sound.{sound, open_sound}
-use Rattle.clock_house.proofs.Numbers.{numbered, round_numbered-zero, round_numbered-suc}
+use Rattle.clock_house.proofs.Numbers.{numbered, reverse_cons}
 
 module _ (house : HouseFields) (commands : List Command) (stands : StandsFor commands house) where
   -- its closed rounds are numbered
@@ -24,25 +25,38 @@ module _ (house : HouseFields) (commands : List Command) (stands : StandsFor com
   stands_sheets = ap length stands.sheets ∙ length-map-range_with_len _ 0 (length house.setup.bidders)
 
 -- what is looked up by number among rounds in order is the round of that number
-pub found_round : (bidders products n : ℕ) (items : List ClosedRound) (found : Option ClosedRound) → AreNumbered bidders products (reverse items) →
-    (n ≡ 0 → found ≡ None) → (1 ≤ n → found ≡ slice_get items (n - 1)) → round_numbered n (reverse items) ≡ found
-found_round bidders products zero items found all none some = round_numbered-zero bidders products (reverse items) all ∙ sym (none refl)
-found_round bidders products (suc k) items found all none some =
-    round_numbered-suc bidders products k (reverse items) all
-    ∙ ap (λ xs. slice_get xs k) (reverse-reverse items)
+pub found_round : (n : ℕ) (items : List ClosedRound) (found : Option ClosedRound) →
+    (n ≡ 0 → found ≡ None) → (1 ≤ n → found ≡ slice_get items (n - 1)) → round_at n (reverse items) ≡ found
+found_round zero items found none some = sym (none refl)
+found_round (suc k) items found none some =
+    ap (λ xs. slice_get xs k) (reverse-reverse items)
     ∙ ap (λ j. slice_get items j) (omega arith)
     ∙ sym (some (omega arith))
 
-slips_by : (bidders : ℕ) (round one : ClosedRound) (rest : Option ClosedRound) (here : Bool) → cond here (Some round) rest ≡ Some one →
-    length round.slips ≡ bidders → (rest ≡ Some one → length one.slips ≡ bidders) → length one.slips ≡ bidders
-slips_by bidders round one rest true e same later = let is : round ≡ one = cc in ap (λ r. length r.slips) (sym is) ∙ same
-slips_by bidders round one rest false e same later = later e
+All-reverse : {A : Type 0} (P : A → Type 0) (xs : List A) → All P xs → All P (reverse xs)
+All-reverse P [] all = All-nil P
+All-reverse P (x ∷ xs) all =
+    subst (All P) (sym (reverse_cons x xs))
+    (All-append P (reverse xs) (x ∷ []) (All-reverse P xs (All-tail P x xs all)) (All-cons P x [] (All-head P x xs all) (All-nil P)))
 
--- a closed round has a slip for each bidder
-pub numbered_slips : (bidders products n : ℕ) (closed : List ClosedRound) (one : ClosedRound) → AreNumbered bidders products closed → round_numbered n closed ≡ Some one → length one.slips ≡ bidders
-numbered_slips bidders products n [] one all e = absurd (none-some one e)
-numbered_slips bidders products n (round ∷ rounds) one all e =
-    slips_by bidders round one (round_numbered n rounds) (round.sheet.round == n) e all.1 (numbered_slips bidders products n rounds one all.3)
+-- what all closed rounds have, the round of a number has
+found_all : (P : ClosedRound → Type 0) (n : ℕ) (closed : List ClosedRound) (one : ClosedRound) → All P closed → round_at n closed ≡ Some one → P one
+found_all P zero closed one all e = absurd (none-some one e)
+found_all P (suc k) closed one all e =
+    subst P (get_or_from_slice_get (reverse closed) k one one e) (All-reverse P closed all k one (slice_get_within (reverse closed) k one e))
+
+-- a slip for each bidder, and a line for each product
+abbrev IsWhole : ℕ → ℕ → ClosedRound → Type 0
+IsWhole bidders products one = (length one.slips ≡ bidders) × (length one.sheet.lines ≡ products)
+
+all_whole : (bidders products : ℕ) (closed : List ClosedRound) → AreNumbered bidders products closed → All (IsWhole bidders products) closed
+all_whole bidders products [] all = All-nil (IsWhole bidders products)
+all_whole bidders products (round ∷ rounds) all = All-cons (IsWhole bidders products) round rounds (all.1, all.2) (all_whole bidders products rounds all.3)
+
+-- a closed round has a slip for each bidder and a line for each product
+pub numbered_whole : (bidders products n : ℕ) (closed : List ClosedRound) (one : ClosedRound) → AreNumbered bidders products closed → round_at n closed ≡ Some one →
+    (length one.slips ≡ bidders) × (length one.sheet.lines ≡ products)
+numbered_whole bidders products n closed one all e = found_all (IsWhole bidders products) n closed one (all_whole bidders products closed all) e
 
 -- a house that stands for a list of commands is in order
 module _ (house : HouseFields) (limits : IsSetup house.setup) (commands : List Command) (stands : StandsFor commands house) where
@@ -67,14 +81,3 @@ module _ (house : HouseFields) (limits : IsSetup house.setup) (commands : List C
       subst (IsOpen house.setup.products) (sym stands_open)
       (open_sound house.setup limits (history house.setup commands) (sound house.setup limits commands)
       (ap (λ (closed : List ClosedRound). (standing house.setup.products closed).ended) (sym stands.closed) ∙ going))
-
-lines_by : (products : ℕ) (round one : ClosedRound) (rest : Option ClosedRound) (here : Bool) → cond here (Some round) rest ≡ Some one →
-    length round.sheet.lines ≡ products → (rest ≡ Some one → length one.sheet.lines ≡ products) → length one.sheet.lines ≡ products
-lines_by products round one rest true e same later = let is : round ≡ one = cc in ap (λ r. length r.sheet.lines) (sym is) ∙ same
-lines_by products round one rest false e same later = later e
-
--- the sheet of a closed round has a line for each product
-pub numbered_lines : (bidders products n : ℕ) (closed : List ClosedRound) (one : ClosedRound) → AreNumbered bidders products closed → round_numbered n closed ≡ Some one → length one.sheet.lines ≡ products
-numbered_lines bidders products n [] one all e = absurd (none-some one e)
-numbered_lines bidders products n (round ∷ rounds) one all e =
-    lines_by products round one (round_numbered n rounds) (round.sheet.round == n) e all.2 (numbered_lines bidders products n rounds one all.3)

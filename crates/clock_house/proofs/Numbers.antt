@@ -3,14 +3,13 @@ use Rattle.std.proofs.Common.{◌≡◌, ℕ, zero, suc, ◌+◌, ◌-◌, ◌<�
 use Rattle.std.specs.Prelude.{Some, None, Result, Ok, Err, reverse, slice_get}
 use Rattle.std.proofs.lemmas.List.FromFn.{length-map-range_with_len}
 use Rattle.std.proofs.lemmas.List.{reverse-reverse, length-reverse, reverse-append}
-use Rattle.std.proofs.lemmas.Bool.{cases_order}
-use Rattle.std.proofs.lemmas.Option.{slice_get_past, none-some}
+use Rattle.std.proofs.lemmas.Option.{none-some}
 use Rattle.clock_setup.specs.Limits.{SetupFields}
 use Rattle.clock_order.specs.declared.ties.Tie.{Tie}
 use Rattle.clock_house.specs.declared.fault.CloseFault.{CloseFault}
 use Rattle.clock_house.specs.Standing.{first_holding, holding_after}
 use Rattle.clock_house.specs.Command.{Command, put, close, other}
-use Rattle.clock_house.specs.History.{ClosedRound, Auction, standing, holding, bidder_at, slip_of, open_round, closing_of, after_closing, history, round_numbered}
+use Rattle.clock_house.specs.History.{ClosedRound, Auction, standing, holding, bidder_at, slip_of, open_round, closing_of, after_closing, history}
 use Rattle.clock_house.specs.Laws.{AreNumbered}
 use Rattle.clock_house.proofs.Closings.{IsClosing, closing_passed}
 
@@ -41,17 +40,12 @@ module _ (setup : SetupFields) where
   numbered (other ∷ earlier) = numbered earlier
 
 module _ {A : Type 0} where
-  -- an element at the end of a list, and those before it
+  -- the element at the end of a list
   get-at_end : (xs : List A) (x : A) → slice_get (xs ++ x ∷ []) (length xs) ≡ Some x
   get-at_end [] x = refl
   get-at_end (y ∷ xs) x = get-at_end xs x
 
-  get-before_end : (xs : List A) (x : A) (k : ℕ) → k < length xs → slice_get (xs ++ x ∷ []) k ≡ slice_get xs k
-  get-before_end [] x k h = absurd (omega (arith, h))
-  get-before_end (y ∷ xs) x zero h = refl
-  get-before_end (y ∷ xs) x (suc k) h = get-before_end xs x k (omega (arith, h))
-
-  reverse_cons : (x : A) (xs : List A) → reverse (x ∷ xs) ≡ reverse xs ++ x ∷ []
+  pub reverse_cons : (x : A) (xs : List A) → reverse (x ∷ xs) ≡ reverse xs ++ x ∷ []
   reverse_cons x xs = reverse-append (x ∷ []) xs
 
   last_of_reverse : (xs : List A) → slice_get (reverse xs) (length (reverse xs) - 1) ≡ slice_get xs 0
@@ -63,36 +57,6 @@ module _ {A : Type 0} where
   -- the last of a list is the first of the list from its end
   pub last-reverse : (xs : List A) → slice_get xs (length xs - 1) ≡ slice_get (reverse xs) 0
   last-reverse xs = ap (λ ys. slice_get ys (length ys - 1)) (sym (reverse-reverse xs)) ∙ last_of_reverse (reverse xs)
-
--- there is no round 0
-pub round_numbered-zero : (bidders products : ℕ) (closed : List ClosedRound) → AreNumbered bidders products closed → round_numbered 0 closed ≡ None
-round_numbered-zero bidders products [] all = refl
-round_numbered-zero bidders products (round ∷ rounds) all =
-    ap (λ here. cond here (Some round) (round_numbered 0 rounds)) (ne_eqb round.sheet.round 0 (λ e. omega (arith, e, all.0)))
-    ∙ round_numbered-zero bidders products rounds all.3
-
--- the closed round of a number stands at its place, counted from the first round
-pub round_numbered-suc : (bidders products k : ℕ) (closed : List ClosedRound) → AreNumbered bidders products closed → round_numbered (suc k) closed ≡ slice_get (reverse closed) k
-round_numbered-suc bidders products k [] all = refl
-round_numbered-suc bidders products k (round ∷ rounds) all =
-    let later : round_numbered (suc k) rounds ≡ slice_get (reverse rounds) k = round_numbered-suc bidders products k rounds all.3 in
-    let size : length (reverse rounds) ≡ length rounds = length-reverse rounds in
-    let turned : reverse (round ∷ rounds) ≡ reverse rounds ++ round ∷ [] = reverse_cons round rounds in
-    elim (cases_order k (length rounds)) as (λ _. round_numbered (suc k) (round ∷ rounds) ≡ slice_get (reverse (round ∷ rounds)) k) [
-      | inl same ↦
-          ap (λ here. cond here (Some round) (round_numbered (suc k) rounds)) (eq-eqb round.sheet.round (suc k) (omega (arith, same, all.0)))
-          ∙ sym (ap (λ ys. slice_get ys k) turned ∙ ap (λ j. slice_get (reverse rounds ++ round ∷ []) j) (omega (arith, same, size)) ∙ get-at_end (reverse rounds) round)
-      | inr other_place ↦
-          elim other_place as (λ _. round_numbered (suc k) (round ∷ rounds) ≡ slice_get (reverse (round ∷ rounds)) k) [
-            | inl below ↦
-                ap (λ here. cond here (Some round) (round_numbered (suc k) rounds)) (ne_eqb round.sheet.round (suc k) (λ e. omega (arith, e, all.0, below)))
-                ∙ later ∙ sym (ap (λ ys. slice_get ys k) turned ∙ get-before_end (reverse rounds) round k (omega (arith, below, size)))
-            | inr above ↦
-                ap (λ here. cond here (Some round) (round_numbered (suc k) rounds)) (ne_eqb round.sheet.round (suc k) (λ e. omega (arith, e, all.0, above)))
-                ∙ later ∙ slice_get_past (reverse rounds) k (omega (arith, above, size))
-                ∙ sym (slice_get_past (reverse (round ∷ rounds)) k (omega (arith, above, length-reverse (round ∷ rounds))))
-          ]
-    ]
 
 -- the slips of the newest round are one for each bidder
 pub newest_slips : (bidders products : ℕ) (closed : List ClosedRound) (last : ClosedRound) → AreNumbered bidders products closed → slice_get closed 0 ≡ Some last → length last.slips ≡ bidders

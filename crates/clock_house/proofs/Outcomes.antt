@@ -22,7 +22,7 @@ use Rattle.clock_posting.proofs.Laws.{lines_between, lines_show, next_rising, ne
 use Rattle.clock_posting.proofs.Posted.{length-posted_prices, posted_between, posted_dollars, some_at_clock}
 use Rattle.clock_house.specs.Standing.{Standing}
 use Rattle.clock_house.specs.Closing.{OpenRound, Outcome, requests, first_outcome, later_outcome, outcome, settlement}
-use Rattle.clock_house.specs.Laws.{IsPriced, IsOpen, eligibilities_of, grid_of}
+use Rattle.clock_house.specs.Laws.{HasSoundPrices, IsOpen, eligibilities_of, grid_of}
 use Rattle.clock_house.proofs.OpenRounds.{all_requests, asked_within, settled_within, priced_requests}
 use Rattle.clock_order.proofs.InOrder.{processing_permutes}
 use Rattle.clock_house.proofs.Sums.{sum_by-lt_sum_by, length-le-sum_by, sum_by-map, map-get_or}
@@ -107,7 +107,7 @@ module _ (products : List Product) (now : OpenRound) (sound : IsOpen products no
       omega (arith, sold, settled_supplied products (eligibilities_of now) (requests now ties) (grid_of now) product, ap (λ (result : Outcome). total_of result.grid product) (outcome-later products now ties later))
 
 -- the next prices of a round that goes on
-module _ (products : List Product) (now : Standing) (priced : IsPriced products now) (grid : List (List ℕ)) (posted : List ℕ) (increment : ℕ) (are : ArePosted products now.prices grid posted increment)
+module _ (products : List Product) (now : Standing) (priced : HasSoundPrices products now) (grid : List (List ℕ)) (posted : List ℕ) (increment : ℕ) (are : ArePosted products now.prices grid posted increment)
     (rise : 1 ≤ increment) (going : has_ended products grid ≡ false) (possible : price_limit_fault products grid posted increment ≡ None)
     (risen : 2 ≤ now.round → Any IsAtClock (lines_of_round products now.prices grid posted increment)) where
   lines : List Line
@@ -172,9 +172,9 @@ module _ (products : List Product) (now : Standing) (priced : IsPriced products 
   ]
 
   -- they are in order again
-  pub priced_next : (standing : Standing) → standing.round ≡ now.round + 1 → standing.prices ≡ map next_pair (lines_of_round products now.prices grid posted increment) → 1 ≤ now.round → IsPriced products standing
+  pub priced_next : (standing : Standing) → standing.round ≡ now.round + 1 → standing.prices ≡ map next_pair (lines_of_round products now.prices grid posted increment) → 1 ≤ now.round → HasSoundPrices products standing
   priced_next standing number prices some =
-      let P = λ (list : List PricePair). IsPriced products (record { ended = standing.ended; round = standing.round; prices = list }) in
+      let P = λ (list : List PricePair). HasSoundPrices products (record { ended = standing.ended; round = standing.round; prices = list }) in
       subst P (sym prices)
       (record {
         numbered = omega (arith, number);

@@ -26,7 +26,7 @@ module _ (house : HouseFields) (bidder round : ℕ) (bids : List Bid) (commands 
   fault_same = ap (λ (closed : List ClosedRound). put_fault house.setup.products (standing house.setup.products closed) (holding house.setup closed bidder) round bids) (sym stands.closed)
 
   -- the sheet in force that the house keeps
-  sheet_at : (who : ℕ) → who < length house.setup.bidders → get_or house.sheets who None ≡ sheet_in_force house.setup (history house.setup commands) who
+  pub sheet_at : (who : ℕ) → who < length house.setup.bidders → get_or house.sheets who None ≡ sheet_in_force house.setup (history house.setup commands) who
   sheet_at who lt =
       ap (λ (sheets : List (Option (List Bid))). get_or sheets who None) stands.sheets
       ∙ get_or-map-range_with_len (sheet_in_force house.setup (history house.setup commands)) 0 (length house.setup.bidders) who who None lt (omega arith)

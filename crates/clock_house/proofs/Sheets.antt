@@ -4,24 +4,23 @@ use Rattle.std.specs.Prelude.{Option, Some, None, is_none, slice_get, filter_map
 use Rattle.std.specs.List.{cons_option}
 use Rattle.std.proofs.lemmas.Option.{none-some}
 use Rattle.clock_setup.specs.declared.setup.Product.{Product}
+use Rattle.clock_setup.specs.Faults.{first_fault}
 use Rattle.clock_bids.specs.declared.sheet.Bid.{Bid}
 use Rattle.clock_bids.specs.declared.sheet.BidFault.{BidFault}
 use Rattle.clock_bids.specs.Sheet.{sheet_fault, IsGoodSheet}
 use Rattle.clock_house.specs.declared.fault.PutFault.{PutFault}
 use Rattle.clock_house.specs.declared.fault.PutFault.TheVariants as put_faults
 use Rattle.clock_house.specs.Command.{Command, put, close, other}
-use Rattle.clock_house.specs.Standing.{Standing, Holding, put_fault, bid_fault_of}
+use Rattle.clock_house.specs.Faults.{fault_check}
+use Rattle.clock_house.specs.Standing.{Standing, Holding, put_fault}
 use Rattle.clock_house.specs.History.{accepted_bids}
 
-no_bid_fault : (fault : Option BidFault) → bid_fault_of fault ≡ None → fault ≡ None
-no_bid_fault None e = refl
-no_bid_fault (Some fault) e = absurd (none-some _ (sym e))
-
 judged : (ended current : Bool) (round : ℕ) (fault : Option BidFault) →
-    cond ended (Some put_faults.Ended) (cond (not current) (Some (put_faults.WrongRound round)) (bid_fault_of fault)) ≡ None → fault ≡ None
+    first_fault ((put_faults.Ended, not ended) ∷ (put_faults.WrongRound round, current) ∷ fault_check put_faults.Bid fault) ≡ None → fault ≡ None
 judged true current round fault e = absurd (none-some _ (sym e))
 judged false false round fault e = absurd (none-some _ (sym e))
-judged false true round fault e = no_bid_fault fault e
+judged false true round None e = refl
+judged false true round (Some fault) e = absurd (none-some _ (sym e))
 
 -- a sheet that may be put is good
 pub good_of_put : (products : List Product) (now : Standing) (held : Holding) (round : ℕ) (bids : List Bid) → put_fault products now held round bids ≡ None →

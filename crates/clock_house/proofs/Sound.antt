@@ -24,7 +24,7 @@ use Rattle.clock_house.specs.Command.{Command, put, close, other}
 use Rattle.clock_house.specs.Standing.{Standing, Holding, first_holding, holding_after}
 use Rattle.clock_house.specs.Closing.{OpenRound, Outcome, holding_at, bids_at, outcome, closed_round, slip_after, bidder_numbers}
 use Rattle.clock_house.specs.History.{ClosedRound, Auction, standing, holding, bidder_at, slip_of, no_slip, sheet_in_force, open_round, closing_of, after_closing, history}
-use Rattle.clock_house.specs.Laws.{IsHeld, IsPriced, AreNumbered, StaysSupplied, grid_after, IsSound, IsOpen, eligibilities_of}
+use Rattle.clock_house.specs.Laws.{IsWithinLimits, HasSoundPrices, AreNumbered, StaysSupplied, grid_after, IsSound, IsOpen, eligibilities_of}
 use Rattle.clock_house.proofs.Closings.{IsClosing, closing_passed}
 use Rattle.clock_house.proofs.Numbers.{numbered, round-closed}
 use Rattle.clock_house.proofs.Sheets.{first_accepted_good}
@@ -54,14 +54,14 @@ supplied_all products done (last ∷ rounds) pairs next (suc k) d lt =
 
 module _ (setup : SetupFields) (limits : IsSetup setup) where
   -- before the first round
-  pub first_held : (bidder : ℕ) → bidder < length setup.bidders → IsHeld setup.products (first_holding setup.products (bidder_at setup bidder))
+  pub first_held : (bidder : ℕ) → bidder < length setup.bidders → IsWithinLimits setup.products (first_holding setup.products (bidder_at setup bidder))
   first_held bidder lt = record {
     row = zeros_row setup.products;
     within = omega (arith, activity_zeros setup.products (length setup.products));
     most = (limits.bidders bidder (record { name = []; token = []; eligibility = 0 }) lt).eligibility;
   }
 
-  first_priced : IsPriced setup.products (standing setup.products [])
+  first_priced : HasSoundPrices setup.products (standing setup.products [])
   first_priced =
       let opening = λ (product : Product). let pair : PricePair = record { start = product.opening; clock = product.opening } in pair in
       record {
@@ -101,7 +101,7 @@ module _ (setup : SetupFields) (limits : IsSetup setup) where
       limits = limits.products;
       few_products = limits.product_count.1;
       few_bidders = omega (arith, many, limits.bidder_count.1);
-      held = λ bidder lt. subst (IsHeld setup.products) (sym (held_at bidder (omega (arith, lt, many)))) (sound.held bidder (omega (arith, lt, many)));
+      held = λ bidder lt. subst (IsWithinLimits setup.products) (sym (held_at bidder (omega (arith, lt, many)))) (sound.held bidder (omega (arith, lt, many)));
       priced = sound.priced going;
       good = λ bidder lt.
           subst (λ (held : Holding). IsGoodSheet setup.products (standing setup.products auction.closed).prices held.eligibility held.demands (bids_at (open_round setup auction).sheets bidder)) (sym (held_at bidder (omega (arith, lt, many))))
@@ -157,18 +157,18 @@ module _ (setup : SetupFields) (limits : IsSetup setup) where
           ∙ ap (λ (held : Holding). slip_after setup.products setup.requirement (standing setup.products auction.closed).round held.eligibility (row_of (outcome setup.products (open_round setup auction) ties).grid bidder)) (held_at bidder lt)
 
       -- each bidder stays within its limits
-      pub held_next : (bidder : ℕ) → bidder < length setup.bidders → IsHeld setup.products (holding_after (slip_of bidder done))
+      pub held_next : (bidder : ℕ) → bidder < length setup.bidders → IsWithinLimits setup.products (holding_after (slip_of bidder done))
       held_next bidder lt =
           let row : List ℕ = row_of (outcome setup.products (open_round setup auction) ties).grid bidder in
-          let before : IsHeld setup.products (holding setup auction.closed bidder) = sound.held bidder lt in
+          let before : IsWithinLimits setup.products (holding setup auction.closed bidder) = sound.held bidder lt in
           let used : activity setup.products row ≤ (holding setup auction.closed bidder).eligibility =
           omega (arith, within.within bidder (omega (arith, lt, rows_many)), get_or-map (λ (held : Holding). held.eligibility) (open_round setup auction).holdings bidder (record { eligibility = 0; demands = [] }) 0 (omega (arith, lt, many)), ap (λ (held : Holding). held.eligibility) (held_at bidder lt)) in
           let kept = next_eligibility_within (holding setup auction.closed bidder).eligibility (activity setup.products row) setup.requirement used (omega (arith, limits.requirement.0)) limits.requirement.1 in
-          subst (λ (slip : Slip). IsHeld setup.products (holding_after slip)) (sym (slip_is bidder lt))
+          subst (λ (slip : Slip). IsWithinLimits setup.products (holding_after slip)) (sym (slip_is bidder lt))
           (record { row = within.rows bidder [] (omega (arith, lt, rows_many)); within = kept.0; most = omega (arith, kept.1, before.most) })
 
       -- and so do the prices
-      pub priced_after : done.sheet.ended ≡ false → IsPriced setup.products (standing setup.products (done ∷ auction.closed))
+      pub priced_after : done.sheet.ended ≡ false → HasSoundPrices setup.products (standing setup.products (done ∷ auction.closed))
       priced_after going =
           let result : Outcome = outcome setup.products (open_round setup auction) ties in
           let before : Standing = standing setup.products auction.closed in

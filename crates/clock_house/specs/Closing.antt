@@ -3,29 +3,31 @@
 --     requests round ties      all bidders' requests, in the order of processing
 --     outcome products round ties      the demands and the posted prices after the round
 --     closed_round products requirement round increment outcome      the sheet and the slips of the round
+--     closing_checks products round number increment ties outcome      what a closing is checked for, in turn
 --     closing products requirement round number increment ties      the round that a closing adds, or its first fault
-use Rattle.std.specs.Prelude.{ℕ, List, [], not, ◌==◌, if◌then◌else◌, Option, Some, None, Result, Ok, Err, unwrap_or, length, map, flat_map, slice_index_or}
+use Rattle.std.specs.Prelude.{ℕ, List, [], ◌∷◌, ◌++◌, Bool, not, ◌==◌, if◌then◌else◌, Option, None, Result, unwrap_or, length, map, flat_map, slice_index_or}
 use Rattle.std.specs.List.{range_with_len}
 use Rattle.clock_setup.specs.declared.setup.Product.{Product}
 use Rattle.clock_setup.specs.declared.prices.PricePair.{PricePair}
 use Rattle.clock_setup.specs.Limits.{is_within}
 use Rattle.clock_setup.specs.Demands.{row_of}
+use Rattle.clock_setup.specs.Faults.{first_fault, unless}
 use Rattle.clock_setup.specs.Eligibility.{activity, next_eligibility}
 use Rattle.clock_bids.specs.declared.sheet.Bid.{Bid}
 use Rattle.clock_bids.specs.declared.change.Change.{Change}
 use Rattle.clock_bids.specs.Sheet.{asked_demands}
 use Rattle.clock_bids.specs.Changes.{changes_of_sheet}
 use Rattle.clock_order.specs.declared.ties.Tie.{Tie}
-use Rattle.clock_order.specs.declared.ties.TieFault.{TieFault}
 use Rattle.clock_order.specs.Ties.{tie_fault}
 use Rattle.clock_order.specs.Order.{processing_list}
 use Rattle.clock_processor.specs.Settling.{Progress, settled}
 use Rattle.clock_posting.specs.Posting.{round_sheet, opening_posted, price_limit_fault}
 use Rattle.clock_posting.specs.PostedPrice.{posted_prices}
 use Rattle.clock_house.specs.declared.slip.Slip.{Slip}
-use Rattle.clock_house.specs.declared.slip.ClosedRound.{ClosedRound}
+use Rattle.clock_house.specs.declared.closed_round.ClosedRound.{ClosedRound}
 use Rattle.clock_house.specs.declared.fault.CloseFault.{CloseFault}
 use Rattle.clock_house.specs.declared.fault.CloseFault.TheVariants as close_faults
+use Rattle.clock_house.specs.Faults.{fault_check}
 use Rattle.clock_house.specs.Standing.{Standing, Holding}
 
 -- what a closing goes by: where the auction stands, what each bidder holds, and each bidder's sheet in force
@@ -112,27 +114,22 @@ closed_round products requirement now increment result = record {
   slips = slips_after products requirement now result.grid;
 }
 
--- no closing where a next clock price would be too high
-abbrev pub closed_unless : Option ℕ → ClosedRound → Result ClosedRound CloseFault
-closed_unless None round = Ok round
-closed_unless (Some product) round = Err (close_faults.PriceLimit product)
+-- an outcome posts nothing where the auction would go on and a product can have no next clock price
+abbrev pub outcome_checks : List Product → ℕ → Outcome → List (CloseFault × Bool)
+outcome_checks products increment result =
+    fault_check close_faults.PriceLimit (price_limit_fault products result.grid result.posted increment)
 
--- the closing with an outcome
-abbrev pub closing_with : List Product → ℕ → OpenRound → ℕ → Outcome → Result ClosedRound CloseFault
-closing_with products requirement now increment result =
-    closed_unless (price_limit_fault products result.grid result.posted increment)
-    (closed_round products requirement now increment result)
+-- the auction goes on, the round is the current one, the increment is 1 to 50, the tie numbers have no fault, and no next clock price would be too high
+abbrev pub closing_checks : List Product → OpenRound → ℕ → ℕ → List Tie → Outcome → List (CloseFault × Bool)
+closing_checks products now round increment ties result =
+    (close_faults.Ended, not now.standing.ended)
+    ∷ (close_faults.WrongRound now.standing.round, round == now.standing.round)
+    ∷ (close_faults.Increment, is_within 1 50 increment)
+    ∷ fault_check close_faults.Tie (tie_fault (length now.holdings) (length products) ties)
+    ++ outcome_checks products increment result
 
--- no closing where the tie numbers have a fault
-abbrev pub closing_unless : Option TieFault → List Product → ℕ → OpenRound → ℕ → List Tie → Result ClosedRound CloseFault
-closing_unless None products requirement now increment ties =
-    closing_with products requirement now increment (outcome products now ties)
-closing_unless (Some fault) products requirement now increment ties = Err (close_faults.Tie fault)
-
--- the round that a closing adds, or its first fault: the auction has ended, the round is not the current one, the increment is not 1 to 50, the tie numbers have a fault, or a next clock price would be too high
+-- the round that a closing adds, or its first fault
 abbrev pub closing : List Product → ℕ → OpenRound → ℕ → ℕ → List Tie → Result ClosedRound CloseFault
 closing products requirement now round increment ties =
-    if now.standing.ended then Err close_faults.Ended
-    else (if not (round == now.standing.round) then Err (close_faults.WrongRound now.standing.round)
-    else (if not (is_within 1 50 increment) then Err close_faults.Increment
-    else closing_unless (tie_fault (length now.holdings) (length products) ties) products requirement now increment ties))
+    unless (first_fault (closing_checks products now round increment ties (outcome products now ties)))
+    (closed_round products requirement now increment (outcome products now ties))

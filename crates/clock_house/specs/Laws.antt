@@ -1,6 +1,6 @@
 -- What holds after every list of commands.
---     IsHeld products held      a bidder's demands are within the caps and its eligibility
---     IsPriced products now      the prices of a round that goes on
+--     IsWithinLimits products held      a bidder's demands are within the caps and its eligibility
+--     HasSoundPrices products now      the prices of a round that goes on
 --     AreNumbered bidders products closed      the closed rounds are numbered from 1 on
 --     StaysSupplied products later earlier      a product's total, once at supply, never falls below it
 --     IsSound setup auction      all of these
@@ -20,13 +20,13 @@ use Rattle.clock_house.specs.Closing.{OpenRound, holding_at, bids_at}
 use Rattle.clock_house.specs.History.{ClosedRound, Auction, standing, holding}
 
 -- a demand for each product, none above its cap, and the activity within the eligibility, which is at most 10^12
-pub record IsHeld (products : List Product) (held : Holding) : Type 0 where
+pub record IsWithinLimits (products : List Product) (held : Holding) : Type 0 where
   pub row : IsRow products held.demands
   pub within : activity products held.demands ≤ held.eligibility
   pub most : held.eligibility ≤ 1000000000000
 
 -- a round from 1 on, a pair of prices for each product, in order, at start prices from 1 to 10^12, and from round 2 on the clock price above the start price; from then on some start price has risen in each round, so that the rounds are bounded
-pub record IsPriced (products : List Product) (now : Standing) : Type 0 where
+pub record HasSoundPrices (products : List Product) (now : Standing) : Type 0 where
   pub numbered : 1 ≤ now.round
   pub each : length now.prices ≡ length products
   pub ordered : All IsOrdered now.prices
@@ -53,8 +53,8 @@ StaysSupplied products later earlier =
 -- bidders within their limits, prices in order, rounds in order, no product that was sold out comes free again, and at most as many rounds as highest prices together allow, and two
 pub record IsSound (setup : SetupFields) (auction : Auction) : Type 0 where
   pub numbered : AreNumbered (length setup.bidders) (length setup.products) auction.closed
-  pub held : (bidder : ℕ) → bidder < length setup.bidders → IsHeld setup.products (holding setup auction.closed bidder)
-  pub priced : (standing setup.products auction.closed).ended ≡ false → IsPriced setup.products (standing setup.products auction.closed)
+  pub held : (bidder : ℕ) → bidder < length setup.bidders → IsWithinLimits setup.products (holding setup auction.closed bidder)
+  pub priced : (standing setup.products auction.closed).ended ≡ false → HasSoundPrices setup.products (standing setup.products auction.closed)
   pub supplied : AllPairs (StaysSupplied setup.products) auction.closed
   pub few : length auction.closed ≤ 4096000000000002
 
@@ -63,8 +63,8 @@ pub record IsOpen (products : List Product) (now : OpenRound) : Type 0 where
   pub limits : All IsProduct products
   pub few_products : length products ≤ 4096
   pub few_bidders : length now.holdings ≤ 512
-  pub held : (bidder : ℕ) → bidder < length now.holdings → IsHeld products (holding_at now.holdings bidder)
-  pub priced : IsPriced products now.standing
+  pub held : (bidder : ℕ) → bidder < length now.holdings → IsWithinLimits products (holding_at now.holdings bidder)
+  pub priced : HasSoundPrices products now.standing
   pub good : (bidder : ℕ) → bidder < length now.holdings →
       IsGoodSheet products now.standing.prices (holding_at now.holdings bidder).eligibility (holding_at now.holdings bidder).demands (bids_at now.sheets bidder)
 

@@ -1,38 +1,60 @@
--- A closing that is prepared and not yet made.
---     closed_by posted      the round that it adds
---     IsPosted closing posted      it is the round of the closing
---     IsTold closing told      the refusal is the closing's, or there was no memory
---     posting_in house increment ties      the round that a closing of the current round adds
---     Fits prepared house      the house accepts the closing, and it adds what was prepared
-use Rattle.std.specs.Prelude.{◌≡◌, ◌≢◌, ℕ, List, Result, Ok, Err}
+-- Sheets and closings that are prepared and not yet made.
+--     PreparedSheet      what contracts see of a prepared sheet
+--     PreparedClosing      what contracts see of a prepared closing
+--     FitsSheet prepared house, FitsClosing prepared house      the house accepts what was prepared
+--     Results, closed_by results      a posting and its slips, and the round that they are
+--     AreResults closing results      they are the round of a closing
+--     posting_of house increment outcome, posting_in house increment ties      the round that an outcome adds, and that of the current round
+use Rattle.std.specs.Prelude.{◌≡◌, ℕ, ◌<◌, List, length, None, Result, Ok}
+use Rattle.clock_setup.specs.Faults.{first_fault, unless}
+use Rattle.clock_bids.specs.declared.sheet.Bid.{Bid}
 use Rattle.clock_order.specs.declared.ties.Tie.{Tie}
+use Rattle.clock_posting.specs.declared.sheet.Posting.{Posting}
 use Rattle.clock_posting.specs.Posting.{IsConsistent}
+use Rattle.clock_house.specs.declared.slip.Slip.{Slip}
 use Rattle.clock_house.specs.declared.fault.CloseFault.{CloseFault}
-use Rattle.clock_house.specs.declared.fault.CloseFault.TheVariants as close_faults
-use Rattle.clock_house.specs.declared.slip.Posted.{Posted}
-use Rattle.clock_house.specs.declared.slip.Prepared.{Prepared}
-use Rattle.clock_house.specs.Closing.{outcome, closing_with}
+use Rattle.clock_house.specs.declared.results.Results.{Results}
+use Rattle.clock_house.specs.Closing.{Outcome, outcome, outcome_checks, closed_round}
 use Rattle.clock_house.specs.History.{ClosedRound}
-use Rattle.clock_house.specs.House.{HouseFields, open_round_in, closing_in}
+use Rattle.clock_house.specs.House.{HouseFields, open_round_in, put_fault_in, closing_in}
 
--- the round that is added
-abbrev pub closed_by : Posted → ClosedRound
-closed_by posted = record { sheet = posted.posting.sheet; slips = posted.slips }
+-- a bidder's sheet of bids for a round
+pub record PreparedSheet : Type 0 where
+  pub bidder : ℕ
+  pub round : ℕ
+  pub bids : List Bid
 
--- the closing is accepted, and this is its round
-pub record IsPosted (closing : Result ClosedRound CloseFault) (posted : Posted) : Type 0 where
-  pub closes : closing ≡ Ok (closed_by posted)
-  pub laws : IsConsistent posted.posting
+-- a closing of a round by an increment and tie numbers, and the round that it adds
+pub record PreparedClosing : Type 0 where
+  pub round : ℕ
+  pub increment : ℕ
+  pub ties : List Tie
+  pub closed : ClosedRound
 
--- the closing is refused for this, or there was no memory
-abbrev pub IsTold : Result ClosedRound CloseFault → CloseFault → Type 0
-IsTold closing told = told ≢ close_faults.NoMemory → closing ≡ Err told
-
--- the round that a closing of the current round adds, or the product that has no next clock price
-abbrev pub posting_in : HouseFields → ℕ → List Tie → Result ClosedRound CloseFault
-posting_in house increment ties =
-    closing_with house.setup.products house.setup.requirement (open_round_in house) increment (outcome house.setup.products (open_round_in house) ties)
+-- the bidder is one of the house's, and its sheet has no fault there
+pub record FitsSheet (prepared : PreparedSheet) (house : HouseFields) : Type 0 where
+  pub known : prepared.bidder < length house.setup.bidders
+  pub good : put_fault_in house prepared.bidder prepared.round prepared.bids ≡ None
 
 -- the house accepts the closing, and it adds what was prepared
-abbrev pub Fits : Prepared → HouseFields → Type 0
-Fits prepared house = IsPosted (closing_in house prepared.round prepared.increment prepared.ties) prepared.posted
+abbrev pub FitsClosing : PreparedClosing → HouseFields → Type 0
+FitsClosing prepared house = closing_in house prepared.round prepared.increment prepared.ties ≡ Ok prepared.closed
+
+-- the round that a posting and its slips are
+abbrev pub closed_by : Posting → List Slip → ClosedRound
+closed_by posting slips = record { sheet = posting.sheet; slips = slips }
+
+-- the closing is accepted, and these are its sheet, its slips and the prices of the next round
+pub record AreResults (closing : Result ClosedRound CloseFault) (results : Results) : Type 0 where
+  pub closes : closing ≡ Ok (closed_by results.posting results.slips)
+  pub laws : IsConsistent results.posting
+
+-- the round that an outcome adds, or the product that has no next clock price
+abbrev pub posting_of : HouseFields → ℕ → Outcome → Result ClosedRound CloseFault
+posting_of house increment result =
+    unless (first_fault (outcome_checks house.setup.products increment result))
+    (closed_round house.setup.products house.setup.requirement (open_round_in house) increment result)
+
+-- the same of the outcome of the current round
+abbrev pub posting_in : HouseFields → ℕ → List Tie → Result ClosedRound CloseFault
+posting_in house increment ties = posting_of house increment (outcome house.setup.products (open_round_in house) ties)

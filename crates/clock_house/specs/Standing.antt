@@ -4,19 +4,20 @@
 --     first_standing products, first_holding products row      before the first round
 --     standing_after sheet, holding_after slip      after a closed round
 --     put_fault products standing holding round bids      the first fault of a sheet put for a round
-use Rattle.std.specs.Prelude.{ℕ, ◌+◌, List, Bool, false, not, ◌==◌, if◌then◌else◌, Option, Some, None, length, map, replicate}
+use Rattle.std.specs.Prelude.{ℕ, ◌+◌, List, ◌∷◌, Bool, false, not, ◌==◌, if◌then◌else◌, Option, length, map, replicate}
 use Rattle.clock_setup.specs.declared.setup.Product.{Product}
 use Rattle.clock_setup.specs.declared.setup.Bidder.{Bidder}
 use Rattle.clock_setup.specs.declared.prices.PricePair.{PricePair}
 use Rattle.clock_setup.specs.Prices.{opening_prices}
+use Rattle.clock_setup.specs.Faults.{first_fault}
 use Rattle.clock_bids.specs.declared.sheet.Bid.{Bid}
-use Rattle.clock_bids.specs.declared.sheet.BidFault.{BidFault}
 use Rattle.clock_bids.specs.Sheet.{sheet_fault}
 use Rattle.clock_posting.specs.declared.sheet.RoundSheet.{RoundSheet}
 use Rattle.clock_posting.specs.Posting.{next_pair}
 use Rattle.clock_house.specs.declared.slip.Slip.{Slip}
 use Rattle.clock_house.specs.declared.fault.PutFault.{PutFault}
 use Rattle.clock_house.specs.declared.fault.PutFault.TheVariants as put_faults
+use Rattle.clock_house.specs.Faults.{fault_check}
 
 -- where the auction stands: whether it has ended, the current round, and the prices of that round
 pub record Standing : Type 0 where
@@ -49,14 +50,9 @@ standing_after sheet = record {
 abbrev pub holding_after : Slip → Holding
 holding_after slip = record { eligibility = slip.eligibility; demands = slip.demands }
 
--- a fault of the bids is one of the sheet
-abbrev pub bid_fault_of : Option BidFault → Option PutFault
-bid_fault_of None = None
-bid_fault_of (Some fault) = Some (put_faults.Bid fault)
-
 -- the auction has ended, the round is not the current one, or the bids have a fault
 abbrev pub put_fault : List Product → Standing → Holding → ℕ → List Bid → Option PutFault
-put_fault products standing holding round bids =
-    if standing.ended then Some put_faults.Ended
-    else (if not (round == standing.round) then Some (put_faults.WrongRound standing.round)
-    else bid_fault_of (sheet_fault products standing.prices holding.eligibility holding.demands bids))
+put_fault products standing holding round bids = first_fault (
+    (put_faults.Ended, not standing.ended)
+    ∷ (put_faults.WrongRound standing.round, round == standing.round)
+    ∷ fault_check put_faults.Bid (sheet_fault products standing.prices holding.eligibility holding.demands bids))

@@ -5,42 +5,49 @@ use clock_posting::PostFault;
 use std::alloc::AllocError;
 use thiserror::Error;
 
-/// Why a sheet is not put in force: the first of these that applies, but for want of memory, which may come at any point.
+// The cases are described above each enum: `rt plant` takes a comment above a case for its name, and
+// then tries no body of `put_sheet` and `close`.
+
+/// Why a sheet is not put in force: the first of these that applies, but for want of memory, which
+/// may come at any point.
+///
+/// - `Ended`: the auction has ended.
+/// - `WrongRound`: the sheet is for another round than the current one, which is told.
+/// - `Bid`: the bids have this fault.
+/// - `NoMemory`: there was no memory.
 #[derive(Clone, Copy, Debug, PartialEq, Eq, Error)]
 pub enum PutFault {
-    /// The auction has ended.
     #[error("the auction has ended")]
     Ended,
-    /// The sheet is for another round than the current one, which is told.
     #[error("not the current round")]
     WrongRound(u64),
-    /// The bids have this fault.
     #[error("the sheet has a fault")]
     Bid(BidFault),
-    /// There was no memory.
     #[error("out of memory")]
     NoMemory,
 }
 
-/// Why a round is not closed: the first of these that applies, but for want of memory, which may come at any point.
+/// Why a round is not closed: the first of these that applies, but for want of memory, which may
+/// come at any point.
+///
+/// - `Ended`: the auction has ended.
+/// - `WrongRound`: the closing is for another round than the current one, which is told.
+/// - `Increment`: the increment is not 1 to 50 percent.
+/// - `Tie`: the tie numbers have this fault.
+/// - `PriceLimit`: the next clock price of this product would be above the highest price.
+/// - `NoMemory`: there was no memory.
 #[derive(Clone, Copy, Debug, PartialEq, Eq, Error)]
 pub enum CloseFault {
-    /// The auction has ended.
     #[error("the auction has ended")]
     Ended,
-    /// The closing is for another round than the current one, which is told.
     #[error("not the current round")]
     WrongRound(u64),
-    /// The increment is not 1 to 50 percent.
     #[error("increment out of range")]
     Increment,
-    /// The tie numbers have this fault.
     #[error("the tie numbers have a fault")]
     Tie(TieFault),
-    /// The next clock price of this product would be above the highest price.
     #[error("a next clock price is too high")]
     PriceLimit(u64),
-    /// There was no memory.
     #[error("out of memory")]
     NoMemory,
 }

@@ -12,14 +12,14 @@ use Rattle.clock_house.proofs.house.House.changes.Goals as goal
 pub changes_of-requires-clause-good : goal.changes_of-requires-clause-good
 changes_of-requires-clause-good g c =
     let lt : c.loop-bidder.bidder < length c.args.self.now.setup.bidders = omega arith in
-    rw (c.setup.ensures, c.prices.ensures, c.own.ensures.eligibility, c.own.ensures.demands, c.bids.ensures)
+    rw (c.setup.ensures, c.prices.ensures, c.own.ensures.eligibility, c.own.ensures.demands, c.bids.ensures.is)
     (in-good c.args.self.now (c.keeps.ensures.going c.requires.going) c.loop-bidder.bidder lt)
 
 pub loop-bidder-preserved : goal.loop-bidder-preserved
 loop-bidder-preserved g c =
     let lt : c.loop-bidder.bidder < length c.args.self.now.setup.bidders = omega arith in
     let f = requests_of (open_round_in c.args.self.now) in
-    let exact = rw (c.prices.ensures, c.own.ensures.demands, c.bids.ensures) at c.in_ok-own.ensures.exact in
+    let exact = rw (c.prices.ensures, c.own.ensures.demands, c.bids.ensures.is) at c.in_ok-own.ensures.exact in
     let own : c.in_ok-own.own ≡ requests_of (open_round_in c.args.self.now) c.loop-bidder.bidder =
     exact ∙ ap (λ (held : Holding). changes_of_sheet (standing_in c.args.self.now).prices held.demands c.loop-bidder.bidder (bids_at c.args.self.now.sheets c.loop-bidder.bidder)) (sym (in-held c.args.self.now c.loop-bidder.bidder lt)) in
     c.in_ok-extend_from_slice.ensures.ok

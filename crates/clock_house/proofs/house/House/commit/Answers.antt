@@ -14,38 +14,44 @@ use Rattle.clock_house.proofs.house.House.commit.Goals as goal
 
 pub round_after-self-inside-requires : goal.round_after-self-inside-requires
 round_after-self-inside-requires g c =
-    let number = closed_number c.args.self.now c.args.prepared.round c.args.prepared.increment c.args.prepared.ties (closed_by c.args.prepared.posted) c.requires.fits.closes in
+    let fits = rw (← c.prepared.view_is) at c.requires.fits in
+    let number = closed_number c.args.self.now c.prepared.inside.round c.prepared.inside.increment c.prepared.inside.ties
+    (closed_by c.prepared.inside.results.posting c.prepared.inside.results.slips) fits in
     omega (arith, number.1, round_bounded c.args.self.now.setup.products (standing_in c.args.self.now) c.keeps.ensures.limits.product_count.1 (c.keeps.ensures.priced number.0))
 
 pub invariant_of-self : goal.invariant_of-self
 invariant_of-self g c =
-    let closes = rw (← c.self.view_is) at c.requires.fits.closes in
+    let fits = rw (← c.self.view_is, ← c.prepared.view_is) at c.requires.fits in
     let limits = rw (← c.self.view_is) at c.keeps.ensures.limits in
-    let added : reverse c.push_round.new.rounds.items ≡ closed_by c.args.prepared.posted ∷ reverse c.self.inside.rounds.items =
-    ap reverse c.push_round.ensures ∙ reverse-append c.self.inside.rounds.items (closed_by c.args.prepared.posted ∷ []) in
+    let asked = c.prepared.inside in
+    let posting = c.prepared.inside.results.posting in
+    let done : ClosedRound = closed_by c.prepared.inside.results.posting c.prepared.inside.results.slips in
+    let added : reverse c.push_round.new.rounds.items ≡ closed_by c.prepared.inside.results.posting c.prepared.inside.results.slips ∷ reverse c.self.inside.rounds.items =
+    ap reverse c.push_round.ensures ∙ reverse-append c.self.inside.rounds.items (closed_by c.prepared.inside.results.posting c.prepared.inside.results.slips ∷ []) in
     let none = c.clear.ensures ∙ ap (λ (n : ℕ). map (λ (bidder : ℕ). let sheet : Option (List Bid) = None in sheet) (range_with_len 0 n)) (stands_sheets _ c.self.invariant.commands c.self.invariant.stands) in
     record {
-      commands = close c.args.prepared.round c.args.prepared.increment c.args.prepared.ties ∷ c.self.invariant.commands;
-      stands = close-accepted _ limits c.args.prepared.round c.args.prepared.increment c.args.prepared.ties c.self.invariant.commands c.self.invariant.stands (closed_by c.args.prepared.posted) _ _ _ closes added none;
+      commands = close asked.round asked.increment asked.ties ∷ c.self.invariant.commands;
+      stands = close-accepted _ limits asked.round asked.increment asked.ties c.self.invariant.commands c.self.invariant.stands done _ _ _ fits added none;
       ended_is = sym (ap (λ (closed : List ClosedRound). (standing c.self.inside.setup.products closed).ended) added);
       round_is = c.round_after-self-inside.ensures ∙ sym (ap (λ (closed : List ClosedRound). (standing c.self.inside.setup.products closed).round) added);
       prices_are = λ going.
           c.take_prices.ensures
-          ∙ taken_prices c.args.prepared.posted.posting.next c.self.inside.prices c.args.prepared.posted.posting.sheet.lines c.args.prepared.posted.posting.sheet.ended going c.requires.fits.laws.end c.requires.fits.laws.shown
+          ∙ taken_prices posting.next c.self.inside.prices posting.sheet.lines posting.sheet.ended going c.prepared.invariant.end c.prepared.invariant.shown
           ∙ sym (ap (λ (closed : List ClosedRound). (standing c.self.inside.setup.products closed).prices) added);
       nothing_is = c.self.invariant.nothing_is;
     }
 
 pub returns-clause-followed : goal.returns-clause-followed
 returns-clause-followed g c =
-    let closes = rw (← c.self.view_is) at c.requires.fits.closes in
+    let fits = rw (← c.self.view_is, ← c.prepared.view_is) at c.requires.fits in
     let limits = rw (← c.self.view_is) at c.keeps.ensures.limits in
-    let added : reverse c.push_round.new.rounds.items ≡ closed_by c.args.prepared.posted ∷ reverse c.self.inside.rounds.items =
-    ap reverse c.push_round.ensures ∙ reverse-append c.self.inside.rounds.items (closed_by c.args.prepared.posted ∷ []) in
+    let asked = c.prepared.inside in
+    let done : ClosedRound = closed_by c.prepared.inside.results.posting c.prepared.inside.results.slips in
+    let added : reverse c.push_round.new.rounds.items ≡ closed_by c.prepared.inside.results.posting c.prepared.inside.results.slips ∷ reverse c.self.inside.rounds.items =
+    ap reverse c.push_round.ensures ∙ reverse-append c.self.inside.rounds.items (closed_by c.prepared.inside.results.posting c.prepared.inside.results.slips ∷ []) in
     let none = c.clear.ensures ∙ ap (λ (n : ℕ). map (λ (bidder : ℕ). let sheet : Option (List Bid) = None in sheet) (range_with_len 0 n)) (stands_sheets _ c.self.invariant.commands c.self.invariant.stands) in
-    rw (← c.self.view_is)
+    rw (← c.self.view_is, ← c.prepared.view_is)
     (record {
       setup = refl;
-      stands = λ commands stands.
-          close-accepted _ limits c.args.prepared.round c.args.prepared.increment c.args.prepared.ties commands stands (closed_by c.args.prepared.posted) _ _ _ closes added none;
+      stands = λ commands stands. close-accepted _ limits asked.round asked.increment asked.ties commands stands done _ _ _ fits added none;
     })

@@ -1,12 +1,14 @@
+use Rattle.std.proofs.Common.{refl}
 use Rattle.clock_house.proofs.Sound.{sound}
 use Rattle.clock_house.proofs.Kept.{stands_sound, stands_going, stands_sheets}
+use Rattle.clock_house.proofs.Isolation.{seen}
 use Rattle.clock_house.proofs.house.House.keeps.Goals as goal
 
 pub returns-clause-sound : goal.returns-clause-sound
 returns-clause-sound g c = rw (← c.self.view_is) (λ commands. sound c.self.inside.setup c.keep.ensures commands)
 
-pub returns-clause-held : goal.returns-clause-held
-returns-clause-held g c = rw (← c.self.view_is) (stands_sound _ c.keep.ensures c.self.invariant.commands c.self.invariant.stands).held
+pub returns-clause-within : goal.returns-clause-within
+returns-clause-within g c = rw (← c.self.view_is) (stands_sound _ c.keep.ensures c.self.invariant.commands c.self.invariant.stands).held
 
 pub returns-clause-priced : goal.returns-clause-priced
 returns-clause-priced g c = rw (← c.self.view_is) (stands_sound _ c.keep.ensures c.self.invariant.commands c.self.invariant.stands).priced
@@ -19,3 +21,9 @@ returns-clause-rounds g c = rw (← c.self.view_is) (stands_sound _ c.keep.ensur
 
 pub returns-clause-sheets : goal.returns-clause-sheets
 returns-clause-sheets g c = rw (← c.self.view_is) (stands_sheets _ c.self.invariant.commands c.self.invariant.stands)
+
+pub returns-clause-others : goal.returns-clause-others
+returns-clause-others g c = record { setup = refl; stands = λ commands stands. record { closed = stands.closed; sheets = stands.sheets } }
+
+pub returns-clause-views : goal.returns-clause-views
+returns-clause-views g c = λ setup bidder commands. seen setup bidder commands

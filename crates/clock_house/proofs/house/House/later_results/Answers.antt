@@ -7,7 +7,7 @@ use Rattle.std.proofs.lemmas.List.Sorted.{All-permutation}
 use Rattle.clock_posting.specs.PostedPrice.{IsPricedBy}
 use Rattle.clock_house.proofs.Posts.{posts, posts-refused}
 use Rattle.clock_house.proofs.OpenRounds.{before_within, own_places, priced_requests, can_settle}
-use Rattle.clock_house.proofs.house.House.later_posted.Goals as goal
+use Rattle.clock_house.proofs.house.House.later_results.Goals as goal
 
 pub ordered-requires : goal.ordered-requires
 ordered-requires g c = rw c.in_ok-changes.ensures (own_places c.args.self.now.setup.products (open_round_in c.args.self.now) (c.keeps.ensures.going c.requires.going) c.requires.later)
@@ -49,6 +49,6 @@ returns-clause-ok g c =
     let list = rw c.in_ok-changes.ensures at c.in_ok-requests.ensures.computed in
     let grid = rw (board, list) at c.in_ok-settled.ensures.settlement.grid in
     let left = rw (board, list) at c.in_ok-settled.ensures.settlement.left in
-    let posting = rw (c.setup-2.ensures, c.prices.ensures, c.round.ensures, list, left, grid) at c.in_ok-posting.ensures.ok in
+    let posting = rw (c.setup-2.ensures, c.prices.ensures, c.round.ensures.is, list, left, grid) at c.in_ok-posting.ensures.ok in
     let slips = rw (c.grid.ensures, grid) at c.in_ok-slips.ensures in
     posts c.args.self.now.setup.products c.args.self.now.setup.requirement (open_round_in c.args.self.now) c.args.increment (later_outcome c.args.self.now.setup.products (open_round_in c.args.self.now) (requests (open_round_in c.args.self.now) c.args.ties.now)) c.in_ok-posting.posting c.in_ok-slips.slips posting slips c.in_ok-posting.ensures.laws

@@ -1,7 +1,7 @@
 use Rattle.clock_house.specs.House.{open_round_in}
 use Rattle.clock_house.proofs.InHouse.{within_grid}
 use Rattle.clock_house.proofs.OpenRounds.{asked_within}
-use Rattle.clock_house.proofs.house.House.first_posted.Goals as goal
+use Rattle.clock_house.proofs.house.House.first_results.Goals as goal
 
 pub post_first-requires-clause-grid : goal.post_first-requires-clause-grid
 post_first-requires-clause-grid g c =

@@ -6,63 +6,74 @@ ghost use Rattle.clock_bids.specs.Sheet as sheets;
 ghost use Rattle.clock_processor.specs.Board.{IsWithinEligibility};
 ghost use Rattle.clock_house.specs.Closing as rules;
 ghost use Rattle.clock_house.specs.House.{standing_in, holding_in, open_round_in};
-ghost use Rattle.clock_house.specs.Prepared.{IsPosted, IsTold, posting_in};
+ghost use Rattle.clock_house.specs.declared.fault.CloseFault.TheVariants as close_faults;
+ghost use Rattle.clock_house.specs.Faults.{IsRefusal};
+ghost use Rattle.clock_house.specs.Prepared.{AreResults, posting_in, posting_of};
 ghost use Rattle.clock_house.specs.Laws.{eligibilities_of, grid_of};
 
 use crate::fault::CloseFault;
 use crate::house::{House, bidder_count};
-use crate::slip::{Posted, Slip, Slips};
+use crate::slip::{Slip, Slips};
 use clock_bids::{Bid, Changes, asked_demands, changes_of};
 use clock_device::NoMemory;
 use clock_order::{Ties, ordered};
-use clock_posting::{post, post_first};
+use clock_posting::{Posting, post, post_first};
 use clock_processor::{Board, Processor};
 use clock_setup::{Amounts, Grid, Setup, activity, next_eligibility};
 
+/// What a round comes to: its sheet with the prices of the next round, and the slip of each bidder.
+#[derive(Drop)]
+pub(crate) struct Results {
+    /// The round's sheet, and the next prices.
+    pub(crate) posting: Posting,
+    /// What each bidder is left with.
+    pub(crate) slips: Slips,
+}
+
 impl<P: Processor> House<P> {
-    /// What a closing of the current round posts.
-    pub(crate) fn posted(&self, increment: u64, ties: &Ties) -> Result<Posted, CloseFault>
+    /// What the current round comes to.
+    pub(crate) fn results(&self, increment: u64, ties: &Ties) -> Result<Results, CloseFault>
         requires going { (standing_in self.now).ended ≡ false }
         requires least { 1 ≤ increment }
         requires most { increment ≤ 50 }
 
-        ensures ok { IfOk result (IsPosted (posting_in self.now increment ties.now)) }
-        ensures err { IfErr result (IsTold (posting_in self.now increment ties.now)) }
+        ensures ok { IfOk result (AreResults (posting_in self.now increment ties.now)) }
+        ensures err { IfErr result (IsRefusal close_faults.NoMemory (posting_in self.now increment ties.now)) }
     {
         self.keeps();
         if self.round() == 1 {
-            self.first_posted(increment)
+            self.first_results(increment)
         } else {
-            self.later_posted(increment, ties)
+            self.later_results(increment, ties)
         }
     }
 
-    /// What the closing of the first round posts: the sheets' quantities stand as demands.
-    fn first_posted(&self, increment: u64) -> Result<Posted, CloseFault>
+    /// What the first round comes to: the sheets' quantities stand as demands.
+    fn first_results(&self, increment: u64) -> Result<Results, CloseFault>
         requires going { (standing_in self.now).ended ≡ false }
         requires first { (standing_in self.now).round ≡ 1 }
         requires least { 1 ≤ increment }
         requires most { increment ≤ 50 }
 
-        ensures ok { IfOk result (IsPosted (rules.closing_with self.now.setup.products self.now.setup.requirement (open_round_in self.now) increment (rules.first_outcome self.now.setup.products (open_round_in self.now)))) }
-        ensures err { IfErr result (IsTold (rules.closing_with self.now.setup.products self.now.setup.requirement (open_round_in self.now) increment (rules.first_outcome self.now.setup.products (open_round_in self.now)))) }
+        ensures ok { IfOk result (AreResults (posting_of self.now increment (rules.first_outcome self.now.setup.products (open_round_in self.now)))) }
+        ensures err { IfErr result (IsRefusal close_faults.NoMemory (posting_of self.now increment (rules.first_outcome self.now.setup.products (open_round_in self.now)))) }
     {
         self.keeps();
         let grid = self.asked_grid()?;
         let posting = post_first(self.alloc(), self.setup(), &grid, increment)?;
         let slips = self.slips(&grid)?;
-        Ok(Posted { posting, slips })
+        Ok(Results { posting, slips })
     }
 
-    /// What the closing of a later round posts: all bidders' requests are settled in their order.
-    fn later_posted(&self, increment: u64, ties: &Ties) -> Result<Posted, CloseFault>
+    /// What a later round comes to: all bidders' requests are settled in their order.
+    fn later_results(&self, increment: u64, ties: &Ties) -> Result<Results, CloseFault>
         requires going { (standing_in self.now).ended ≡ false }
         requires later { 2 ≤ (standing_in self.now).round }
         requires least { 1 ≤ increment }
         requires most { increment ≤ 50 }
 
-        ensures ok { IfOk result (IsPosted (rules.closing_with self.now.setup.products self.now.setup.requirement (open_round_in self.now) increment (rules.later_outcome self.now.setup.products (open_round_in self.now) (rules.requests (open_round_in self.now) ties.now)))) }
-        ensures err { IfErr result (IsTold (rules.closing_with self.now.setup.products self.now.setup.requirement (open_round_in self.now) increment (rules.later_outcome self.now.setup.products (open_round_in self.now) (rules.requests (open_round_in self.now) ties.now)))) }
+        ensures ok { IfOk result (AreResults (posting_of self.now increment (rules.later_outcome self.now.setup.products (open_round_in self.now) (rules.requests (open_round_in self.now) ties.now)))) }
+        ensures err { IfErr result (IsRefusal close_faults.NoMemory (posting_of self.now increment (rules.later_outcome self.now.setup.products (open_round_in self.now) (rules.requests (open_round_in self.now) ties.now)))) }
     {
         self.keeps();
         let changes = self.changes()?;
@@ -81,7 +92,7 @@ impl<P: Processor> House<P> {
             increment,
         )?;
         let slips = self.slips(settled.grid())?;
-        Ok(Posted { posting, slips })
+        Ok(Results { posting, slips })
     }
 
     /// The demands that the sheets in force ask for.
@@ -195,11 +206,11 @@ impl<P: Processor> House<P> {
     {
         self.keeps();
         let own = self.own(bidder);
-        let activity = activity(self.setup(), demands);
+        let used = activity(self.setup(), demands);
         Ok(Slip {
             round: own.round,
-            activity,
-            eligibility: next_eligibility(own.eligibility, activity, requirement(self.setup())),
+            activity: used,
+            eligibility: next_eligibility(own.eligibility, used, requirement(self.setup())),
             demands: Amounts::from_slice(self.alloc(), demands)?,
         })
     }

@@ -1,7 +1,7 @@
 use Rattle.std.proofs.Common.{ap, sym, ◌∙◌, arith}
 use Rattle.clock_house.proofs.Kept.{stands_numbered}
 use Rattle.clock_house.proofs.Numbers.{newest_slips, last-reverse, holding-newest, holding-first}
-use Rattle.clock_house.proofs.house.House.held.Goals as goal
+use Rattle.clock_house.proofs.house.House.holding_now.Goals as goal
 
 pub slip_at-slip-requires : goal.slip_at-slip-requires
 slip_at-slip-requires g c =

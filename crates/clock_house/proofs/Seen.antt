@@ -1,0 +1,48 @@
+-- What a house is for a bidder is what the bidder's view shows.
+use Rattle.std.proofs.Common.{◌≡◌, ℕ, ◌<◌, List, [], refl, ap, ◌∙◌, length}
+use Rattle.std.specs.Prelude.{Option, Some, None, option_map, slice_index_or}
+use Rattle.clock_bids.specs.declared.sheet.Bid.{Bid}
+use Rattle.clock_posting.specs.declared.sheet.RoundSheet.{RoundSheet}
+use Rattle.clock_house.specs.declared.slip.Slip.{Slip}
+use Rattle.clock_house.specs.Command.{Command}
+use Rattle.clock_house.specs.Standing.{Standing, Holding, put_fault}
+use Rattle.clock_house.specs.History.{ClosedRound, standing, holding, bidder_at, slip_of, round_at}
+use Rattle.clock_house.specs.View.{view_of, seen_standing, seen_holding, seen_in_force, seen_put_fault, seen_round, shown_to}
+use Rattle.clock_house.specs.House.{HouseFields, StandsFor, standing_in, holding_in, put_fault_in}
+use Rattle.clock_house.proofs.Isolation.{seen}
+use Rattle.clock_house.proofs.Puts.{sheet_at}
+
+module _ (house : HouseFields) (bidder : ℕ) (commands : List Command) (stands : StandsFor commands house) where
+  pub standing_seen : standing_in house ≡ seen_standing house.setup.products (view_of house.setup bidder commands)
+  standing_seen = ap (standing house.setup.products) stands.closed ∙ (seen house.setup bidder commands).standing
+
+  pub holding_seen : holding_in house bidder ≡ seen_holding house.setup.products (bidder_at house.setup bidder) (view_of house.setup bidder commands)
+  holding_seen = ap (λ (closed : List ClosedRound). holding house.setup closed bidder) stands.closed ∙ (seen house.setup bidder commands).holding
+
+  pub put_fault_seen : (round : ℕ) (bids : List Bid) →
+      put_fault_in house bidder round bids ≡ seen_put_fault house.setup.products (bidder_at house.setup bidder) (view_of house.setup bidder commands) round bids
+  put_fault_seen round bids =
+      ap (λ (now : Standing). put_fault house.setup.products now (holding_in house bidder) round bids) standing_seen
+      ∙ ap (λ (own : Holding). put_fault house.setup.products (seen_standing house.setup.products (view_of house.setup bidder commands)) own round bids) holding_seen
+
+  pub in_force_seen : bidder < length house.setup.bidders →
+      slice_index_or house.sheets bidder None ≡ seen_in_force house.setup.products (bidder_at house.setup bidder) (view_of house.setup bidder commands)
+  in_force_seen known = sheet_at house bidder 0 [] commands stands bidder known ∙ (seen house.setup bidder commands).in_force
+
+  -- the sheet and the slip of a closed round
+  both_seen : (n : ℕ) → option_map (shown_to bidder) (round_at n house.closed) ≡ seen_round n (view_of house.setup bidder commands)
+  both_seen n = ap (λ (closed : List ClosedRound). option_map (shown_to bidder) (round_at n closed)) stands.closed ∙ (seen house.setup bidder commands).rounds n
+
+  sheet_part : (found : Option ClosedRound) → option_map (λ closed. closed.sheet) found ≡ option_map (λ (seen : RoundSheet × Slip). seen.0) (option_map (shown_to bidder) found)
+  sheet_part None = refl
+  sheet_part (Some closed) = refl
+
+  slip_part : (found : Option ClosedRound) → option_map (slip_of bidder) found ≡ option_map (λ (seen : RoundSheet × Slip). seen.1) (option_map (shown_to bidder) found)
+  slip_part None = refl
+  slip_part (Some closed) = refl
+
+  pub sheet_seen : (n : ℕ) → option_map (λ closed. closed.sheet) (round_at n house.closed) ≡ option_map (λ seen. seen.0) (seen_round n (view_of house.setup bidder commands))
+  sheet_seen n = sheet_part (round_at n house.closed) ∙ ap (option_map (λ (seen : RoundSheet × Slip). seen.0)) (both_seen n)
+
+  pub slip_seen : (n : ℕ) → option_map (slip_of bidder) (round_at n house.closed) ≡ option_map (λ seen. seen.1) (seen_round n (view_of house.setup bidder commands))
+  slip_seen n = slip_part (round_at n house.closed) ∙ ap (option_map (λ (seen : RoundSheet × Slip). seen.1)) (both_seen n)

@@ -1,0 +1,36 @@
+use Rattle.std.proofs.Common.{◌∷◌, refl, arith}
+use Rattle.clock_house.specs.Command.{put}
+use Rattle.clock_house.proofs.Kept.{stands_sheets}
+use Rattle.clock_house.proofs.Puts.{put-accepted}
+use Rattle.clock_house.proofs.house.House.commit_put.Goals as goal
+
+pub set-requires : goal.set-requires
+set-requires g c =
+    let many = stands_sheets _ c.self.invariant.commands c.self.invariant.stands in
+    let known = rw (← c.self.view_is, ← c.prepared.view_is) at c.requires.known in
+    omega (arith, many, known)
+
+pub invariant_of-self : goal.invariant_of-self
+invariant_of-self g c =
+    let known = rw (← c.self.view_is, ← c.prepared.view_is) at c.requires.known in
+    let good = rw (← c.self.view_is, ← c.prepared.view_is) at c.requires.good in
+    record {
+      commands = put c.prepared.inside.bidder c.prepared.inside.round c.prepared.inside.sheet ∷ c.self.invariant.commands;
+      stands = rw c.set.ensures
+          (put-accepted _ c.prepared.inside.bidder c.prepared.inside.round c.prepared.inside.sheet c.self.invariant.commands c.self.invariant.stands known good);
+      ended_is = c.self.invariant.ended_is;
+      round_is = c.self.invariant.round_is;
+      prices_are = c.self.invariant.prices_are;
+      nothing_is = c.self.invariant.nothing_is;
+    }
+
+pub returns-clause-followed : goal.returns-clause-followed
+returns-clause-followed g c =
+    let known = rw (← c.self.view_is, ← c.prepared.view_is) at c.requires.known in
+    let good = rw (← c.self.view_is, ← c.prepared.view_is) at c.requires.good in
+    rw (← c.self.view_is, ← c.prepared.view_is)
+    (record {
+      setup = refl;
+      stands = λ commands stands. rw c.set.ensures
+          (put-accepted _ c.prepared.inside.bidder c.prepared.inside.round c.prepared.inside.sheet commands stands known good);
+    })

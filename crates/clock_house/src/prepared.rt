@@ -1,0 +1,57 @@
+ghost use Rattle.std.specs.Prelude.{◌≡◌};
+
+use crate::results::Results;
+use clock_bids::Sheet;
+use clock_order::Ties;
+use std::marker::Model;
+
+/// A bidder's sheet that a house accepts and has not put in force yet.
+///
+/// Contracts see the bidder, the round and the bids. It fits each house where this bidder's sheet
+/// has no fault.
+#[derive(Drop)]
+pub struct PreparedPut {
+    pub(crate) bidder: u32,
+    pub(crate) round: u64,
+    pub(crate) sheet: Sheet,
+}
+
+impl Model for PreparedPut {
+    ghost use Rattle.clock_house.specs.Prepared.{PreparedSheet};
+
+    ghost Value = { PreparedSheet };
+
+    ghost view = { λ p. record { bidder = p.bidder; round = p.round; bids = p.sheet } };
+}
+
+/// A closing that a house accepts and has not made yet.
+///
+/// Contracts see the round, the increment and the tie numbers that were asked for, and the round
+/// that the closing adds. It fits each house where this closing adds that round.
+#[derive(Drop)]
+pub struct Prepared {
+    pub(crate) round: u64,
+    pub(crate) increment: u64,
+    pub(crate) ties: Ties,
+    pub(crate) results: Results,
+}
+
+impl Model for Prepared {
+    ghost use Rattle.clock_posting.specs.Posting.{IsConsistent};
+    ghost use Rattle.clock_house.specs.Prepared.{PreparedClosing, closed_by};
+
+    ghost Value = { PreparedClosing };
+
+    ghost view = { λ p. record { round = p.round; increment = p.increment; ties = p.ties; closed = closed_by p.results.posting p.results.slips } };
+
+    ghost invariant = { λ p. IsConsistent p.results.posting };
+}
+
+impl Prepared {
+    /// Whether the auction ends with this closing.
+    pub fn ended(&self) -> bool
+        ensures { result ≡ self.now.closed.sheet.ended }
+    {
+        self.results.posting.sheet.ended
+    }
+}
