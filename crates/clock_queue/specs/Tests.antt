@@ -1,0 +1,23 @@
+-- How often a processor tests for room.
+--     most_of_one changes      the greatest number of requests of one product or of one bidder
+--     IsWithinTests changes end      no more tests than one for each request, and that number for each application
+use Rattle.std.specs.Prelude.{ℕ, ◌+◌, ◌*◌, ◌≤◌, ◌==◌, List, length, max, count_by}
+use Rattle.std.specs.List.{fold}
+use Rattle.clock_bids.specs.declared.change.Change.{Change}
+use Rattle.clock_processor.specs.Settlement.{SettledFields}
+
+-- how many requests are of a product
+abbrev pub count_of_product : List Change → ℕ → ℕ
+count_of_product changes product = count_by (λ (change : Change). change.product == product) changes
+
+-- how many requests are of a bidder
+abbrev pub count_of_bidder : List Change → ℕ → ℕ
+count_of_bidder changes bidder = count_by (λ (change : Change). change.bidder == bidder) changes
+
+-- the greatest number of requests of one product or of one bidder
+abbrev pub most_of_one : List Change → ℕ
+most_of_one changes = fold (λ most change. max most (max (count_of_product changes change.product) (count_of_bidder changes change.bidder))) 0 changes
+
+-- one test for each request, and for each application no more than there are requests of one product or of one bidder
+abbrev pub IsWithinTests : List Change → SettledFields → Type 0
+IsWithinTests changes end = end.tests ≤ length changes + end.applied * most_of_one changes

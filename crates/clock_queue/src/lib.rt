@@ -1,0 +1,10 @@
+//! Settling a round by an event queue: after an application only the requests that it may have made room for are tested
+//! again.
+#![tactic(auto)]
+
+mod lines;
+mod queue;
+mod ready;
+mod woken;
+
+pub use woken::Woken;

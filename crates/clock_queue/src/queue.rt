@@ -1,0 +1,174 @@
+ghost use Rattle.std.specs.Prelude.{◌≡◌, ℕ, ◌+◌, ◌-◌, ◌*◌, ◌<◌, ◌≤◌, [], ◌∷◌, ◌++◌, length, map, IfOk, OnOk, All};
+ghost use Rattle.clock_processor.specs.Board.{IsBoard};
+ghost use Rattle.clock_processor.specs.Requests.{CanSettle};
+ghost use Rattle.clock_processor.specs.Settling as settling;
+ghost use Rattle.clock_queue.specs.Queue as states;
+ghost use Rattle.clock_queue.specs.Queue.{IsQueue, IsWithinCount, SameTerms, progress, room_in, with_first, work};
+
+use crate::lines::{Lines, line_of, lines_for, woken_line};
+use crate::ready::Ready;
+use clock_bids::Change;
+use clock_device::NoMemory;
+use clock_processor::{Board, Settled};
+use clock_setup::Amounts;
+use std::alloc::Global;
+
+/// A settling on its way.
+#[derive(Drop)]
+pub(crate) struct Queue {
+    board: Board,
+    left: Amounts,
+    admitted: usize,
+    ready: Ready,
+    lines: Lines,
+}
+
+impl Queue {
+    /// A settling in which no request is admitted yet.
+    pub(crate) fn new(alloc: Global, board: Board, changes: &[Change]) -> Result<Queue, NoMemory>
+        requires { CanSettle board changes.now }
+        ensures queue { IfOk result (IsQueue changes.now) }
+        ensures counts { IfOk result (IsWithinCount changes.now) }
+        ensures board { IfOk result (λ queue. queue.board ≡ board) }
+        ensures left { IfOk result (λ queue. queue.left ≡ map (λ change. change.amount) changes.now) }
+        ensures none { IfOk result (λ queue. (queue.ready ≡ []) × (queue.admitted ≡ 0)) }
+    {
+        Ok(Queue {
+            board,
+            left: amounts_of(alloc, changes)?,
+            admitted: 0,
+            ready: Ready::new(alloc),
+            lines: Lines::new(alloc, lines_for(changes))?,
+        })
+    }
+
+    /// Admits the next request, and tests until none is ready.
+    pub(crate) fn settle_next(&mut self, changes: &[Change]) -> Result<(), NoMemory>
+        requires queue { IsQueue changes.now self.old }
+        requires counts { IsWithinCount changes.now self.old }
+        requires none { self.old.ready ≡ [] }
+        requires more { self.old.admitted < length changes.now }
+        ensures queue { OnOk result (IsQueue changes.now self.new) }
+        ensures counts { OnOk result (IsWithinCount changes.now self.new) }
+        ensures none { OnOk result (self.new.ready ≡ []) }
+        ensures admitted { OnOk result (self.new.admitted ≡ self.old.admitted + 1) }
+        ensures terms { OnOk result (SameTerms self.old self.new) }
+        ensures reached { OnOk result (settling.Reaches self.old.board.products self.old.board.eligibilities changes.now (progress self.old) (progress self.new)) }
+    {
+        self.ready.push(self.admitted)?;
+        self.admitted += 1;
+        self.run(changes)?;
+        Ok(())
+    }
+
+    /// Tests the first of the ready requests, until none is ready.
+    fn run(&mut self, changes: &[Change]) -> Result<(), NoMemory>
+        requires queue { IsQueue changes.now self.old }
+        requires counts { IsWithinCount changes.now self.old }
+        ensures queue { OnOk result (IsQueue changes.now self.new) }
+        ensures counts { OnOk result (IsWithinCount changes.now self.new) }
+        ensures none { OnOk result (self.new.ready ≡ []) }
+        ensures admitted { OnOk result (self.new.admitted ≡ self.old.admitted) }
+        ensures terms { OnOk result (SameTerms self.old self.new) }
+        ensures reached { OnOk result (settling.Reaches self.old.board.products self.old.board.eligibilities changes.now (progress self.old) (progress self.new)) }
+    {
+        while let Some(place) = self.ready.pop() {
+            self.test(changes, place)?;
+        }
+        Ok(())
+    }
+
+    /// Tests a request, which was the first of those that are ready. With room it is applied by its whole room, and what
+    /// is left of it waits; without room it waits whole.
+    fn test(&mut self, changes: &[Change], place: usize) -> Result<(), NoMemory>
+        requires queue { IsQueue changes.now (with_first place self.old) }
+        requires counts { IsWithinCount changes.now (with_first place self.old) }
+        requires least { All (λ other. place ≤ other) self.old.ready }
+        ensures queue { OnOk result (IsQueue changes.now self.new) }
+        ensures counts { OnOk result (IsWithinCount changes.now self.new) }
+        ensures admitted { OnOk result (self.new.admitted ≡ self.old.admitted) }
+        ensures terms { OnOk result (SameTerms self.old self.new) }
+        ensures reached { OnOk result (settling.Reaches self.old.board.products self.old.board.eligibilities changes.now (progress self.old) (progress self.new)) }
+        ensures less { OnOk result (work changes.now self.new < work changes.now (with_first place self.old)) }
+    {
+        let room = self.room(changes, place);
+        if room == 0 {
+            return self.wait(changes, place);
+        }
+        self.apply(changes, place, room)?;
+        self.wait(changes, place)?;
+        Ok(())
+    }
+
+    /// The room of a request.
+    fn room(&mut self, changes: &[Change], place: usize) -> u64
+        requires { IsQueue changes.now (with_first place self.old) }
+        ensures room { result ≡ room_in changes.now self.old place }
+        ensures counted { self.new ≡ states.after_test self.old }
+        ensures is_board { IsBoard self.new.board.products self.new.board.eligibilities self.new.board.grid }
+    {
+        let left = self.left.as_slice()[place];
+        self.board.room(&changes[place], left)
+    }
+
+    /// Applies a request by its whole room, and makes ready those that this may have made room for.
+    fn apply(&mut self, changes: &[Change], place: usize, room: u64) -> Result<(), NoMemory>
+        requires queue { IsQueue changes.now (with_first place self.old) }
+        requires counts { IsWithinCount changes.now self.old }
+        requires is_board { IsBoard self.old.board.products self.old.board.eligibilities self.old.board.grid }
+        requires room { room ≡ room_in changes.now self.old place }
+        requires some { 0 < room }
+        ensures queue { OnOk result (IsQueue changes.now (with_first place self.new)) }
+        ensures counts { OnOk result (IsWithinCount changes.now self.new) }
+        ensures applied { OnOk result (progress self.new ≡ settling.with_application self.old.board.products self.old.board.eligibilities changes.now (progress self.old) place) }
+        ensures terms { OnOk result (SameTerms self.old self.new) }
+        ensures no_room { OnOk result (room_in changes.now self.new place ≡ 0) }
+        ensures less { OnOk result (work changes.now self.new < work changes.now self.old) }
+    {
+        let left = self.left.as_slice()[place];
+        self.board.apply(&changes[place], room);
+        self.left.set(place, left - room);
+        let woken = self.lines.take(woken_line(&changes[place]));
+        self.ready.extend(woken.as_slice())?;
+        Ok(())
+    }
+
+    /// What is left of a request waits, if there is anything.
+    fn wait(&mut self, changes: &[Change], place: usize) -> Result<(), NoMemory>
+        requires queue { IsQueue changes.now (with_first place self.old) }
+        requires no_room { room_in changes.now self.old place ≡ 0 }
+        ensures queue { OnOk result (IsQueue changes.now self.new) }
+        ensures same { OnOk result (self.new ≡ record self.old { lines = self.new.lines }) }
+    {
+        if self.left.as_slice()[place] > 0 {
+            self.lines.add(line_of(&changes[place]), place)?;
+        }
+        Ok(())
+    }
+
+    /// Ends the settling.
+    pub(crate) fn end(self) -> Settled
+        ensures settled { result ≡ record { grid = self.board.grid; left = self.left; applied = self.board.applied; tests = self.board.tests } }
+        ensures kept { IsBoard self.board.products self.board.eligibilities self.board.grid }
+    {
+        let Queue {
+            board,
+            left,
+            admitted: _,
+            ready: _,
+            lines: _,
+        } = self;
+        board.end(left)
+    }
+}
+
+/// The whole amount of each request.
+fn amounts_of(alloc: Global, changes: &[Change]) -> Result<Amounts, NoMemory>
+    ensures { IfOk result (λ amounts. amounts ≡ map (λ change. change.amount) changes.now) }
+{
+    let mut amounts = Amounts::new(alloc);
+    for change in changes {
+        amounts.push(change.amount)?;
+    }
+    Ok(amounts)
+}

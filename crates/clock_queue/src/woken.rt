@@ -1,0 +1,35 @@
+ghost use Rattle.std.specs.Prelude.{IfOk};
+ghost use Rattle.clock_processor.specs.Requests.{CanSettle};
+ghost use Rattle.clock_processor.specs.Settlement.{IsSettlement, IsProperEnd};
+ghost use Rattle.clock_queue.specs.Tests.{IsWithinTests};
+
+use crate::queue::Queue;
+use clock_bids::Changes;
+use clock_device::NoMemory;
+use clock_processor::{Board, Processor, Settled};
+use std::alloc::Global;
+
+/// Tests a request once when it is admitted, and again after each application that may have made room for it.
+///
+/// An applied reduction frees eligibility of its bidder, so it wakes the bidder's increases that wait; an applied
+/// increase raises the demand for its product, so it wakes the product's reductions that wait.
+#[derive(Clone, Copy, Debug, Default)]
+pub struct Woken;
+
+impl Processor for Woken {
+    /// Settles the requests as the trait says. It tests at most once for each request, and for each application at most
+    /// as often as there are requests of one product or of one bidder.
+    fn settle(&self, alloc: Global, board: Board, changes: &Changes) -> Result<Settled, NoMemory>
+        requires { CanSettle board changes.now }
+        ensures settlement { IfOk result (λ settled. IsSettlement board changes.now settled) }
+        ensures proper { IfOk result (λ settled. IsProperEnd board changes.now settled) }
+        ensures tests { IfOk result (λ settled. IsWithinTests changes.now settled) }
+    {
+        let changes = changes.as_slice();
+        let mut queue = Queue::new(alloc, board, changes)?;
+        for _place in 0..changes.len() {
+            queue.settle_next(changes)?;
+        }
+        Ok(queue.end())
+    }
+}
