@@ -1,13 +1,82 @@
-//! Set-up documents that the tests share.
+//! Documents of small set-ups, for examples and tests.
 
-/// One product of two blocks, and the bidders X and Y.
-pub(crate) const ONE_PRODUCT: &str =
-    "{\"bidders\":[{\"eligibility\":10,\"name\":\"X\",\"token\":\"XXXXXXXXXXXXXXXX\"},{\"eligibility\":10,\"name\":\"Y\",\"token\":\"YYYYYYYYYYYYYYYY\"}],\"operator\":\"OPERATOROPERATOR\",\"products\":[{\"cap\":2,\"name\":\"A\",\"opening\":100,\"supply\":2,\"units\":1}],\"requirement\":95,\"version\":1}";
+/// One product A of two blocks, and the bidders X and Y.
+pub const ONE_PRODUCT: &str = r#"{
+  "version": 1,
+  "requirement": 95,
+  "operator": "OPERATOROPERATOR",
+  "products": [
+    {"name": "A", "units": 1, "supply": 2, "cap": 2, "opening": 100}
+  ],
+  "bidders": [
+    {"name": "X", "token": "XXXXXXXXXXXXXXXX", "eligibility": 10},
+    {"name": "Y", "token": "YYYYYYYYYYYYYYYY", "eligibility": 10}
+  ]
+}"#;
 
-/// Two products, and the bidders X, Y and Z.
-pub(crate) const TWO_PRODUCTS: &str =
-    "{\"bidders\":[{\"eligibility\":2,\"name\":\"X\",\"token\":\"XXXXXXXXXXXXXXXX\"},{\"eligibility\":2,\"name\":\"Y\",\"token\":\"YYYYYYYYYYYYYYYY\"},{\"eligibility\":1,\"name\":\"Z\",\"token\":\"ZZZZZZZZZZZZZZZZ\"}],\"operator\":\"OPERATOROPERATOR\",\"products\":[{\"cap\":2,\"name\":\"A\",\"opening\":100,\"supply\":2,\"units\":1},{\"cap\":2,\"name\":\"B\",\"opening\":100,\"supply\":2,\"units\":1}],\"requirement\":100,\"version\":1}";
+/// Two products A and B of two blocks each, and the bidders X, Y and Z.
+pub const TWO_PRODUCTS: &str = r#"{
+  "version": 1,
+  "requirement": 100,
+  "operator": "OPERATOROPERATOR",
+  "products": [
+    {"name": "A", "units": 1, "supply": 2, "cap": 2, "opening": 100},
+    {"name": "B", "units": 1, "supply": 2, "cap": 2, "opening": 100}
+  ],
+  "bidders": [
+    {"name": "X", "token": "XXXXXXXXXXXXXXXX", "eligibility": 2},
+    {"name": "Y", "token": "YYYYYYYYYYYYYYYY", "eligibility": 2},
+    {"name": "Z", "token": "ZZZZZZZZZZZZZZZZ", "eligibility": 1}
+  ]
+}"#;
 
 /// Four products whose opening prices stand at the edges of rounding and of the highest price.
-pub(crate) const PRICE_EDGES: &str =
-    "{\"bidders\":[{\"eligibility\":10,\"name\":\"X\",\"token\":\"XXXXXXXXXXXXXXXX\"},{\"eligibility\":10,\"name\":\"Y\",\"token\":\"YYYYYYYYYYYYYYYY\"}],\"operator\":\"OPERATOROPERATOR\",\"products\":[{\"cap\":2,\"name\":\"A\",\"opening\":101,\"supply\":2,\"units\":1},{\"cap\":2,\"name\":\"B\",\"opening\":110,\"supply\":2,\"units\":1},{\"cap\":2,\"name\":\"C\",\"opening\":1,\"supply\":2,\"units\":1},{\"cap\":2,\"name\":\"D\",\"opening\":1000000000000,\"supply\":2,\"units\":1}],\"requirement\":95,\"version\":1}";
+pub const PRICE_EDGES: &str = r#"{
+  "version": 1,
+  "requirement": 95,
+  "operator": "OPERATOROPERATOR",
+  "products": [
+    {"name": "A", "units": 1, "supply": 2, "cap": 2, "opening": 101},
+    {"name": "B", "units": 1, "supply": 2, "cap": 2, "opening": 110},
+    {"name": "C", "units": 1, "supply": 2, "cap": 2, "opening": 1},
+    {"name": "D", "units": 1, "supply": 2, "cap": 2, "opening": 1000000000000}
+  ],
+  "bidders": [
+    {"name": "X", "token": "XXXXXXXXXXXXXXXX", "eligibility": 10},
+    {"name": "Y", "token": "YYYYYYYYYYYYYYYY", "eligibility": 10}
+  ]
+}"#;
+
+/// The two products in version 2, where clock prices of A are multiples of 25 dollars.
+pub const GRANULES_AND_INCREMENTS: &str = r#"{
+  "version": 2,
+  "limit": 100,
+  "requirement": 100,
+  "operator": "OPERATOROPERATOR",
+  "products": [
+    {"name": "A", "units": 1, "supply": 2, "cap": 2, "opening": 100, "granule": 25},
+    {"name": "B", "units": 1, "supply": 2, "cap": 2, "opening": 100, "granule": 1}
+  ],
+  "bidders": [
+    {"name": "X", "token": "XXXXXXXXXXXXXXXX", "eligibility": 2},
+    {"name": "Y", "token": "YYYYYYYYYYYYYYYY", "eligibility": 2},
+    {"name": "Z", "token": "ZZZZZZZZZZZZZZZZ", "eligibility": 1}
+  ]
+}"#;
+
+/// Two products A and B of four blocks each, and the bidders X and Z, whose sheets may ask for a quarter more activity
+/// than their eligibility from round 2 on.
+pub const ACTIVITY_LIMIT: &str = r#"{
+  "version": 2,
+  "limit": 125,
+  "requirement": 100,
+  "operator": "OPERATOROPERATOR",
+  "products": [
+    {"name": "A", "units": 2, "supply": 4, "cap": 4, "opening": 100, "granule": 1},
+    {"name": "B", "units": 2, "supply": 4, "cap": 4, "opening": 100, "granule": 1}
+  ],
+  "bidders": [
+    {"name": "X", "token": "XXXXXXXXXXXXXXXX", "eligibility": 8},
+    {"name": "Z", "token": "ZZZZZZZZZZZZZZZZ", "eligibility": 8}
+  ]
+}"#;

@@ -1,4 +1,4 @@
-ghost use Rattle.std.specs.Prelude.{◌≡◌, List, ℕ, ◌≤◌, ◌<◌, length, All, IfOk, replicate, slice_set};
+ghost use Rattle.std.specs.Prelude.{◌≡◌, List, ℕ, ◌≤◌, ◌<◌, length, All, IfOk, slice_set};
 ghost use Rattle.clock_setup.specs.Limits.{most_supply};
 ghost use Rattle.clock_setup.specs.Demands.{total_of, demand_at, row_of, with_demand, no_demands};
 
@@ -36,10 +36,10 @@ impl Grid {
     {
         let bidders = setup.bidders.as_slice().len();
         let products = setup.products.as_slice().len();
-        let totals = zeros(alloc, products)?;
+        let totals = Amounts::zeros(alloc, products)?;
         let mut rows = Vec::with_capacity(alloc, bidders)?;
         for _bidder in 0..bidders {
-            rows.push(zeros(alloc, products)?)?;
+            rows.push(Amounts::zeros(alloc, products)?)?;
         }
         Ok(Grid { rows, totals })
     }
@@ -105,13 +105,6 @@ impl Grid {
             self.set(bidder, product, *demand);
         }
     }
-}
-
-/// So many zeros.
-fn zeros(alloc: Global, count: usize) -> Result<Amounts, NoMemory>
-    ensures { IfOk result (λ amounts. amounts ≡ replicate count 0) }
-{
-    Ok(Amounts::from_vec(vec![in alloc; 0; count]?))
 }
 
 /// Equal rows.

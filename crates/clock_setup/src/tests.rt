@@ -1,18 +1,119 @@
-ghost use Rattle.std.specs.Prelude.{◌≡◌, ◌∷◌, [], IfOk};
+ghost use Rattle.std.specs.Prelude.{◌≤◌, IfOk};
+ghost use Rattle.clock_setup.specs.Demands.{IsGrid};
 
-use crate::fixtures::{ONE_PRODUCT, PRICE_EDGES, TWO_PRODUCTS};
-use crate::{
-    Grid, OpeningFault, OpeningPrices, Place, Prices, SetupFault, next_eligibility, products_copy,
-    read_opening, read_setup, setup_of,
+use crate::fixtures::{
+    ACTIVITY_LIMIT, GRANULES_AND_INCREMENTS, ONE_PRODUCT, PRICE_EDGES, TWO_PRODUCTS,
 };
+use crate::{
+    Amounts, Grid, Increments, OpeningFault, OpeningPrices, Place, Prices, Product, Setup,
+    SetupFault, products_copy, read_opening, read_setup, setup_of,
+};
+use clock_device::NoMemory;
 use serde_json::Value;
 use std::alloc::Global;
 use std::test::Fail;
 
-/// The one-product document with one place changed.
-fn changed(alloc: Global, from: &str, to: &str) -> Result<String, Fail> {
-    let (before, after) = ONE_PRODUCT.split_once(from).ok_or("not in the document")?;
+const NO_PRODUCTS: &str = r#"{
+  "version": 1, "requirement": 95, "operator": "OPERATOROPERATOR",
+  "products": [],
+  "bidders": []
+}"#;
+
+const NO_BIDDERS: &str = r#"{
+  "version": 1, "requirement": 95, "operator": "OPERATOROPERATOR",
+  "products": [{"name": "A", "units": 1, "supply": 2, "cap": 2, "opening": 100}],
+  "bidders": []
+}"#;
+
+/// Version, limit, requirement and the numbers of products and bidders.
+type Numbers = [u64; 5];
+
+/// Units, supply, cap, opening price and granule of a product.
+type Limits = [u64; 5];
+
+fn numbers(setup: &Setup) -> Numbers {
+    let products = setup.products.as_slice().len() as u64;
+    let bidders = setup.bidders.as_slice().len() as u64;
+    [
+        setup.version,
+        setup.limit,
+        setup.requirement,
+        products,
+        bidders,
+    ]
+}
+
+fn limits(product: &Product) -> Limits {
+    [
+        product.units,
+        product.supply,
+        product.cap,
+        product.opening.get(),
+        product.granule,
+    ]
+}
+
+fn limits_of_first(products: &[Product]) -> Option<Limits> {
+    Some(limits(products.first()?))
+}
+
+/// What a document is read as, told of a copy of what was read.
+fn read(alloc: Global, text: &str) -> Result<Numbers, SetupFault> {
+    let setup = read_setup(alloc, text.as_bytes())?;
+    Ok(numbers(&setup.copy(alloc)?))
+}
+
+/// What a document's first product is read as, told of a copy of what was read.
+fn first_product(alloc: Global, text: &str) -> Result<Option<Limits>, SetupFault> {
+    let setup = read_setup(alloc, text.as_bytes())?;
+    let products = products_copy(alloc, setup.products.as_slice())?;
+    Ok(limits_of_first(products.as_slice()))
+}
+
+/// The last bidder's name, token and eligibility are these.
+fn is_last_bidder(setup: &Setup, name: &[u8], token: &[u8], eligibility: u64) -> bool {
+    let Some(bidder) = setup.bidders.as_slice().last() else {
+        return false;
+    };
+    bidder.name.as_slice() == name
+        && bidder.token.as_slice() == token
+        && bidder.eligibility == eligibility
+}
+
+fn has_z_last(alloc: Global, text: &str) -> Result<bool, SetupFault> {
+    let setup = read_setup(alloc, text.as_bytes())?;
+    Ok(is_last_bidder(&setup, b"Z", b"ZZZZZZZZZZZZZZZZ", 1))
+}
+
+/// What the value of a text is read as.
+fn read_value(alloc: Global, text: &str) -> Result<Numbers, Fail> {
+    let value = Value::from_str(alloc, text)?;
+    Ok(numbers(&setup_of(alloc, &value)?))
+}
+
+fn setup_fault(alloc: Global, text: &str) -> Option<SetupFault> {
+    read_setup(alloc, text.as_bytes()).err()
+}
+
+fn opening_fault(alloc: Global, text: &str) -> Option<OpeningFault> {
+    read_opening(alloc, text.as_bytes()).err()
+}
+
+/// A document with one place changed.
+fn changed(alloc: Global, text: &str, from: &str, to: &str) -> Result<String, Fail> {
+    let (before, after) = text.split_once(from).ok_or("not in the document")?;
     Ok(format!(in alloc; "{before}{to}{after}")?)
+}
+
+/// The fault of a document with one place changed.
+fn changed_fault(
+    alloc: Global,
+    text: &str,
+    from: &str,
+    to: &str,
+) -> Result<Option<SetupFault>, Fail> {
+    let text = changed(alloc, text, from, to)?;
+    Ok(setup_fault(alloc, text.as_str()))
 }
 
 /// An opening document of a set-up.
@@ -25,141 +126,100 @@ fn opening_text(
     Ok(format!(in alloc; "{{\"demands\":{demands},\"increment\":{increment},\"setup\":{setup}}}")?)
 }
 
-/// The grid of two bidders and one product in which nobody demands anything.
-fn zero_grid(alloc: Global) -> Result<Grid, Fail>
-    ensures { IfOk result (λ grid. grid ≡ (0 ∷ []) ∷ (0 ∷ []) ∷ []) }
-{
-    let setup = read_setup(alloc, ONE_PRODUCT.as_bytes())?;
-    if setup.bidders.as_slice().len() != 2 || setup.products.as_slice().len() != 1 {
-        Err("not two bidders and one product")?;
-    }
-    Ok(Grid::zero(alloc, &setup)?)
-}
-
-fn setup_fault(alloc: Global, text: &str) -> Option<SetupFault> {
-    read_setup(alloc, text.as_bytes()).err()
-}
-
-fn opening_fault(alloc: Global, text: &str) -> Option<OpeningFault> {
-    read_opening(alloc, text.as_bytes()).err()
+/// The fault of the opening document of a set-up.
+fn opened_fault(
+    alloc: Global,
+    demands: &str,
+    increment: &str,
+    setup: &str,
+) -> Result<Option<OpeningFault>, Fail> {
+    let text = opening_text(alloc, demands, increment, setup)?;
+    Ok(opening_fault(alloc, text.as_str()))
 }
 
 #[test]
-fn reads_a_setup(rt: HostRuntime) -> Result<(), Fail> {
-    let setup = read_setup(rt.alloc(), TWO_PRODUCTS.as_bytes())?;
-    assert_eq!(rt; setup.version, 1);
-    assert_eq!(rt; setup.requirement, 100);
-    assert_eq!(rt; setup.operator.as_slice(), b"OPERATOROPERATOR".as_slice());
-    let copy = setup.copy(rt.alloc())?;
-    assert_eq!(rt; copy.products.as_slice().len(), 2);
-    let product = &copy.products.as_slice()[1];
-    assert_eq!(rt; product.name.as_slice(), b"B".as_slice());
-    assert_eq!(rt; (product.units, product.supply, product.cap), (1, 2, 2));
-    assert_eq!(rt; product.opening.get(), 100);
-    assert_eq!(rt; copy.bidders.as_slice().len(), 3);
-    let bidder = &copy.bidders.as_slice()[2];
-    assert_eq!(rt; bidder.name.as_slice(), b"Z".as_slice());
-    assert_eq!(rt; bidder.token.as_slice(), b"ZZZZZZZZZZZZZZZZ".as_slice());
-    assert_eq!(rt; bidder.eligibility, 1);
-    let products = products_copy(rt.alloc(), setup.products.as_slice())?;
-    assert_eq!(rt; products.as_slice().len(), 2);
-    Ok(())
-}
-
-#[test]
-fn a_value_means_what_its_text_means(rt: HostRuntime) -> Result<(), Fail> {
-    let value = Value::from_str(rt.alloc(), TWO_PRODUCTS)?;
-    let setup = setup_of(rt.alloc(), &value)?;
-    assert_eq!(rt; setup.bidders.as_slice().len(), 3);
-    Ok(())
-}
-
-#[test]
-fn refuses_what_is_no_setup(rt: HostRuntime) -> Result<(), Fail> {
-    let alloc = rt.alloc();
-    for text in ["{", "", "\u{feff}{}", "{\"version\":1e400}", "\"\\ud800\""] {
-        assert_eq!(rt;
-            setup_fault(alloc, text),
-            Some(SetupFault::NotJson),
-            "{text}"
-        );
-    }
-    for text in [
-        "[]",
-        "{}",
-        "{\"version\":1.0}",
-        "{\"version\":-1}",
-        "{\"version\":18446744073709551616}",
-        "{\"version\":1}",
-        "{\"version\":2}",
+fn reads_both_versions(rt: HostRuntime) -> Result<(), Fail> {
+    for (text, numbers, product) in [
+        (ONE_PRODUCT, [1, 100, 95, 1, 2], [1, 2, 2, 100, 1]),
+        (TWO_PRODUCTS, [1, 100, 100, 2, 3], [1, 2, 2, 100, 1]),
+        (
+            GRANULES_AND_INCREMENTS,
+            [2, 100, 100, 2, 3],
+            [1, 2, 2, 100, 25],
+        ),
+        (ACTIVITY_LIMIT, [2, 125, 100, 2, 2], [2, 4, 4, 100, 1]),
     ] {
-        assert_eq!(rt; setup_fault(alloc, text), Some(SetupFault::Shape), "{text}");
+        assert_eq!(rt; read(rt.alloc(), text)?, numbers);
+        assert_eq!(rt; first_product(rt.alloc(), text)?, Some(product));
+        assert_eq!(rt; read_value(rt.alloc(), text)?, numbers);
     }
-    for text in ["{\"version\":3}", "{\"version\":0}"] {
-        assert_eq!(rt;
-            setup_fault(alloc, text),
-            Some(SetupFault::Version),
-            "{text}"
-        );
-        let value = Value::from_str(alloc, text)?;
-        assert_eq!(rt;
-            setup_of(alloc, &value).err(),
-            Some(SetupFault::Version),
-            "{text}"
-        );
-    }
+    assert!(rt; has_z_last(rt.alloc(), TWO_PRODUCTS)?);
     Ok(())
+}
+
+#[test]
+fn refuses_what_is_no_setup(rt: HostRuntime) {
+    for (text, fault) in [
+        ("{", SetupFault::NotJson),
+        ("", SetupFault::NotJson),
+        ("\u{feff}{}", SetupFault::NotJson),
+        ("{\"version\":1e400}", SetupFault::NotJson),
+        ("\"\\ud800\"", SetupFault::NotJson),
+        ("[]", SetupFault::Shape),
+        ("{}", SetupFault::Shape),
+        ("{\"version\":1.0}", SetupFault::Shape),
+        ("{\"version\":-1}", SetupFault::Shape),
+        ("{\"version\":18446744073709551616}", SetupFault::Shape),
+        ("{\"version\":1}", SetupFault::Shape),
+        ("{\"version\":2}", SetupFault::Shape),
+        ("{\"version\":0}", SetupFault::Version),
+        ("{\"version\":3}", SetupFault::Version),
+        (NO_PRODUCTS, SetupFault::Range(Place::Products)),
+        (NO_BIDDERS, SetupFault::Range(Place::Bidders)),
+    ] {
+        assert_eq!(rt; setup_fault(rt.alloc(), text), Some(fault), "{text}");
+    }
 }
 
 #[test]
 fn refuses_each_fault_of_a_setup(rt: HostRuntime) -> Result<(), Fail> {
-    let alloc = rt.alloc();
-    let products = "[{\"cap\":2,\"name\":\"A\",\"opening\":100,\"supply\":2,\"units\":1}]";
-    let bidders =
-        "[{\"eligibility\":10,\"name\":\"X\",\"token\":\"XXXXXXXXXXXXXXXX\"},{\"eligibility\":10,\"name\":\"Y\",\"token\":\"YYYYYYYYYYYYYYYY\"}]";
-    let cases = [
-        ("\"cap\":2", "\"cap\":2.0", SetupFault::Shape),
-        ("\"cap\":2", "\"cap\":2,\"limit\":1", SetupFault::Shape),
-        ("\"units\":1", "\"unit\":1", SetupFault::Shape),
-        ("\"X\"", "1", SetupFault::Shape),
-        (bidders, "{}", SetupFault::Shape),
+    for (from, to, fault) in [
+        ("\"cap\": 2", "\"cap\": 2.0", SetupFault::Shape),
         (
-            "\"version\":1",
-            "\"version\":1,\"limit\":100",
+            "\"cap\": 2",
+            "\"cap\": 2, \"granule\": 1",
             SetupFault::Shape,
         ),
+        ("\"units\": 1", "\"unit\": 1", SetupFault::Shape),
+        ("\"X\"", "1", SetupFault::Shape),
+        (
+            "\"bidders\": [",
+            "\"bidders\": {}, \"more\": [",
+            SetupFault::Shape,
+        ),
+        ("1,", "1, \"limit\": 100,", SetupFault::Shape),
         ("95", "49", SetupFault::Range(Place::Requirement)),
         ("95", "101", SetupFault::Range(Place::Requirement)),
-        (
-            "OPERATOROPERATOR",
-            "OPERATOROPERATO",
-            SetupFault::Range(Place::Operator),
-        ),
-        (products, "[]", SetupFault::Range(Place::Products)),
+        ("TOR\"", "TO\"", SetupFault::Range(Place::Operator)),
         ("\"A\"", "\"A b\"", SetupFault::Range(Place::Name(0))),
         ("\"A\"", "\"\"", SetupFault::Range(Place::Name(0))),
         (
-            "\"units\":1",
-            "\"units\":0",
+            "\"units\": 1",
+            "\"units\": 0",
             SetupFault::Range(Place::Units(0)),
         ),
         (
-            "\"supply\":2",
-            "\"supply\":1001",
+            "\"supply\": 2",
+            "\"supply\": 1001",
             SetupFault::Range(Place::Supply(0)),
         ),
-        ("\"cap\":2", "\"cap\":3", SetupFault::Range(Place::Cap(0))),
+        ("\"cap\": 2", "\"cap\": 3", SetupFault::Range(Place::Cap(0))),
+        (": 100", ": 0", SetupFault::Range(Place::Opening(0))),
         (
-            "\"opening\":100",
-            "\"opening\":0",
+            ": 100",
+            ": 1000000000001",
             SetupFault::Range(Place::Opening(0)),
         ),
-        (
-            "\"opening\":100",
-            "\"opening\":1000000000001",
-            SetupFault::Range(Place::Opening(0)),
-        ),
-        (bidders, "[]", SetupFault::Range(Place::Bidders)),
         ("\"Y\"", "\"Y!\"", SetupFault::Range(Place::BidderName(1))),
         (
             "YYYYYYYYYYYYYYYY",
@@ -167,8 +227,8 @@ fn refuses_each_fault_of_a_setup(rt: HostRuntime) -> Result<(), Fail> {
             SetupFault::Range(Place::Token(1)),
         ),
         (
-            "\"eligibility\":10",
-            "\"eligibility\":1000000000001",
+            ": 10}",
+            ": 1000000000001}",
             SetupFault::Range(Place::Eligibility(0)),
         ),
         ("\"Y\"", "\"X\"", SetupFault::DuplicateName),
@@ -177,79 +237,149 @@ fn refuses_each_fault_of_a_setup(rt: HostRuntime) -> Result<(), Fail> {
             "OPERATOROPERATOR",
             SetupFault::DuplicateToken,
         ),
-    ];
-    for (from, to, fault) in cases {
-        let text = changed(alloc, from, to)?;
-        assert_eq!(rt; setup_fault(alloc, text.as_str()), Some(fault), "{to}");
-        let value = Value::from_str(alloc, text.as_str())?;
-        assert_eq!(rt; setup_of(alloc, &value).err(), Some(fault), "{to}");
+    ] {
+        assert_eq!(rt;
+            changed_fault(rt.alloc(), ONE_PRODUCT, from, to)?,
+            Some(fault),
+            "{to}"
+        );
     }
-    let shared = changed(alloc, "\"A\"", "\"X\"")?;
-    assert_eq!(rt; setup_fault(alloc, shared.as_str()), None);
+    assert_eq!(rt;
+        changed_fault(rt.alloc(), ONE_PRODUCT, "\"A\"", "\"X\"")?,
+        None
+    );
     Ok(())
 }
 
 #[test]
-fn opens_prices_and_grids(rt: HostRuntime) -> Result<(), Fail> {
-    let setup = read_setup(rt.alloc(), ONE_PRODUCT.as_bytes())?;
-    let prices = Prices::opening(rt.alloc(), &setup)?;
-    assert_eq!(rt; prices.as_slice().len(), 1);
-    assert_eq!(rt; prices.as_slice()[0].start.get(), 100);
-    assert_eq!(rt; prices.as_slice()[0].clock.get(), 100);
-    let edges = read_setup(rt.alloc(), PRICE_EDGES.as_bytes())?;
-    let highest = Prices::opening(rt.alloc(), &edges)?;
-    assert_eq!(rt; highest.as_slice().len(), 4);
-    assert_eq!(rt; highest.as_slice()[3].clock.get(), 1_000_000_000_000);
+fn refuses_each_fault_of_version_2(rt: HostRuntime) -> Result<(), Fail> {
+    for (from, to, fault) in [
+        ("\"limit\": 100,", "", Some(SetupFault::Shape)),
+        (", \"granule\": 1}", "}", Some(SetupFault::Shape)),
+        ("100,", "99,", Some(SetupFault::Range(Place::Limit))),
+        ("100,", "101,", None),
+        ("100,", "140,", None),
+        ("100,", "141,", Some(SetupFault::Range(Place::Limit))),
+        ("25", "0", Some(SetupFault::Range(Place::Granule(0)))),
+        ("25", "1", None),
+        ("25", "1000000", None),
+        ("25", "1000001", Some(SetupFault::Range(Place::Granule(0)))),
+        (
+            "100,\n  \"requirement\": 100",
+            "99,\n  \"requirement\": 101",
+            Some(SetupFault::Range(Place::Requirement)),
+        ),
+        (
+            "100,\n  \"requirement\": 100,\n  \"operator\": \"OPERATOR",
+            "99,\n  \"requirement\": 100,\n  \"operator\": \"_",
+            Some(SetupFault::Range(Place::Limit)),
+        ),
+        (
+            "100, \"granule\": 25",
+            "0, \"granule\": 0",
+            Some(SetupFault::Range(Place::Opening(0))),
+        ),
+        (
+            "25},\n    {\"name\": \"B\"",
+            "0},\n    {\"name\": \"\"",
+            Some(SetupFault::Range(Place::Granule(0))),
+        ),
+    ] {
+        assert_eq!(rt;
+            changed_fault(rt.alloc(), GRANULES_AND_INCREMENTS, from, to)?,
+            fault,
+            "{to}"
+        );
+    }
     Ok(())
+}
+
+/// Start and clock price of the last product in round 1.
+fn last_prices(alloc: Global, text: &str) -> Result<Option<(u64, u64)>, SetupFault> {
+    let setup = read_setup(alloc, text.as_bytes())?;
+    let prices = Prices::opening(alloc, &setup)?;
+    let Some(pair) = prices.as_slice().last() else {
+        return Ok(None);
+    };
+    Ok(Some((pair.start.get(), pair.clock.get())))
+}
+
+#[test]
+fn opens_at_the_opening_prices(rt: HostRuntime) -> Result<(), Fail> {
+    for (text, price) in [(ONE_PRODUCT, 100), (PRICE_EDGES, 1_000_000_000_000)] {
+        assert_eq!(rt; last_prices(rt.alloc(), text)?, Some((price, price)));
+    }
+    Ok(())
+}
+
+/// The grid of two bidders and one product in which nobody demands anything.
+fn zero_grid(alloc: Global, text: &str) -> Result<Grid, Fail>
+    ensures { IfOk result (IsGrid 2 1) }
+{
+    let setup = read_setup(alloc, text.as_bytes())?;
+    if setup.bidders.as_slice().len() != 2 || setup.products.as_slice().len() != 1 {
+        Err("not two bidders and one product")?;
+    }
+    Ok(Grid::zero(alloc, &setup)?)
+}
+
+/// Sets the demands of both bidders, and answers their total in the grid and in a copy that the first left.
+fn totals(alloc: Global, grid: &mut Grid, first: u64, second: u64) -> Result<(u64, u64), NoMemory>
+    requires grid { IsGrid 2 1 grid.old }
+    requires first { first ≤ 2 }
+    requires second { second ≤ 2 }
+{
+    grid.set(0, 0, first);
+    grid.set(1, 0, second);
+    let mut copy = grid.copy(alloc)?;
+    copy.set(0, 0, 0);
+    Ok((grid.total(0), copy.total(0)))
 }
 
 #[test]
 fn a_copy_of_a_grid_is_its_own(rt: HostRuntime) -> Result<(), Fail> {
-    let mut grid = zero_grid(rt.alloc())?;
-    assert_eq!(rt; grid.total(0), 0);
-    grid.set(0, 0, 2);
-    grid.set(1, 0, 1);
-    assert_eq!(rt; grid.total(0), 3);
-    let mut copy = grid.copy(rt.alloc())?;
-    assert_eq!(rt; copy.get(0, 0), 2);
-    assert_eq!(rt; copy.row(1), [1].as_slice());
-    copy.set(0, 0, 0);
-    assert_eq!(rt; copy.total(0), 1);
-    assert_eq!(rt; grid.total(0), 3);
-    copy.set_row(1, &[2]);
-    assert_eq!(rt; copy.total(0), 2);
+    let mut grid = zero_grid(rt.alloc(), ONE_PRODUCT)?;
+    assert_eq!(rt; totals(rt.alloc(), &mut grid, 2, 1)?, (3, 1));
     Ok(())
 }
 
+/// Whether increments for each of two products are within their limits.
+fn are_for_two(alloc: Global, increments: &[u64]) -> Result<bool, NoMemory> {
+    let increments = Increments::PerProduct(Amounts::from_slice(alloc, increments)?);
+    Ok(increments.are_within(2))
+}
+
 #[test]
-fn rounds_eligibility_up(rt: HostRuntime) {
-    for (held, active, requirement, want) in [
-        (100, 90, 95, 95),
-        (100, 95, 95, 100),
-        (100, 0, 95, 0),
-    ] {
-        assert_eq!(rt; next_eligibility(held, active, requirement), want);
-    }
+fn increments_are_one_for_each_product_within_limits(rt: HostRuntime) -> Result<(), Fail> {
+    assert!(rt; are_for_two(rt.alloc(), &[10, 20])?);
+    assert!(rt; !are_for_two(rt.alloc(), &[10])?);
+    assert!(rt; !are_for_two(rt.alloc(), &[10, 51])?);
+    Ok(())
+}
+
+/// The total demand for an opening's first product, and the increment.
+fn opening_read(alloc: Global, text: &str) -> Result<(u64, u64), OpeningFault> {
+    let opening = read_opening(alloc, text.as_bytes())?;
+    Ok((opening.grid.total(0), opening.increment))
 }
 
 #[test]
 fn reads_an_opening(rt: HostRuntime) -> Result<(), Fail> {
-    let text = opening_text(rt.alloc(), "[[2],[1]]", "10", ONE_PRODUCT)?;
-    let opening = read_opening(rt.alloc(), text.as_bytes())?;
-    assert_eq!(rt; opening.increment, 10);
-    assert_eq!(rt; opening.setup.bidders.as_slice().len(), 2);
-    assert_eq!(rt; opening.setup.products.as_slice().len(), 1);
-    assert_eq!(rt; opening.grid.row(0), [2].as_slice());
-    assert_eq!(rt; opening.grid.row(1), [1].as_slice());
+    for (demands, setup, total) in [
+        ("[[2],[1]]", ONE_PRODUCT, 3),
+        ("[[0,2],[2,0],[0,1]]", GRANULES_AND_INCREMENTS, 2),
+    ] {
+        let text = opening_text(rt.alloc(), demands, "10", setup)?;
+        assert_eq!(rt; opening_read(rt.alloc(), text.as_str())?, (total, 10));
+    }
     Ok(())
 }
 
 #[test]
 fn refuses_each_fault_of_an_opening(rt: HostRuntime) -> Result<(), Fail> {
-    let alloc = rt.alloc();
-    assert_eq!(rt; opening_fault(alloc, "{"), Some(OpeningFault::NotJson));
-    let weak = changed(alloc, "\"eligibility\":10", "\"eligibility\":1")?;
-    let cases = [
+    let weak = changed(rt.alloc(), ONE_PRODUCT, ": 10}", ": 1}")?;
+    for (demands, increment, setup, fault) in [
+        ("[", "10", ONE_PRODUCT, OpeningFault::NotJson),
         ("[[1],[1]]", "1.0", ONE_PRODUCT, OpeningFault::Shape),
         ("[[1],\"1\"]", "10", ONE_PRODUCT, OpeningFault::Shape),
         ("[[1]]", "51", ONE_PRODUCT, OpeningFault::Shape),
@@ -261,6 +391,7 @@ fn refuses_each_fault_of_an_opening(rt: HostRuntime) -> Result<(), Fail> {
         ("[[2],[1]]", "51", weak.as_str(), OpeningFault::Activity(0)),
         ("[[1],[1]]", "0", ONE_PRODUCT, OpeningFault::Increment),
         ("[[1],[1]]", "51", ONE_PRODUCT, OpeningFault::Increment),
+        ("[[1],[1]]", "[10]", ONE_PRODUCT, OpeningFault::Shape),
         (
             "[]",
             "0",
@@ -268,18 +399,14 @@ fn refuses_each_fault_of_an_opening(rt: HostRuntime) -> Result<(), Fail> {
             OpeningFault::Setup(SetupFault::Version),
         ),
         ("[7]", "0", "{\"version\":3}", OpeningFault::Shape),
-    ];
-    for (demands, increment, setup, fault) in cases {
-        let text = opening_text(alloc, demands, increment, setup)?;
+    ] {
         assert_eq!(rt;
-            opening_fault(alloc, text.as_str()),
+            opened_fault(rt.alloc(), demands, increment, setup)?,
             Some(fault),
             "{demands}"
         );
     }
-    assert_eq!(rt;
-        opening_fault(alloc, "{\"demands\":[],\"increment\":10}"),
-        Some(OpeningFault::Shape)
-    );
+    let bare = opening_fault(rt.alloc(), "{\"demands\":[],\"increment\":10}");
+    assert_eq!(rt; bare, Some(OpeningFault::Shape));
     Ok(())
 }
