@@ -1,15 +1,17 @@
 -- A chain of good bids, and a further bid behind it.
-use Rattle.std.proofs.Common.{◌≡◌, ℕ, ◌+◌, ◌<◌, ◌≤◌, List, [], ◌∷◌, ◌++◌, Bool, true, false, ◌&&◌, ◌||◌, not, cond, length, ◌==◌, inl, inr, refl, ap, sym, subst, ◌∙◌, arith, All, get_or}
-use Rattle.std.specs.Prelude.{Option, Some, None, nat_lt, nat_le, if◌then◌else◌}
-use Rattle.std.specs.List.{list_any}
-use Rattle.std.proofs.lemmas.Bool.{ltb-true, ltb-false, leb-true, leb-false, eqb-true, lt-ltb, le-ltb, le-leb, lt-leb, cases_Bool, cases_order, eq-eqb, ne_eqb, not-false}
+use Rattle.std.proofs.Common.{◌≡◌, ℕ, ◌+◌, ◌<◌, ◌≤◌, List, [], ◌∷◌, ◌++◌, Bool, true, false, ◌&&◌, ◌||◌, not, cond, length, ◌==◌, inl, inr, refl, ap, sym, ◌∙◌, arith}
+use Rattle.std.specs.Prelude.{Option, Some, None, nat_lt}
+use Rattle.std.specs.List.{list_all}
+use Rattle.std.proofs.lemmas.Bool.{ltb-true, eqb-true, lt-ltb, le-ltb, cases_Bool, cases_order, eq-eqb, ne_eqb, and_right}
+use Rattle.std.proofs.Math.Bool.{and-true}
 use Rattle.std.proofs.lemmas.List.Elements.{All-push}
 use Rattle.clock_setup.specs.declared.prices.PricePair.{PricePair}
+use Rattle.clock_setup.specs.Faults.{first_fault}
 use Rattle.clock_bids.specs.declared.sheet.Bid.{Bid}
 use Rattle.clock_bids.specs.declared.sheet.BidFault.{BidFault}
 use Rattle.clock_bids.specs.declared.sheet.BidFault.TheVariants.{PriceOrder, MixedDirection, KeepPrice}
-use Rattle.clock_bids.specs.Sheet.{last_quantity, turns_round}
-use Rattle.clock_bids.specs.Chains.{Climbs, Falls, Moves, up, down, kept, RisesFrom, Rises, IsInRange, IsGoodChain, last_after, last_of, turns_back, fault_after}
+use Rattle.clock_bids.specs.Sheet.{last_quantity, is_above_prices, keeps_direction, is_kept_at_clock}
+use Rattle.clock_bids.specs.Chains.{Climbs, Falls, Moves, up, down, kept, RisesFrom, Rises, IsInRange, IsGoodChain, last_after, last_of, is_step_on, step_checks}
 
 -- the last bid has the last quantity
 pub last_quantity-after : (bid : Bid) (bids : List Bid) → last_quantity bid.quantity bids ≡ (last_after bid bids).quantity
@@ -58,27 +60,24 @@ falls-push : (held : ℕ) (chain : List Bid) (bid : Bid) → Falls held chain �
 falls-push held [] bid falls below = (below, tt)
 falls-push held (first ∷ rest) bid falls below = (falls.0, falls-push first.quantity rest bid falls.1 below)
 
--- where prices rise, one of them is not below a price exactly where the last is not
-or_false : (b : Bool) → (b || false) ≡ b
-or_false b = elim b as (λ v. (v || false) ≡ v) [ true ↦ refl | false ↦ refl ]
-
-or_larger : (x m n : ℕ) → m ≤ n → (nat_le x m || nat_le x n) ≡ nat_le x n
-or_larger x m n most = elim (cases_Bool (nat_le x m)) as (λ _. (nat_le x m || nat_le x n) ≡ nat_le x n) [
-  | inl reached ↦ ap (λ b. b || nat_le x n) reached ∙ sym (le-leb x n (omega (arith, leb-true x m reached, most)))
-  | inr missed ↦ ap (λ b. b || nat_le x n) missed
+-- where prices rise, all are below a price exactly where the last is
+and_larger : (x m n : ℕ) → m ≤ n → (nat_lt m x && nat_lt n x) ≡ nat_lt n x
+and_larger x m n most = elim (cases_Bool (nat_lt n x)) as (λ _. (nat_lt m x && nat_lt n x) ≡ nat_lt n x) [
+  | inl below ↦ ap (λ b. b && nat_lt n x) (lt-ltb m x (omega (arith, ltb-true n x below, most)))
+  | inr reached ↦ ap (λ b. nat_lt m x && b) reached ∙ and_right (nat_lt m x) false refl ∙ sym reached
 ]
 
-pub any_price : (first : Bid) (bids : List Bid) (price : ℕ) → RisesFrom first.price bids →
-    list_any (λ other. nat_le price other.price) (first ∷ bids) ≡ nat_le price (last_after first bids).price
-any_price first [] price rises = or_false (nat_le price first.price)
-any_price first (next ∷ rest) price rises =
-    ap (λ b. nat_le price first.price || b) (any_price next rest price rises.1)
-    ∙ or_larger price first.price (last_after next rest).price (omega (arith, rises.0, rises-le next rest rises.1))
+pub all_prices : (first : Bid) (bids : List Bid) (price : ℕ) → RisesFrom first.price bids →
+    list_all (λ other. nat_lt other.price price) (first ∷ bids) ≡ nat_lt (last_after first bids).price price
+all_prices first [] price rises = and-true (nat_lt first.price price)
+all_prices first (next ∷ rest) price rises =
+    ap (λ b. nat_lt first.price price && b) (all_prices next rest price rises.1)
+    ∙ and_larger price first.price (last_after next rest).price (omega (arith, rises.0, rises-le next rest rises.1))
 
 -- the last quantity stands on that side of the demand held where the first does
-turns_by : (held first last quantity : ℕ) → nat_lt held first ≡ nat_lt held last →
-    cond (nat_lt held first) (nat_le quantity last) (nat_le last quantity) ≡ turns_back held last quantity
-turns_by held first last quantity same = ap (λ b. cond b (nat_le quantity last) (nat_le last quantity)) same
+step_by : (held first last quantity : ℕ) → nat_lt held first ≡ nat_lt held last →
+    cond (nat_lt held first) (nat_lt last quantity) (nat_lt quantity last) ≡ is_step_on held last quantity
+step_by held first last quantity same = ap (λ b. cond b (nat_lt last quantity) (nat_lt quantity last)) same
 
 same_side : (held clock : ℕ) (first : Bid) (bids : List Bid) → Moves held clock (first ∷ bids) →
     nat_lt held first.quantity ≡ nat_lt held (last_quantity first.quantity bids)
@@ -91,30 +90,31 @@ same_side held clock first bids (down falls) =
 same_side held clock first [] (kept bid is same at) = refl
 same_side held clock first (next ∷ rest) (kept bid is same at) = cc
 
-pub turns_by_last : (held clock : ℕ) (first : Bid) (bids : List Bid) (quantity : ℕ) → Moves held clock (first ∷ bids) →
-    turns_round held (first ∷ bids) quantity ≡ turns_back held (last_after first bids).quantity quantity
-turns_by_last held clock first bids quantity moves =
-    turns_by held first.quantity (last_quantity first.quantity bids) quantity (same_side held clock first bids moves)
-    ∙ ap (λ last. turns_back held last quantity) (last_quantity-after first bids)
+pub direction_by_last : (held clock : ℕ) (first : Bid) (bids : List Bid) (bid : Bid) → Moves held clock (first ∷ bids) →
+    keeps_direction held (first ∷ bids) bid ≡ is_step_on held (last_after first bids).quantity bid.quantity
+direction_by_last held clock first bids bid moves =
+    step_by held first.quantity (last_quantity first.quantity bids) bid.quantity (same_side held clock first bids moves)
+    ∙ ap (λ last. is_step_on held last bid.quantity) (last_quantity-after first bids)
 
--- no fault is a failed test, and no fault after it
-pub no_fault : {F : Type 0} (test : Bool) (fault : F) (others : Option F) → cond test (Some fault) others ≡ None → (test ≡ false) × (others ≡ None)
-no_fault true fault others e = cc
-no_fault false fault others e = (refl, e)
+-- where no check fails, the first one passes, and none after it fails
+pub passes : {F : Type 0} (fault : F) (test : Bool) (others : Option F) → cond test others (Some fault) ≡ None → (test ≡ true) × (others ≡ None)
+passes fault true others e = (refl, e)
+passes fault false others e = cc
 
-at_clock : (held clock : ℕ) (bid : Bid) → bid.quantity ≡ held → ((bid.quantity == held) && not (bid.price == clock)) ≡ false → bid.price ≡ clock
+at_clock : (held clock : ℕ) (bid : Bid) → bid.quantity ≡ held → (not (bid.quantity == held) || (bid.price == clock)) ≡ true → bid.price ≡ clock
 at_clock held clock bid same good =
-    eqb-true bid.price clock (not-false (bid.price == clock) (sym (ap (λ b. b && not (bid.price == clock)) (eq-eqb bid.quantity held same)) ∙ good))
+    eqb-true bid.price clock (sym (ap (λ b. not b || (bid.price == clock)) (eq-eqb bid.quantity held same)) ∙ good)
 
-further_up : (held last quantity : ℕ) → held < last → turns_back held last quantity ≡ false → last < quantity
-further_up held last quantity above good = leb-false quantity last (sym (ap (λ b. cond b (nat_le quantity last) (nat_le last quantity)) (lt-ltb held last above)) ∙ good)
+further_up : (held last quantity : ℕ) → held < last → is_step_on held last quantity ≡ true → last < quantity
+further_up held last quantity above good =
+    ltb-true last quantity (sym (ap (λ b. cond b (nat_lt last quantity) (nat_lt quantity last)) (lt-ltb held last above)) ∙ good)
 
-further_down : (held last quantity : ℕ) → last < held → turns_back held last quantity ≡ false → quantity < last
+further_down : (held last quantity : ℕ) → last < held → is_step_on held last quantity ≡ true → quantity < last
 further_down held last quantity below good =
-    leb-false last quantity (sym (ap (λ b. cond b (nat_le quantity last) (nat_le last quantity)) (le-ltb held last (omega (arith, below)))) ∙ good)
+    ltb-true quantity last (sym (ap (λ b. cond b (nat_lt last quantity) (nat_lt quantity last)) (le-ltb held last (omega (arith, below)))) ∙ good)
 
 -- the first bid for a product, where it has no fault
-begins : (held clock : ℕ) (bid : Bid) → ((bid.quantity == held) && not (bid.price == clock)) ≡ false → Moves held clock (bid ∷ [])
+begins : (held clock : ℕ) (bid : Bid) → (not (bid.quantity == held) || (bid.price == clock)) ≡ true → Moves held clock (bid ∷ [])
 begins held clock bid good = elim (cases_order held bid.quantity) as (λ _. Moves held clock (bid ∷ [])) [
   | inl same ↦ kept bid refl (sym same) (at_clock held clock bid (sym same) good)
   | inr (inl above) ↦ up (above, tt)
@@ -123,14 +123,18 @@ begins held clock bid good = elim (cases_order held bid.quantity) as (λ _. Move
 
 -- a further bid, where it has no fault
 goes_on : (held clock : ℕ) (first : Bid) (bids : List Bid) (bid : Bid) → Moves held clock (first ∷ bids) →
-    (last_after first bids).price < bid.price → bid.price ≤ clock → turns_back held (last_after first bids).quantity bid.quantity ≡ false →
+    (last_after first bids).price < bid.price → bid.price ≤ clock → is_step_on held (last_after first bids).quantity bid.quantity ≡ true →
     Moves held clock (first ∷ (bids ++ bid ∷ []))
 goes_on held clock first bids bid (up climbs) rises most good =
-    up (climbs-push held (first ∷ bids) bid climbs (further_up held (last_quantity first.quantity bids) bid.quantity (omega (arith, climbs.0, climbs-le first.quantity bids climbs.1))
-    (ap (λ last. turns_back held last bid.quantity) (last_quantity-after first bids) ∙ good)))
+    let last : ℕ = last_quantity first.quantity bids in
+    let above : held < last = omega (arith, climbs.0, climbs-le first.quantity bids climbs.1) in
+    let on = ap (λ last. is_step_on held last bid.quantity) (last_quantity-after first bids) ∙ good in
+    up (climbs-push held (first ∷ bids) bid climbs (further_up held last bid.quantity above on))
 goes_on held clock first bids bid (down falls) rises most good =
-    down (falls-push held (first ∷ bids) bid falls (further_down held (last_quantity first.quantity bids) bid.quantity (omega (arith, falls.0, falls-le first.quantity bids falls.1))
-    (ap (λ last. turns_back held last bid.quantity) (last_quantity-after first bids) ∙ good)))
+    let last : ℕ = last_quantity first.quantity bids in
+    let below : last < held = omega (arith, falls.0, falls-le first.quantity bids falls.1) in
+    let on = ap (λ last. is_step_on held last bid.quantity) (last_quantity-after first bids) ∙ good in
+    down (falls-push held (first ∷ bids) bid falls (further_down held last bid.quantity below on))
 goes_on held clock first [] bid (kept one is same at) rises most good =
     let one_is : first ≡ one = cc in
     absurd (omega (arith, rises, most, at, ap (λ (b : Bid). b.price) one_is))
@@ -138,34 +142,40 @@ goes_on held clock first (next ∷ rest) bid (kept one is same at) rises most go
 
 -- a good chain stays good behind a bid without a fault
 pub good_chain-push : (pair : PricePair) (cap held : ℕ) (chain : List Bid) (bid : Bid) (i : ℕ) → IsGoodChain pair cap held chain → IsInRange pair cap bid →
-    fault_after (last_of chain) held pair.clock i bid ≡ None → IsGoodChain pair cap held (chain ++ bid ∷ [])
+    first_fault (step_checks (last_of chain) held pair.clock i bid) ≡ None → IsGoodChain pair cap held (chain ++ bid ∷ [])
 good_chain-push pair cap held [] bid i good here none = record {
   in_range = All-push (IsInRange pair cap) [] bid good.in_range here;
   rising = tt;
-  moves = begins held pair.clock bid (no_fault _ (KeepPrice i) None none).0;
+  moves = begins held pair.clock bid (passes (KeepPrice i) _ None none).0;
 }
 good_chain-push pair cap held (first ∷ rest) bid i good here none =
-    let price = no_fault (nat_le bid.price (last_after first rest).price) (PriceOrder i) _ none in
-    let turn = no_fault (turns_back held (last_after first rest).quantity bid.quantity) (MixedDirection i) None price.1 in
-    let rises : (last_after first rest).price < bid.price = leb-false bid.price (last_after first rest).price price.0 in
+    let price = passes (PriceOrder i) (nat_lt (last_after first rest).price bid.price) _ none in
+    let turn = passes (MixedDirection i) (is_step_on held (last_after first rest).quantity bid.quantity) None price.1 in
+    let rises : (last_after first rest).price < bid.price = ltb-true (last_after first rest).price bid.price price.0 in
     record {
       in_range = All-push (IsInRange pair cap) (first ∷ rest) bid good.in_range here;
       rising = rises-push first rest bid good.rising rises;
       moves = goes_on held pair.clock first rest bid good.moves rises here.to_clock turn.0;
     }
 
--- the three tests of a bid against the earlier ones for its product, judged by the last of these
-pub faults_by_last : (pair : PricePair) (cap held : ℕ) (chain : List Bid) (bid : Bid) (i : ℕ) → IsGoodChain pair cap held chain →
-    cond (list_any (λ other. nat_le bid.price other.price) chain) (Some (PriceOrder i))
-    (cond (turns_round held chain bid.quantity) (Some (MixedDirection i))
-    (cond ((length chain == 0) && (bid.quantity == held) && not (bid.price == pair.clock)) (Some (KeepPrice i)) None))
-    ≡ fault_after (last_of chain) held pair.clock i bid
-faults_by_last pair cap held [] bid i good = refl
-faults_by_last pair cap held (first ∷ rest) bid i good =
-    let repeated = any_price first rest bid.price good.rising in
-    let turned = turns_by_last held pair.clock first rest bid.quantity good.moves in
+-- what is asked of a bid by the earlier ones for its product, in the order in which it is looked at
+abbrev pub chain_checks : ℕ → ℕ → List Bid → ℕ → Bid → List (BidFault × Bool)
+chain_checks held clock chain i bid =
+    (PriceOrder i, is_above_prices chain bid)
+    ∷ (MixedDirection i, keeps_direction held chain bid)
+    ∷ (KeepPrice i, is_kept_at_clock held clock chain bid)
+    ∷ []
+
+-- they are judged by the last of these
+pub checks_by_last_of : (pair : PricePair) (cap held : ℕ) (chain : List Bid) (bid : Bid) (i : ℕ) → IsGoodChain pair cap held chain →
+    first_fault (chain_checks held pair.clock chain i bid) ≡ first_fault (step_checks (last_of chain) held pair.clock i bid)
+checks_by_last_of pair cap held [] bid i good = refl
+checks_by_last_of pair cap held (first ∷ rest) bid i good =
     let not_first : (length (first ∷ rest) == 0) ≡ false = ne_eqb (length (first ∷ rest)) 0 (λ e. omega (arith, e)) in
-    ap (λ b. cond (list_any (λ other. nat_le bid.price other.price) (first ∷ rest)) (Some (PriceOrder i)) (cond (turns_round held (first ∷ rest) bid.quantity) (Some (MixedDirection i))
-    (cond (b && (bid.quantity == held) && not (bid.price == pair.clock)) (Some (KeepPrice i)) None))) not_first
-    ∙ ap (λ b. cond b (Some (PriceOrder i)) (cond (turns_round held (first ∷ rest) bid.quantity) (Some (MixedDirection i)) None)) repeated
-    ∙ ap (λ b. cond (nat_le bid.price (last_after first rest).price) (Some (PriceOrder i)) (cond b (Some (MixedDirection i)) None)) turned
+    ap (λ b. cond (is_above_prices (first ∷ rest) bid) (cond (keeps_direction held (first ∷ rest) bid)
+    (cond (not (b && (bid.quantity == held)) || (bid.price == pair.clock)) None (Some (KeepPrice i)))
+    (Some (MixedDirection i))) (Some (PriceOrder i))) not_first
+    ∙ ap (λ b. cond b (cond (keeps_direction held (first ∷ rest) bid) None (Some (MixedDirection i))) (Some (PriceOrder i)))
+    (all_prices first rest bid.price good.rising)
+    ∙ ap (λ b. cond (nat_lt (last_after first rest).price bid.price) (cond b None (Some (MixedDirection i))) (Some (PriceOrder i)))
+    (direction_by_last held pair.clock first rest bid good.moves)

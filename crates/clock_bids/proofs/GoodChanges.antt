@@ -6,16 +6,17 @@ use Rattle.clock_money.specs.Point.{price_point}
 use Rattle.std.proofs.lemmas.Bool.{le-leb, lt-leb, eq-eqb, ne_eqb, cases_eq, cases_order, and_left, and_right}
 use Rattle.std.proofs.lemmas.List.{length-append}
 use Rattle.std.proofs.lemmas.List.Elements.{All-cons, All-head, All-tail, All-weaker, All-nil, All-append}
-use Rattle.std.proofs.lemmas.List.Kept.{AllPairs-cons}
 use Rattle.std.proofs.lemmas.List.Sums.{sum_by-cons, sum_by-append, length-filter, count_by-le-length}
+use Rattle.clock_device.proofs.Pairs.{AllPairs-append}
 use Rattle.clock_setup.specs.declared.setup.Product.{Product}
 use Rattle.clock_setup.specs.declared.prices.PricePair.{PricePair}
 use Rattle.clock_setup.specs.Prices.{prices_at}
-use Rattle.clock_setup.specs.Limits.{cap_of, no_product, IsProduct, IsRow}
+use Rattle.clock_setup.specs.Limits.{PublicSetup, cap_of, no_product, IsProduct, IsRow}
 use Rattle.clock_bids.specs.declared.sheet.Bid.{Bid}
 use Rattle.clock_bids.specs.declared.change.Change.{Change}
 use Rattle.clock_bids.specs.declared.change.Kind.{Kind}
 use Rattle.clock_bids.specs.declared.change.Kind.TheVariants.{Increase, Reduction}
+use Rattle.clock_bids.specs.Holding.{Holding}
 use Rattle.clock_bids.specs.Sheet.{chain_of, last_quantity, IsGoodSheet}
 use Rattle.clock_bids.specs.Changes.{changes_of_product, changes_of_sheet}
 use Rattle.clock_bids.specs.Chains.{IsInRange, IsGoodChain, AreGoodChains}
@@ -23,25 +24,13 @@ use Rattle.clock_bids.specs.Requests.{same_kind, is_request_of, asked_of, IsChan
 use Rattle.clock_bids.proofs.Good.{no_sheet_fault, good_sheet_chains, last_quantity-le}
 use Rattle.clock_bids.proofs.Links.{IsStep, AreSteps, AreProductSteps, KeepsWithin, product_steps}
 
--- pairs of two lists joined
-pairs_tail : {A : Type 0} (R : A → A → Type 0) (x : A) (xs : List A) → AllPairs R (x ∷ xs) → AllPairs R xs
-pairs_tail R x xs pairs i j d before within = pairs (suc i) (suc j) d (omega (arith, before)) (omega (arith, within))
-
-pairs_head : {A : Type 0} (R : A → A → Type 0) (x : A) (xs : List A) → AllPairs R (x ∷ xs) → All (R x) xs
-pairs_head R x xs pairs j d within = pairs 0 (suc j) d (omega arith) (omega (arith, within))
-
-pub AllPairs-append : {A : Type 0} (R : A → A → Type 0) (xs ys : List A) → AllPairs R xs → AllPairs R ys → All (λ x. All (R x) ys) xs → AllPairs R (xs ++ ys)
-AllPairs-append R [] ys first second across = second
-AllPairs-append R (x ∷ xs) ys first second across =
-    AllPairs-cons R x (xs ++ ys)
-    (All-append (R x) xs ys (pairs_head R x xs first) (All-head (λ one. All (R one) ys) x xs across))
-    (AllPairs-append R xs ys (pairs_tail R x xs first) second (All-tail (λ one. All (R one) ys) x xs across))
-
+-- pairs of which less is said
 pairs_weaker : {A : Type 0} (R S : A → A → Type 0) → ((a b : A) → R a b → S a b) → (xs : List A) → AllPairs R xs → AllPairs S xs
 pairs_weaker R S weaker xs pairs i j d before within = weaker (get_or xs i d) (get_or xs j d) (pairs i j d before within)
 
 -- pairs, where more is known of each
-pairs_with : {A : Type 0} (P : A → Type 0) (R S : A → A → Type 0) → ((a b : A) → P a → P b → R a b → S a b) → (xs : List A) → All P xs → AllPairs R xs → AllPairs S xs
+pairs_with : {A : Type 0} (P : A → Type 0) (R S : A → A → Type 0) → ((a b : A) → P a → P b → R a b → S a b) → (xs : List A) → All P xs →
+    AllPairs R xs → AllPairs S xs
 pairs_with P R S holds xs each pairs i j d before within =
     holds (get_or xs i d) (get_or xs j d) (each i d (omega (arith, before, within))) (each j d within) (pairs i j d before within)
 
@@ -72,7 +61,8 @@ all_counted owner item first pair way (change ∷ changes) each =
       rest,
     )
 
-none_counted : (kind : Kind) (bidder product : ℕ) (changes : List Change) → All (λ change. is_request_of kind bidder product change ≡ false) changes → asked_of kind bidder product changes ≡ 0
+none_counted : (kind : Kind) (bidder product : ℕ) (changes : List Change) →
+    All (λ change. is_request_of kind bidder product change ≡ false) changes → asked_of kind bidder product changes ≡ 0
 none_counted kind bidder product [] none = refl
 none_counted kind bidder product (change ∷ changes) none =
     omega (
@@ -85,13 +75,16 @@ none_counted kind bidder product (change ∷ changes) none =
 and_none : (a b c : Bool) → c ≡ false → (a && b && c) ≡ false
 and_none a b c none = and_right (a && b) c none
 
-other_product : (owner item first : ℕ) (pair : PricePair) (way kind : Kind) (product : ℕ) (changes : List Change) → (item ≡ product → ⊥) → All (IsStep owner item first pair way) changes →
+other_product : (owner item first : ℕ) (pair : PricePair) (way kind : Kind) (product : ℕ) (changes : List Change) → (item ≡ product → ⊥) →
+    All (IsStep owner item first pair way) changes →
     asked_of kind owner product changes ≡ 0
 other_product owner item first pair way kind product changes differ each =
     none_counted kind owner product changes (All-weaker (IsStep owner item first pair way) (λ change. is_request_of kind owner product change ≡ false)
-    (λ change step. and_none (same_kind kind change.kind) (change.bidder == owner) (change.product == product) (ne_eqb change.product product (λ e. differ (sym step.product ∙ e)))) changes each)
+    (λ change step. and_none (same_kind kind change.kind) (change.bidder == owner) (change.product == product)
+    (ne_eqb change.product product (λ e. differ (sym step.product ∙ e)))) changes each)
 
-other_kind : (owner item first : ℕ) (pair : PricePair) (way kind : Kind) (changes : List Change) → same_kind kind way ≡ false → All (IsStep owner item first pair way) changes →
+other_kind : (owner item first : ℕ) (pair : PricePair) (way kind : Kind) (changes : List Change) → same_kind kind way ≡ false →
+    All (IsStep owner item first pair way) changes →
     asked_of kind owner item changes ≡ 0
 other_kind owner item first pair way kind changes differ each =
     none_counted kind owner item changes (All-weaker (IsStep owner item first pair way) (λ change. is_request_of kind owner item change ≡ false)
@@ -117,14 +110,31 @@ module _ (owner item : ℕ) (pair : PricePair) (cap held most : ℕ) (changes : 
   keeps least steps = by_way steps.way steps.blocks least steps.steps steps.within
 
 -- a bid for a product is one from that product on, and not from the next
-chains_apart : (item : ℕ) (bids : List Bid) → length (chain_of item bids) + length (filter (λ bid. nat_le (item + 1) bid.product) bids) ≤ length (filter (λ bid. nat_le item bid.product) bids)
+chains_apart : (item : ℕ) (bids : List Bid) → length (chain_of item bids) + length (filter (λ bid. nat_le (item + 1) bid.product) bids) ≤ length
+    (filter (λ bid. nat_le item bid.product) bids)
 chains_apart item [] = omega arith
 chains_apart item (bid ∷ bids) =
     let rest = chains_apart item bids in
-    elim (cases_order bid.product item) as (λ _. length (chain_of item (bid ∷ bids)) + length (filter (λ bid. nat_le (item + 1) bid.product) (bid ∷ bids)) ≤ length (filter (λ bid. nat_le item bid.product) (bid ∷ bids))) [
-      | inl same ↦ rw (eq-eqb bid.product item same, lt-leb (item + 1) bid.product (omega (arith, same)), le-leb item bid.product (omega (arith, same))) (omega (arith, rest))
-      | inr (inl below) ↦ rw (ne_eqb bid.product item (λ e. omega (arith, e, below)), lt-leb (item + 1) bid.product (omega (arith, below)), lt-leb item bid.product below) rest
-      | inr (inr above) ↦ rw (ne_eqb bid.product item (λ e. omega (arith, e, above)), le-leb (item + 1) bid.product (omega (arith, above)), le-leb item bid.product (omega (arith, above))) (omega (arith, rest))
+    elim (cases_order bid.product item) as (λ _. length (chain_of item (bid ∷ bids)) + length
+    (filter (λ bid. nat_le (item + 1) bid.product) (bid ∷ bids)) ≤ length (filter (λ bid. nat_le item bid.product) (bid ∷ bids))) [
+      | inl same ↦ rw (
+        eq-eqb bid.product item same,
+        lt-leb (item + 1) bid.product (omega (arith, same)),
+        le-leb item bid.product
+            (omega (arith, same)),
+      ) (omega (arith, rest))
+      | inr (inl below) ↦ rw (
+        ne_eqb bid.product item (λ e. omega (arith, e, below)),
+        lt-leb (item + 1) bid.product
+            (omega (arith, below)),
+        lt-leb item bid.product below,
+      ) rest
+      | inr (inr above) ↦ rw (
+        ne_eqb bid.product item (λ e. omega (arith, e, above)),
+        le-leb (item + 1) bid.product
+            (omega (arith, above)),
+        le-leb item bid.product (omega (arith, above)),
+      ) (omega (arith, rest))
     ]
 
 -- no more bids from a product on than bids
@@ -142,7 +152,8 @@ module _ (products : List Product) (prices : List PricePair) (demands : List ℕ
   asks item = changes_of_product owner item (prices_at prices item) (slice_index demands item) (chain_of item bids)
 
   abbrev AskSteps : ℕ → Type 0
-  AskSteps item = AreProductSteps owner item (prices_at prices item) (cap_of products item) (slice_index demands item) (length (chain_of item bids) + 1) (asks item)
+  AskSteps item = AreProductSteps owner item (prices_at prices item) (cap_of products item) (slice_index demands item)
+      (length (chain_of item bids) + 1) (asks item)
 
   module _ (steps : (item : ℕ) → item < length products → AskSteps item) where
     abbrev IsItsStep : ℕ → Kind → Change → Type 0
@@ -167,7 +178,8 @@ module _ (products : List Product) (prices : List PricePair) (demands : List ℕ
     each from (suc n) within =
         let known : from < length products = omega (arith, within) in
         All-append (IsChangeOf products prices owner) (asks from) (flat_map asks (range_with_len (from + 1) n))
-        (All-weaker (IsItsStep from (steps from known).way) (IsChangeOf products prices owner) (is_change from known (steps from known).way) (asks from) (its_steps from known))
+        (All-weaker (IsItsStep from (steps from known).way) (IsChangeOf products prices owner) (is_change from known (steps from known).way)
+        (asks from) (its_steps from known))
         (each (from + 1) n (omega (arith, within)))
 
     from_on : (from n : ℕ) → from + n ≤ length products → All (λ change. from ≤ change.product) (flat_map asks (range_with_len from n))
@@ -175,8 +187,10 @@ module _ (products : List Product) (prices : List PricePair) (demands : List ℕ
     from_on from (suc n) within =
         let known : from < length products = omega (arith, within) in
         All-append (λ (change : Change). from ≤ change.product) (asks from) (flat_map asks (range_with_len (from + 1) n))
-        (All-weaker (IsItsStep from (steps from known).way) (λ (change : Change). from ≤ change.product) (λ change step. omega (arith, step.product)) (asks from) (its_steps from known))
-        (All-weaker (λ (change : Change). from + 1 ≤ change.product) (λ (change : Change). from ≤ change.product) (λ change above. omega (arith, above)) (flat_map asks (range_with_len (from + 1) n)) (from_on (from + 1) n (omega (arith, within))))
+        (All-weaker (IsItsStep from (steps from known).way) (λ (change : Change). from ≤ change.product) (λ change step. omega (arith, step.product))
+        (asks from) (its_steps from known))
+        (All-weaker (λ (change : Change). from + 1 ≤ change.product) (λ (change : Change). from ≤ change.product)
+        (λ change above. omega (arith, above)) (flat_map asks (range_with_len (from + 1) n)) (from_on (from + 1) n (omega (arith, within))))
 
     -- pairs, of which each two for one product or for two products are so
     pairs : (R : Change → Change → Type 0) → ((item : ℕ) → item < length products → AllPairs R (asks item)) → ((a b : Change) → a.product < b.product → R a b) →
@@ -187,28 +201,34 @@ module _ (products : List Product) (prices : List PricePair) (demands : List ℕ
         let rest : List Change = flat_map asks (range_with_len (from + 1) n) in
         AllPairs-append R (asks from) rest (own from known) (pairs R own other (from + 1) n (omega (arith, within)))
         (All-weaker (IsItsStep from (steps from known).way) (λ (a : Change). All (R a) rest)
-        (λ a step. All-weaker (λ (b : Change). from + 1 ≤ b.product) (R a) (λ b above. other a b (omega (arith, step.product, above))) rest (from_on (from + 1) n (omega (arith, within))))
+        (λ a step. All-weaker (λ (b : Change). from + 1 ≤ b.product) (R a) (λ b above. other a b (omega (arith, step.product, above))) rest
+        (from_on (from + 1) n (omega (arith, within))))
         (asks from) (its_steps from known))
 
     sorted : (from n : ℕ) → from + n ≤ length products → AllPairs StandsBefore (flat_map asks (range_with_len from n))
     sorted = pairs StandsBefore
-        (λ item known. pairs_with (IsItsStep item (steps item known).way) (λ (a b : Change). a.place < b.place) StandsBefore (λ a b first second before. inr (first.product ∙ sym second.product, before)) (asks item) (its_steps item known) (steps item known).steps.placed)
+        (λ item known. pairs_with (IsItsStep item (steps item known).way) (λ (a b : Change). a.place < b.place) StandsBefore
+        (λ a b first second before. inr (first.product ∙ sym second.product, before)) (asks item) (its_steps item known) (steps item known).steps.placed)
         (λ a b before. inl before)
 
     one_way : (from n : ℕ) → from + n ≤ length products → AllPairs GoOneWay (flat_map asks (range_with_len from n))
     one_way = pairs GoOneWay
-        (λ item known. pairs_with (IsItsStep item (steps item known).way) (λ (a b : Change). a.place < b.place) GoOneWay (λ a b first second before bidder product. first.kind ∙ sym second.kind) (asks item) (its_steps item known) (steps item known).steps.placed)
+        (λ item known. pairs_with (IsItsStep item (steps item known).way) (λ (a b : Change). a.place < b.place) GoOneWay
+        (λ a b first second before bidder product. first.kind ∙ sym second.kind) (asks item) (its_steps item known) (steps item known).steps.placed)
         (λ a b before bidder product. absurd (omega (arith, before, product)))
 
     -- what they ask for of one product
-    asked_before : (kind : Kind) (item from n : ℕ) → item < from → from + n ≤ length products → asked_of kind owner item (flat_map asks (range_with_len from n)) ≡ 0
+    asked_before : (kind : Kind) (item from n : ℕ) → item < from → from + n ≤ length products →
+        asked_of kind owner item (flat_map asks (range_with_len from n)) ≡ 0
     asked_before kind item from zero before within = refl
     asked_before kind item from (suc n) before within =
         let known : from < length products = omega (arith, within) in
         omega (
           arith,
-          sum_by-append (λ (change : Change). cond (is_request_of kind owner item change) change.amount 0) (asks from) (flat_map asks (range_with_len (from + 1) n)),
-          other_product owner from 0 (prices_at prices from) (steps from known).way kind item (asks from) (λ e. omega (arith, e, before)) (its_steps from known),
+          sum_by-append (λ (change : Change). cond (is_request_of kind owner item change) change.amount 0) (asks from)
+              (flat_map asks (range_with_len (from + 1) n)),
+          other_product owner from 0 (prices_at prices from) (steps from known).way kind item (asks from) (λ e. omega (arith, e, before))
+              (its_steps from known),
           asked_before kind item (from + 1) n (omega (arith, before)) (omega (arith, within)),
         )
 
@@ -217,9 +237,16 @@ module _ (products : List Product) (prices : List PricePair) (demands : List ℕ
     asked_at kind item from zero low high within = absurd (omega (arith, low, high))
     asked_at kind item from (suc n) low high within =
         let known : from < length products = omega (arith, within) in
-        let both = sum_by-append (λ (change : Change). cond (is_request_of kind owner item change) change.amount 0) (asks from) (flat_map asks (range_with_len (from + 1) n)) in
+        let both = sum_by-append (λ (change : Change). cond (is_request_of kind owner item change) change.amount 0) (asks from)
+        (flat_map asks (range_with_len (from + 1) n)) in
         elim (cases_eq from item) as (λ _. asked_of kind owner item (flat_map asks (range_with_len from (suc n))) ≡ asked_of kind owner item (asks item)) [
-          | inl same ↦ omega (arith, both, ap (λ p. asked_of kind owner item (asks p)) same, asked_before kind item (from + 1) n (omega (arith, same)) (omega (arith, within)))
+          | inl same ↦ omega (
+            arith,
+            both,
+            ap (λ p. asked_of kind owner item (asks p)) same,
+            asked_before kind item (from + 1) n
+                (omega (arith, same)) (omega (arith, within)),
+          )
           | inr differ ↦ omega (
             arith,
             both,
@@ -229,11 +256,18 @@ module _ (products : List Product) (prices : List PricePair) (demands : List ℕ
         ]
 
     -- at most one for each bid and each product
-    count : (from n : ℕ) → from + n ≤ length products → length (flat_map asks (range_with_len from n)) ≤ length (filter (λ bid. nat_le from bid.product) bids) + n
+    count : (from n : ℕ) → from + n ≤ length products → length (flat_map asks (range_with_len from n)) ≤ length
+        (filter (λ bid. nat_le from bid.product) bids) + n
     count from zero within = omega arith
     count from (suc n) within =
         let known : from < length products = omega (arith, within) in
-        omega (arith, length-append (asks from) (flat_map asks (range_with_len (from + 1) n)), (steps from known).steps.count, chains_apart from bids, count (from + 1) n (omega (arith, within)))
+        omega (
+          arith,
+          length-append (asks from) (flat_map asks (range_with_len (from + 1) n)),
+          (steps from known).steps.count,
+          chains_apart from bids,
+          count (from + 1) n (omega (arith, within)),
+        )
 
     pub together : length bids ≤ 8192 → length products ≤ 4096 → ((item : ℕ) → item < length products → slice_index demands item ≤ cap_of products item) →
         AreChangesOf products prices demands owner (flat_map asks (range_with_len 0 (length products)))
@@ -244,8 +278,10 @@ module _ (products : List Product) (prices : List PricePair) (demands : List ℕ
       apart = pairs_weaker StandsBefore AreApart (λ a b before bidder product place. no_place_twice a b before product place)
           (flat_map asks (range_with_len 0 (length products))) (sorted 0 (length products) (omega arith));
       one_way = one_way 0 (length products) (omega arith);
-      capped = λ item known. (let own : Keeps owner item (prices_at prices item) (cap_of products item) (slice_index demands item) (length (chain_of item bids) + 1) (asks item) =
-          keeps owner item (prices_at prices item) (cap_of products item) (slice_index demands item) (length (chain_of item bids) + 1) (asks item) (capped item known) (steps item known) in
+      capped = λ item known. (let own : Keeps owner item (prices_at prices item) (cap_of products item) (slice_index demands item)
+          (length (chain_of item bids) + 1) (asks item) =
+          keeps owner item (prices_at prices item) (cap_of products item) (slice_index demands item) (length (chain_of item bids) + 1) (asks item)
+          (capped item known) (steps item known) in
           record {
             raised = omega (arith, own.raised, asked_at Increase item 0 (length products) (omega arith) (omega (arith, known)) (omega arith));
             reduced = omega (arith, own.reduced, asked_at Reduction item 0 (length products) (omega arith) (omega (arith, known)) (omega arith));
@@ -253,24 +289,28 @@ module _ (products : List Product) (prices : List PricePair) (demands : List ℕ
     }
 
 -- the changes of a good sheet
-module _ (products : List Product) (prices : List PricePair) (eligibility : ℕ) (demands : List ℕ) (owner : ℕ) (bids : List Bid)
-    (few : length products ≤ 4096) (limits : All IsProduct products) (pairs_each : length prices ≡ length products) (rising : All (λ pair. pair.start < pair.clock) prices)
-    (row : IsRow products demands) (good : IsGoodSheet products prices eligibility demands bids) where
-  pub sheet_steps : (item : ℕ) → item < length products →
-      AreProductSteps owner item (prices_at prices item) (cap_of products item) (slice_index demands item) (length (chain_of item bids) + 1)
-      (changes_of_product owner item (prices_at prices item) (slice_index demands item) (chain_of item bids))
+module _ (setup : PublicSetup) (round : ℕ) (prices : List PricePair) (holding : Holding) (owner : ℕ) (bids : List Bid)
+    (few : length setup.products ≤ 4096) (limits : All IsProduct setup.products) (pairs_each : length prices ≡ length setup.products)
+    (rising : All (λ pair. pair.start < pair.clock) prices) (row : IsRow setup.products holding.demands)
+    (good : IsGoodSheet setup round prices holding bids) where
+  pub sheet_steps : (item : ℕ) → item < length setup.products →
+      AreProductSteps owner item (prices_at prices item) (cap_of setup.products item) (slice_index holding.demands item) (length (chain_of item bids) + 1)
+      (changes_of_product owner item (prices_at prices item) (slice_index holding.demands item) (chain_of item bids))
   sheet_steps item known =
-      let product : IsProduct (get_or products item no_product) = limits item no_product known in
-      let chain : IsGoodChain (prices_at prices item) (cap_of products item) (slice_index demands item) (chain_of item bids) = (good_sheet_chains products prices demands bids eligibility good).each item known in
-      let up : (prices_at prices item).start < (prices_at prices item).clock = rising item (record { start = 0; clock = 0 }) (omega (arith, known, pairs_each)) in
-      let held : slice_index demands item ≤ cap_of products item = row.capped item (omega (arith, known, row.each)) in
-      product_steps owner item (prices_at prices item) (cap_of products item) (slice_index demands item) (omega (arith, product.cap, product.supply)) held
-      (chain_of item bids) (omega (arith, up)) chain
-      (last_quantity-le (prices_at prices item) (cap_of products item) (slice_index demands item) (chain_of item bids) held chain.in_range)
+      let pair : PricePair = prices_at prices item in
+      let cap : ℕ = cap_of setup.products item in
+      let before : ℕ = slice_index holding.demands item in
+      let product : IsProduct (get_or setup.products item no_product) = limits item no_product known in
+      let chain : IsGoodChain pair cap before (chain_of item bids) = (good_sheet_chains setup round prices holding bids good).each item known in
+      let up : pair.start < pair.clock = rising item (record { start = 0; clock = 0 }) (omega (arith, known, pairs_each)) in
+      let held : before ≤ cap = row.capped item (omega (arith, known, row.each)) in
+      product_steps owner item pair cap before (omega (arith, product.cap, product.supply)) held
+      (chain_of item bids) (omega (arith, up)) chain (last_quantity-le pair cap before (chain_of item bids) held chain.in_range)
 
-  pub good_sheet_changes : AreChangesOf products prices demands owner (changes_of_sheet prices demands owner bids)
+  pub good_sheet_changes : AreChangesOf setup.products prices holding.demands owner (changes_of_sheet prices holding.demands owner bids)
   good_sheet_changes =
-      subst (λ n. AreChangesOf products prices demands owner
-      (flat_map (λ item. changes_of_product owner item (prices_at prices item) (slice_index demands item) (chain_of item bids)) (range_with_len 0 n))) (sym pairs_each)
-      (together products prices demands owner bids sheet_steps (no_sheet_fault products prices eligibility demands bids good).few few
+      subst (λ n. AreChangesOf setup.products prices holding.demands owner
+      (flat_map (λ item. changes_of_product owner item (prices_at prices item) (slice_index holding.demands item) (chain_of item bids)) (range_with_len 0 n)))
+      (sym pairs_each)
+      (together setup.products prices holding.demands owner bids sheet_steps (no_sheet_fault setup round prices holding bids good).few few
       (λ item known. row.capped item (omega (arith, known, row.each))))

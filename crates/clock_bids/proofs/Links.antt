@@ -1,7 +1,7 @@
 -- The changes of one product's chain: each leaves the demand in one direction, and together they lead from the demand held to the last quantity.
 use Rattle.std.proofs.Common.{◌≡◌, ℕ, zero, suc, ◌+◌, ◌-◌, ◌<◌, ◌≤◌, List, [], ◌∷◌, ◌++◌, Bool, true, false, not, cond, map, length, ◌==◌, inl, inr, refl, ap, sym, subst, ◌∙◌, arith, get_or, All}
-use Rattle.std.specs.Prelude.{⊤, nat_lt, sum_by, zip}
-use Rattle.std.specs.List.{filter, enumerate_from, AllPairs}
+use Rattle.std.specs.Prelude.{⊤, nat_lt, sum_by}
+use Rattle.std.specs.List.{filter, AllPairs}
 use Rattle.std.proofs.lemmas.Bool.{ltb-true, lt-ltb, le-ltb, eq-eqb, ne_eqb, cases_Bool}
 use Rattle.std.proofs.lemmas.List.Elements.{All-cons, All-head, All-tail, All-weaker, All-nil}
 use Rattle.std.proofs.lemmas.List.Kept.{AllPairs-cons}
@@ -13,7 +13,7 @@ use Rattle.clock_bids.specs.declared.change.Change.{Change}
 use Rattle.clock_bids.specs.declared.change.Kind.{Kind}
 use Rattle.clock_bids.specs.declared.change.Kind.TheVariants.{Increase, Reduction}
 use Rattle.clock_bids.specs.Sheet.{last_quantity}
-use Rattle.clock_bids.specs.Changes.{distance, change_to, links_of, changes_of_chain, drop_to_zero, changes_of_product}
+use Rattle.clock_bids.specs.Changes.{distance, change_to, Link, links_from, changes_of_chain, drop_to_zero, changes_of_product}
 use Rattle.clock_bids.specs.Chains.{Climbs, Falls, Moves, up, down, kept, IsInRange, IsGoodChain}
 use Rattle.clock_bids.proofs.Chains.{climbs-le, falls-le}
 
@@ -98,7 +98,8 @@ no_steps owner item first pair way most = record {
   count = omega arith;
 }
 
-later : (owner item first : ℕ) (pair : PricePair) (way : Kind) (change : Change) → IsStep owner item (first + 1) pair way change → IsStep owner item first pair way change
+later : (owner item first : ℕ) (pair : PricePair) (way : Kind) (change : Change) → IsStep owner item (first + 1) pair way change →
+    IsStep owner item first pair way change
 later owner item first pair way change step = record {
   bidder = step.bidder;
   product = step.product;
@@ -111,42 +112,45 @@ later owner item first pair way change step = record {
   point = step.point;
 }
 
-one_more_step : (owner item first : ℕ) (pair : PricePair) (way : Kind) (blocks most : ℕ) (change : Change) (changes : List Change) → IsStep owner item first pair way change → change.place ≡ first →
+one_more_step : (owner item first : ℕ) (pair : PricePair) (way : Kind) (blocks most : ℕ) (change : Change) (changes : List Change) →
+    IsStep owner item first pair way change → change.place ≡ first →
     AreSteps owner item (first + 1) pair way blocks most changes → AreSteps owner item first pair way (change.amount + blocks) (most + 1) (change ∷ changes)
 one_more_step owner item first pair way blocks most change changes step at steps = record {
   each = All-cons (IsStep owner item first pair way) change changes step
       (All-weaker (IsStep owner item (first + 1) pair way) (IsStep owner item first pair way) (later owner item first pair way) changes steps.each);
   placed = AllPairs-cons (λ (a b : Change). a.place < b.place) change changes
-      (All-weaker (IsStep owner item (first + 1) pair way) (λ (b : Change). change.place < b.place) (λ one is. omega (arith, is.place, at)) changes steps.each) steps.placed;
+      (All-weaker (IsStep owner item (first + 1) pair way) (λ (b : Change). change.place < b.place) (λ one is. omega (arith, is.place, at))
+      changes steps.each) steps.placed;
   together = sum_by-cons (λ (one : Change). one.amount) change changes ∙ ap (λ n. change.amount + n) steps.together;
   count = omega (arith, steps.count);
 }
 
 -- the changes that the bids of a chain ask for, from a place and a quantity on
 module _ (owner item : ℕ) (pair : PricePair) where
-  abbrev pub changes_from : ℕ → ℕ → List Bid → List Change
-  changes_from place from chain =
-      map (λ link. change_to owner item pair link.0 link.1.0 link.1.1.quantity link.1.1.price)
-      (filter (λ link. not (link.1.0 == link.1.1.quantity)) (enumerate_from place (zip (from ∷ map (λ bid. bid.quantity) chain) chain)))
+  abbrev pub change_of : Link → Change
+  change_of link = change_to owner item pair link.place link.before link.bid.quantity link.bid.price
 
-  by_test : (place from : ℕ) (bid : Bid) (bids : List Bid) (b : Bool) → (from == bid.quantity) ≡ b →
-      changes_from place from (bid ∷ bids)
-      ≡ map (λ link. change_to owner item pair link.0 link.1.0 link.1.1.quantity link.1.1.price)
-      (cond (not b) ((place, (from, bid)) ∷ filter (λ link. not (link.1.0 == link.1.1.quantity)) (enumerate_from (place + 1) (zip (map (λ bid. bid.quantity) (bid ∷ bids)) bids)))
-      (filter (λ link. not (link.1.0 == link.1.1.quantity)) (enumerate_from (place + 1) (zip (map (λ bid. bid.quantity) (bid ∷ bids)) bids))))
-  by_test place from bid bids b is =
-      ap (λ test. map (λ (link : ℕ × (ℕ × Bid)). change_to owner item pair link.0 link.1.0 link.1.1.quantity link.1.1.price)
-      (cond (not test) ((place, (from, bid)) ∷ filter (λ link. not (link.1.0 == link.1.1.quantity)) (enumerate_from (place + 1) (zip (map (λ bid. bid.quantity) (bid ∷ bids)) bids)))
-      (filter (λ link. not (link.1.0 == link.1.1.quantity)) (enumerate_from (place + 1) (zip (map (λ bid. bid.quantity) (bid ∷ bids)) bids))))) is
+  abbrev pub changes_from : ℕ → ℕ → List Bid → List Change
+  changes_from place before chain = map change_of (filter (λ link. not (link.before == link.bid.quantity)) (links_from place before chain))
+
+  by_test : (link : Link) (rest : List Link) (b : Bool) → (link.before == link.bid.quantity) ≡ b →
+      map change_of (cond (not (link.before == link.bid.quantity)) (link ∷ rest) rest) ≡ cond b (map change_of rest) (change_of link ∷ map change_of rest)
+  by_test link rest true is = ap (λ test. map change_of (cond (not test) (link ∷ rest) rest)) is
+  by_test link rest false is = ap (λ test. map change_of (cond (not test) (link ∷ rest) rest)) is
+
+  abbrev links_after : ℕ → Bid → List Bid → List Link
+  links_after place bid bids = filter (λ link. not (link.before == link.bid.quantity)) (links_from (place + 1) bid.quantity bids)
 
   -- a bid of another quantity than the one before it asks for a change, and one of the same for none
-  pub begins_with : (place from : ℕ) (bid : Bid) (bids : List Bid) → (from == bid.quantity) ≡ false →
-      changes_from place from (bid ∷ bids) ≡ change_to owner item pair place from bid.quantity bid.price ∷ changes_from (place + 1) bid.quantity bids
-  begins_with place from bid bids differ = by_test place from bid bids false differ
+  pub begins_with : (place before : ℕ) (bid : Bid) (bids : List Bid) → (before == bid.quantity) ≡ false →
+      changes_from place before (bid ∷ bids) ≡ change_to owner item pair place before bid.quantity bid.price ∷ changes_from (place + 1) bid.quantity bids
+  begins_with place before bid bids differ =
+      by_test (record { place = place; before = before; bid = bid }) (links_after place bid bids) false differ
 
-  pub begins_without : (place from : ℕ) (bid : Bid) (bids : List Bid) → (from == bid.quantity) ≡ true →
-      changes_from place from (bid ∷ bids) ≡ changes_from (place + 1) bid.quantity bids
-  begins_without place from bid bids same = by_test place from bid bids true same
+  pub begins_without : (place before : ℕ) (bid : Bid) (bids : List Bid) → (before == bid.quantity) ≡ true →
+      changes_from place before (bid ∷ bids) ≡ changes_from (place + 1) bid.quantity bids
+  begins_without place before bid bids same =
+      by_test (record { place = place; before = before; bid = bid }) (links_after place bid bids) true same
 
 module _ (owner item : ℕ) (pair : PricePair) (cap : ℕ) (small : cap ≤ 1000) where
   step_is : (way : Kind) (place from to price : ℕ) → LeadsOn way from to → from ≤ cap → to ≤ cap → pair.start ≤ price → price ≤ pair.clock →
@@ -171,16 +175,20 @@ module _ (owner item : ℕ) (pair : PricePair) (cap : ℕ) (small : cap ≤ 1000
   steps_from way place from (bid ∷ bids) moves least good =
       let here : IsInRange pair cap bid = All-head (IsInRange pair cap) bid bids good in
       let change : Change = change_to owner item pair place from bid.quantity bid.price in
-      let first : IsStep owner item place pair way change = step_is way place from bid.quantity bid.price moves.0 least here.capped here.from_start here.to_clock in
+      let first : IsStep owner item place pair way change = step_is way place from bid.quantity bid.price moves.0 least here.capped here.from_start
+      here.to_clock in
       let rest = steps_from way (place + 1) bid.quantity bids moves.1 here.capped (All-tail (IsInRange pair cap) bid bids good) in
-      let all = one_more_step owner item place pair way (distance bid.quantity (last_quantity bid.quantity bids)) (length bids) change (changes_from owner item pair (place + 1) bid.quantity bids) first refl rest in
+      let all = one_more_step owner item place pair way (distance bid.quantity (last_quantity bid.quantity bids)) (length bids) change
+      (changes_from owner item pair (place + 1) bid.quantity bids) first refl rest in
       let sums : change.amount + distance bid.quantity (last_quantity bid.quantity bids) ≡ distance from (last_quantity bid.quantity bids) =
       adds_up way from bid.quantity (last_quantity bid.quantity bids) moves.0 (ends_on way bid.quantity bids moves.1) in
       let more : length bids + 1 ≡ suc (length bids) = omega arith in
       subst (λ list. AreSteps owner item place pair way (distance from (last_quantity bid.quantity bids)) (suc (length bids)) list)
       (sym (begins_with owner item pair place from bid bids (differs way from bid.quantity moves.0)))
-      (subst (λ n. AreSteps owner item place pair way (distance from (last_quantity bid.quantity bids)) n (change ∷ changes_from owner item pair (place + 1) bid.quantity bids)) more
-      (subst (λ blocks. AreSteps owner item place pair way blocks (length bids + 1) (change ∷ changes_from owner item pair (place + 1) bid.quantity bids)) sums all))
+      (subst (λ n. AreSteps owner item place pair way (distance from (last_quantity bid.quantity bids)) n
+      (change ∷ changes_from owner item pair (place + 1) bid.quantity bids)) more
+      (subst (λ blocks. AreSteps owner item place pair way blocks (length bids + 1)
+      (change ∷ changes_from owner item pair (place + 1) bid.quantity bids)) sums all))
 
 -- changes in a direction keep a demand within 0 and the cap
 abbrev pub KeepsWithin : Kind → ℕ → ℕ → ℕ → Type 0
@@ -196,7 +204,8 @@ pub record AreProductSteps (owner item : ℕ) (pair : PricePair) (cap held : ℕ
 
 module _ (owner item : ℕ) (pair : PricePair) (cap held : ℕ) (small : cap ≤ 1000) (least : held ≤ cap) where
   -- at most one more than there are bids, for where there is none
-  more_room : (way : Kind) (blocks most : ℕ) (changes : List Change) → AreSteps owner item 0 pair way blocks most changes → AreSteps owner item 0 pair way blocks (most + 1) changes
+  more_room : (way : Kind) (blocks most : ℕ) (changes : List Change) → AreSteps owner item 0 pair way blocks most changes →
+      AreSteps owner item 0 pair way blocks (most + 1) changes
   more_room way blocks most changes steps = record { each = steps.each; placed = steps.placed; together = steps.together; count = omega (arith, steps.count) }
 
   climbing : (chain : List Bid) → Climbs held chain → All (IsInRange pair cap) chain → last_quantity held chain ≤ cap →
@@ -233,20 +242,21 @@ module _ (owner item : ℕ) (pair : PricePair) (cap held : ℕ) (small : cap ≤
     | inl holds ↦
         (let some : 0 < held = ltb-true 0 held holds in
         let change : Change = change_to owner item pair 0 held 0 pair.start in
-        let step : IsStep owner item 0 pair Reduction change = step_is owner item pair cap small Reduction 0 held 0 pair.start some least (omega arith) (omega arith) rising in
+        let step : IsStep owner item 0 pair Reduction change =
+        step_is owner item pair cap small Reduction 0 held 0 pair.start some least (omega arith) (omega arith) rising in
         let one = one_more_step owner item 0 pair Reduction 0 0 change [] step refl (no_steps owner item 1 pair Reduction 0) in
         subst (λ list. AreProductSteps owner item pair cap held 1 list) (sym (ap (λ b. cond b (change ∷ []) []) holds))
         (record { way = Reduction; blocks = change.amount + 0; steps = one; within = omega (arith, some) }))
-    | inr holds ↦ subst (λ list. AreProductSteps owner item pair cap held 1 list) (sym (ap (λ b. cond b (change_to owner item pair 0 held 0 pair.start ∷ []) []) holds)) (nothing 1)
+    | inr holds ↦ subst (λ list. AreProductSteps owner item pair cap held 1 list)
+        (sym (ap (λ b. cond b (change_to owner item pair 0 held 0 pair.start ∷ []) []) holds)) (nothing 1)
   ]
 
   -- a keeping bid asks for no change
   keeping : (bid : Bid) → bid.quantity ≡ held → changes_of_chain owner item pair held (bid ∷ []) ≡ []
-  keeping bid same =
-      ap (λ b. map (λ (link : ℕ × (ℕ × Bid)). change_to owner item pair link.0 link.1.0 link.1.1.quantity link.1.1.price) (cond (not b) ((0, (held, bid)) ∷ []) []))
-      (eq-eqb held bid.quantity (sym same))
+  keeping bid same = begins_without owner item pair 0 held bid [] (eq-eqb held bid.quantity (sym same))
 
-  moving : (first : Bid) (rest : List Bid) → Moves held pair.clock (first ∷ rest) → All (IsInRange pair cap) (first ∷ rest) → last_quantity first.quantity rest ≤ cap →
+  moving : (first : Bid) (rest : List Bid) → Moves held pair.clock (first ∷ rest) → All (IsInRange pair cap) (first ∷ rest) →
+      last_quantity first.quantity rest ≤ cap →
       AreProductSteps owner item pair cap held (length (first ∷ rest) + 1) (changes_of_chain owner item pair held (first ∷ rest))
   moving first rest (up climbs) good most = climbing (first ∷ rest) climbs good most
   moving first rest (down falls) good most = falling (first ∷ rest) falls good

@@ -18,7 +18,8 @@ chain_of-own product bids bid own =
 
 pub chain_of-other : (product : ℕ) (bids : List Bid) (bid : Bid) → (bid.product ≡ product → ⊥) → chain_of product (bids ++ bid ∷ []) ≡ chain_of product bids
 chain_of-other product bids bid other =
-    filter-append (λ (b : Bid). b.product == product) bids (bid ∷ []) ∙ ap (λ t. chain_of product bids ++ cond t (bid ∷ []) []) (ne_eqb bid.product product other)
+    filter-append (λ (b : Bid). b.product == product) bids (bid ∷ [])
+    ∙ ap (λ t. chain_of product bids ++ cond t (bid ∷ []) []) (ne_eqb bid.product product other)
     ∙ append-nil (chain_of product bids)
 
 -- so only its product's entry changes
@@ -28,7 +29,8 @@ module _ {A : Type 0} (entry : ℕ → List Bid → A) where
 
   pub table-push : (products : ℕ) (bids : List Bid) (bid : Bid) → bid.product < products →
       map (λ product. entry product (chain_of product (bids ++ bid ∷ []))) (range_with_len 0 products)
-      ≡ set (map (λ product. entry product (chain_of product bids)) (range_with_len 0 products)) bid.product (entry bid.product (chain_of bid.product bids ++ bid ∷ []))
+      ≡ set (map (λ product. entry product (chain_of product bids)) (range_with_len 0 products)) bid.product
+      (entry bid.product (chain_of bid.product bids ++ bid ∷ []))
   table-push products bids bid known =
       let new : ℕ → A = λ product. entry product (chain_of product (bids ++ bid ∷ [])) in
       let old : ℕ → A = λ product. entry product (chain_of product bids) in
@@ -79,11 +81,13 @@ no_bid = record { product = 0; quantity = 0; price = 0 }
 
 pub last_bids-more : (products : ℕ) (bids : List Bid) (i : ℕ) → i < length bids → (get_or bids i no_bid).product < products →
     last_bids products (take (i + 1) bids) ≡ set (last_bids products (take i bids)) (get_or bids i no_bid).product (Some (get_or bids i no_bid))
-last_bids-more products bids i within known = ap (last_bids products) (take_more bids i no_bid within) ∙ last_bids-push products (take i bids) (get_or bids i no_bid) known
+last_bids-more products bids i within known = ap (last_bids products) (take_more bids i no_bid within)
+    ∙ last_bids-push products (take i bids) (get_or bids i no_bid) known
 
 pub asked_demands-more : (products : ℕ) (bids : List Bid) (i : ℕ) → i < length bids → (get_or bids i no_bid).product < products →
     asked_demands products (take (i + 1) bids) ≡ set (asked_demands products (take i bids)) (get_or bids i no_bid).product (get_or bids i no_bid).quantity
-asked_demands-more products bids i within known = ap (asked_demands products) (take_more bids i no_bid within) ∙ asked_demands-push products (take i bids) (get_or bids i no_bid) known
+asked_demands-more products bids i within known = ap (asked_demands products) (take_more bids i no_bid within)
+    ∙ asked_demands-push products (take i bids) (get_or bids i no_bid) known
 
 pub length-asked_demands : (products : ℕ) (bids : List Bid) → length (asked_demands products bids) ≡ products
 length-asked_demands products bids = length-map-range_with_len (λ product. last_quantity 0 (chain_of product bids)) 0 products
@@ -93,7 +97,8 @@ take_none : {A : Type 0} (n : ℕ) → take n (let none : List A = [] in none) �
 take_none zero = refl
 take_none (suc n) = refl
 
-pub filled : {A : Type 0} (items fresh : List A) (n had : ℕ) (a : A) → items ≡ take n fresh ++ replicate (n - had) a → fresh ≡ [] → had ≡ 0 → items ≡ replicate n a
+pub filled : {A : Type 0} (items fresh : List A) (n had : ℕ) (a : A) → items ≡ take n fresh ++ replicate (n - had) a → fresh ≡ [] → had ≡ 0 →
+    items ≡ replicate n a
 filled items fresh n had a is none empty =
     is ∙ ap (λ old. take n old ++ replicate (n - had) a) none ∙ ap (λ old. old ++ replicate (n - had) a) (take_none n)
     ∙ ap (λ (k : ℕ). replicate k a) (let all : n - had ≡ n = omega (arith, empty) in all)

@@ -57,7 +57,8 @@ pub record KeepWithinCap (products : List Product) (demands : List ℕ) (bidder 
   pub raised : slice_index demands product + asked_of Increase bidder product changes ≤ cap_of products product
   pub reduced : asked_of Reduction bidder product changes ≤ slice_index demands product
 
--- changes of one bidder, by rising product and place, in one direction for each product, which keep its demands within 0 and the caps: at most one for each of 8,192 bids, and one for each of 4,096 products without a bid
+-- changes of one bidder, by rising product and place, in one direction for each product, which keep its demands within 0 and the caps: at most one
+-- for each of 8,192 bids, and one for each of 4,096 products without a bid
 pub record AreChangesOf (products : List Product) (prices : List PricePair) (demands : List ℕ) (bidder : ℕ) (changes : List Change) : Type 0 where
   pub few : length changes ≤ 12288
   pub each : All (IsChangeOf products prices bidder) changes

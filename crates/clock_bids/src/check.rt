@@ -1,7 +1,10 @@
-ghost use Rattle.std.specs.Prelude.{◌≡◌, ◌⊎◌, [], None, Some, length, OnOk, IfOk, IfErr, slice_index_or};
-ghost use Rattle.clock_setup.specs.Limits.{IsRow};
-ghost use Rattle.clock_bids.specs.Sheet.{IsGoodSheet, IsFaultOf, bid_faults, first_or};
-ghost use Rattle.clock_bids.specs.Chains as chains;
+ghost use Rattle.std.specs.Prelude.{◌≡◌, None, length, OnOk, IfOk, IfErr, slice_index_or};
+ghost use Rattle.clock_setup.specs.Limits.{IsRow, public_setup, is_within};
+ghost use Rattle.clock_setup.specs.Faults.{first_fault, IsFirstFault};
+ghost use Rattle.clock_bids.specs.Holding as rules;
+ghost use Rattle.clock_bids.specs.Holding.{holding_of};
+ghost use Rattle.clock_bids.specs.Sheet.{IsGoodSheet, sheet_fault, checks_of_bids};
+ghost use Rattle.clock_bids.specs.Chains.{checks_by_last, step_checks};
 
 use crate::demands::asked_demands;
 use crate::sheet::{Bid, BidFault, Own, Sheet};
@@ -30,18 +33,33 @@ pub fn check_sheet(
     requires prices { length prices.now ≡ length setup.now.products }
     requires demands { IsRow setup.now.products own.demands.now }
     ensures bids { IfOk result (λ sheet. sheet ≡ bids.now) }
-    ensures good { OnOk result (IsGoodSheet setup.now.products prices.now own.entry.eligibility own.entry.demands.now bids.now) }
-    ensures fault { IfErr result (IsFaultOf setup.now.products prices.now own.entry.eligibility own.entry.demands.now bids.now) }
+    ensures good { OnOk result
+        (IsGoodSheet (public_setup setup.now) own.entry.round prices.now (holding_of own.entry) bids.now) }
+    ensures fault { IfErr result (IsFirstFault BidFault.NoMemory
+        (sheet_fault (public_setup setup.now) own.entry.round prices.now (holding_of own.entry) bids.now)) }
 {
     if bids.len() > MOST_BIDS {
         return Err(BidFault::TooMany);
     }
     judge(alloc, setup, prices.as_slice(), own.demands, bids)?;
     let asked = asked_demands(alloc, setup, bids)?;
-    if activity(setup, asked.as_slice()) > own.eligibility {
+    let taken = activity(setup, asked.as_slice());
+    if taken as u128 > activity_limit(setup, own.round, own.eligibility) {
         return Err(BidFault::OverActivity);
     }
     Ok(Sheet::from_bids(alloc, bids)?)
+}
+
+/// The most activity that a sheet may ask for, in bidding units: in round 1 the eligibility, and from
+/// round 2 on the set-up's percentage of it, rounded down. The FCC's procedures for Auction 105 have
+/// such a limit; processing keeps a bidder's activity within its eligibility all the same.
+fn activity_limit(setup: &Setup, round: u64, eligibility: u64) -> u128
+    ensures { result ≡ rules.activity_limit (public_setup setup.now) round eligibility }
+{
+    match round {
+        1 => eligibility as u128,
+        _ => eligibility as u128 * setup.limit as u128 / 100,
+    }
 }
 
 /// Judges each bid by the last one before it for the same product. Where the earlier bids are
@@ -56,14 +74,15 @@ fn judge(
 ) -> Result<(), BidFault>
     requires prices { length prices.now ≡ length setup.now.products }
     requires demands { IsRow setup.now.products demands.now }
-    ensures ok { OnOk result (bid_faults setup.now.products prices.now demands.now bids.now ≡ []) }
-    ensures fault { IfErr result (λ fault. (fault ≡ BidFault.NoMemory) ⊎ (first_or (bid_faults setup.now.products prices.now demands.now bids.now) None ≡ Some fault)) }
+    ensures ok { OnOk result (first_fault (checks_of_bids setup.now.products prices.now demands.now bids.now) ≡ None) }
+    ensures fault { IfErr result (IsFirstFault BidFault.NoMemory
+        (first_fault (checks_of_bids setup.now.products prices.now demands.now bids.now))) }
 {
     let products = setup.products.as_slice();
     let mut last = Vec::new(alloc);
     last.resize(products.len(), None)?;
     for (i, bid) in bids.iter().enumerate() {
-        if let Some(fault) = fault_by_last(products, prices, demands, &last, i as u64, bid) {
+        if let Some(fault) = bid_fault(products, prices, demands, &last, i as u64, bid) {
             return Err(fault);
         }
         last[bid.product as usize] = Some(*bid);
@@ -72,7 +91,7 @@ fn judge(
 }
 
 /// The fault of the bid at a place of the sheet, by the last bid before it for the same product.
-fn fault_by_last(
+fn bid_fault(
     products: &[Product],
     prices: &[PricePair],
     demands: &[u64],
@@ -83,20 +102,21 @@ fn fault_by_last(
     requires prices { length prices.now ≡ length products.now }
     requires last { length last.now ≡ length products.now }
     requires demands { IsRow products.now demands.now }
-    ensures { result ≡ chains.fault_by_last products.now prices.now demands.now (slice_index_or last.now bid.now.product None) place bid.now }
+    ensures { result ≡ first_fault (checks_by_last products.now prices.now demands.now
+        (slice_index_or last.now bid.now.product None) place bid.now) }
 {
     if bid.product >= products.len() as u64 {
         return Some(BidFault::UnknownProduct(place));
     }
     let product = bid.product as usize;
     let pair = prices[product];
-    if bid.price < pair.start.get() || bid.price > pair.clock.get() {
+    if !is_in_prices(&pair, bid.price) {
         return Some(BidFault::PriceRange(place));
     }
     if bid.quantity > products[product].cap {
         return Some(BidFault::OverCap(place));
     }
-    fault_after(
+    step_fault(
         last[product],
         demands[product],
         pair.clock.get(),
@@ -105,9 +125,17 @@ fn fault_by_last(
     )
 }
 
-/// The fault of a bid in range, by the last bid before it for the same product.
-fn fault_after(last: Option<Bid>, held: u64, clock: u64, place: u64, bid: &Bid) -> Option<BidFault>
-    ensures { result ≡ chains.fault_after last held clock place bid.now }
+/// Whether a price is from the start price to the clock price.
+fn is_in_prices(pair: &PricePair, price: u64) -> bool
+    ensures { result ≡ is_within pair.now.start pair.now.clock price }
+{
+    pair.start.get() <= price && price <= pair.clock.get()
+}
+
+/// The fault of a bid's step from the last bid before it for the same product, or where there is
+/// none from the demand held.
+fn step_fault(last: Option<Bid>, held: u64, clock: u64, place: u64, bid: &Bid) -> Option<BidFault>
+    ensures { result ≡ first_fault (step_checks last held clock place bid.now) }
 {
     let Some(last) = last else {
         if bid.quantity == held && bid.price != clock {
@@ -115,15 +143,15 @@ fn fault_after(last: Option<Bid>, held: u64, clock: u64, place: u64, bid: &Bid) 
         }
         return None;
     };
-    if bid.price <= last.price {
+    if last.price >= bid.price {
         return Some(BidFault::PriceOrder(place));
     }
-    let turns_back = if held < last.quantity {
-        bid.quantity <= last.quantity
+    let goes_on = if held < last.quantity {
+        last.quantity < bid.quantity
     } else {
-        bid.quantity >= last.quantity
+        bid.quantity < last.quantity
     };
-    if turns_back {
+    if !goes_on {
         return Some(BidFault::MixedDirection(place));
     }
     None

@@ -13,12 +13,78 @@ use std::process::Abort;
 use std::test::Fail;
 
 /// One product A of two blocks opening at 100, and the bidders X and Y.
-const ONE_PRODUCT: &[u8] =
-    b"{\"bidders\":[{\"eligibility\":10,\"name\":\"X\",\"token\":\"XXXXXXXXXXXXXXXX\"},{\"eligibility\":10,\"name\":\"Y\",\"token\":\"YYYYYYYYYYYYYYYY\"}],\"operator\":\"OPERATOROPERATOR\",\"products\":[{\"cap\":2,\"name\":\"A\",\"opening\":100,\"supply\":2,\"units\":1}],\"requirement\":95,\"version\":1}";
+const ONE_PRODUCT: &str = r#"{
+    "version": 1, "requirement": 95, "operator": "OPERATOROPERATOR",
+    "products": [{"name": "A", "units": 1, "supply": 2, "cap": 2, "opening": 100}],
+    "bidders": [
+        {"name": "X", "token": "XXXXXXXXXXXXXXXX", "eligibility": 10},
+        {"name": "Y", "token": "YYYYYYYYYYYYYYYY", "eligibility": 10}
+    ]
+}"#;
 
 /// Two products A and B of two blocks opening at 100, and the bidders X, Y and Z.
-const TWO_PRODUCTS: &[u8] =
-    b"{\"bidders\":[{\"eligibility\":2,\"name\":\"X\",\"token\":\"XXXXXXXXXXXXXXXX\"},{\"eligibility\":2,\"name\":\"Y\",\"token\":\"YYYYYYYYYYYYYYYY\"},{\"eligibility\":1,\"name\":\"Z\",\"token\":\"ZZZZZZZZZZZZZZZZ\"}],\"operator\":\"OPERATOROPERATOR\",\"products\":[{\"cap\":2,\"name\":\"A\",\"opening\":100,\"supply\":2,\"units\":1},{\"cap\":2,\"name\":\"B\",\"opening\":100,\"supply\":2,\"units\":1}],\"requirement\":100,\"version\":1}";
+const TWO_PRODUCTS: &str = r#"{
+    "version": 1, "requirement": 100, "operator": "OPERATOROPERATOR",
+    "products": [
+        {"name": "A", "units": 1, "supply": 2, "cap": 2, "opening": 100},
+        {"name": "B", "units": 1, "supply": 2, "cap": 2, "opening": 100}
+    ],
+    "bidders": [
+        {"name": "X", "token": "XXXXXXXXXXXXXXXX", "eligibility": 2},
+        {"name": "Y", "token": "YYYYYYYYYYYYYYYY", "eligibility": 2},
+        {"name": "Z", "token": "ZZZZZZZZZZZZZZZZ", "eligibility": 1}
+    ]
+}"#;
+
+/// Two products A and B of seven blocks each, and an activity limit of 125 percent.
+const ACTIVITY_LIMIT: &str = r#"{
+    "version": 2, "requirement": 100, "limit": 125, "operator": "OPERATOROPERATOR",
+    "products": [
+        {"name": "A", "units": 1, "supply": 7, "cap": 7, "opening": 100, "granule": 1},
+        {"name": "B", "units": 1, "supply": 7, "cap": 7, "opening": 100, "granule": 1}
+    ],
+    "bidders": [
+        {"name": "X", "token": "XXXXXXXXXXXXXXXX", "eligibility": 10},
+        {"name": "Z", "token": "ZZZZZZZZZZZZZZZZ", "eligibility": 10}
+    ]
+}"#;
+
+/// A round of an auction in which each product has the same prices, and what a bidder holds.
+#[derive(Clone, Copy)]
+struct Round<'a> {
+    document: &'a str,
+    start: u64,
+    clock: u64,
+    own: Own<'a>,
+}
+
+/// The first round of an auction, in which nothing is held.
+fn first<'a>(document: &'a str, eligibility: u64, demands: &'a [u64]) -> Round<'a> {
+    Round {
+        document,
+        start: 100,
+        clock: 100,
+        own: Own {
+            round: 1,
+            eligibility,
+            demands,
+        },
+    }
+}
+
+/// The second round, from 100 to 110.
+fn second<'a>(document: &'a str, eligibility: u64, demands: &'a [u64]) -> Round<'a> {
+    Round {
+        document,
+        start: 100,
+        clock: 110,
+        own: Own {
+            round: 2,
+            eligibility,
+            demands,
+        },
+    }
+}
 
 fn bid(product: u64, quantity: u64, price: u64) -> Bid {
     Bid {
@@ -115,6 +181,18 @@ fn judged(
     check_sheet(alloc, setup, prices, own, bids)
 }
 
+/// The first fault of a sheet, or none.
+fn fault_in(
+    rt: &impl Abort,
+    alloc: Global,
+    round: &Round,
+    bids: &[Bid],
+) -> Result<Option<BidFault>, Fail> {
+    let setup = read_setup(alloc, round.document.as_bytes())?;
+    let prices = prices_of(alloc, &setup, round.start, round.clock)?;
+    Ok(judged(rt, alloc, &setup, &prices, round.own, bids).err())
+}
+
 /// The changes that the first bidder asks for by a sheet, or by none.
 fn asked(
     rt: &impl Abort,
@@ -136,209 +214,127 @@ fn asked(
     }
 }
 
-/// A bidder of eligibility 3 in the second round.
-fn second_round<'a>(demands: &'a [u64]) -> Own<'a> {
-    Own {
-        round: 2,
-        eligibility: 3,
-        demands,
-    }
-}
-
-/// A bidder without demands in the first round.
-fn first_round<'a>(eligibility: u64, demands: &'a [u64]) -> Own<'a> {
-    Own {
-        round: 1,
-        eligibility,
-        demands,
-    }
+/// Whether the first bidder asks for these changes by a sheet, or by none.
+fn asks_for(
+    rt: &impl Abort,
+    alloc: Global,
+    round: &Round,
+    bids: Option<&[Bid]>,
+    wanted: &[Change],
+) -> Result<bool, Fail> {
+    let setup = read_setup(alloc, round.document.as_bytes())?;
+    let prices = prices_of(alloc, &setup, round.start, round.clock)?;
+    let changes = asked(rt, alloc, &setup, &prices, round.own, bids)?;
+    Ok(changes.as_slice() == wanted)
 }
 
 #[test]
 fn a_chain_asks_for_a_change_at_each_bid(rt: HostRuntime) -> Result<(), Fail> {
-    let setup = read_setup(rt.alloc(), ONE_PRODUCT)?;
-    let prices = prices_of(rt.alloc(), &setup, 100, 110)?;
     let falling = [bid(0, 1, 103), bid(0, 0, 107)];
-    let changes = asked(
-        &rt,
-        rt.alloc(),
-        &setup,
-        &prices,
-        second_round(&[2]),
-        Some(&falling),
-    )?;
     let reductions = [
         change(0, 0, Kind::Reduction, 1, 103),
         change(0, 1, Kind::Reduction, 1, 107),
     ];
-    assert_eq!(rt; changes.as_slice(), reductions.as_slice());
-
+    let round = second(ONE_PRODUCT, 3, &[2]);
+    assert!(rt; asks_for(&rt, rt.alloc(), &round, Some(&falling), &reductions)?);
     let climbing = [bid(0, 1, 104), bid(0, 2, 110)];
-    let changes = asked(
-        &rt,
-        rt.alloc(),
-        &setup,
-        &prices,
-        second_round(&[0]),
-        Some(&climbing),
-    )?;
     let increases = [
         change(0, 0, Kind::Increase, 1, 104),
         change(0, 1, Kind::Increase, 1, 110),
     ];
-    assert_eq!(rt; changes.as_slice(), increases.as_slice());
-    Ok(())
-}
-
-#[test]
-fn a_kept_demand_asks_for_no_change(rt: HostRuntime) -> Result<(), Fail> {
-    let setup = read_setup(rt.alloc(), ONE_PRODUCT)?;
-    let prices = prices_of(rt.alloc(), &setup, 100, 110)?;
-    let kept = [bid(0, 2, 110)];
-    let changes = asked(
-        &rt,
-        rt.alloc(),
-        &setup,
-        &prices,
-        second_round(&[2]),
-        Some(&kept),
-    )?;
-    assert_eq!(rt; changes.as_slice().len(), 0);
+    let round = second(ONE_PRODUCT, 3, &[0]);
+    assert!(rt; asks_for(&rt, rt.alloc(), &round, Some(&climbing), &increases)?);
     Ok(())
 }
 
 #[test]
 fn a_missing_bid_gives_up_the_demand_at_the_start_price(rt: HostRuntime) -> Result<(), Fail> {
-    let setup = read_setup(rt.alloc(), ONE_PRODUCT)?;
-    let prices = prices_of(rt.alloc(), &setup, 100, 110)?;
+    let round = second(ONE_PRODUCT, 3, &[2]);
     let given_up = [change(0, 0, Kind::Reduction, 2, 100)];
-    let no_bids: [Bid; 0] = [];
-    let changes = asked(
-        &rt,
-        rt.alloc(),
-        &setup,
-        &prices,
-        second_round(&[2]),
-        Some(&no_bids),
-    )?;
-    assert_eq!(rt; changes.as_slice(), given_up.as_slice());
-    let changes = asked(&rt, rt.alloc(), &setup, &prices, second_round(&[2]), None)?;
-    assert_eq!(rt; changes.as_slice(), given_up.as_slice());
+    assert!(rt; asks_for(&rt, rt.alloc(), &round, Some(&[]), &given_up)?);
+    assert!(rt; asks_for(&rt, rt.alloc(), &round, None, &given_up)?);
+    assert!(rt; asks_for(&rt, rt.alloc(), &round, Some(&[bid(0, 2, 110)]), &[])?);
     Ok(())
 }
 
 #[test]
 fn chains_of_two_products_may_be_interleaved(rt: HostRuntime) -> Result<(), Fail> {
-    let setup = read_setup(rt.alloc(), TWO_PRODUCTS)?;
-    let prices = prices_of(rt.alloc(), &setup, 100, 110)?;
+    let round = second(TWO_PRODUCTS, 3, &[0, 2]);
     let bids = [bid(1, 1, 106), bid(0, 1, 104), bid(1, 0, 108)];
-    let changes = asked(
-        &rt,
-        rt.alloc(),
-        &setup,
-        &prices,
-        second_round(&[0, 2]),
-        Some(&bids),
-    )?;
     let by_product = [
         change(0, 0, Kind::Increase, 1, 104),
         change(1, 0, Kind::Reduction, 1, 106),
         change(1, 1, Kind::Reduction, 1, 108),
     ];
-    assert_eq!(rt; changes.as_slice(), by_product.as_slice());
+    assert!(rt; asks_for(&rt, rt.alloc(), &round, Some(&bids), &by_product)?);
     Ok(())
 }
 
 #[test]
-fn a_later_sheet_has_its_first_fault(rt: HostRuntime) -> Result<(), Fail> {
-    let setup = read_setup(rt.alloc(), ONE_PRODUCT)?;
-    let prices = prices_of(rt.alloc(), &setup, 100, 110)?;
-    let held = [2];
-    let own = second_round(&held);
-    let turning = [bid(0, 1, 103), bid(0, 2, 105)];
-    let below_clock = [bid(0, 2, 105)];
-    let level = [bid(0, 1, 103), bid(0, 0, 103)];
-    let sheet = judged(&rt, rt.alloc(), &setup, &prices, own, &turning);
-    assert_eq!(rt; sheet.err(), Some(BidFault::MixedDirection(1)));
-    let sheet = judged(&rt, rt.alloc(), &setup, &prices, own, &below_clock);
-    assert_eq!(rt; sheet.err(), Some(BidFault::KeepPrice(0)));
-    let sheet = judged(&rt, rt.alloc(), &setup, &prices, own, &level);
-    assert_eq!(rt; sheet.err(), Some(BidFault::PriceOrder(1)));
-    Ok(())
-}
-
-#[test]
-fn a_first_sheet_has_its_first_fault(rt: HostRuntime) -> Result<(), Fail> {
-    let setup = read_setup(rt.alloc(), ONE_PRODUCT)?;
-    let prices = prices_of(rt.alloc(), &setup, 100, 100)?;
-    let none_held = [0];
-    let own = first_round(10, &none_held);
-    let cases = [
-        (bid(1, 1, 100), BidFault::UnknownProduct(0)),
-        (bid(0, 1, 101), BidFault::PriceRange(0)),
-        (bid(0, 3, 100), BidFault::OverCap(0)),
-    ];
-    for (one, fault) in cases {
-        let sheet = judged(&rt, rt.alloc(), &setup, &prices, own, &[one]);
-        assert_eq!(rt; sheet.err(), Some(fault));
-    }
-    let two = [bid(0, 1, 100), bid(0, 2, 100)];
-    let sheet = judged(&rt, rt.alloc(), &setup, &prices, own, &two);
-    assert_eq!(rt; sheet.err(), Some(BidFault::PriceOrder(1)));
-    let many = vec![in rt.alloc(); bid(0, 1, 100); 8193]?;
-    let sheet = judged(&rt, rt.alloc(), &setup, &prices, own, &many);
-    assert_eq!(rt; sheet.err(), Some(BidFault::TooMany));
-    Ok(())
-}
-
-#[test]
-fn a_block_of_each_product_is_more_than_an_eligibility_of_one(rt: HostRuntime) -> Result<(), Fail> {
-    let setup = read_setup(rt.alloc(), TWO_PRODUCTS)?;
-    let prices = prices_of(rt.alloc(), &setup, 100, 100)?;
-    let none_held = [0, 0];
+fn a_sheet_is_refused_for_its_first_fault(rt: HostRuntime) -> Result<(), Fail> {
+    let alloc = rt.alloc();
+    let later = second(ONE_PRODUCT, 3, &[2]);
+    let opening = first(ONE_PRODUCT, 10, &[0]);
     let both = [bid(0, 1, 100), bid(1, 1, 100)];
-    let sheet = judged(
-        &rt,
-        rt.alloc(),
-        &setup,
-        &prices,
-        first_round(1, &none_held),
-        &both,
-    );
-    assert_eq!(rt; sheet.err(), Some(BidFault::OverActivity));
-    let sheet = judged(
-        &rt,
-        rt.alloc(),
-        &setup,
-        &prices,
-        first_round(2, &none_held),
-        &both,
-    )?;
-    assert_eq!(rt; sheet.bids(), both.as_slice());
+    let narrow = first(TWO_PRODUCTS, 1, &[0, 0]);
+    let many = vec![in alloc; bid(0, 1, 100); 8193]?;
+    let sheets: [(Round, &[Bid], BidFault); 9] = [
+        (
+            later,
+            &[bid(0, 1, 103), bid(0, 2, 105)],
+            BidFault::MixedDirection(1),
+        ),
+        (later, &[bid(0, 2, 105)], BidFault::KeepPrice(0)),
+        (
+            later,
+            &[bid(0, 1, 103), bid(0, 0, 103)],
+            BidFault::PriceOrder(1),
+        ),
+        (opening, &[bid(1, 1, 100)], BidFault::UnknownProduct(0)),
+        (opening, &[bid(0, 1, 101)], BidFault::PriceRange(0)),
+        (opening, &[bid(0, 3, 100)], BidFault::OverCap(0)),
+        (
+            opening,
+            &[bid(0, 1, 100), bid(0, 2, 100)],
+            BidFault::PriceOrder(1),
+        ),
+        (opening, many.as_slice(), BidFault::TooMany),
+        (narrow, &both, BidFault::OverActivity),
+    ];
+    for (round, bids, fault) in sheets {
+        assert_eq!(rt; fault_in(&rt, alloc, &round, bids)?, Some(fault));
+    }
     Ok(())
 }
 
 #[test]
-fn no_block_at_the_opening_price_is_a_good_bid(rt: HostRuntime) -> Result<(), Fail> {
-    let setup = read_setup(rt.alloc(), ONE_PRODUCT)?;
-    let prices = prices_of(rt.alloc(), &setup, 100, 100)?;
-    let none_held = [0];
-    let none = [bid(0, 0, 100)];
-    let sheet = judged(
-        &rt,
-        rt.alloc(),
-        &setup,
-        &prices,
-        first_round(10, &none_held),
-        &none,
-    )?;
-    assert_eq!(rt; sheet.bids(), none.as_slice());
+fn a_sheet_within_the_limits_is_accepted(rt: HostRuntime) -> Result<(), Fail> {
+    let alloc = rt.alloc();
+    let wide = first(TWO_PRODUCTS, 2, &[0, 0]);
+    let both = [bid(0, 1, 100), bid(1, 1, 100)];
+    assert_eq!(rt; fault_in(&rt, alloc, &wide, &both)?, None);
+    let opening = first(ONE_PRODUCT, 10, &[0]);
+    assert_eq!(rt; fault_in(&rt, alloc, &opening, &[bid(0, 0, 100)])?, None);
+    Ok(())
+}
+
+#[test]
+fn a_later_sheet_may_ask_for_activity_up_to_the_limit(rt: HostRuntime) -> Result<(), Fail> {
+    let alloc = rt.alloc();
+    let round = second(ACTIVITY_LIMIT, 10, &[7, 3]);
+    let twelve = [bid(0, 7, 110), bid(1, 5, 110)];
+    assert_eq!(rt; fault_in(&rt, alloc, &round, &twelve)?, None);
+    let thirteen = [bid(0, 7, 110), bid(1, 6, 110)];
+    assert_eq!(rt;
+        fault_in(&rt, alloc, &round, &thirteen)?,
+        Some(BidFault::OverActivity)
+    );
     Ok(())
 }
 
 #[test]
 fn the_last_quantity_is_the_demand_asked_for(rt: HostRuntime) -> Result<(), Fail> {
-    let setup = read_setup(rt.alloc(), TWO_PRODUCTS)?;
+    let setup = read_setup(rt.alloc(), TWO_PRODUCTS.as_bytes())?;
     let bids = [bid(1, 1, 104), bid(1, 2, 110)];
     assert!(rt; are_known(&setup, &bids));
     let demands = asked_demands(rt.alloc(), &setup, &bids)?;

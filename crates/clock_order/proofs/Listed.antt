@@ -26,10 +26,12 @@ found true false number tie rest others e f g = let bad : false ≡ true = e in 
 found false true number tie rest others e f g = let bad : true ≡ false = e in cc
 
 -- what the map has at a pair, or 0, is its tie number
-pub tie_number-entries : (bidder product : ℕ) (entries : List ((ℕ × ℕ) × ℕ)) → unwrap_or (lookup (is_key bidder product) entries) 0 ≡ tie_number (map tie_of entries) bidder product
+pub tie_number-entries : (bidder product : ℕ) (entries : List ((ℕ × ℕ) × ℕ)) →
+    unwrap_or (lookup (is_key bidder product) entries) 0 ≡ tie_number (map tie_of entries) bidder product
 tie_number-entries bidder product [] = refl
 tie_number-entries bidder product (entry ∷ entries) =
-    found (is_key bidder product entry.0) (is_tie_of bidder product (tie_of entry)) entry.1 (tie_of entry) (lookup (is_key bidder product) entries) (find (is_tie_of bidder product) (map tie_of entries))
+    found (is_key bidder product entry.0) (is_tie_of bidder product (tie_of entry)) entry.1 (tie_of entry) (lookup (is_key bidder product) entries)
+    (find (is_tie_of bidder product) (map tie_of entries))
     (is_tie_of-tie_of bidder product entry) refl (tie_number-entries bidder product entries)
 
 present : (test other : Bool) (number : ℕ) (rest : Option ℕ) (others : Bool) → other ≡ test → is_some rest ≡ others
@@ -40,8 +42,10 @@ present true false number rest others e f = let bad : false ≡ true = e in cc
 present false true number rest others e f = let bad : true ≡ false = e in cc
 
 -- the map has a pair exactly where it is listed
-pub list_any-entries : (bidder product : ℕ) (entries : List ((ℕ × ℕ) × ℕ)) → is_some (lookup (is_key bidder product) entries) ≡ list_any (is_tie_of bidder product) (map tie_of entries)
+pub list_any-entries : (bidder product : ℕ) (entries : List ((ℕ × ℕ) × ℕ)) →
+    is_some (lookup (is_key bidder product) entries) ≡ list_any (is_tie_of bidder product) (map tie_of entries)
 list_any-entries bidder product [] = refl
 list_any-entries bidder product (entry ∷ entries) =
-    present (is_key bidder product entry.0) (is_tie_of bidder product (tie_of entry)) entry.1 (lookup (is_key bidder product) entries) (list_any (is_tie_of bidder product) (map tie_of entries))
+    present (is_key bidder product entry.0) (is_tie_of bidder product (tie_of entry)) entry.1 (lookup (is_key bidder product) entries)
+    (list_any (is_tie_of bidder product) (map tie_of entries))
     (is_tie_of-tie_of bidder product entry) (list_any-entries bidder product entries)

@@ -1,14 +1,15 @@
 -- One entry after another of a list of tie numbers is looked at, and put into a map.
-use Rattle.std.proofs.Common.{◌≡◌, ℕ, ◌+◌, ◌<◌, ◌≤◌, List, [], ◌∷◌, ◌++◌, Bool, true, false, map, take, length, Option, Some, None, is_some, if◌then◌else◌, refl, sym, ap, ◌∙◌, arith, below_more}
+use Rattle.std.proofs.Common.{◌≡◌, ℕ, ◌+◌, ◌<◌, List, [], ◌∷◌, ◌++◌, Bool, true, false, ◌&&◌, not, map, take, drop, length, Option, Some, None, is_some, if◌then◌else◌, refl, sym, ap, ◌∙◌}
 use Rattle.std.specs.List.{slice_index_or, list_any}
 use Rattle.std.specs.Map.{lookup}
-use Rattle.std.proofs.lemmas.List.{take_more, map-append}
+use Rattle.std.proofs.lemmas.List.{take_more, map-append, get_or_default}
+use Rattle.clock_setup.specs.Faults.{first_fault, in_turn}
+use Rattle.clock_setup.proofs.FaultLaws.{turn_passed, turn_failed}
 use Rattle.clock_order.specs.declared.ties.Tie.{Tie}
 use Rattle.clock_order.specs.declared.ties.TieFault.{TieFault}
 use Rattle.clock_order.specs.declared.ties.TieFault.TheVariants.{Range, Repeated}
 use Rattle.clock_order.specs.Entries.{tie_of}
-use Rattle.clock_order.specs.Ties.{is_tie_of, is_out_of_range, tie_fault_at, first_tie_fault}
-use Rattle.clock_order.proofs.FirstFault.{none_from, first_at}
+use Rattle.clock_order.specs.Ties.{is_tie_of, is_in_range, is_new, tie_checks, checks_of_ties}
 use Rattle.clock_order.proofs.Listed.{is_key, list_any-entries}
 
 -- the entry at place i
@@ -24,49 +25,59 @@ listed_more ties i entries lt same =
     ∙ sym (take_more ties i (record { bidder = 0; product = 0; number = 0 }) lt)
 
 module _ (bidders products : ℕ) (ties : List Tie) where
-  -- the entries before place i have no fault
-  abbrev pub AreGood : ℕ → Type 0
-  AreGood i = (k : ℕ) → k < i → tie_fault_at bidders products ties k ≡ None
+  -- the entries from place i on have the first fault of the list
+  abbrev pub AreAhead : ℕ → Type 0
+  AreAhead i = first_fault (in_turn (λ i tie. tie_checks bidders products (take i ties) i tie) i (drop i ties)) ≡ first_fault
+      (checks_of_ties bidders products ties)
 
-  pub all_good : (i : ℕ) → length ties ≤ i → AreGood i → first_tie_fault bidders products ties ≡ None
-  all_good i all good =
-      none_from (tie_fault_at bidders products ties) 0 (length ties) (λ k low high. good k (omega (arith, all, high)))
-
-  first_fault_at : (i : ℕ) (fault : TieFault) → i < length ties → AreGood i → tie_fault_at bidders products ties i ≡ Some fault → first_tie_fault bidders products ties ≡ Some fault
-  first_fault_at i fault lt good at =
-      first_at (tie_fault_at bidders products ties) 0 (length ties) i fault (omega arith) (omega (arith, lt)) (λ k low high. good k high) at
-
-  -- the entry at place i is the first with a fault: it is out of range
-  pub range_first : (i : ℕ) → i < length ties → AreGood i → true ≡ is_out_of_range bidders products (tie_at ties i) → first_tie_fault bidders products ties ≡ Some (Range i)
-  range_first i lt good out =
-      first_fault_at i (Range i) lt good
-      (ap (λ b. if b then Some (Range i) else (if list_any (is_tie_of (tie_at ties i).bidder (tie_at ties i).product) (take i ties) then Some (Repeated i) else None)) (sym out))
-
-  -- what the entry at place i comes to, where it is in range
-  in_range_at : (i : ℕ) (b : Bool) → false ≡ is_out_of_range bidders products (tie_at ties i) → b ≡ list_any (is_tie_of (tie_at ties i).bidder (tie_at ties i).product) (take i ties)
-      → tie_fault_at bidders products ties i ≡ (if b then Some (Repeated i) else None)
-  in_range_at i b within listed =
-      ap (λ c. if c then Some (Range i) else (if list_any (is_tie_of (tie_at ties i).bidder (tie_at ties i).product) (take i ties) then Some (Repeated i) else None)) (sym within)
-      ∙ ap (λ c. if c then Some (Repeated i) else None) (sym listed)
+  abbrev earlier_fault : ℕ → Bool → Bool → Option TieFault
+  earlier_fault i within fresh = if within then (if fresh then None else Some (Repeated i)) else Some (Range i)
 
   -- the map has the pair of the entry at place i exactly where it stands earlier
-  held : (i : ℕ) (entries : List ((ℕ × ℕ) × ℕ)) → map tie_of entries ≡ take i ties
-      → is_some (lookup (is_key (tie_at ties i).bidder (tie_at ties i).product) entries) ≡ list_any (is_tie_of (tie_at ties i).bidder (tie_at ties i).product) (take i ties)
-  held i entries same =
+  pair_listed : (i : ℕ) (entries : List ((ℕ × ℕ) × ℕ)) → map tie_of entries ≡ take i ties
+      → is_some (lookup (is_key (tie_at ties i).bidder (tie_at ties i).product) entries)
+      ≡ list_any (is_tie_of (tie_at ties i).bidder (tie_at ties i).product) (take i ties)
+  pair_listed i entries same =
       list_any-entries (tie_at ties i).bidder (tie_at ties i).product entries
       ∙ ap (list_any (is_tie_of (tie_at ties i).bidder (tie_at ties i).product)) same
 
+  fails : (i : ℕ) (fault : TieFault) → i < length ties → AreAhead i → first_fault (tie_checks bidders products (take i ties) i (tie_at ties i)) ≡ Some fault
+      → first_fault (checks_of_ties bidders products ties) ≡ Some fault
+  fails i fault within ahead is =
+      sym ahead
+      ∙ turn_failed (λ i tie. tie_checks bidders products (take i ties) i tie) ties i (tie_at ties i) fault within
+      (get_or_default ties i (record { bidder = 0; product = 0; number = 0 }) (tie_at ties i) within) is
+
+  -- the entry at place i is the first with a fault: it is out of range
+  pub range_first : (i : ℕ) → i < length ties → AreAhead i → false ≡ is_in_range bidders products (tie_at ties i)
+      → first_fault (checks_of_ties bidders products ties) ≡ Some (Range i)
+  range_first i within ahead out =
+      fails i (Range i) within ahead (ap (λ b. earlier_fault i b (is_new (take i ties) (tie_at ties i))) (sym out))
+
+  -- what the entry at place i comes to, where it is in range
+  in_range_at : (i : ℕ) (entries : List ((ℕ × ℕ) × ℕ)) (old : Option ℕ) → map tie_of entries ≡ take i ties → true ≡ is_in_range bidders products (tie_at ties i)
+      → old ≡ lookup (is_key (tie_at ties i).bidder (tie_at ties i).product) entries
+      → first_fault (tie_checks bidders products (take i ties) i (tie_at ties i)) ≡ earlier_fault i true (not (is_some old))
+  in_range_at i entries old same range was =
+      ap (λ b. earlier_fault i b (is_new (take i ties) (tie_at ties i))) (sym range)
+      ∙ ap (λ b. earlier_fault i true (not b)) (sym (ap is_some was ∙ pair_listed i entries same))
+
   -- the entry at place i is the first with a fault: its pair stands earlier
-  pub repeated_first : (i : ℕ) (entries : List ((ℕ × ℕ) × ℕ)) (old : Option ℕ) → i < length ties → AreGood i → map tie_of entries ≡ take i ties → false ≡ is_out_of_range bidders products (tie_at ties i)
-      → old ≡ lookup (is_key (tie_at ties i).bidder (tie_at ties i).product) entries → true ≡ is_some old → first_tie_fault bidders products ties ≡ Some (Repeated i)
-  repeated_first i entries old lt good same within was some =
-      first_fault_at i (Repeated i) lt good (in_range_at i true within (some ∙ ap is_some was ∙ held i entries same))
+  pub repeated_first : (i : ℕ) (entries : List ((ℕ × ℕ) × ℕ)) (old : Option ℕ) → i < length ties → AreAhead i → map tie_of entries ≡ take i ties
+      → true ≡ is_in_range bidders products (tie_at ties i) → old ≡ lookup (is_key (tie_at ties i).bidder (tie_at ties i).product) entries → true ≡ is_some old
+      → first_fault (checks_of_ties bidders products ties) ≡ Some (Repeated i)
+  repeated_first i entries old within ahead same range was some =
+      fails i (Repeated i) within ahead (in_range_at i entries old same range was ∙ ap (λ b. earlier_fault i true (not b)) (sym some))
 
   -- the entry at place i has no fault
-  pub good_more : (i : ℕ) (entries : List ((ℕ × ℕ) × ℕ)) (old : Option ℕ) → AreGood i → map tie_of entries ≡ take i ties → false ≡ is_out_of_range bidders products (tie_at ties i)
-      → old ≡ lookup (is_key (tie_at ties i).bidder (tie_at ties i).product) entries → false ≡ is_some old → AreGood (i + 1)
-  good_more i entries old good same within was none =
-      below_more (λ k. tie_fault_at bidders products ties k ≡ None) i good (in_range_at i false within (none ∙ ap is_some was ∙ held i entries same))
+  pub ahead_more : (i : ℕ) (entries : List ((ℕ × ℕ) × ℕ)) (old : Option ℕ) → i < length ties → AreAhead i → map tie_of entries ≡ take i ties
+      → true ≡ is_in_range bidders products (tie_at ties i) → old ≡ lookup (is_key (tie_at ties i).bidder (tie_at ties i).product) entries → false ≡ is_some old
+      → AreAhead (i + 1)
+  ahead_more i entries old within ahead same range was none =
+      sym (turn_passed (λ i tie. tie_checks bidders products (take i ties) i tie) ties i (tie_at ties i) within
+      (get_or_default ties i (record { bidder = 0; product = 0; number = 0 }) (tie_at ties i) within)
+      (in_range_at i entries old same range was ∙ ap (λ b. earlier_fault i true (not b)) (sym none)))
+      ∙ ahead
 
 -- an option that is not there is none
 pub none_from_test : {A : Type 0} (o : Option A) → false ≡ is_some o → o ≡ None

@@ -1,21 +1,57 @@
-ghost use Rattle.std.specs.Prelude.{◌≡◌, ◌≢◌};
+//! Ties and the order of processing in two small auctions.
 
-use crate::{OrderKey, Tie, TieFault, Ties, ordered};
+ghost use Rattle.std.specs.Prelude.{◌≡◌, ◌≢◌, AllPairs, IfOk};
+ghost use Rattle.clock_bids.specs.Requests.{AreApart};
+
+use crate::{Tie, TieFault, Ties, ordered};
 use clock_bids::{Change, Changes, Kind};
 use clock_device::NoMemory;
 use clock_money::Point;
-use clock_setup::{Setup, read_setup};
+use clock_setup::read_setup;
 use std::alloc::Global;
-use std::cmp::Ordering;
 use std::test::Fail;
 
-/// One product A of two blocks opening at 100, and the bidders X and Y.
-const ONE_PRODUCT: &[u8] =
-    b"{\"bidders\":[{\"eligibility\":10,\"name\":\"X\",\"token\":\"XXXXXXXXXXXXXXXX\"},{\"eligibility\":10,\"name\":\"Y\",\"token\":\"YYYYYYYYYYYYYYYY\"}],\"operator\":\"OPERATOROPERATOR\",\"products\":[{\"cap\":2,\"name\":\"A\",\"opening\":100,\"supply\":2,\"units\":1}],\"requirement\":95,\"version\":1}";
+/// One product A of two blocks, and the bidders X and Y.
+const ONE_PRODUCT: &str = r#"{
+    "version": 1, "requirement": 95, "operator": "OPERATOROPERATOR",
+    "products": [{"name": "A", "units": 1, "supply": 2, "cap": 2, "opening": 100}],
+    "bidders": [
+        {"name": "X", "token": "XXXXXXXXXXXXXXXX", "eligibility": 10},
+        {"name": "Y", "token": "YYYYYYYYYYYYYYYY", "eligibility": 10}
+    ]
+}"#;
 
-/// Two products A and B of two blocks opening at 100, and the bidders X, Y and Z.
-const TWO_PRODUCTS: &[u8] =
-    b"{\"bidders\":[{\"eligibility\":2,\"name\":\"X\",\"token\":\"XXXXXXXXXXXXXXXX\"},{\"eligibility\":2,\"name\":\"Y\",\"token\":\"YYYYYYYYYYYYYYYY\"},{\"eligibility\":1,\"name\":\"Z\",\"token\":\"ZZZZZZZZZZZZZZZZ\"}],\"operator\":\"OPERATOROPERATOR\",\"products\":[{\"cap\":2,\"name\":\"A\",\"opening\":100,\"supply\":2,\"units\":1},{\"cap\":2,\"name\":\"B\",\"opening\":100,\"supply\":2,\"units\":1}],\"requirement\":100,\"version\":1}";
+/// Two products A and B of two blocks each, and the bidders X, Y and Z.
+const TWO_PRODUCTS: &str = r#"{
+    "version": 1, "requirement": 100, "operator": "OPERATOROPERATOR",
+    "products": [
+        {"name": "A", "units": 1, "supply": 2, "cap": 2, "opening": 100},
+        {"name": "B", "units": 1, "supply": 2, "cap": 2, "opening": 100}
+    ],
+    "bidders": [
+        {"name": "X", "token": "XXXXXXXXXXXXXXXX", "eligibility": 2},
+        {"name": "Y", "token": "YYYYYYYYYYYYYYYY", "eligibility": 2},
+        {"name": "Z", "token": "ZZZZZZZZZZZZZZZZ", "eligibility": 1}
+    ]
+}"#;
+
+/// A step of demand for a product, at a price between a start price and a clock price.
+#[derive(Clone, Copy)]
+struct Step {
+    product: u32,
+    start: u64,
+    price: u64,
+    clock: u64,
+}
+
+fn reduction(product: u32, start: u64, price: u64, clock: u64) -> Step {
+    Step {
+        product,
+        start,
+        price,
+        clock,
+    }
+}
 
 fn tie(bidder: u64, product: u64, number: u64) -> Tie {
     Tie {
@@ -25,154 +61,103 @@ fn tie(bidder: u64, product: u64, number: u64) -> Tie {
     }
 }
 
-/// The fault of a list of tie numbers, or none.
-fn fault_of(alloc: Global, setup: &Setup, ties: &[Tie]) -> Option<TieFault> {
-    Ties::new(alloc, setup, ties).err()
+/// The change that a bidder's reduction by a block asks for.
+fn change(bidder: u32, step: &Step) -> Result<Change, Fail>
+    ensures { IfOk result (λ change. change.bidder ≡ bidder) }
+{
+    let point = Point::of(step.start, step.price, step.clock).ok_or("price")?;
+    Ok(Change {
+        bidder,
+        product: step.product,
+        place: 0,
+        kind: Kind::Reduction,
+        amount: 1,
+        price: step.price,
+        point,
+    })
 }
 
-/// The bidders of two changes, in the order of processing.
-fn bidders_in_order(
-    alloc: Global,
-    first: &Change,
-    second: &Change,
-    ties: &Ties,
-) -> Result<Vec<u32>, NoMemory>
+/// The changes of two bidders.
+fn both(alloc: Global, first: &Change, second: &Change) -> Result<Changes, NoMemory>
     requires { first.now.bidder ≢ second.now.bidder }
+    ensures { IfOk result (AllPairs AreApart) }
 {
     let mut changes = Changes::new(alloc);
     changes.push(*first)?;
     changes.push(*second)?;
+    Ok(changes)
+}
+
+/// The tie numbers of a list, in the auction of a set-up document.
+fn ties_of(alloc: Global, document: &str, ties: &[Tie]) -> Result<Ties, Fail> {
+    let setup = read_setup(alloc, document.as_bytes())?;
+    Ok(Ties::new(alloc, &setup, ties)?)
+}
+
+/// The bidder of the first of some changes.
+fn first_bidder(changes: &[Change]) -> Option<u32> {
+    changes.first().map(|change| change.bidder)
+}
+
+/// Which of two reductions, of bidder 0 and bidder 1, is processed first.
+fn first_of(alloc: Global, ties: &Ties, x: &Step, y: &Step) -> Result<Option<u32>, Fail> {
+    let changes = both(alloc, &change(0, x)?, &change(1, y)?)?;
     let list = ordered(alloc, &changes, ties)?;
-    let mut bidders = Vec::new(alloc);
-    for change in list.as_slice() {
-        bidders.push(change.bidder)?;
-    }
-    Ok(bidders)
+    Ok(first_bidder(list.as_slice()))
 }
 
-/// A bidder's reduction by a block of a product.
-fn reduction(bidder: u32, product: u32, point: Point) -> Change
-    ensures { result.bidder ≡ bidder }
-{
-    Change {
-        bidder,
-        product,
-        place: 0,
-        kind: Kind::Reduction,
-        amount: 1,
-        price: 0,
-        point,
-    }
+/// The same, with the tie numbers of a list.
+fn first_in(
+    alloc: Global,
+    document: &str,
+    ties: &[Tie],
+    x: &Step,
+    y: &Step,
+) -> Result<Option<u32>, Fail> {
+    let ties = ties_of(alloc, document, ties)?;
+    first_of(alloc, &ties, x, y)
 }
 
-#[test]
-fn equal_points_over_different_spans_go_by_tie_number(rt: HostRuntime) -> Result<(), Fail> {
-    let setup = read_setup(rt.alloc(), TWO_PRODUCTS)?;
-    let tenths = Point::of(100, 105, 110).ok_or("105")?;
-    let hundredths = Point::of(1000, 1050, 1100).ok_or("1050")?;
-    let ties = Ties::new(rt.alloc(), &setup, &[tie(0, 0, 2), tie(1, 1, 1)])?;
-    let (first, second) = (reduction(0, 0, tenths), reduction(1, 1, hundredths));
-    let tied = bidders_in_order(rt.alloc(), &first, &second, &ties)?;
-    assert_eq!(rt; tied.as_slice(), [1, 0].as_slice());
-    let none = Ties::new(rt.alloc(), &setup, &[])?;
-    let untied = bidders_in_order(rt.alloc(), &first, &second, &none)?;
-    assert_eq!(rt; untied.as_slice(), [0, 1].as_slice());
-    Ok(())
+/// The fault of a list of tie numbers, or none.
+fn fault_of(alloc: Global, document: &str, ties: &[Tie]) -> Result<Option<TieFault>, Fail> {
+    let setup = read_setup(alloc, document.as_bytes())?;
+    Ok(Ties::new(alloc, &setup, ties).err())
 }
 
 #[test]
-fn equal_points_of_one_product_go_by_tie_number(rt: HostRuntime) -> Result<(), Fail> {
-    let setup = read_setup(rt.alloc(), ONE_PRODUCT)?;
-    let point = Point::of(100, 104, 110).ok_or("104")?;
-    let ties = Ties::new(rt.alloc(), &setup, &[tie(0, 0, 9), tie(1, 0, 3)])?;
-    let (first, second) = (reduction(0, 0, point), reduction(1, 0, point));
-    let tied = bidders_in_order(rt.alloc(), &first, &second, &ties)?;
-    assert_eq!(rt; tied.as_slice(), [1, 0].as_slice());
-    let none = Ties::new(rt.alloc(), &setup, &[])?;
-    let untied = bidders_in_order(rt.alloc(), &first, &second, &none)?;
-    assert_eq!(rt; untied.as_slice(), [0, 1].as_slice());
-    Ok(())
-}
-
-#[test]
-fn a_lower_point_comes_first_whatever_the_ties(rt: HostRuntime) -> Result<(), Fail> {
-    let setup = read_setup(rt.alloc(), ONE_PRODUCT)?;
-    let ties = Ties::new(rt.alloc(), &setup, &[tie(1, 0, 3)])?;
-    let lower = Point::of(100, 104, 110).ok_or("104")?;
-    let higher = Point::of(100, 105, 110).ok_or("105")?;
-    let (first, second) = (reduction(0, 0, higher), reduction(1, 0, lower));
-    let bidders = bidders_in_order(rt.alloc(), &first, &second, &ties)?;
-    assert_eq!(rt; bidders.as_slice(), [1, 0].as_slice());
-    Ok(())
-}
-
-#[test]
-fn no_changes_are_ordered_as_none(rt: HostRuntime) -> Result<(), Fail> {
-    let setup = read_setup(rt.alloc(), ONE_PRODUCT)?;
-    let ties = Ties::new(rt.alloc(), &setup, &[])?;
-    let list = ordered(rt.alloc(), &Changes::new(rt.alloc()), &ties)?;
-    assert_eq!(rt; list.as_slice().len(), 0);
-    Ok(())
-}
-
-#[test]
-fn a_tie_number_that_is_not_listed_is_none(rt: HostRuntime) -> Result<(), Fail> {
-    let setup = read_setup(rt.alloc(), ONE_PRODUCT)?;
-    let ties = Ties::new(rt.alloc(), &setup, &[tie(1, 0, 3)])?;
-    assert_eq!(rt; ties.number(1, 0), 3);
-    assert_eq!(rt; ties.number(0, 0), 0);
+fn changes_go_by_point_and_then_by_tie_number_and_bidder(rt: HostRuntime) -> Result<(), Fail> {
+    let alloc = rt.alloc();
+    let (x, y) = (reduction(0, 100, 105, 110), reduction(1, 1000, 1050, 1100));
+    let numbered = [tie(0, 0, 2), tie(1, 1, 1)];
+    assert_eq!(rt; first_in(alloc, TWO_PRODUCTS, &numbered, &x, &y)?, Some(1));
+    assert_eq!(rt; first_in(alloc, TWO_PRODUCTS, &[], &x, &y)?, Some(0));
+    let same = reduction(0, 100, 104, 110);
+    let numbered = [tie(0, 0, 9), tie(1, 0, 3)];
+    assert_eq!(rt;
+        first_in(alloc, ONE_PRODUCT, &numbered, &same, &same)?,
+        Some(1)
+    );
+    assert_eq!(rt; first_in(alloc, ONE_PRODUCT, &[], &same, &same)?, Some(0));
     Ok(())
 }
 
 #[test]
 fn a_tie_list_is_refused_for_its_first_fault(rt: HostRuntime) -> Result<(), Fail> {
-    let setup = read_setup(rt.alloc(), ONE_PRODUCT)?;
     let alloc = rt.alloc();
+    let unknown = [tie(0, 1, 5)];
     assert_eq!(rt;
-        fault_of(alloc, &setup, &[tie(0, 1, 5)]),
+        fault_of(alloc, ONE_PRODUCT, &unknown)?,
         Some(TieFault::Range(0))
     );
     let repeated = [tie(0, 0, 1), tie(0, 0, 2)];
     assert_eq!(rt;
-        fault_of(alloc, &setup, &repeated),
+        fault_of(alloc, ONE_PRODUCT, &repeated)?,
         Some(TieFault::Repeated(1))
     );
-    let too_many = vec![in alloc; tie(0, 1, 5); 16_385]?;
-    assert_eq!(rt; fault_of(alloc, &setup, &too_many), Some(TieFault::TooMany));
-    Ok(())
-}
-
-/// The key of a first bid for product A.
-fn key(point: Point, tie: u64, bidder: u32) -> OrderKey {
-    // A point that is read is known to have a denominator, as a key asks.
-    let _span = point.span;
-    OrderKey {
-        point,
-        tie,
-        bidder,
-        product: 0,
-        place: 0,
-    }
-}
-
-#[test]
-fn keys_compare_points_as_values(rt: HostRuntime) -> Result<(), Fail> {
-    let tenths = Point::of(100, 105, 110).ok_or("105")?;
-    let hundredths = Point::of(1000, 1050, 1100).ok_or("1050")?;
-    let later = Point::of(100, 106, 110).ok_or("106")?;
+    let many = vec![in alloc; tie(0, 1, 5); 16_385]?;
     assert_eq!(rt;
-        key(hundredths, 1, 1).cmp(&key(tenths, 2, 0)),
-        Ordering::Less
+        fault_of(alloc, ONE_PRODUCT, many.as_slice())?,
+        Some(TieFault::TooMany)
     );
-    assert_eq!(rt;
-        key(tenths, 0, 1).cmp(&key(hundredths, 0, 0)),
-        Ordering::Greater
-    );
-    assert_eq!(rt;
-        key(later, 0, 0).partial_cmp(&key(tenths, 9, 9)),
-        Some(Ordering::Greater)
-    );
-    assert!(rt; key(tenths, 0, 0) == key(tenths, 0, 0));
-    assert!(rt; key(tenths, 0, 0) != key(hundredths, 0, 0));
     Ok(())
 }

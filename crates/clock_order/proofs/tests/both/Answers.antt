@@ -2,7 +2,7 @@
 use Rattle.std.proofs.Common.{◌≡◌, zero, suc, [], ◌∷◌, ◌++◌, arith, sym, subst, ap, ◌∙◌, AllPairs}
 use Rattle.clock_bids.specs.declared.change.Change.{Change}
 use Rattle.clock_bids.specs.Requests.{AreApart}
-use Rattle.clock_order.proofs.tests.bidders_in_order.Goals as goal
+use Rattle.clock_order.proofs.tests.both.Goals as goal
 
 two_apart : (a b : Change) → (a.bidder ≡ b.bidder → ⊥) → AllPairs AreApart (a ∷ b ∷ [])
 two_apart a b differ zero zero d lt within = absurd (omega (arith, lt))
@@ -12,8 +12,9 @@ two_apart a b differ (suc i) zero d lt within = absurd (omega (arith, lt))
 two_apart a b differ (suc i) (suc zero) d lt within = absurd (omega (arith, lt))
 two_apart a b differ (suc i) (suc (suc j)) d lt within = absurd (omega (arith, within))
 
-pub ordered-requires : goal.ordered-requires
-ordered-requires c =
+pub returns : goal.returns
+returns c =
+    let first = ap (λ l. l ++ c.args.first.now ∷ []) c.new-changes.ensures in
     subst (AllPairs AreApart)
-    (sym (c.in_ok-push-2.ensures.ok ∙ ap (λ l. l ++ c.args.second.now ∷ []) (c.in_ok-push.ensures.ok ∙ ap (λ l. l ++ c.args.first.now ∷ []) c.new-changes.ensures)))
+    (sym (c.in_ok-push-2.ensures.ok ∙ ap (λ l. l ++ c.args.second.now ∷ []) (c.in_ok-push.ensures.ok ∙ first)))
     (two_apart c.args.first.now c.args.second.now c.requires)
