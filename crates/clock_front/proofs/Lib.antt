@@ -1,0 +1,6 @@
+pub mod Prefixes
+mod HeadLaws
+mod ScanLaws
+mod HeaderLaws
+mod TextLaws
+mod ProgressLaws

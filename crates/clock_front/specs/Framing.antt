@@ -1,0 +1,131 @@
+-- What a text of bytes is when it has come so far: less than a request, a request, or refused.
+--     ended_head bytes      the head that these bytes are, or why they are refused
+--     known text      what is known of a text: nothing but its length, its head while its body still comes, all, or a refusal
+--     advanced known text      what is known of a longer text, by what was known of its beginning
+--     framing text      the request that a text is, a refusal, or that it needs more
+--     IsDecided text      the text is a request or refused, whatever follows
+--     head_in text      the head of a text, also where its body is refused or still to come
+-- The order of the refusals is this server's own. They are looked at only once a head has ended, or where it is too long.
+use Rattle.std.specs.Prelude.{◌≡◌, ℕ, ◌+◌, ◌-◌, List, length, take, drop, if◌then◌else◌, ◌==◌, nat_lt, Option, Some, None, Result, Ok, Err, codes}
+use Rattle.std.specs.List.{before_first}
+use Rattle.httparse.specs.Grammar.{RequestHead}
+use Rattle.clock_front.specs.Scans.{head_length, line_ends, is_loose}
+use Rattle.clock_front.specs.Heads.{head_of}
+use Rattle.clock_front.specs.HeaderLines.{pairs_of, values_of, body_length, token_from}
+use Rattle.clock_front.specs.declared.fault.HeadFault.{HeadFault}
+use Rattle.clock_front.specs.declared.fault.HeadFault.TheVariants.{LongHead, BadHead}
+
+-- the most bytes of a head, its last line end included, and the most header lines of one (own limits)
+abbrev pub head_limit : ℕ
+head_limit = 16384
+
+abbrev pub line_limit : ℕ
+line_limit = 64
+
+abbrev pub or_bad_head : Option RequestHead → Result RequestHead HeadFault
+or_bad_head None = Err BadHead
+or_bad_head (Some head) = Ok head
+
+-- what an ended head is: its line ends are those of the header lines, of the request line and of the empty one
+abbrev pub ended_head : List ℕ → Result RequestHead HeadFault
+ended_head bytes =
+    if nat_lt line_limit (line_ends bytes - 2) then Err LongHead
+    else (if is_loose bytes then Err BadHead else or_bad_head (head_of bytes))
+
+-- what is kept of a head
+pub record Head : Type 0 where
+  pub method : List ℕ
+  pub path : List ℕ
+  pub token : Option (List ℕ)
+
+-- the path is the target up to the first question mark
+abbrev pub path_of_target : List ℕ → List ℕ
+path_of_target target = before_first (λ b. b == 63) target
+
+abbrev pub kept : RequestHead → Head
+kept head = record {
+  method = head.method;
+  path = path_of_target head.target;
+  token = token_from (values_of (codes "authorization") (pairs_of head));
+}
+
+-- a head with the length of its body
+abbrev pub and_length : RequestHead → Result ℕ HeadFault → Result (Head × ℕ) HeadFault
+and_length head (Err fault) = Err fault
+and_length head (Ok n) = Ok (kept head, n)
+
+abbrev pub length_read : Result RequestHead HeadFault → Result (Head × ℕ) HeadFault
+length_read (Err fault) = Err fault
+length_read (Ok head) = and_length head (body_length (pairs_of head))
+
+-- what an ended head says of itself and of its body
+abbrev pub head_with_length : List ℕ → Result (Head × ℕ) HeadFault
+head_with_length bytes = length_read (ended_head bytes)
+
+-- ---- what is known of a text so far
+
+-- no head has ended among so many bytes, which are all; a head, its length and its body's, part of which is still to come;
+-- the same with a body that has come; a refusal
+pub data Known : Type 0 where
+  unended : ℕ → Known
+  waiting : Head → ℕ → ℕ → Known
+  complete : Head → ℕ → ℕ → Known
+  refused : HeadFault → Known
+
+-- a head of so many bytes, with its body's length, in a text of so many bytes
+abbrev pub known_with_body : ℕ → Head → ℕ → ℕ → Known
+known_with_body count head n body = if nat_lt count (n + body) then waiting head n body else complete head n body
+
+abbrev pub known_with_head : ℕ → ℕ → Result (Head × ℕ) HeadFault → Known
+known_with_head count n (Err fault) = refused fault
+known_with_head count n (Ok read) = known_with_body count read.0 n read.1
+
+abbrev pub known_with_end : Option ℕ → List ℕ → Known
+known_with_end None text = if nat_lt (length text) head_limit then unended (length text) else refused LongHead
+known_with_end (Some n) text = known_with_head (length text) n (head_with_length (take n text))
+
+-- what is known of a text
+unfoldable pub known : List ℕ → Known
+known text = known_with_end (head_length (take head_limit text)) text
+
+-- what is known of a longer text: a head that has ended is not looked at again, and what is decided stays
+abbrev pub advanced : Known → List ℕ → Known
+advanced (unended n) text = known text
+advanced (waiting head n body) text = known_with_body (length text) head n body
+advanced (complete head n body) text = complete head n body
+advanced (refused fault) text = refused fault
+
+-- ---- what the text is
+
+pub data Framing : Type 0 where
+  needs_more : Framing
+  refusal : HeadFault → Framing
+  whole : Head → List ℕ → Framing
+
+-- what a text is of which this is known; bytes after the body are no part of the request
+abbrev pub framed : Known → List ℕ → Framing
+framed (unended n) text = needs_more
+framed (waiting head n body) text = needs_more
+framed (complete head n body) text = whole head (take body (drop n text))
+framed (refused fault) text = refusal fault
+
+unfoldable pub framing : List ℕ → Framing
+framing text = framed (known text) text
+
+-- the text is decided, whatever follows
+abbrev pub IsDecided : List ℕ → Type 0
+IsDecided text = framing text ≡ needs_more → ⊥
+
+-- ---- whose request a text is, also where its body is refused or cut short
+
+abbrev pub ok_head : Result RequestHead HeadFault → Option Head
+ok_head (Err fault) = None
+ok_head (Ok head) = Some (kept head)
+
+abbrev pub ended_at : Option ℕ → List ℕ → Option Head
+ended_at None text = None
+ended_at (Some n) text = ok_head (ended_head (take n text))
+
+-- the whole head that a text has
+unfoldable pub head_in : List ℕ → Option Head
+head_in text = ended_at (head_length (take head_limit text)) text

@@ -1,0 +1,6 @@
+pub mod Scans
+pub mod Heads
+pub mod HeaderLines
+pub mod Framing
+pub mod FramingLaws
+pub mod Shown

@@ -1,0 +1,39 @@
+//! Requests as whole bytes: where one ends, what it asks for, and the bytes of its reply.
+//!
+//! [`frame`] says what a text of bytes is when it has come so far, and [`Progress`] is what is known of a text that comes
+//! in pieces. Both are functions of the text alone, so however a text comes, it is decided alike.
+#![tactic(auto)]
+
+ghost use Rattle.clock_front.specs.FramingLaws as laws;
+
+mod fault;
+mod head;
+mod headers;
+mod progress;
+mod request_text;
+mod scan;
+
+pub use fault::HeadFault;
+pub use head::EndedHead;
+pub use progress::Progress;
+pub use request_text::{Framing, Head, frame};
+
+/// What is decided of a text is decided alike of every text that it begins.
+pub fn decided_once()
+    ensures { laws.IsDecidedOnce }
+{}
+
+/// What is known of a text is what is known of its beginning, brought on.
+pub fn known_by_parts()
+    ensures { laws.IsKnownByParts }
+{}
+
+/// The head of bytes with no loose line end is their one head of the grammar of HTTP heads.
+pub fn head_of_grammar()
+    ensures { laws.IsHeadOfGrammar }
+{}
+
+/// A decided text keeps its head, whatever follows.
+pub fn one_head()
+    ensures { laws.HasOneHead }
+{}
