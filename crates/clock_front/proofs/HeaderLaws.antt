@@ -13,8 +13,8 @@ use Rattle.httparse.specs.declared.spans.Span.{Span}
 use Rattle.httparse.specs.declared.spans.HeaderSpan.{HeaderSpan}
 use Rattle.httparse.specs.Spans.{header_bytes, span_bytes}
 use Rattle.clock_front.specs.Heads.{same_bytes}
-use Rattle.clock_front.specs.declared.fault.HeadFault.{HeadFault}
-use Rattle.clock_front.specs.declared.fault.HeadFault.TheVariants.{BadLength, LongBody}
+use Rattle.clock_views.specs.declared.code.Code.{Code}
+use Rattle.clock_views.specs.declared.code.Code.TheVariants.{BadLength, LongBody}
 use Rattle.clock_front.specs.HeaderLines.{one, length_from, within_limit, Values, and_one, is_named, values_after, bearer, token_from}
 
 pub named : (a b : List ℕ) (r : Bool) → IsTrue r ↔ (a ≡ b) → same_bytes a b ≡ r
@@ -92,10 +92,10 @@ length_is v value is full all =
     ap length_from is ∙ ap (λ t. cond (t && list_all is_ascii_digit value) (Ok (digits_value 10 value)) (Err BadLength)) some
     ∙ ap (λ t. cond t (Ok (digits_value 10 value)) (Err BadLength)) all
 
-pub refuses_long : (r : Result ℕ HeadFault) (n : ℕ) → r ≡ Ok n → nat_lt 1048576 n ≡ true → within_limit r ≡ Err LongBody
+pub refuses_long : (r : Result ℕ Code) (n : ℕ) → r ≡ Ok n → nat_lt 1048576 n ≡ true → within_limit r ≡ Err LongBody
 refuses_long r n is long = ap within_limit is ∙ ap (λ t. cond t (Err LongBody) (Ok n)) long
 
-pub keeps_short : (r : Result ℕ HeadFault) (n : ℕ) → r ≡ Ok n → nat_lt 1048576 n ≡ false → within_limit r ≡ Ok n
+pub keeps_short : (r : Result ℕ Code) (n : ℕ) → r ≡ Ok n → nat_lt 1048576 n ≡ false → within_limit r ≡ Ok n
 keeps_short r n is short = ap within_limit is ∙ ap (λ t. cond t (Err LongBody) (Ok n)) short
 
 -- a span that begins later covers the later bytes

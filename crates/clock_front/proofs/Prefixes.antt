@@ -6,8 +6,8 @@ use Rattle.std.specs.Cmp.Lexicographic.{as_long, pointwise}
 use Rattle.std.proofs.lemmas.Bool.Decides.{nat_tests}
 use Rattle.std.proofs.lemmas.List.{take-append-le, drop-append-le, length-take}
 use Rattle.std.proofs.Math.Seq.{take-nil}
-use Rattle.clock_front.specs.declared.fault.HeadFault.{HeadFault}
-use Rattle.clock_front.specs.declared.fault.HeadFault.TheVariants.{LongHead}
+use Rattle.clock_views.specs.declared.code.Code.{Code}
+use Rattle.clock_views.specs.declared.code.Code.TheVariants.{LongHead}
 use Rattle.clock_front.specs.Scans.{empty_line, head_length}
 use Rattle.clock_front.specs.Framing.{IsDecided, ended_at, ok_head, ended_head, head_in, head_limit, head_with_length, Head, Known, unended, waiting, complete, refused, known_with_body, known_with_head, known_with_end, known, advanced, needs_more, refusal, whole, framed, framing}
 use Rattle.clock_front.specs.FramingLaws.{IsDecidedOnce, IsKnownByParts, HasOneHead}
@@ -78,7 +78,7 @@ body-append text more head n body k e =
           ap (λ t. cond t (waiting head n body) (complete head n body)) no ∙ ap (λ k. advanced k (text ++ more)) h.1)
     ]
 
-head-append : (text more : List ℕ) (n : ℕ) (r : Result (Head × ℕ) HeadFault)
+head-append : (text more : List ℕ) (n : ℕ) (r : Result (Head × ℕ) Code)
     → known_with_head (length (text ++ more)) n r ≡ advanced (known_with_head (length text) n r) (text ++ more)
 head-append text more n (Err fault) = refl
 head-append text more n (Ok read) = body-append text more read.0 n read.1 _ refl
@@ -113,7 +113,7 @@ complete_of text None head n body e =
     ]
 complete_of text (Some m) head n body e = by (head_with_length (take m text)) e
   where
-    by : (r : Result (Head × ℕ) HeadFault) → known_with_head (length text) m r ≡ complete head n body → n + body ≤ length text
+    by : (r : Result (Head × ℕ) Code) → known_with_head (length text) m r ≡ complete head n body → n + body ≤ length text
     by (Err fault) e = absurd cc
     by (Ok read) e =
         elim (cond_cases (nat_lt (length text) (m + read.1)) (waiting read.0 m read.1) (complete read.0 m read.1) _ e) [

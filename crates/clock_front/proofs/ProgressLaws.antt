@@ -6,8 +6,8 @@ use Rattle.std.proofs.lemmas.List.{take-append-le, drop-append-le, length-take, 
 use Rattle.std.proofs.Math.Seq.{take-add}
 use Rattle.httparse.specs.Spans.{span_bytes, IsWithin}
 use Rattle.httparse.specs.declared.spans.Span.{Span}
-use Rattle.clock_front.specs.declared.fault.HeadFault.{HeadFault}
-use Rattle.clock_front.specs.declared.fault.HeadFault.TheVariants.{LongHead}
+use Rattle.clock_views.specs.declared.code.Code.{Code}
+use Rattle.clock_views.specs.declared.code.Code.TheVariants.{LongHead}
 use Rattle.clock_front.specs.declared.head.EndedHead.{EndedHead}
 use Rattle.clock_front.specs.declared.progress.Progress.{Progress}
 use Rattle.clock_front.specs.Scans.{head_length}
@@ -89,7 +89,7 @@ ends_within text limit n e = (let w = head_length_within (take limit text) n (sy
 pub all_taken : (text : List ℕ) (limit n : ℕ) → Some n ≡ head_length (take limit text) → n ≡ length (take n text)
 all_taken text limit n e = (let le = ends_within text limit n e in omega (arith, length-take n text))
 
-pub known_refused : (text : List ℕ) (limit n : ℕ) (fault : HeadFault) → limit ≡ min (length text) head_limit → Some n ≡ head_length (take limit text)
+pub known_refused : (text : List ℕ) (limit n : ℕ) (fault : Code) → limit ≡ min (length text) head_limit → Some n ≡ head_length (take limit text)
     → Err fault ≡ head_with_length (take n text) → refused fault ≡ known text
 known_refused text limit n fault is e read = ap (known_with_head (length text) n) read ∙ known_at text limit (Some n) is e
 
@@ -125,7 +125,7 @@ unended_at text n None e k =
     ]
 unended_at text n (Some m) e k = absurd (by (head_with_length (take m text)) k)
   where
-    by : (r : Result (Head × ℕ) HeadFault) → known_with_head (length text) m r ≡ unended n → ⊥
+    by : (r : Result (Head × ℕ) Code) → known_with_head (length text) m r ≡ unended n → ⊥
     by (Err fault) k = cc
     by (Ok read) k =
         elim (cond_cases (nat_lt (length text) (m + read.1)) (waiting read.0 m read.1) (complete read.0 m read.1) _ k) [

@@ -15,8 +15,8 @@ use Rattle.httparse.specs.Grammar.{RequestHead, ReadsRequest, print_request}
 use Rattle.httparse.specs.Outcome.{IsCompleteAnd}
 use Rattle.httparse.specs.Spans.{FindsRequest, IsRequestAt, IsRequestOf, span_bytes, header_bytes}
 use Rattle.clock_front.specs.Heads.{head_of}
-use Rattle.clock_front.specs.declared.fault.HeadFault.{HeadFault}
-use Rattle.clock_front.specs.declared.fault.HeadFault.TheVariants.{LongHead, BadHead}
+use Rattle.clock_views.specs.declared.code.Code.{Code}
+use Rattle.clock_views.specs.declared.code.Code.TheVariants.{LongHead, BadHead}
 use Rattle.clock_front.specs.Scans.{head_length, line_ends, is_loose}
 use Rattle.clock_front.specs.HeaderLines.{pairs_of, values_of, body_length, token_from}
 use Rattle.clock_front.specs.Framing.{head_limit, ended_head, or_bad_head, Head, path_of_target, head_with_length, length_read, and_length}
@@ -59,7 +59,7 @@ not_parsed bytes headers result few tight finds missing = by (head_of bytes) ref
         let fits : length h.fields ≤ 64 = omega (arith, found.count) in
         absurd (missing (weaker result h reads.1 (finds h [] reads fits)))
 
-abbrev parted : List ℕ → List ℕ → Option (List ℕ) → ℕ → Result (Head × ℕ) HeadFault
+abbrev parted : List ℕ → List ℕ → Option (List ℕ) → ℕ → Result (Head × ℕ) Code
 parted method path token n = Ok (record { method = method; path = path; token = token }, n)
 
 -- the parts that the spans cover are those of the head

@@ -12,8 +12,8 @@ use Rattle.httparse.specs.Grammar.{RequestHead}
 use Rattle.clock_front.specs.Scans.{head_length, line_ends, is_loose}
 use Rattle.clock_front.specs.Heads.{head_of}
 use Rattle.clock_front.specs.HeaderLines.{pairs_of, values_of, body_length, token_from}
-use Rattle.clock_front.specs.declared.fault.HeadFault.{HeadFault}
-use Rattle.clock_front.specs.declared.fault.HeadFault.TheVariants.{LongHead, BadHead}
+use Rattle.clock_views.specs.declared.code.Code.{Code}
+use Rattle.clock_views.specs.declared.code.Code.TheVariants.{LongHead, BadHead}
 
 -- the most bytes of a head, its last line end included, and the most header lines of one (own limits)
 abbrev pub head_limit : ℕ
@@ -22,12 +22,12 @@ head_limit = 16384
 abbrev pub line_limit : ℕ
 line_limit = 64
 
-abbrev pub or_bad_head : Option RequestHead → Result RequestHead HeadFault
+abbrev pub or_bad_head : Option RequestHead → Result RequestHead Code
 or_bad_head None = Err BadHead
 or_bad_head (Some head) = Ok head
 
 -- what an ended head is: its line ends are those of the header lines, of the request line and of the empty one
-abbrev pub ended_head : List ℕ → Result RequestHead HeadFault
+abbrev pub ended_head : List ℕ → Result RequestHead Code
 ended_head bytes =
     if nat_lt line_limit (line_ends bytes - 2) then Err LongHead
     else (if is_loose bytes then Err BadHead else or_bad_head (head_of bytes))
@@ -50,16 +50,16 @@ kept head = record {
 }
 
 -- a head with the length of its body
-abbrev pub and_length : RequestHead → Result ℕ HeadFault → Result (Head × ℕ) HeadFault
+abbrev pub and_length : RequestHead → Result ℕ Code → Result (Head × ℕ) Code
 and_length head (Err fault) = Err fault
 and_length head (Ok n) = Ok (kept head, n)
 
-abbrev pub length_read : Result RequestHead HeadFault → Result (Head × ℕ) HeadFault
+abbrev pub length_read : Result RequestHead Code → Result (Head × ℕ) Code
 length_read (Err fault) = Err fault
 length_read (Ok head) = and_length head (body_length (pairs_of head))
 
 -- what an ended head says of itself and of its body
-abbrev pub head_with_length : List ℕ → Result (Head × ℕ) HeadFault
+abbrev pub head_with_length : List ℕ → Result (Head × ℕ) Code
 head_with_length bytes = length_read (ended_head bytes)
 
 -- ---- what is known of a text so far
@@ -70,13 +70,13 @@ pub data Known : Type 0 where
   unended : ℕ → Known
   waiting : Head → ℕ → ℕ → Known
   complete : Head → ℕ → ℕ → Known
-  refused : HeadFault → Known
+  refused : Code → Known
 
 -- a head of so many bytes, with its body's length, in a text of so many bytes
 abbrev pub known_with_body : ℕ → Head → ℕ → ℕ → Known
 known_with_body count head n body = if nat_lt count (n + body) then waiting head n body else complete head n body
 
-abbrev pub known_with_head : ℕ → ℕ → Result (Head × ℕ) HeadFault → Known
+abbrev pub known_with_head : ℕ → ℕ → Result (Head × ℕ) Code → Known
 known_with_head count n (Err fault) = refused fault
 known_with_head count n (Ok read) = known_with_body count read.0 n read.1
 
@@ -99,7 +99,7 @@ advanced (refused fault) text = refused fault
 
 pub data Framing : Type 0 where
   needs_more : Framing
-  refusal : HeadFault → Framing
+  refusal : Code → Framing
   whole : Head → List ℕ → Framing
 
 -- what a text is of which this is known; bytes after the body are no part of the request
@@ -118,7 +118,7 @@ IsDecided text = framing text ≡ needs_more → ⊥
 
 -- ---- whose request a text is, also where its body is refused or cut short
 
-abbrev pub ok_head : Result RequestHead HeadFault → Option Head
+abbrev pub ok_head : Result RequestHead Code → Option Head
 ok_head (Err fault) = None
 ok_head (Ok head) = Some (kept head)
 

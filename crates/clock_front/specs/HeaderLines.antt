@@ -11,8 +11,8 @@ use Rattle.httparse.specs.Ascii.{space}
 use Rattle.httparse.specs.Grammar.{RequestHead}
 use Rattle.httparse.specs.Spans.{name_and_value}
 use Rattle.clock_front.specs.Heads.{same_bytes}
-use Rattle.clock_front.specs.declared.fault.HeadFault.{HeadFault}
-use Rattle.clock_front.specs.declared.fault.HeadFault.TheVariants.{Coding, BadLength, LongBody}
+use Rattle.clock_views.specs.declared.code.Code.{Code}
+use Rattle.clock_views.specs.declared.code.Code.TheVariants.{Coding, BadLength, LongBody}
 
 -- the most bytes of a body (own limit)
 abbrev pub body_limit : ℕ
@@ -49,24 +49,24 @@ abbrev pub values_of : List ℕ → Pairs → Values
 values_of name pairs = values_after none name pairs
 
 -- the number that one or more digits write; without a line it is 0, and two lines are refused also where they are equal
-abbrev pub length_from : Values → Result ℕ HeadFault
+abbrev pub length_from : Values → Result ℕ Code
 length_from none = Ok 0
 length_from (one value) =
     if nat_lt 0 (length value) && list_all is_ascii_digit value then Ok (digits_value 10 value) else Err BadLength
 length_from many = Err BadLength
 
-abbrev pub within_limit : Result ℕ HeadFault → Result ℕ HeadFault
-within_limit (Err fault) = Err fault
+abbrev pub within_limit : Result ℕ Code → Result ℕ Code
+within_limit (Err code) = Err code
 within_limit (Ok n) = if nat_lt body_limit n then Err LongBody else Ok n
 
 -- no transfer coding is understood, so a line that names one, or none, is refused first
-abbrev pub unless_coded : Values → Result ℕ HeadFault → Result ℕ HeadFault
+abbrev pub unless_coded : Values → Result ℕ Code → Result ℕ Code
 unless_coded none n = n
 unless_coded (one value) n = Err Coding
 unless_coded many n = Err Coding
 
 -- how long the body is
-abbrev pub body_length : Pairs → Result ℕ HeadFault
+abbrev pub body_length : Pairs → Result ℕ Code
 body_length pairs =
     unless_coded (values_of (codes "transfer-encoding") pairs) (within_limit (length_from (values_of (codes "content-length") pairs)))
 

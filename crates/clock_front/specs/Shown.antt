@@ -7,7 +7,7 @@ use Rattle.httparse.specs.Spans.{span_bytes, IsWithin}
 use Rattle.httparse.specs.declared.spans.Span.{Span}
 use Rattle.clock_front.specs.declared.headers.Values.{Values}
 use Rattle.clock_front.specs.declared.headers.Values.TheVariants as found
-use Rattle.clock_front.specs.declared.fault.HeadFault.{HeadFault}
+use Rattle.clock_views.specs.declared.code.Code.{Code}
 use Rattle.clock_front.specs.declared.head.EndedHead.{EndedHead}
 use Rattle.clock_front.specs.declared.progress.Progress.{Progress}
 use Rattle.clock_front.specs.declared.progress.Progress.TheVariants as so_far
@@ -47,7 +47,7 @@ pub record IsHeadWithin (count : ℕ) (head : EndedHead) : Type 0 where
   pub token : IsSomeWithin head.length head.token
   pub fits : head.length ≤ count
 
-abbrev pub shown_read : List ℕ → Result EndedHead HeadFault → Result (spec.Head × ℕ) HeadFault
+abbrev pub shown_read : List ℕ → Result EndedHead Code → Result (spec.Head × ℕ) Code
 shown_read text (Err fault) = Err fault
 shown_read text (Ok head) = Ok (shown_ended text head, head.body)
 

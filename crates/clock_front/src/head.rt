@@ -6,9 +6,9 @@ ghost use Rattle.clock_front.specs.Scans.{line_ends as count_of_line_ends, is_lo
 ghost use Rattle.clock_front.specs.Framing.{path_of_target, head_with_length};
 ghost use Rattle.clock_front.specs.Shown.{shown_read, IsHeadWithin};
 
-use crate::fault::HeadFault;
 use crate::headers::{body_length, token, values_named};
 use crate::scan::{is_loose, line_ends};
+use clock_views::Code;
 use httparse::Status;
 use httparse::spans::{EMPTY_HEADER_SPAN, HeaderSpan, RequestSpans, Span, parse_request};
 
@@ -74,20 +74,20 @@ fn path_of(text: &[u8], target: Span) -> Span
 }
 
 /// What an ended head says, or why it is refused. httparse is asked once, of exactly these bytes.
-pub(crate) fn read_head(bytes: &[u8]) -> Result<EndedHead, HeadFault>
+pub(crate) fn read_head(bytes: &[u8]) -> Result<EndedHead, Code>
     ensures shown { shown_read bytes.now result ≡ head_with_length bytes.now }
     ensures within { IfOk result (IsHeadWithin (length bytes.now)) }
     ensures all { IfOk result (λ head. head.length ≡ length bytes.now) }
 {
     if line_ends(bytes) > LINE_LIMIT + 2 {
-        return Err(HeadFault::LongHead);
+        return Err(Code::LongHead);
     }
     if is_loose(bytes) {
-        return Err(HeadFault::BadHead);
+        return Err(Code::BadHead);
     }
     let mut spans = [EMPTY_HEADER_SPAN; LINE_LIMIT];
     let Some(found) = parse_head(bytes, &mut spans) else {
-        return Err(HeadFault::BadHead);
+        return Err(Code::BadHead);
     };
     let headers = &spans[..found.headers];
     let body = body_length(bytes, headers)?;

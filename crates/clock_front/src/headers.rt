@@ -7,7 +7,7 @@ ghost use Rattle.clock_front.specs.HeaderLines as lines;
 ghost use Rattle.clock_front.specs.HeaderLines.{body_limit, length_from, within_limit, values_of, token_from, skip_spaces};
 ghost use Rattle.clock_front.specs.Shown.{shown_values, IsFoundWithin, IsSomeWithin};
 
-use crate::fault::HeadFault;
+use clock_views::Code;
 use httparse::spans::{HeaderSpan, Span};
 
 /// The most bytes of a body.
@@ -69,41 +69,41 @@ fn capped_number(digits: &[u8]) -> usize
 }
 
 /// The number that one or more digits write, if a body may be so long.
-fn parse_length(digits: &[u8]) -> Result<usize, HeadFault>
+fn parse_length(digits: &[u8]) -> Result<usize, Code>
     ensures { result ≡ within_limit (length_from (lines.one digits.now)) }
 {
     if digits.is_empty() || !all_digits(digits) {
-        return Err(HeadFault::BadLength);
+        return Err(Code::BadLength);
     }
     let length = capped_number(digits);
     if length > BODY_LIMIT {
-        Err(HeadFault::LongBody)
+        Err(Code::LongBody)
     } else {
         Ok(length)
     }
 }
 
 /// The length that the lines of that name give.
-fn length_named(text: &[u8], values: Values) -> Result<usize, HeadFault>
+fn length_named(text: &[u8], values: Values) -> Result<usize, Code>
     requires { IsFoundWithin (length text.now) values }
     ensures { result ≡ within_limit (length_from (shown_values text.now values)) }
 {
     match values {
         Values::None => Ok(0),
         Values::One(value) => parse_length(value.of(text)),
-        Values::Many => Err(HeadFault::BadLength),
+        Values::Many => Err(Code::BadLength),
     }
 }
 
 /// How long the body is that the header lines tell of.
-pub(crate) fn body_length(text: &[u8], headers: &[HeaderSpan]) -> Result<usize, HeadFault>
+pub(crate) fn body_length(text: &[u8], headers: &[HeaderSpan]) -> Result<usize, Code>
     requires { All (IsHeaderWithin (length text.now)) headers.now }
     ensures { result ≡ lines.body_length (map (header_bytes text.now) headers.now) }
 {
     match values_named(text, headers, b"transfer-encoding") {
         Values::None => length_named(text, values_named(text, headers, b"content-length")),
-        Values::One(_) => Err(HeadFault::Coding),
-        Values::Many => Err(HeadFault::Coding),
+        Values::One(_) => Err(Code::Coding),
+        Values::Many => Err(Code::Coding),
     }
 }
 

@@ -6,14 +6,12 @@
 
 ghost use Rattle.clock_front.specs.FramingLaws as laws;
 
-mod fault;
 mod head;
 mod headers;
 mod progress;
 mod request_text;
 mod scan;
 
-pub use fault::HeadFault;
 pub use head::EndedHead;
 pub use progress::Progress;
 pub use request_text::{Framing, Head, frame};

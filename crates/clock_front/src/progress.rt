@@ -3,9 +3,9 @@ ghost use Rattle.clock_front.specs.Scans.{head_length as length_of_head};
 ghost use Rattle.clock_front.specs.Framing as spec;
 ghost use Rattle.clock_front.specs.Shown.{Knows, KnowsOfStart, IsHeadWithin, shown_ended, shown_progress, IsProgressWithin};
 
-use crate::fault::HeadFault;
 use crate::head::{EndedHead, read_head};
 use crate::scan::head_length;
+use clock_views::Code;
 
 /// The most bytes of a head, its last line end included.
 const HEAD_LIMIT: usize = 16_384;
@@ -20,7 +20,7 @@ pub enum Progress {
     /// The request has come whole.
     Complete(EndedHead),
     /// The text is refused.
-    Refused(HeadFault),
+    Refused(Code),
 }
 
 /// What is known where a head has ended in a text of so many bytes.
@@ -50,7 +50,7 @@ fn read_on(text: &[u8], looked_at: usize) -> Progress
         return if text.len() < HEAD_LIMIT {
             Progress::Unended(text.len())
         } else {
-            Progress::Refused(HeadFault::LongHead)
+            Progress::Refused(Code::LongHead)
         };
     };
     match read_head(&text[..length]) {

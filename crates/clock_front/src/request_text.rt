@@ -3,9 +3,9 @@ ghost use Rattle.httparse.specs.Spans.{span_bytes};
 ghost use Rattle.clock_front.specs.Framing.{framing as framing_of};
 ghost use Rattle.clock_front.specs.Shown.{Knows, IsHeadWithin, IsSomeWithin, shown_ended, shown_head, shown_bytes, shown_framing};
 
-use crate::fault::HeadFault;
 use crate::head::EndedHead;
 use crate::progress::Progress;
+use clock_views::Code;
 use httparse::spans::Span;
 
 /// What is kept of a request's head. All parts are slices of its text.
@@ -27,7 +27,7 @@ pub enum Framing<'a> {
     /// A request, and its body. Bytes after the body are ignored.
     Whole { head: Head<'a>, body: &'a [u8] },
     /// No request, whatever follows.
-    Refused(HeadFault),
+    Refused(Code),
 }
 
 fn token_in(text: &[u8], token: Option<Span>) -> Option<&[u8]>
@@ -73,7 +73,7 @@ impl Progress {
 /// What a text is. It takes no memory, and all slices are of the text.
 ///
 /// Nothing is decided before the head has ended with CR LF CR LF, 16,384 bytes have come without an end, or the head's body
-/// has come whole. Then the first of [`HeadFault`] that applies is answered; what is decided stays whatever bytes follow.
+/// has come whole. Then the first that applies is answered: 64 header lines, a head of the grammar, no transfer coding, one length of digits, up to 1,048,576. What is decided stays, whatever bytes follow.
 pub fn frame(text: &[u8]) -> Framing<'_>
     ensures { shown_framing result ≡ framing_of text.now }
 {
