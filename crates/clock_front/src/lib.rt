@@ -11,6 +11,8 @@ mod headers;
 mod progress;
 mod request_text;
 mod scan;
+#[cfg(test)]
+mod tests;
 
 pub use head::EndedHead;
 pub use progress::Progress;

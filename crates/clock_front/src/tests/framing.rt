@@ -1,0 +1,217 @@
+//! What a text is, whole and in pieces.
+use crate::{Framing, Progress, frame};
+use clock_views::Code;
+use std::alloc::Global;
+use std::test::Fail;
+
+/// A sheet's request: its head ends with the last line before the body of three bytes.
+const PUT: &str =
+    "PUT /v1/me/bids?x HTTP/1.1\r\nauthorization: Bearer XXXXXXXXXXXXXXXX\r\ncontent-length: 3\r\n\r\n{} and more";
+
+fn refusal_of(text: &str) -> Option<Code> {
+    match frame(text.as_bytes()) {
+        Framing::Refused(code) => Some(code),
+        Framing::NeedMore => None,
+        Framing::Whole { .. } => None,
+    }
+}
+
+fn is_refused(text: &str, code: Code) -> bool {
+    refusal_of(text) == Some(code)
+}
+
+fn needs_more(text: &str) -> bool {
+    match frame(text.as_bytes()) {
+        Framing::NeedMore => true,
+        Framing::Refused(_) => false,
+        Framing::Whole { .. } => false,
+    }
+}
+
+fn body_of(text: &str) -> Option<&[u8]> {
+    match frame(text.as_bytes()) {
+        Framing::Whole { body, .. } => Some(body),
+        Framing::NeedMore => None,
+        Framing::Refused(_) => None,
+    }
+}
+
+fn method_and_path(text: &str) -> Option<(&[u8], &[u8])> {
+    match frame(text.as_bytes()) {
+        Framing::Whole { head, .. } => Some((head.method, head.path)),
+        Framing::NeedMore => None,
+        Framing::Refused(_) => None,
+    }
+}
+
+/// The token of a head with these header lines.
+fn token_of(alloc: Global, lines: &str) -> Result<Option<String>, Fail> {
+    let text = format!(in alloc; "GET / HTTP/1.1\r\n{lines}\r\n")?;
+    let token = match frame(text.as_bytes()) {
+        Framing::Whole { head, .. } => head.token,
+        Framing::NeedMore => None,
+        Framing::Refused(_) => None,
+    };
+    match token {
+        Some(bytes) => Ok(Some(String::from_utf8_lossy(alloc, bytes)?)),
+        None => Ok(None),
+    }
+}
+
+/// A head with these header lines.
+fn head_with(alloc: Global, lines: &str) -> Result<String, Fail> {
+    Ok(format!(in alloc; "GET / HTTP/1.1\r\n{lines}\r\n")?)
+}
+
+/// A head of so many header lines.
+fn head_of_lines(alloc: Global, count: usize) -> Result<String, Fail> {
+    let mut text = String::from_str(alloc, "GET / HTTP/1.1\r\n")?;
+    for _ in 0..count {
+        text.push_str("a: b\r\n")?;
+    }
+    text.push_str("\r\n")?;
+    Ok(text)
+}
+
+/// A head of 23 bytes and the filling of its one line's value.
+fn head_filled(alloc: Global, filling: usize) -> Result<String, Fail> {
+    let mut text = String::from_str(alloc, "GET / HTTP/1.1\r\na: ")?;
+    for _ in 0..filling {
+        text.push_str("x")?;
+    }
+    text.push_str("\r\n\r\n")?;
+    Ok(text)
+}
+
+#[test]
+fn a_request_is_its_head_and_body(rt: HostRuntime) {
+    assert_eq!(rt;
+        method_and_path(PUT),
+        Some((b"PUT".as_slice(), b"/v1/me/bids".as_slice()))
+    );
+    assert_eq!(rt; body_of(PUT), Some(b"{} ".as_slice()));
+    assert_eq!(rt; body_of("GET / HTTP/1.0\r\n\r\n"), Some(b"".as_slice()));
+    assert_eq!(rt;
+        body_of("GET / HTTP/1.1\r\nContent-Length: \t 0001 \r\n\r\n\nx"),
+        Some(b"\n".as_slice())
+    );
+}
+
+#[test]
+fn nothing_is_decided_before_the_end(rt: HostRuntime) {
+    for text in [
+        "",
+        "\r",
+        "\n\n",
+        "GET / HTTP/1.1\n\n",
+        "GET / HTTP/1.1\r\n\r",
+        "GET / HTTP/1.1\r\ncontent-length: 2\r\n\r\n1",
+    ] {
+        assert!(rt; needs_more(text), "{text}");
+    }
+}
+
+#[test]
+fn what_is_no_head_is_refused(rt: HostRuntime) -> Result<(), Fail> {
+    for text in [
+        "\r\n\r\n",
+        "\r\nGET / HTTP/1.1\r\n\r\n",
+        "\nGET / HTTP/1.1\r\n\r\n",
+        "GET / HTTP/1.1\r\na: b\nc: d\r\n\r\n",
+        "GET / HTTP/1.1\na: b\r\n\r\n",
+        "GET  / HTTP/1.1\r\n\r\n",
+        "GET / HTTP/1.2\r\n\r\n",
+        "GET / HTTP/1.1 \r\n\r\n",
+        "GET / HTTP/1.1\r\na : b\r\n\r\n",
+        "GET / HTTP/1.1\r\na: b\r\n c\r\n\r\n",
+        "GET / HTTP/1.1\r\n: b\r\n\r\n",
+    ] {
+        assert!(rt; is_refused(text, Code::BadHead), "{text}");
+    }
+    Ok(())
+}
+
+#[test]
+fn a_length_is_one_line_of_digits(rt: HostRuntime) -> Result<(), Fail> {
+    let alloc = rt.alloc();
+    for (lines, code) in [
+        ("content-length: +5\r\n", Code::BadLength),
+        ("content-length:\r\n", Code::BadLength),
+        ("content-length: 5 5\r\n", Code::BadLength),
+        ("content-length: 0x5\r\n", Code::BadLength),
+        (
+            "content-length: 1\r\nCONTENT-LENGTH: 1\r\n",
+            Code::BadLength,
+        ),
+        ("content-length: 1048577\r\n", Code::LongBody),
+        ("content-length: 18446744073709551617\r\n", Code::LongBody),
+        (
+            "Transfer-Encoding: chunked\r\ncontent-length: x\r\n",
+            Code::Coding,
+        ),
+        ("transfer-encoding:\r\n", Code::Coding),
+    ] {
+        let text = head_with(alloc, lines)?;
+        assert!(rt; is_refused(text.as_str(), code), "{lines}");
+    }
+    let longest = head_with(alloc, "content-length: 01048576\r\n")?;
+    assert!(rt; needs_more(longest.as_str()));
+    Ok(())
+}
+
+#[test]
+fn a_token_stands_in_one_line(rt: HostRuntime) -> Result<(), Fail> {
+    let alloc = rt.alloc();
+    for (lines, token) in [
+        ("authorization: Bearer abc\r\n", Some("abc")),
+        ("Authorization:\tbEARER   a bc \r\n", Some("a bc")),
+        ("authorization: Bearer\tabc\r\n", None),
+        ("authorization: Bearer \r\n", None),
+        ("authorization: Basic abc\r\n", None),
+        (
+            "authorization: Bearer abc\r\nauthorization: Bearer abc\r\n",
+            None,
+        ),
+        ("", None),
+    ] {
+        let found = token_of(alloc, lines)?;
+        assert_eq!(rt; found.as_ref().map(|text| text.as_str()), token, "{lines}");
+    }
+    Ok(())
+}
+
+#[test]
+fn a_head_has_limits(rt: HostRuntime) -> Result<(), Fail> {
+    let alloc = rt.alloc();
+    let lines = head_of_lines(alloc, 64)?;
+    assert!(rt; body_of(lines.as_str()).is_some());
+    let more_lines = head_of_lines(alloc, 65)?;
+    assert!(rt; is_refused(more_lines.as_str(), Code::LongHead));
+    let long = head_filled(alloc, 16_361)?;
+    assert_eq!(rt; long.len(), 16_384);
+    assert!(rt; body_of(long.as_str()).is_some());
+    let longer = head_filled(alloc, 16_362)?;
+    assert!(rt; is_refused(longer.as_str(), Code::LongHead));
+    Ok(())
+}
+
+/// How many bytes of a text come before it is decided, where they come one by one.
+fn decided_after(text: &[u8]) -> usize {
+    let mut progress = Progress::new();
+    for count in 0..text.len() {
+        progress = progress.advance(&text[..count]);
+        match progress {
+            Progress::Unended(_) => (),
+            Progress::Waiting(_) => (),
+            Progress::Complete(_) => return count,
+            Progress::Refused(_) => return count,
+        }
+    }
+    text.len()
+}
+
+#[test]
+fn a_text_is_decided_at_its_last_byte(rt: HostRuntime) {
+    assert_eq!(rt; decided_after(PUT.as_bytes()), PUT.len() - 8);
+    assert_eq!(rt; decided_after(b"\r\n\r\nx"), 4);
+}
