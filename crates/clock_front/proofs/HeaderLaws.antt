@@ -34,7 +34,7 @@ values_step text headers i d name found r lt is =
     ∙ ap (λ t. values_after (cond t (and_one found (header_bytes text (get_or headers i d)).1) found) name (map (header_bytes text) (drop (i + 1) headers))) is
 
 -- the number only grows
-grows : (n : ℕ) (ds : List ℕ) → n ≤ digits_value_after 10 n ds
+pub grows : (n : ℕ) (ds : List ℕ) → n ≤ digits_value_after 10 n ds
 grows n [] = omega arith
 grows n (d ∷ ds) = omega (arith, grows (n * 10 + digit_value d) ds)
 

@@ -4,3 +4,4 @@ mod ScanLaws
 mod HeaderLaws
 mod TextLaws
 mod ProgressLaws
+mod RouteLaws

@@ -4,3 +4,4 @@ pub mod HeaderLines
 pub mod Framing
 pub mod FramingLaws
 pub mod Shown
+pub mod Routes

@@ -50,7 +50,8 @@ pub(crate) fn values_named(text: &[u8], headers: &[HeaderSpan], name: &[u8]) -> 
     found
 }
 
-fn all_digits(bytes: &[u8]) -> bool
+/// Whether all bytes are digits.
+pub(crate) fn all_digits(bytes: &[u8]) -> bool
     ensures { result ≡ list_all is_ascii_digit bytes.now }
 {
     bytes.iter().all(|b| b.is_ascii_digit())

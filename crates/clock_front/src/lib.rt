@@ -10,6 +10,7 @@ mod head;
 mod headers;
 mod progress;
 mod request_text;
+mod routes;
 mod scan;
 #[cfg(test)]
 mod tests;
@@ -17,6 +18,7 @@ mod tests;
 pub use head::EndedHead;
 pub use progress::Progress;
 pub use request_text::{Framing, Head, frame};
+pub use routes::{Page, Role};
 
 /// What is decided of a text is decided alike of every text that it begins.
 pub fn decided_once()

@@ -1,0 +1,197 @@
+ghost use Rattle.std.specs.Prelude.{◌≡◌, ◌≤◌, ◌+◌, ◌-◌, ◌*◌, ◌^◌, IfOk, MatchOption, Some, None, codes};
+ghost use Rattle.clock_front.specs.Heads.{same_bytes};
+ghost use Rattle.clock_front.specs.Routes as spec;
+
+use crate::headers::all_digits;
+use clock_device::NoMemory;
+use http::Method;
+use matchit::{InsertError, Router};
+use std::alloc::Global;
+
+/// What a path names.
+#[derive(Clone, Copy, Debug, PartialEq, Eq)]
+pub enum Page {
+    /// Whether the auction has ended, and its round.
+    Status,
+    /// What is sold, and by which rules.
+    Products,
+    /// The sheet of a closed round.
+    Sheet,
+    /// What a bidder holds.
+    Account,
+    /// A bidder's sheet of bids in force, and where it puts one.
+    Bids,
+    /// A bidder's results of a closed round.
+    Slip,
+    /// Where the operator closes a round.
+    Close,
+    /// What all bidders hold.
+    Results,
+}
+
+/// Whose token a page asks for.
+#[derive(Clone, Copy, Debug, PartialEq, Eq)]
+pub enum Role {
+    /// Nobody's: a token is not looked at.
+    Anyone,
+    /// A bidder's.
+    Bidder,
+    /// The operator's.
+    Operator,
+}
+
+/// The routes of all pages.
+fn router(alloc: Global) -> Result<Router<Page>, InsertError>
+    ensures { IfOk result (λ router. router ≡ spec.table) }
+{
+    let mut router = Router::new(alloc);
+    router.insert("/v1/status", Page::Status)?;
+    router.insert("/v1/products", Page::Products)?;
+    router.insert("/v1/rounds/{n}", Page::Sheet)?;
+    router.insert("/v1/me", Page::Account)?;
+    router.insert("/v1/me/bids", Page::Bids)?;
+    router.insert("/v1/me/rounds/{n}", Page::Slip)?;
+    router.insert("/v1/close", Page::Close)?;
+    router.insert("/v1/results", Page::Results)?;
+    Ok(router)
+}
+
+fn is_method(method: &[u8], wanted: Method) -> bool
+    ensures { result ≡ same_bytes wanted method.now }
+{
+    method == wanted.as_str().as_bytes()
+}
+
+impl Page {
+    /// Whose token the page asks for.
+    pub fn role(self) -> Role
+        ensures { result ≡ spec.role self }
+    {
+        match self {
+            Page::Status => Role::Anyone,
+            Page::Products => Role::Anyone,
+            Page::Sheet => Role::Anyone,
+            Page::Account => Role::Bidder,
+            Page::Bids => Role::Bidder,
+            Page::Slip => Role::Bidder,
+            Page::Close => Role::Operator,
+            Page::Results => Role::Operator,
+        }
+    }
+
+    /// Whether the page is for a method, whose letters are compared with regard to case.
+    pub fn has_method(self, method: &[u8]) -> bool
+        ensures { result ≡ spec.has_method self method.now }
+    {
+        match self {
+            Page::Bids => is_method(method, Method::GET) || is_method(method, Method::PUT),
+            Page::Close => is_method(method, Method::POST),
+            Page::Status => is_method(method, Method::GET),
+            Page::Products => is_method(method, Method::GET),
+            Page::Sheet => is_method(method, Method::GET),
+            Page::Account => is_method(method, Method::GET),
+            Page::Slip => is_method(method, Method::GET),
+            Page::Results => is_method(method, Method::GET),
+        }
+    }
+
+    /// The page's methods, as the line `allow` of a reply tells them.
+    pub fn methods(self) -> &'static str
+        ensures { result.now ≡ spec.methods_line (spec.methods self) }
+    {
+        match self {
+            Page::Bids => "GET, PUT",
+            Page::Close => "POST",
+            Page::Status => "GET",
+            Page::Products => "GET",
+            Page::Sheet => "GET",
+            Page::Account => "GET",
+            Page::Slip => "GET",
+            Page::Results => "GET",
+        }
+    }
+}
+
+/// The page that a path names by the routes of all pages.
+fn page_at(router: &Router<Page>, path: &[u8]) -> Option<Page>
+    requires { router.now ≡ spec.table }
+    ensures { result ≡ spec.page_of path.now }
+{
+    let Ok(text) = std::str::from_utf8(path) else {
+        return None;
+    };
+    match router.at(text) {
+        Ok(found) => Some(*found.value),
+        Err(_) => None,
+    }
+}
+
+/// The routes of all pages, which are made once.
+#[derive(Drop)]
+pub(crate) struct Routes {
+    router: Router<Page>,
+    ghost routed: { router ≡ spec.table },
+}
+
+impl Routes {
+    /// The routes of all pages.
+    pub(crate) fn new(alloc: Global) -> Result<Routes, NoMemory> {
+        match router(alloc) {
+            Ok(router) => Ok(Routes { router }),
+            Err(_) => Err(NoMemory),
+        }
+    }
+
+    /// The page that a path names. It takes no memory.
+    pub(crate) fn page_of(&self, path: &[u8]) -> Option<Page>
+        ensures { result ≡ spec.page_of path.now }
+    {
+        page_at(&self.router, path)
+    }
+}
+
+/// What stands for `{n}` in a path that names a page by a route with it.
+pub(crate) fn last_segment(path: &[u8]) -> &[u8]
+    ensures { result.now ≡ spec.last_segment path.now }
+{
+    let mut start = 0;
+    for (i, byte) in path.iter().enumerate() {
+        if *byte == b'/' {
+            start = i + 1;
+        }
+    }
+    &path[start..]
+}
+
+/// Whether these are digits alone, of which the first is no 0 unless it is the only one.
+fn is_plain_number(text: &[u8]) -> bool
+    ensures { result ≡ spec.is_plain_number text.now }
+{
+    !text.is_empty() && all_digits(text) && (text.len() <= 1 || text[0] != b'0')
+}
+
+fn with_digit(number: u64, digit: u8) -> Option<u64>
+    requires { 48 ≤ digit }
+    ensures { MatchOption result (2 ^ 64 ≤ number * 10 + (digit - 48)) (λ longer. longer ≡ number * 10 + (digit - 48)) }
+{
+    number
+        .checked_mul(10)?
+        .checked_add(u64::from(digit - b'0'))
+}
+
+/// The number that a segment names: its decimal digits, without leading zeros.
+pub(crate) fn round_named(segment: &[u8]) -> Option<u64>
+    ensures { result ≡ spec.round_named segment.now }
+{
+    if !is_plain_number(segment) {
+        return None;
+    }
+    let mut number = 0;
+    for digit in segment {
+        match with_digit(number, *digit) {
+            Some(longer) => number = longer,
+            None => return None,
+        }
+    }
+    Some(number)
+}
