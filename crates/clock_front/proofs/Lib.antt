@@ -5,3 +5,4 @@ mod HeaderLaws
 mod TextLaws
 mod ProgressLaws
 mod RouteLaws
+mod MemberLaws

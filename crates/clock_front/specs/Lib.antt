@@ -5,3 +5,4 @@ pub mod Framing
 pub mod FramingLaws
 pub mod Shown
 pub mod Routes
+pub mod Bodies

@@ -6,17 +6,22 @@
 
 ghost use Rattle.clock_front.specs.FramingLaws as laws;
 
+mod body_fault;
 mod head;
 mod headers;
+mod members;
 mod progress;
+mod put_body;
 mod request_text;
 mod routes;
 mod scan;
 #[cfg(test)]
 mod tests;
 
+pub use body_fault::BodyFault;
 pub use head::EndedHead;
 pub use progress::Progress;
+pub use put_body::{PutBody, read_put};
 pub use request_text::{Framing, Head, frame};
 pub use routes::{Page, Role};
 

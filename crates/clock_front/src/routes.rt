@@ -174,9 +174,7 @@ fn with_digit(number: u64, digit: u8) -> Option<u64>
     requires { 48 ≤ digit }
     ensures { MatchOption result (2 ^ 64 ≤ number * 10 + (digit - 48)) (λ longer. longer ≡ number * 10 + (digit - 48)) }
 {
-    number
-        .checked_mul(10)?
-        .checked_add(u64::from(digit - b'0'))
+    number.checked_mul(10)?.checked_add(u64::from(digit - b'0'))
 }
 
 /// The number that a segment names: its decimal digits, without leading zeros.
