@@ -6,3 +6,4 @@ mod TextLaws
 mod ProgressLaws
 mod RouteLaws
 mod MemberLaws
+mod ReplyLaws

@@ -6,3 +6,5 @@ pub mod FramingLaws
 pub mod Shown
 pub mod Routes
 pub mod Bodies
+pub mod Replies
+pub mod ShownReply

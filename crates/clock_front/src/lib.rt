@@ -8,10 +8,12 @@ ghost use Rattle.clock_front.specs.FramingLaws as laws;
 
 mod body_fault;
 mod head;
+mod head_room;
 mod headers;
 mod members;
 mod progress;
 mod put_body;
+mod reply;
 mod request_text;
 mod routes;
 mod scan;
@@ -22,6 +24,7 @@ pub use body_fault::BodyFault;
 pub use head::EndedHead;
 pub use progress::Progress;
 pub use put_body::{PutBody, read_put};
+pub use reply::Reply;
 pub use request_text::{Framing, Head, frame};
 pub use routes::{Page, Role};
 

@@ -1,1 +1,4 @@
+mod bodies;
 mod framing;
+mod replies;
+mod routes;
