@@ -1,4 +1,6 @@
 //! What a text is, whole and in pieces.
+ghost use Rattle.std.specs.Prelude.{◌≤◌, length};
+
 use crate::{Framing, Progress, frame};
 use clock_views::Code;
 use std::alloc::Global;
@@ -195,23 +197,23 @@ fn a_head_has_limits(rt: HostRuntime) -> Result<(), Fail> {
     Ok(())
 }
 
-/// How many bytes of a text come before it is decided, where they come one by one.
-fn decided_after(text: &[u8]) -> usize {
-    let mut progress = Progress::new();
-    for count in 0..text.len() {
-        progress = progress.advance(&text[..count]);
-        match progress {
-            Progress::Unended(_) => (),
-            Progress::Waiting(_) => (),
-            Progress::Complete(_) => return count,
-            Progress::Refused(_) => return count,
-        }
+/// How long the body is of a text that comes in two pieces.
+fn body_in_two(text: &[u8], count: usize) -> Option<usize>
+    requires { count ≤ length text.now }
+{
+    let first = Progress::new().advance(&text[..count]);
+    match first.advance(text) {
+        Progress::Unended(_) => None,
+        Progress::Waiting(_) => None,
+        Progress::Complete(head) => Some(head.body),
+        Progress::Refused(_) => None,
     }
-    text.len()
 }
 
 #[test]
-fn a_text_is_decided_at_its_last_byte(rt: HostRuntime) {
-    assert_eq!(rt; decided_after(PUT.as_bytes()), PUT.len() - 8);
-    assert_eq!(rt; decided_after(b"\r\n\r\nx"), 4);
+fn a_text_in_pieces_is_the_text(rt: HostRuntime) {
+    let text = PUT.as_bytes();
+    for count in 0..text.len() {
+        assert_eq!(rt; body_in_two(text, count), Some(3));
+    }
 }
