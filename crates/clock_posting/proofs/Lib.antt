@@ -1,6 +1,5 @@
 pub mod Ranges
 pub mod Excess
 pub mod Laws
-mod SheetExamples
 pub mod Posted
-mod PostedExamples
+mod Examples

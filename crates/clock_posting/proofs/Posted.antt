@@ -5,13 +5,17 @@ use Rattle.std.specs.List.{list_any, range_with_len}
 use Rattle.std.proofs.lemmas.Bool.Decides.{nat_tests}
 use Rattle.std.proofs.lemmas.List.Elements.{All-nil, All-cons, All-head, All-tail, All-weaker, All-get_or}
 use Rattle.std.proofs.lemmas.List.FromFn.{get_or-map-range_with_len, length-map-range_with_len}
+use Rattle.clock_setup.specs.declared.increments.Increments.{Increments}
 use Rattle.clock_setup.specs.declared.setup.Product.{Product}
 use Rattle.clock_setup.specs.declared.prices.PricePair.{PricePair}
+use Rattle.clock_setup.specs.Increments.{AreIncrements}
+use Rattle.clock_setup.specs.Limits.{IsProduct}
 use Rattle.clock_setup.specs.Prices.{prices_at}
 use Rattle.clock_bids.specs.declared.change.Change.{Change}
-use Rattle.clock_posting.specs.declared.sheet.Posting.{Posting}
+use Rattle.clock_posting.specs.declared.posting.Posting.{Posting}
 use Rattle.clock_posting.specs.Posting.{has_excess, has_ended, next_prices, sheet_line, lines_of_round, IsBetween, IsAtClock, IsPosting}
-use Rattle.clock_posting.specs.PostedPrice.{is_applied_reduction, applied_prices, highest_or, posted_price, posted_prices, IsPricedBy, IsOrdered}
+use Rattle.clock_posting.specs.PostedPrice.{is_applied_reduction, applied_prices, highest_or, posted_price, posted_prices, IsWithinPrices, IsPriceRange}
+use Rattle.clock_posting.specs.RoundEnd.{IsRoundEnd}
 use Rattle.clock_posting.proofs.Ranges.{all_in_range, some_in_range}
 use Rattle.clock_posting.proofs.Laws.{some_if_going_on}
 
@@ -24,17 +28,21 @@ applied_product : (product : ℕ) (change : Change) (left : ℕ) → is_applied_
 applied_product product change left applied = grind (arith, nat_tests)
 
 -- what holds of the prices of a product's changes holds of its applied prices
-applied_head : (P : ℕ → Type 0) (product : ℕ) (change : Change) (left : ℕ) (rest : List (Change × ℕ)) (b : Bool) → is_applied_reduction product change left ≡ b → (change.product ≡ product → P change.price) → All P (map (λ line. line.0.price) rest) → All P (map (λ line. line.0.price) (cond b ((change, left) ∷ rest) rest))
+applied_head : (P : ℕ → Type 0) (product : ℕ) (change : Change) (left : ℕ) (rest : List (Change × ℕ)) (b : Bool) →
+    is_applied_reduction product change left ≡ b → (change.product ≡ product → P change.price) → All P (map (λ line. line.0.price) rest) →
+    All P (map (λ line. line.0.price) (cond b ((change, left) ∷ rest) rest))
 applied_head P product change left rest true applied here later =
     All-cons P change.price (map (λ line. line.0.price) rest) (here (applied_product product change left applied)) later
 applied_head P product change left rest false applied here later = later
 
-applied_within : (P : ℕ → Type 0) (product : ℕ) (changes : List Change) (left : List ℕ) → All (λ change. change.product ≡ product → P change.price) changes → All P (applied_prices changes left product)
+applied_within : (P : ℕ → Type 0) (product : ℕ) (changes : List Change) (left : List ℕ) →
+    All (λ change. change.product ≡ product → P change.price) changes → All P (applied_prices changes left product)
 applied_within P product [] left holds = All-nil P
 applied_within P product (change ∷ changes) [] holds = All-nil P
 applied_within P product (change ∷ changes) (l ∷ left) holds =
     let Q = λ (c : Change). c.product ≡ product → P c.price in
-    applied_head P product change l (filter (λ line. is_applied_reduction product line.0 line.1) (zip changes left)) (is_applied_reduction product change l) refl (All-head Q change changes holds) (applied_within P product changes left (All-tail Q change changes holds))
+    applied_head P product change l (filter (λ line. is_applied_reduction product line.0 line.1) (zip changes left))
+    (is_applied_reduction product change l) refl (All-head Q change changes holds) (applied_within P product changes left (All-tail Q change changes holds))
 
 -- the highest of a price and others
 highest_from : (price : ℕ) (prices : List ℕ) → price ≤ fold max price prices
@@ -63,15 +71,19 @@ highest_or_to start most prices first above below =
     omega (arith, highest_to most start prices first below, fold_is_highest start prices above)
 
 -- applied prices stand from the start price to the clock price
-pub applied_from_start : (prices : List PricePair) (changes : List Change) (left : List ℕ) (product : ℕ) → All (IsPricedBy prices) changes → All (λ price. (prices_at prices product).start ≤ price) (applied_prices changes left product)
+pub applied_from_start : (prices : List PricePair) (changes : List Change) (left : List ℕ) (product : ℕ) →
+    All (IsWithinPrices prices) changes → All (λ price. (prices_at prices product).start ≤ price) (applied_prices changes left product)
 applied_from_start prices changes left product priced =
     let P = λ (price : ℕ). (prices_at prices product).start ≤ price in
-    applied_within P product changes left (All-weaker (IsPricedBy prices) (λ c. c.product ≡ product → P c.price) (λ c h is. rw is at h.from_start) changes priced)
+    applied_within P product changes left (All-weaker (IsWithinPrices prices) (λ c. c.product ≡ product → P c.price)
+    (λ c h is. rw is at h.from_start) changes priced)
 
-applied_to_clock : (prices : List PricePair) (changes : List Change) (left : List ℕ) (product : ℕ) → All (IsPricedBy prices) changes → All (λ price. price ≤ (prices_at prices product).clock) (applied_prices changes left product)
+applied_to_clock : (prices : List PricePair) (changes : List Change) (left : List ℕ) (product : ℕ) → All (IsWithinPrices prices) changes →
+    All (λ price. price ≤ (prices_at prices product).clock) (applied_prices changes left product)
 applied_to_clock prices changes left product priced =
     let P = λ (price : ℕ). price ≤ (prices_at prices product).clock in
-    applied_within P product changes left (All-weaker (IsPricedBy prices) (λ c. c.product ≡ product → P c.price) (λ c h is. rw is at h.to_clock) changes priced)
+    applied_within P product changes left (All-weaker (IsWithinPrices prices) (λ c. c.product ≡ product → P c.price)
+    (λ c h is. rw is at h.to_clock) changes priced)
 
 module _ (products : List Product) (prices : List PricePair) (changes : List Change) (left : List ℕ) (grid : List (List ℕ)) where
   -- a posted price for each product
@@ -79,37 +91,66 @@ module _ (products : List Product) (prices : List PricePair) (changes : List Cha
   length-posted_prices =
       length-map-range_with_len (posted_price products prices changes left grid) 0 (length products)
 
-  pub posted_at : (product : ℕ) → product < length products → get_or (posted_prices products prices changes left grid) product 0 ≡ posted_price products prices changes left grid product
+  pub posted_at : (product : ℕ) → product < length products →
+      get_or (posted_prices products prices changes left grid) product 0 ≡ posted_price products prices changes left grid product
   posted_at product below =
       get_or-map-range_with_len (posted_price products prices changes left grid) 0 (length products) product product 0 below (zero-add product)
 
-  price_between : (product : ℕ) (excess : Bool) → IsOrdered (prices_at prices product) → All (IsPricedBy prices) changes → ((prices_at prices product).start ≤ (if excess then (prices_at prices product).clock else highest_or (prices_at prices product).start (applied_prices changes left product))) × ((if excess then (prices_at prices product).clock else highest_or (prices_at prices product).start (applied_prices changes left product)) ≤ (prices_at prices product).clock)
+  price_between : (product : ℕ) (excess : Bool) → IsPriceRange (prices_at prices product) → All (IsWithinPrices prices) changes →
+      ((prices_at prices product).start ≤ (if excess then (prices_at prices product).clock else highest_or (prices_at prices product).start
+      (applied_prices changes left product))) × ((if excess then (prices_at prices product).clock else highest_or
+      (prices_at prices product).start (applied_prices changes left product)) ≤ (prices_at prices product).clock)
   price_between product true ordered priced = (ordered, omega arith)
   price_between product false ordered priced =
       let above = applied_from_start prices changes left product priced in
       (highest_or_from _ _ above, highest_or_to _ _ _ ordered above (applied_to_clock prices changes left product priced))
 
   -- each posted price stands between start and clock price
-  pub posted_between : (increment product : ℕ) → length prices ≡ length products → All IsOrdered prices → All (IsPricedBy prices) changes → product < length products → IsBetween (sheet_line products prices grid (posted_prices products prices changes left grid) increment product)
-  posted_between increment product each ordered priced below =
-      let here = price_between product (has_excess products grid product) (All-get_or IsOrdered prices product (record { start = 0; clock = 0 }) (omega (arith, each)) ordered) priced in
+  pub posted_between : (increments : Increments) (product : ℕ) → length prices ≡ length products → All IsPriceRange prices →
+      All (IsWithinPrices prices) changes → product < length products →
+      IsBetween (sheet_line products prices grid (posted_prices products prices changes left grid) increments product)
+  posted_between increments product each ordered priced below =
+      let here = price_between product (has_excess products grid product)
+      (All-get_or IsPriceRange prices product (record { start = 0; clock = 0 }) (omega (arith, each)) ordered) priced in
       let is = posted_at product below in
       record { from_start = omega (arith, here.0, is); to_clock = omega (arith, here.1, is) }
 
+  -- what a round after the first has come to
+  pub later_round_end : (increments : Increments) → All IsProduct products → All (λ row. length row ≡ length products) grid →
+      AreIncrements (length products) increments → length prices ≡ length products → All IsPriceRange prices →
+      All (IsWithinPrices prices) changes → IsRoundEnd products prices grid (posted_prices products prices changes left grid) increments
+  later_round_end increments limits rows are each ordered priced = record {
+    limits = limits;
+    prices_each = each;
+    rows = rows;
+    posted_each = length-posted_prices;
+    increments_each = are;
+    between = λ k below. posted_between increments k each ordered priced below;
+  }
+
   -- posted prices are at least a dollar
-  pub posted_dollars : length prices ≡ length products → All IsOrdered prices → All (IsPricedBy prices) changes → All (λ pair. 1 ≤ pair.start) prices → All (λ price. 1 ≤ price) (posted_prices products prices changes left grid)
+  pub posted_dollars : length prices ≡ length products → All IsPriceRange prices → All (IsWithinPrices prices) changes →
+      All (λ pair. 1 ≤ pair.start) prices → All (λ price. 1 ≤ price) (posted_prices products prices changes left grid)
   posted_dollars each ordered priced some =
       all_in_range (λ price. 1 ≤ price) (posted_price products prices changes left grid) (length products) (λ k below.
       let d : PricePair = record { start = 0; clock = 0 } in
       let in_range : k < length prices = omega (arith, each) in
-      let here = price_between k (has_excess products grid k) (All-get_or IsOrdered prices k d in_range ordered) priced in
+      let here = price_between k (has_excess products grid k) (All-get_or IsPriceRange prices k d in_range ordered) priced in
       omega (arith, here.0, some k d in_range))
 
   -- where the auction goes on, some clock price is posted
-  pub some_at_clock : (increment : ℕ) → has_ended products grid ≡ false → Any IsAtClock (lines_of_round products prices grid (posted_prices products prices changes left grid) increment)
-  some_at_clock increment goes_on =
-      some_in_range IsAtClock (sheet_line products prices grid (posted_prices products prices changes left grid) increment) (has_excess products grid) (length products) (λ k below excess. posted_at k below ∙ ap (λ b. if b then (prices_at prices k).clock else highest_or (prices_at prices k).start (applied_prices changes left k)) excess) (not_false (list_any (has_excess products grid) (range_with_len 0 (length products))) goes_on)
+  pub some_at_clock : (increments : Increments) → has_ended products grid ≡ false →
+      Any IsAtClock (lines_of_round products prices grid (posted_prices products prices changes left grid) increments)
+  some_at_clock increments goes_on =
+      some_in_range IsAtClock (sheet_line products prices grid (posted_prices products prices changes left grid) increments)
+      (has_excess products grid) (length products) (λ k below excess. posted_at k below
+      ∙ ap (λ b. if b then (prices_at prices k).clock else highest_or (prices_at prices k).start (applied_prices changes left k))
+      excess) (not_false (list_any (has_excess products grid) (range_with_len 0 (length products))) goes_on)
 
-  pub clock_posted : (round increment : ℕ) (posting : Posting) → IsPosting round products prices grid (posted_prices products prices changes left grid) increment posting → IfSome posting.next (λ _. Any IsAtClock posting.sheet.lines)
-  clock_posted round increment posting is =
-      rw (is.sheet, is.next) (some_if_going_on (has_ended products grid) (next_prices (posted_prices products prices changes left grid) increment) (λ _. Any IsAtClock (lines_of_round products prices grid (posted_prices products prices changes left grid) increment)) (some_at_clock increment))
+  pub clock_posted : (round : ℕ) (increments : Increments) (posting : Posting) →
+      IsPosting round products prices grid (posted_prices products prices changes left grid) increments posting →
+      IfSome posting.next (λ _. Any IsAtClock posting.sheet.lines)
+  clock_posted round increments posting is =
+      rw (is.sheet, is.next) (some_if_going_on (has_ended products grid)
+      (next_prices products increments (posted_prices products prices changes left grid))
+      (λ _. Any IsAtClock (lines_of_round products prices grid (posted_prices products prices changes left grid) increments)) (some_at_clock increments))

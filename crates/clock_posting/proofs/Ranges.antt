@@ -1,7 +1,7 @@
 -- A test, a fact or a function over n neighbouring numbers from a on.
-use Rattle.std.proofs.Common.{◌≡◌, ℕ, zero, suc, ◌+◌, ◌<◌, ◌≤◌, Bool, true, false, map, refl, ap, sym, ◌∙◌, arith, zero-add}
+use Rattle.std.proofs.Common.{◌≡◌, ℕ, zero, suc, ◌+◌, ◌-◌, ◌<◌, ◌≤◌, Bool, true, false, cond, Some, map, refl, ap, sym, ◌∙◌, arith, zero-add}
 use Rattle.std.specs.Prelude.{All, Any}
-use Rattle.std.specs.List.{list_any, range_with_len}
+use Rattle.std.specs.List.{list_any, range_with_len, position_from}
 use Rattle.std.proofs.lemmas.List.FromFn.{length-range_with_len, get_or-range_with_len, length-map-range_with_len, get_or-map-range_with_len}
 use Rattle.std.proofs.lemmas.List.Folds.{list_any_at, Any-from_list_any}
 
@@ -23,9 +23,30 @@ all_in_range P f n holds = λ k d below.
     rw (get_or-map-range_with_len f 0 n k k d in_range (zero-add k)) (holds k in_range)
 
 -- what holds of some value of a function, namely where a test passes
-pub some_in_range : {X : Type 0} (P : X → Type 0) (f : ℕ → X) (test : ℕ → Bool) (n : ℕ) → ((k : ℕ) → k < n → test k ≡ true → P (f k)) → list_any test (range_with_len 0 n) ≡ true → Any P (map f (range_with_len 0 n))
+pub some_in_range : {X : Type 0} (P : X → Type 0) (f : ℕ → X) (test : ℕ → Bool) (n : ℕ) → ((k : ℕ) → k < n → test k ≡ true → P (f k)) →
+    list_any test (range_with_len 0 n) ≡ true → Any P (map f (range_with_len 0 n))
 some_in_range P f test n holds passes =
     let found = Any-from_list_any test (range_with_len 0 n) passes in
     let in_range : found.0 < n = omega (arith, length-range_with_len 0 n, found.2) in
-    let is : found.1 ≡ found.0 = sym found.3 ∙ get_or-range_with_len 0 n found.0 found.1 in_range ∙ zero-add found.0 in
-    (found.0, f found.0, omega (arith, length-map-range_with_len f 0 n), get_or-map-range_with_len f 0 n found.0 found.0 (f found.0) in_range (zero-add found.0), holds found.0 in_range (ap test (sym is) ∙ found.4))
+    let is : found.1 ≡ found.0 = sym found.3 ∙ get_or-range_with_len 0 n found.0 found.1 in_range ∙ zero-add found.0 in (
+      found.0,
+      f found.0,
+      omega (arith, length-map-range_with_len f 0 n),
+      get_or-map-range_with_len f 0 n found.0 found.0 (f found.0) in_range (zero-add found.0),
+      holds found.0 in_range (ap test (sym is) ∙ found.4),
+    )
+
+-- the first number that passes, of those from k on that are below n: it is k, or one of the others
+range_from : (k n : ℕ) → k < n → range_with_len k (n - k) ≡ range_with_len k (suc (n - (k + 1)))
+range_from k n below = let more : n - k ≡ suc (n - (k + 1)) = omega (arith, below) in ap (range_with_len k) more
+
+pub first_is : (test : ℕ → Bool) (k n : ℕ) → k < n → test k ≡ true → position_from test k (range_with_len k (n - k)) ≡ Some k
+first_is test k n below passes =
+    ap (position_from test k) (range_from k n below)
+    ∙ ap (λ b. cond b (Some k) (position_from test (k + 1) (range_with_len (k + 1) (n - (k + 1))))) passes
+
+pub first_is_later : (test : ℕ → Bool) (k n : ℕ) → k < n → test k ≡ false →
+    position_from test k (range_with_len k (n - k)) ≡ position_from test (k + 1) (range_with_len (k + 1) (n - (k + 1)))
+first_is_later test k n below fails =
+    ap (position_from test k) (range_from k n below)
+    ∙ ap (λ b. cond b (Some k) (position_from test (k + 1) (range_with_len (k + 1) (n - (k + 1))))) fails

@@ -1,7 +1,7 @@
 -- The posted prices of a round after the first.
 --     applied_prices changes left product      the prices of the product's reductions of which a part was applied
 --     posted_prices products prices changes left grid      the posted price of each product
---     IsPricedBy prices change      the change is made at a price of its product
+--     IsWithinPrices prices change      the change is made at a price of its product
 use Rattle.std.specs.Prelude.{ℕ, ◌≤◌, ◌<◌, List, [], ◌∷◌, Bool, true, false, ◌&&◌, ◌==◌, nat_lt, if◌then◌else◌, length, map, max, filter, fold, zip}
 use Rattle.std.specs.List.{range_with_len}
 use Rattle.clock_setup.specs.declared.setup.Product.{Product}
@@ -31,7 +31,8 @@ abbrev pub highest_or : ℕ → List ℕ → ℕ
 highest_or other [] = other
 highest_or other (price ∷ prices) = fold max price prices
 
--- the clock price where there is excess demand, otherwise the start price where no reduction was applied, otherwise the highest price of an applied one (own rule)
+-- the clock price where there is excess demand, otherwise the start price where no reduction was applied, otherwise the highest price of an applied
+-- one (own rule)
 abbrev pub posted_price : List Product → List PricePair → List Change → List ℕ → List (List ℕ) → ℕ → ℕ
 posted_price products prices changes left grid product =
     if has_excess products grid product then (prices_at prices product).clock
@@ -43,11 +44,11 @@ posted_prices products prices changes left grid =
     map (posted_price products prices changes left grid) (range_with_len 0 (length products))
 
 -- the change is of a product that has prices, at a price from its start price to its clock price
-pub record IsPricedBy (prices : List PricePair) (change : Change) : Type 0 where
+pub record IsWithinPrices (prices : List PricePair) (change : Change) : Type 0 where
   pub product : change.product < length prices
   pub from_start : (prices_at prices change.product).start ≤ change.price
   pub to_clock : change.price ≤ (prices_at prices change.product).clock
 
 -- the start price is not above the clock price
-abbrev pub IsOrdered : PricePair → Type 0
-IsOrdered pair = pair.start ≤ pair.clock
+abbrev pub IsPriceRange : PricePair → Type 0
+IsPriceRange pair = pair.start ≤ pair.clock

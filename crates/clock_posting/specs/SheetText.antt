@@ -1,20 +1,17 @@
 -- The lines that tell a round's sheet, one for the round and one for each product (own format).
 --     sheet_text products sheet      the lines
-use Rattle.std.specs.Prelude.{ℕ, List, ◌++◌, Option, Some, None, codes, decimal, zip}
+use Rattle.std.specs.Prelude.{ℕ, List, ◌++◌, codes, decimal, zip}
 use Rattle.std.specs.List.{flat_map}
+use Rattle.clock_device.specs.Decimal.{number_or_dash}
 use Rattle.clock_setup.specs.declared.setup.Product.{Product}
 use Rattle.clock_posting.specs.declared.sheet.Line.{Line}
 use Rattle.clock_posting.specs.declared.sheet.RoundSheet.{RoundSheet}
 
--- a number in decimal, or a dash where there is none
-abbrev pub number_or_dash : Option ℕ → List ℕ
-number_or_dash None = codes "-"
-number_or_dash (Some number) = decimal number
-
 -- the product's name, its start price, clock price and posted price, its demand and its next clock price, parted by one space
 abbrev pub line_text : Product → Line → List ℕ
 line_text product line =
-    product.name ++ codes " " ++ decimal line.start ++ codes " " ++ decimal line.clock ++ codes " " ++ decimal line.posted ++ codes " " ++ number_or_dash line.demand ++ codes " " ++ number_or_dash line.next ++ codes "\n"
+    product.name ++ codes " " ++ decimal line.start ++ codes " " ++ decimal line.clock ++ codes " " ++ decimal line.posted ++ codes " "
+    ++ number_or_dash line.demand ++ codes " " ++ number_or_dash line.next ++ codes "\n"
 
 -- the lines of some products
 abbrev pub lines_text : List Product → List Line → List ℕ

@@ -1,4 +1,5 @@
-use std::alloc::{AllocError, Global};
+use clock_device::{NoMemory, Text};
+use std::alloc::Global;
 
 /// One product A of two blocks that opens at 100, and the bidders X and Y.
 pub const ONE_PRODUCT: &str = "{\"bidders\":[\
@@ -26,12 +27,22 @@ pub const TWO_PRODUCTS: &str = "{\"bidders\":[\
     {\"cap\":2,\"name\":\"B\",\"opening\":100,\"supply\":2,\"units\":1}\
     ],\"requirement\":100,\"version\":1}";
 
-/// The opening document of a set-up, demands and an increment.
-pub fn opening(
-    alloc: Global,
-    setup: &str,
-    demands: &str,
-    increment: u64,
-) -> Result<String, AllocError> {
-    format!(in alloc; "{{\"demands\":{demands},\"increment\":{increment},\"setup\":{setup}}}")
+/// The two-product set-up in version 2, with a granule of 25 for A and of 1 for B.
+pub const GRANULES_AND_INCREMENTS: &str = "{\"bidders\":[\
+    {\"eligibility\":2,\"name\":\"X\",\"token\":\"XXXXXXXXXXXXXXXX\"},\
+    {\"eligibility\":2,\"name\":\"Y\",\"token\":\"YYYYYYYYYYYYYYYY\"},\
+    {\"eligibility\":1,\"name\":\"Z\",\"token\":\"ZZZZZZZZZZZZZZZZ\"}\
+    ],\"limit\":100,\"operator\":\"OPERATOROPERATOR\",\"products\":[\
+    {\"cap\":2,\"granule\":25,\"name\":\"A\",\"opening\":100,\"supply\":2,\"units\":1},\
+    {\"cap\":2,\"granule\":1,\"name\":\"B\",\"opening\":100,\"supply\":2,\"units\":1}\
+    ],\"requirement\":100,\"version\":2}";
+
+/// The opening document of a set-up and demands.
+pub fn opening(alloc: Global, setup: &str, demands: &str) -> Result<Text, NoMemory> {
+    let mut text = Text::from_slice(alloc, b"{\"demands\":")?;
+    text.extend_from_slice(demands.as_bytes())?;
+    text.extend_from_slice(b",\"increment\":10,\"setup\":")?;
+    text.extend_from_slice(setup.as_bytes())?;
+    text.extend_from_slice(b"}")?;
+    Ok(text)
 }

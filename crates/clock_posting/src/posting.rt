@@ -1,148 +1,133 @@
-ghost use Rattle.std.specs.Prelude.{◌≡◌, ℕ, ◌<◌, ◌≤◌, List, length, map, All, IfOk, IfErr, None};
+ghost use Rattle.std.specs.Prelude.{◌≡◌, ◌≤◌, length, All, Any, IfOk, IfErr, IfSome};
+ghost use Rattle.clock_setup.specs.Demands.{IsGrid};
+ghost use Rattle.clock_setup.specs.Faults.{IsFirstFault};
+ghost use Rattle.clock_setup.specs.Increments.{AreIncrements};
+ghost use Rattle.clock_setup.specs.Prices.{opening_prices};
+ghost use Rattle.clock_posting.specs.PostedPrice.{IsPriceRange, IsWithinPrices, posted_prices};
 ghost use Rattle.clock_posting.specs.Posting as rules;
 
-use crate::sheet::{Line, Lines, PostFault, Posting, RoundSheet};
-use clock_device::NoMemory;
-use clock_money::{Price, clock_price};
-use clock_setup::{Grid, PricePair, Prices, Product};
+use crate::fault::PostFault;
+use crate::posted_prices::{opening_posted, posted_prices};
+use crate::round_end::RoundEnd;
+use crate::sheet::RoundSheet;
+use clock_bids::Changes;
+use clock_processor::Settled;
+use clock_setup::{Grid, Increments, OpeningPrices, Prices, Setup};
 use std::alloc::Global;
 
-/// The posting of a round, by the demands after it and the prices posted in it.
-pub fn posting(
-    alloc: Global,
-    round: u64,
-    products: &[Product],
-    prices: &[PricePair],
-    grid: &Grid,
-    posted: &[Price],
-    increment: u64,
-) -> Result<Posting, PostFault>
-    requires least { 1 ≤ increment }
-    requires most { increment ≤ 50 }
-    requires rows { All (λ row. length row ≡ length products.now) grid.now }
-    requires prices { length prices.now ≡ length products.now }
-    requires posted { length posted.now ≡ length products.now }
-    requires between { (k : ℕ) → k < length products.now → rules.IsBetween
-        (rules.sheet_line products.now prices.now grid.now posted.now increment k) }
+#[cfg(test)]
+mod tests;
 
-    ensures ok { IfOk result
-        (rules.IsPosting round products.now prices.now grid.now posted.now increment) }
-    ensures each { IfOk result (λ posting. length posting.sheet.lines ≡ length products.now) }
-    ensures err { IfErr result
-        (rules.IsPostFault (rules.price_limit_fault products.now grid.now posted.now increment)) }
+/// What the closing of a round posts: its sheet, and the prices of the next round.
+#[derive(Drop)]
+pub struct Posting {
+    /// The sheet of the round.
+    pub sheet: RoundSheet,
+    /// The prices of the next round, or none exactly where the auction has ended.
+    pub next: Option<Prices>,
+}
+
+/// What the closing of the first round posts, where the sheets' quantities stand as demands: each
+/// product's opening price is its start, clock and posted price.
+///
+/// An increment is a percentage from 1 to 50, by which the clock price of a product in the next
+/// round stands above its posted price, rounded up to a whole multiple of its granule; a list has
+/// one for each product. The auction ends where no product's total exceeds its supply; otherwise it
+/// is refused with [`PostFault::PriceLimit`] where some product can have no next clock price, and
+/// names the first such product (ascending clock auction, FCC Auction 105; the posted price of the
+/// first round is an own rule).
+pub fn post_first(
+    alloc: Global,
+    setup: &Setup,
+    grid: &Grid,
+    increments: &Increments,
+) -> Result<Posting, PostFault>
+    requires increments { AreIncrements (length setup.now.products) increments.now }
+    requires grid { IsGrid (length setup.now.bidders) (length setup.now.products) grid.now }
+
+    ensures ok { let products = setup.now.products in
+        let posted = rules.opening_posted products in
+        IfOk result (rules.IsPosting 1 products (opening_prices products) grid.now posted increments.now) }
+    ensures each { IfOk result
+        (λ posting. length posting.sheet.lines ≡ length setup.now.products) }
+    ensures err { let products = setup.now.products in
+        let posted = rules.opening_posted products in
+        IfErr result (IsFirstFault PostFault.NoMemory
+        (rules.post_fault (rules.price_limit_fault products grid.now posted increments.now))) }
     ensures laws { IfOk result rules.IsConsistent }
 {
-    let ended = has_ended(products, grid);
-    let next = if ended {
-        None
-    } else {
-        Some(next_prices(alloc, posted, increment)?)
+    let products = setup.products.as_slice();
+    let prices = Prices::opening(alloc, setup)?;
+    let posted = opening_posted(alloc, products)?;
+    let end = RoundEnd {
+        products,
+        round: 1,
+        prices: prices.as_slice(),
+        grid,
+        posted: posted.as_slice(),
+        increments,
     };
-    let lines = lines(alloc, products, prices, grid, posted, increment, ended)?;
-    let sheet = RoundSheet {
-        round,
-        ended,
-        lines,
-    };
-    Ok(Posting { sheet, next })
+    end.posting(alloc)
 }
 
-/// Whether no product's total exceeds its supply.
-fn has_ended(products: &[Product], grid: &Grid) -> bool
-    requires { All (λ row. length row ≡ length products.now) grid.now }
-    ensures { result ≡ rules.has_ended products.now grid.now }
-{
-    for (i, product) in products.iter().enumerate() {
-        if grid.total(i) > product.supply {
-            return false;
-        }
-    }
-    true
-}
-
-/// The prices of the next round, or the first product that can have none.
-fn next_prices(alloc: Global, posted: &[Price], increment: u64) -> Result<Prices, PostFault>
-    requires least { 1 ≤ increment }
-    requires most { increment ≤ 50 }
-    ensures ok { IfOk result (λ next. next ≡ rules.next_prices posted.now increment) }
-    ensures rising { IfOk result (All rules.IsRising) }
-    ensures possible { IfOk result (λ _. rules.first_at_limit posted.now increment ≡ None) }
-    ensures err { IfErr result (rules.IsPostFault (rules.first_at_limit posted.now increment)) }
-{
-    let mut next = Prices::new(alloc);
-    for (product, start) in posted.iter().enumerate() {
-        let Some(clock) = clock_price(*start, increment) else {
-            return Err(PostFault::PriceLimit(product as u64));
-        };
-        next.push(PricePair {
-            start: *start,
-            clock,
-        })?;
-    }
-    Ok(next)
-}
-
-/// The lines of a round's sheet.
-fn lines(
+/// What the closing of a round after the first posts, by the prices of the round, the changes that
+/// were asked, and what they settled to: each product's posted price is its clock price where its
+/// total exceeds its supply, otherwise its start price where no reduction of it was applied, and
+/// otherwise the highest bid price among its reductions of which a part was applied.
+///
+/// Increments, end, next prices and refusals are those of [`post_first`] (ascending clock auction,
+/// FCC Auction 105; the posted price is an own rule). The round is 2 or later. There is a pair of
+/// prices for each product, its start price not above its clock price; each change is of a product,
+/// at a price from its start to its clock price; and of each change it is known how much was left.
+pub fn post(
     alloc: Global,
-    products: &[Product],
-    prices: &[PricePair],
-    grid: &Grid,
-    posted: &[Price],
-    increment: u64,
-    ended: bool,
-) -> Result<Lines, NoMemory>
-    requires least { 1 ≤ increment }
-    requires most { increment ≤ 50 }
-    requires rows { All (λ row. length row ≡ length products.now) grid.now }
-    requires prices { length prices.now ≡ length products.now }
-    requires posted { length posted.now ≡ length products.now }
-    requires ended { ended ≡ rules.has_ended products.now grid.now }
-    ensures each { IfOk result (λ lines. length lines ≡ length products.now) }
-    ensures exact { IfOk result (λ lines. lines
-        ≡ rules.lines_of_round products.now prices.now grid.now posted.now increment) }
-{
-    let mut lines = Lines::new(alloc);
-    for product in 0..products.len() {
-        lines.push(line(products, prices, grid, posted, increment, ended, product))?;
-    }
-    Ok(lines)
-}
+    setup: &Setup,
+    round: u64,
+    prices: &Prices,
+    changes: &Changes,
+    settled: &Settled,
+    increments: &Increments,
+) -> Result<Posting, PostFault>
+    requires later { 2 ≤ round }
+    requires increments { AreIncrements (length setup.now.products) increments.now }
+    requires grid { IsGrid (length setup.now.bidders) (length setup.now.products) settled.now.grid }
+    requires prices { length prices.now ≡ length setup.now.products }
+    requires ordered { All IsPriceRange prices.now }
+    requires changes { All (IsWithinPrices prices.now) changes.now }
+    requires left { length settled.now.left ≡ length changes.now }
 
-/// The line of a product.
-fn line(
-    products: &[Product],
-    prices: &[PricePair],
-    grid: &Grid,
-    posted: &[Price],
-    increment: u64,
-    ended: bool,
-    product: usize,
-) -> Line
-    requires least { 1 ≤ increment }
-    requires most { increment ≤ 50 }
-    requires product { product < length products.now }
-    requires rows { All (λ row. length row ≡ length products.now) grid.now }
-    requires prices { length prices.now ≡ length products.now }
-    requires posted { length posted.now ≡ length products.now }
-    requires ended { ended ≡ rules.has_ended products.now grid.now }
-    ensures { result
-        ≡ rules.sheet_line products.now prices.now grid.now posted.now increment product }
+    ensures ok { let products = setup.now.products in
+        let end = settled.now in
+        let posted = posted_prices products prices.now changes.now end.left end.grid in
+        IfOk result (rules.IsPosting round products prices.now end.grid posted increments.now) }
+    ensures each { IfOk result
+        (λ posting. length posting.sheet.lines ≡ length setup.now.products) }
+    ensures err { let products = setup.now.products in
+        let end = settled.now in
+        let posted = posted_prices products prices.now changes.now end.left end.grid in
+        IfErr result (IsFirstFault PostFault.NoMemory
+        (rules.post_fault (rules.price_limit_fault products end.grid posted increments.now))) }
+    ensures laws { IfOk result rules.IsConsistent }
+    // While the auction goes on, some clock price is posted: prices rise, so it can't go on for ever.
+    ensures clock { IfOk result
+        (λ posting. IfSome posting.next (λ _. Any rules.IsAtClock posting.sheet.lines)) }
 {
-    let pair = prices[product];
-    let price = posted[product];
-    let total = grid.total(product);
-    let demand = (total > products[product].supply).then_some(total);
-    let next = if ended {
-        None
-    } else {
-        clock_price(price, increment).map(|clock| clock.get())
+    let products = setup.products.as_slice();
+    let posted = posted_prices(
+        alloc,
+        products,
+        prices.as_slice(),
+        changes.as_slice(),
+        settled.left(),
+        settled.grid(),
+    )?;
+    let end = RoundEnd {
+        products,
+        round,
+        prices: prices.as_slice(),
+        grid: settled.grid(),
+        posted: posted.as_slice(),
+        increments,
     };
-    Line {
-        start: pair.start,
-        clock: pair.clock,
-        posted: price,
-        demand,
-        next,
-    }
+    end.posting(alloc)
 }

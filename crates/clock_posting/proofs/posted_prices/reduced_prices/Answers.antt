@@ -1,0 +1,17 @@
+use Rattle.std.proofs.Common.{◌≡◌, get_or, ◌∙◌, arith}
+use Rattle.std.specs.Prelude.{fold, max}
+use Rattle.std.proofs.lemmas.List.{drop_all}
+use Rattle.clock_setup.specs.Prices.{prices_at}
+use Rattle.clock_posting.specs.PostedPrice.{applied_prices}
+use Rattle.clock_posting.proofs.Posted.{applied_from_start, fold_is_highest}
+use Rattle.clock_posting.proofs.posted_prices.reduced_prices.Goals as goal
+
+pub returns-clause-price : goal.returns-clause-price
+returns-clause-price c = λ p below.
+    let prices = c.args.prices.now in
+    let changes = c.args.changes.now in
+    let left = c.args.left.now in
+    let none = drop_all c.loop-i.i changes (omega arith) in
+    let all : get_or c.loop-i.highest p 0 ≡ fold max (prices_at prices p).start (applied_prices changes left p) =
+    rw none at (c.loop-i.invariant.rest p below) in
+    all ∙ fold_is_highest (prices_at prices p).start (applied_prices changes left p) (applied_from_start prices changes left p c.requires.changes)

@@ -1,0 +1,16 @@
+use Rattle.std.proofs.Common.{◌≡◌, ◌-◌, Some, length, map}
+use Rattle.std.specs.Prelude.{is_none, All}
+use Rattle.std.specs.List.{position_from, range_with_len}
+use Rattle.clock_posting.specs.Posting.{next_clock, next_price, first_at_limit, IsRising}
+use Rattle.clock_posting.proofs.round_end.next_prices.Given as goal
+
+-- the prices so far are the products' next ones and rise, and the first product that can't have any is among the others
+abbrev pub invariant-loop-product : goal.invariant-loop-product
+invariant-loop-product l = record {
+  each : length l.next ≡ l.product;
+  so_far : l.next ≡ map (next_price l.products l.increments l.posted) (range_with_len 0 l.product);
+  clocks : map (next_clock l.products l.increments l.posted) (range_with_len 0 l.product) ≡ map (λ pair. Some pair.clock) l.next;
+  rising : All IsRising l.next;
+  rest : position_from (λ product. is_none (next_clock l.products l.increments l.posted product)) l.product
+      (range_with_len l.product (length l.products - l.product)) ≡ first_at_limit l.products l.increments l.posted;
+}

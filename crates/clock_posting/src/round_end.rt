@@ -1,0 +1,186 @@
+ghost use Rattle.std.specs.Prelude.{◌≡◌, ◌<◌, if◌then◌else◌, None, length, All, IfOk, IfErr, IfSome, slice_index};
+ghost use Rattle.clock_setup.specs.Faults.{IsFirstFault};
+ghost use Rattle.clock_setup.specs.Increments.{AreIncrements};
+ghost use Rattle.clock_setup.specs.Limits.{IsProduct};
+ghost use Rattle.clock_posting.specs.Posting as rules;
+ghost use Rattle.clock_posting.specs.RoundEnd.{IsRoundEnd, HasClocks};
+
+use crate::fault::PostFault;
+use crate::posting::Posting;
+use crate::sheet::{Line, Lines, RoundSheet};
+use clock_device::NoMemory;
+use clock_money::{Price, clock_price};
+use clock_setup::{Grid, Increments, PricePair, Prices, Product};
+use std::alloc::Global;
+
+/// What a round has come to, from which its sheet and the prices of the next round are made.
+#[derive(Drop)]
+pub(crate) struct RoundEnd<'a> {
+    pub products: &'a [Product],
+    /// The number of the round, from 1.
+    pub round: u64,
+    /// The prices of the round.
+    pub prices: &'a [PricePair],
+    /// The demands after the round.
+    pub grid: &'a Grid,
+    /// The price that is posted for each product.
+    pub posted: &'a [Price],
+    /// By how many percent the closing raises prices.
+    pub increments: &'a Increments,
+}
+
+impl RoundEnd<'_> {
+    /// What the closing of the round posts.
+    pub fn posting(&self, alloc: Global) -> Result<Posting, PostFault>
+        requires { IsRoundEnd self.now.products.now self.now.prices.now self.now.grid.now self.now.posted.now self.now.increments.now }
+
+        ensures ok { IfOk result (rules.IsPosting self.now.round self.now.products.now self.now.prices.now self.now.grid.now
+            self.now.posted.now self.now.increments.now) }
+        ensures each { IfOk result (λ posting. length posting.sheet.lines ≡ length self.now.products.now) }
+        ensures err { IfErr result (IsFirstFault PostFault.NoMemory (rules.post_fault
+            (rules.price_limit_fault self.now.products.now self.now.grid.now self.now.posted.now self.now.increments.now))) }
+        ensures laws { IfOk result rules.IsConsistent }
+    {
+        let next = self.prices_after(alloc)?;
+        let lines = self.lines(alloc, &next)?;
+        let sheet = RoundSheet {
+            round: self.round,
+            ended: next.is_none(),
+            lines,
+        };
+        Ok(Posting { sheet, next })
+    }
+
+    /// The prices of the next round, or none where the auction has ended.
+    fn prices_after(&self, alloc: Global) -> Result<Option<Prices>, PostFault>
+        requires { IsRoundEnd self.now.products.now self.now.prices.now self.now.grid.now self.now.posted.now self.now.increments.now }
+        ensures ok { IfOk result (λ next. next ≡ rules.prices_after self.now.products.now self.now.grid.now self.now.posted.now self.now.increments.now) }
+        ensures clocks { IfOk result (λ next. IfSome next (HasClocks self.now.products.now self.now.increments.now self.now.posted.now)) }
+        ensures rising { IfOk result (λ next. IfSome next (All rules.IsRising)) }
+        ensures possible { IfOk result (λ _. rules.price_limit_fault self.now.products.now self.now.grid.now self.now.posted.now
+            self.now.increments.now ≡ None) }
+        ensures err { IfErr result (IsFirstFault PostFault.NoMemory (rules.post_fault
+            (rules.price_limit_fault self.now.products.now self.now.grid.now self.now.posted.now self.now.increments.now))) }
+    {
+        if has_ended(self.products, self.grid) {
+            Ok(None)
+        } else {
+            Ok(Some(next_prices(alloc, self.products, self.increments, self.posted)?))
+        }
+    }
+
+    /// The lines of the round's sheet, by the prices of the next round.
+    fn lines(&self, alloc: Global, next: &Option<Prices>) -> Result<Lines, NoMemory>
+        requires end { IsRoundEnd self.now.products.now self.now.prices.now self.now.grid.now self.now.posted.now self.now.increments.now }
+        requires next { next.now ≡ rules.prices_after self.now.products.now self.now.grid.now self.now.posted.now self.now.increments.now }
+        requires clocks { IfSome next.now (HasClocks self.now.products.now self.now.increments.now self.now.posted.now) }
+        ensures each { IfOk result (λ lines. length lines ≡ length self.now.products.now) }
+        ensures exact { IfOk result (λ lines. lines ≡ rules.lines_of_round self.now.products.now self.now.prices.now self.now.grid.now
+            self.now.posted.now self.now.increments.now) }
+    {
+        let mut lines = Lines::new(alloc);
+        for product in 0..self.products.len() {
+            lines.push(self.line(product, next))?;
+        }
+        Ok(lines)
+    }
+
+    /// The line of a product.
+    fn line(&self, product: usize, next: &Option<Prices>) -> Line
+        requires product { product < length self.now.products.now }
+        requires end { IsRoundEnd self.now.products.now self.now.prices.now self.now.grid.now self.now.posted.now self.now.increments.now }
+        requires next { next.now ≡ rules.prices_after self.now.products.now self.now.grid.now self.now.posted.now self.now.increments.now }
+        requires clocks { IfSome next.now (HasClocks self.now.products.now self.now.increments.now self.now.posted.now) }
+        ensures { result ≡ rules.sheet_line self.now.products.now self.now.prices.now self.now.grid.now self.now.posted.now self.now.increments.now product }
+    {
+        let pair = self.prices[product];
+        let total = self.grid.total(product);
+        let supply = self.products[product].supply;
+        Line {
+            start: pair.start,
+            clock: pair.clock,
+            posted: self.posted[product],
+            demand: (total > supply).then_some(total),
+            next: self.next_at(product, next),
+        }
+    }
+
+    /// The clock price of a product in the next round, where there is one.
+    fn next_at(&self, product: usize, next: &Option<Prices>) -> Option<u64>
+        requires product { product < length self.now.products.now }
+        requires next { next.now ≡ rules.prices_after self.now.products.now self.now.grid.now self.now.posted.now self.now.increments.now }
+        requires clocks { IfSome next.now (HasClocks self.now.products.now self.now.increments.now self.now.posted.now) }
+        ensures { result ≡ (if rules.has_ended self.now.products.now self.now.grid.now then None
+            else rules.next_clock self.now.products.now self.now.increments.now self.now.posted.now product) }
+    {
+        match next {
+            Some(prices) => Some(prices.as_slice()[product].clock.get()),
+            None => None,
+        }
+    }
+}
+
+/// Whether no product's total exceeds its supply.
+fn has_ended(products: &[Product], grid: &Grid) -> bool
+    requires { All (λ row. length row ≡ length products.now) grid.now }
+    ensures { result ≡ rules.has_ended products.now grid.now }
+{
+    for (i, product) in products.iter().enumerate() {
+        if grid.total(i) > product.supply {
+            return false;
+        }
+    }
+    true
+}
+
+/// The prices of the next round, or the first product that can have none.
+fn next_prices(
+    alloc: Global,
+    products: &[Product],
+    increments: &Increments,
+    posted: &[Price],
+) -> Result<Prices, PostFault>
+    requires limits { All IsProduct products.now }
+    requires increments { AreIncrements (length products.now) increments.now }
+    requires posted { length posted.now ≡ length products.now }
+    ensures ok { IfOk result (λ next. next ≡ rules.next_prices products.now increments.now posted.now) }
+    ensures clocks { IfOk result (HasClocks products.now increments.now posted.now) }
+    ensures rising { IfOk result (All rules.IsRising) }
+    ensures possible { IfOk result (λ _. rules.first_at_limit products.now increments.now posted.now ≡ None) }
+    ensures err { IfErr result (IsFirstFault PostFault.NoMemory
+        (rules.post_fault (rules.first_at_limit products.now increments.now posted.now))) }
+{
+    let mut next = Prices::new(alloc);
+    for product in 0..products.len() {
+        let Some(clock) = next_clock(products, increments, posted, product) else {
+            return Err(PostFault::PriceLimit(product as u64));
+        };
+        next.push(PricePair {
+            start: posted[product],
+            clock,
+        })?;
+    }
+    Ok(next)
+}
+
+/// The next clock price of a product: its posted price raised by its increment, to a whole multiple of
+/// its granule. `None` where that is above the highest price.
+fn next_clock(
+    products: &[Product],
+    increments: &Increments,
+    posted: &[Price],
+    product: usize,
+) -> Option<Price>
+    requires product { product < length products.now }
+    requires limits { All IsProduct products.now }
+    requires increments { AreIncrements (length products.now) increments.now }
+    requires posted { length posted.now ≡ length products.now }
+    ensures exact { result ≡ rules.next_clock products.now increments.now posted.now product }
+    ensures above { IfSome result (λ clock. slice_index posted.now product < clock) }
+{
+    clock_price(
+        posted[product],
+        increments.at(product),
+        products[product].granule,
+    )
+}
