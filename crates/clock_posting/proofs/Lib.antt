@@ -2,4 +2,5 @@ pub mod Ranges
 pub mod Excess
 pub mod Laws
 pub mod Posted
+pub mod NextPrices
 mod Examples

@@ -165,6 +165,7 @@ fn next_prices(
 
 /// The next clock price of a product: its posted price raised by its increment, to a whole multiple of
 /// its granule. `None` where that is above the highest price.
+#[tactic(auto, using(clock_setup::specs::IncrementLaws::increment_there))]
 fn next_clock(
     products: &[Product],
     increments: &Increments,
