@@ -5,15 +5,16 @@ use Rattle.std.proofs.lemmas.List.Sums.{sum_by-le}
 use Rattle.clock_setup.specs.declared.setup.Product.{Product}
 use Rattle.clock_setup.specs.declared.prices.PricePair.{PricePair}
 use Rattle.clock_house.specs.Standing.{Standing}
-use Rattle.clock_house.specs.Laws.{HasSoundPrices}
+use Rattle.clock_setup.specs.Limits.{most_products}
+use Rattle.clock_house.specs.Laws.{HasSoundPrices, most_rounds}
 
-by_round : (round : ℕ) → (2 ≤ round → round ≤ 4096000000000002) → round ≤ 4096000000000002
+by_round : (round : ℕ) → (2 ≤ round → round ≤ most_rounds) → round ≤ most_rounds
 by_round zero bound = omega arith
 by_round (suc zero) bound = omega arith
 by_round (suc (suc n)) bound = bound (omega arith)
 
 -- the rounds are bounded by the sum of the highest prices
-pub round_bounded : (products : List Product) (now : Standing) → length products ≤ 4096 → HasSoundPrices products now → now.round ≤ 4096000000000002
+pub round_bounded : (products : List Product) (now : Standing) → length products ≤ most_products → HasSoundPrices products now → now.round ≤ most_rounds
 round_bounded products now few priced =
     let starts : sum_by (λ (pair : PricePair). pair.start) now.prices ≤ length now.prices * 1000000000000 = sum_by-le (λ (pair : PricePair). pair.start) 1000000000000 now.prices priced.highest in
     let many : length now.prices * 1000000000000 ≤ 4096000000000000 = omega (arith, few, priced.each) in

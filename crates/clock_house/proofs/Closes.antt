@@ -4,7 +4,8 @@ use Rattle.std.specs.Prelude.{Option, Some, None, Result, Ok, Err, ◌↔◌, Is
 use Rattle.clock_setup.specs.declared.prices.PricePair.{PricePair}
 use Rattle.clock_posting.specs.Posting.{next_pair}
 use Rattle.clock_posting.specs.declared.sheet.Line.{Line}
-use Rattle.clock_setup.specs.Limits.{SetupFields, IsSetup}
+use Rattle.clock_setup.specs.declared.increments.Increments.{Increments}
+use Rattle.clock_setup.specs.Limits.{SetupFields, IsSetup, public_setup}
 use Rattle.clock_bids.specs.declared.sheet.Bid.{Bid}
 use Rattle.clock_order.specs.declared.ties.Tie.{Tie}
 use Rattle.clock_house.specs.declared.fault.CloseFault.{CloseFault}
@@ -16,40 +17,49 @@ use Rattle.clock_house.specs.Prepared.{PreparedClosing, FitsClosing}
 use Rattle.clock_house.proofs.Closings.{IsClosing, closing_passed}
 use Rattle.clock_house.proofs.Kept.{stands_open}
 
-module _ (house : HouseFields) (limits : IsSetup house.setup) (round increment : ℕ) (ties : List Tie) (commands : List Command) (stands : StandsFor commands house) where
+module _ (house : HouseFields) (limits : IsSetup house.setup) (round : ℕ) (increments : Increments) (ties : List Tie) (commands : List Command) (stands : StandsFor commands house) where
   -- the closing by the commands is that by the house
-  closing_same : closing_of house.setup (history house.setup commands) round increment ties ≡ closing_in house round increment ties
-  closing_same = ap (λ (now : OpenRound). closing house.setup.products house.setup.requirement now round increment ties) (sym (stands_open house limits commands stands))
+  closing_same : closing_of house.setup (history house.setup commands) round increments ties ≡ closing_in house round increments ties
+  closing_same = ap (λ (now : OpenRound). closing (public_setup house.setup) now round increments ties) (sym (stands_open house limits commands stands))
 
   abbrev closed_with : Result ClosedRound CloseFault → List ClosedRound
-  closed_with answer = (after_closing (history house.setup commands) (close round increment ties) answer).closed
+  closed_with answer = (after_closing (history house.setup commands) (close round increments ties) answer).closed
 
   abbrev sheets_with : Result ClosedRound CloseFault → List (Option (List Bid))
-  sheets_with answer = for_each_bidder house.setup (sheet_in_force house.setup (after_closing (history house.setup commands) (close round increment ties) answer))
+  sheets_with answer = for_each_bidder house.setup (sheet_in_force house.setup (after_closing (history house.setup commands) (close round increments ties) answer))
 
   -- an accepted closing adds its round, and no sheet is in force
-  pub close-accepted : (done : ClosedRound) (closed : List ClosedRound) (sheets : List (Option (List Bid))) (spare : ℕ) → closing_in house round increment ties ≡ Ok done →
+  pub close-accepted : (done : ClosedRound) (closed : List ClosedRound) (sheets : List (Option (List Bid))) (spare : ℕ) → closing_in house round increments ties ≡ Ok done →
       closed ≡ done ∷ house.closed → sheets ≡ for_each_bidder house.setup (λ bidder. None) →
-      StandsFor (close round increment ties ∷ commands) (record { setup = house.setup; closed = closed; sheets = sheets; spare = spare })
+      StandsFor (close round increments ties ∷ commands) (record { setup = house.setup; closed = closed; sheets = sheets; spare = spare })
   close-accepted done closed sheets spare e added none = record {
     closed = added ∙ ap (λ (list : List ClosedRound). done ∷ list) stands.closed ∙ sym (ap closed_with (closing_same ∙ e));
     sheets = none ∙ sym (ap sheets_with (closing_same ∙ e));
   }
 
   -- a refused one changes nothing
-  pub close-refused : (fault : CloseFault) → closing_in house round increment ties ≡ Err fault → StandsFor (close round increment ties ∷ commands) house
+  pub close-refused : (fault : CloseFault) → closing_in house round increments ties ≡ Err fault → StandsFor (close round increments ties ∷ commands) house
   close-refused fault e = record {
     closed = stands.closed ∙ sym (ap closed_with (closing_same ∙ e));
     sheets = stands.sheets ∙ sym (ap sheets_with (closing_same ∙ e));
   }
 
 -- a refused closing is one more command
-pub close-followed : (house : HouseFields) (limits : IsSetup house.setup) (round increment : ℕ) (ties : List Tie) (fault : CloseFault) → closing_in house round increment ties ≡ Err fault →
-    IsFollowedBy (close round increment ties) house house
-close-followed house limits round increment ties fault e = record {
+pub close-followed : (house : HouseFields) (limits : IsSetup house.setup) (round : ℕ) (increments : Increments) (ties : List Tie) (fault : CloseFault) → closing_in house round increments ties ≡ Err fault →
+    IsFollowedBy (close round increments ties) house house
+close-followed house limits round increments ties fault e = record {
   setup = refl;
-  stands = λ commands stands. close-refused house limits round increment ties commands stands fault e;
+  stands = λ commands stands. close-refused house limits round increments ties commands stands fault e;
 }
+
+-- an accepted closing of an equal house, by equal increments and tie numbers
+pub close-kept : (like house : HouseFields) (round : ℕ) (increments copy : Increments) (ties list : List Tie) (done : ClosedRound) →
+    house ≡ like → copy ≡ increments → list ≡ ties → closing_in house round increments ties ≡ Ok done → closing_in like round copy list ≡ Ok done
+close-kept like house round increments copy ties list done houses copies lists e =
+    ap (λ (one : List Tie). closing_in like round copy one) lists
+    ∙ ap (λ (one : Increments). closing_in like round one ties) copies
+    ∙ ap (λ (one : HouseFields). closing_in one round increments ties) (sym houses)
+    ∙ e
 
 -- room for further rounds is no matter of the commands
 pub stands_unchanged : (old new : HouseFields) (commands : List Command) → IsUnchanged old new → StandsFor commands old → StandsFor commands new
@@ -59,10 +69,10 @@ stands_unchanged old new commands same stands = record {
 }
 
 -- the round of an accepted closing is the current one
-pub closed_number : (house : HouseFields) (round increment : ℕ) (ties : List Tie) (done : ClosedRound) → closing_in house round increment ties ≡ Ok done →
+pub closed_number : (house : HouseFields) (round : ℕ) (increments : Increments) (ties : List Tie) (done : ClosedRound) → closing_in house round increments ties ≡ Ok done →
     ((standing_in house).ended ≡ false) × (done.sheet.round ≡ (standing_in house).round)
-closed_number house round increment ties done e =
-    let is : IsClosing house.setup.products house.setup.requirement (open_round_in house) round increment ties done = closing_passed house.setup.products house.setup.requirement (open_round_in house) round increment ties done e in
+closed_number house round increments ties done e =
+    let is : IsClosing (public_setup house.setup) (open_round_in house) round increments ties done = closing_passed (public_setup house.setup) (open_round_in house) round increments ties done e in
     (is.going, ap (λ (one : ClosedRound). one.sheet.round) is.made)
 
 -- the prices that are kept for the next round are those that the lines show
@@ -72,26 +82,26 @@ taken_prices None old lines ended going end shown = let bad : ended ≡ true = e
 taken_prices (Some list) old lines ended going end shown = shown
 
 -- what a closing goes by is the same where all but the room is
-closing_unchanged : (old new : HouseFields) → IsUnchanged old new → (round increment : ℕ) (ties : List Tie) → closing_in new round increment ties ≡ closing_in old round increment ties
-closing_unchanged old new same round increment ties =
+closing_unchanged : (old new : HouseFields) → IsUnchanged old new → (round : ℕ) (increments : Increments) (ties : List Tie) → closing_in new round increments ties ≡ closing_in old round increments ties
+closing_unchanged old new same round increments ties =
     let by = λ (setup : SetupFields) (closed : List ClosedRound) (sheets : List (Option (List Bid))).
-    closing_in (record { setup = setup; closed = closed; sheets = sheets; spare = old.spare }) round increment ties in
+    closing_in (record { setup = setup; closed = closed; sheets = sheets; spare = old.spare }) round increments ties in
     ap (λ (setup : SetupFields). by setup new.closed new.sheets) same.setup
     ∙ ap (λ (closed : List ClosedRound). by old.setup closed new.sheets) same.closed
     ∙ ap (by old.setup old.closed) same.sheets
 
 -- a closing that is prepared and then made
-module _ (old mid new : HouseFields) (round increment : ℕ) (ties : List Tie) (prepared : PreparedClosing)
-    (asked : (prepared.round ≡ round) × (prepared.increment ≡ increment) × (prepared.ties ≡ ties)) where
-  asked_closing : FitsClosing prepared mid → IsUnchanged old mid → closing_in old round increment ties ≡ Ok prepared.closed
+module _ (old mid new : HouseFields) (round : ℕ) (increments : Increments) (ties : List Tie) (prepared : PreparedClosing)
+    (asked : (prepared.round ≡ round) × (prepared.increments ≡ increments) × (prepared.ties ≡ ties)) where
+  asked_closing : FitsClosing prepared mid → IsUnchanged old mid → closing_in old round increments ties ≡ Ok prepared.closed
   asked_closing fits same =
-      sym (closing_unchanged old mid same round increment ties)
-      ∙ ap (λ (n : ℕ). closing_in mid n increment ties) (sym asked.0)
-      ∙ ap (λ (n : ℕ). closing_in mid prepared.round n ties) (sym asked.1)
-      ∙ ap (closing_in mid prepared.round prepared.increment) (sym asked.2)
+      sym (closing_unchanged old mid same round increments ties)
+      ∙ ap (λ (n : ℕ). closing_in mid n increments ties) (sym asked.0)
+      ∙ ap (λ (one : Increments). closing_in mid prepared.round one ties) (sym asked.1)
+      ∙ ap (closing_in mid prepared.round prepared.increments) (sym asked.2)
       ∙ fits
 
-  pub close-done : FitsClosing prepared mid → IsUnchanged old mid → HasClosed prepared.closed mid new → IfOk (closing_in old round increment ties) (λ closed. HasClosed closed old new)
+  pub close-done : FitsClosing prepared mid → IsUnchanged old mid → HasClosed prepared.closed mid new → IfOk (closing_in old round increments ties) (λ closed. HasClosed closed old new)
   close-done fits same done =
       subst (λ (answer : Result ClosedRound CloseFault). IfOk answer (λ closed. HasClosed closed old new)) (sym (asked_closing fits same))
       (record {
@@ -100,12 +110,12 @@ module _ (old mid new : HouseFields) (round increment : ℕ) (ties : List Tie) (
         sheets = done.sheets ∙ ap (λ (setup : SetupFields). for_each_bidder setup (λ bidder. None)) same.setup;
       })
 
-  pub close-done-followed : StandsStill old mid → IsFollowedBy (close prepared.round prepared.increment prepared.ties) mid new → IsFollowedBy (close round increment ties) old new
+  pub close-done-followed : StandsStill old mid → IsFollowedBy (close prepared.round prepared.increments prepared.ties) mid new → IsFollowedBy (close round increments ties) old new
   close-done-followed still followed = record {
     setup = followed.setup ∙ still.setup;
     stands = λ commands stands.
-        subst (λ (list : List Tie). StandsFor (close round increment list ∷ commands) new) asked.2
-        (subst (λ (n : ℕ). StandsFor (close round n prepared.ties ∷ commands) new) asked.1
-        (subst (λ (n : ℕ). StandsFor (close n prepared.increment prepared.ties ∷ commands) new) asked.0
+        subst (λ (list : List Tie). StandsFor (close round increments list ∷ commands) new) asked.2
+        (subst (λ (one : Increments). StandsFor (close round one prepared.ties ∷ commands) new) asked.1
+        (subst (λ (n : ℕ). StandsFor (close n prepared.increments prepared.ties ∷ commands) new) asked.0
         (followed.stands commands (still.stands commands stands))));
   }

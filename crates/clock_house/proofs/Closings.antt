@@ -1,8 +1,9 @@
 -- What an accepted closing tells.
 use Rattle.std.proofs.Common.{◌≡◌, ℕ, List, ◌∷◌, ◌++◌, Bool, true, false, not, ◌==◌, refl}
 use Rattle.std.specs.Prelude.{Option, Some, None, Result, Ok, Err, length}
-use Rattle.clock_setup.specs.declared.setup.Product.{Product}
-use Rattle.clock_setup.specs.Limits.{is_within}
+use Rattle.clock_setup.specs.declared.increments.Increments.{Increments}
+use Rattle.clock_setup.specs.Limits.{PublicSetup}
+use Rattle.clock_setup.specs.Increments.{are_increments}
 use Rattle.clock_setup.specs.Faults.{first_fault, unless}
 use Rattle.clock_order.specs.declared.ties.Tie.{Tie}
 use Rattle.clock_order.specs.declared.ties.TieFault.{TieFault}
@@ -15,13 +16,13 @@ use Rattle.clock_house.specs.Faults.{fault_check}
 use Rattle.clock_house.specs.Closing.{OpenRound, Outcome, outcome, closed_round, closing}
 
 -- the auction goes on, the round is the current one, increment and tie numbers have no fault, no next clock price is too high, and the round is that of the outcome
-pub record IsClosing (products : List Product) (requirement : ℕ) (now : OpenRound) (round increment : ℕ) (ties : List Tie) (closed : ClosedRound) : Type 0 where
+pub record IsClosing (setup : PublicSetup) (now : OpenRound) (round : ℕ) (increments : Increments) (ties : List Tie) (closed : ClosedRound) : Type 0 where
   pub going : now.standing.ended ≡ false
   pub current : (round == now.standing.round) ≡ true
-  pub within : is_within 1 50 increment ≡ true
-  pub fair : tie_fault (length now.holdings) (length products) ties ≡ None
-  pub possible : price_limit_fault products (outcome products now ties).grid (outcome products now ties).posted increment ≡ None
-  pub made : closed ≡ closed_round products requirement now increment (outcome products now ties)
+  pub within : are_increments (length setup.products) increments ≡ true
+  pub fair : tie_fault (length now.holdings) (length setup.products) ties ≡ None
+  pub possible : price_limit_fault setup.products (outcome setup.products now ties).grid (outcome setup.products now ties).posted increments ≡ None
+  pub made : closed ≡ closed_round setup now increments (outcome setup.products now ties)
 
 -- the checks of a closing
 abbrev pub checks : Bool → Bool → Bool → ℕ → Option TieFault → Option ℕ → List (CloseFault × Bool)
@@ -43,13 +44,13 @@ passed false true true round None (Some product) made closed e = let bad : Err (
 passed false true true round None None made closed e = (refl, refl, refl, refl, refl, cc)
 
 -- an accepted closing passes all checks
-pub closing_passed : (products : List Product) (requirement : ℕ) (now : OpenRound) (round increment : ℕ) (ties : List Tie) (closed : ClosedRound) →
-    closing products requirement now round increment ties ≡ Ok closed → IsClosing products requirement now round increment ties closed
-closing_passed products requirement now round increment ties closed e =
-    let tests : Passed now.standing.ended (round == now.standing.round) (is_within 1 50 increment) (tie_fault (length now.holdings) (length products) ties)
-    (price_limit_fault products (outcome products now ties).grid (outcome products now ties).posted increment)
-    (closed_round products requirement now increment (outcome products now ties)) closed
-    = passed now.standing.ended (round == now.standing.round) (is_within 1 50 increment) now.standing.round (tie_fault (length now.holdings) (length products) ties)
-    (price_limit_fault products (outcome products now ties).grid (outcome products now ties).posted increment)
-    (closed_round products requirement now increment (outcome products now ties)) closed e in
+pub closing_passed : (setup : PublicSetup) (now : OpenRound) (round : ℕ) (increments : Increments) (ties : List Tie) (closed : ClosedRound) →
+    closing setup now round increments ties ≡ Ok closed → IsClosing setup now round increments ties closed
+closing_passed setup now round increments ties closed e =
+    let tests : Passed now.standing.ended (round == now.standing.round) (are_increments (length setup.products) increments) (tie_fault (length now.holdings) (length setup.products) ties)
+    (price_limit_fault setup.products (outcome setup.products now ties).grid (outcome setup.products now ties).posted increments)
+    (closed_round setup now increments (outcome setup.products now ties)) closed
+    = passed now.standing.ended (round == now.standing.round) (are_increments (length setup.products) increments) now.standing.round (tie_fault (length now.holdings) (length setup.products) ties)
+    (price_limit_fault setup.products (outcome setup.products now ties).grid (outcome setup.products now ties).posted increments)
+    (closed_round setup now increments (outcome setup.products now ties)) closed e in
     record { going = tests.0; current = tests.1; within = tests.2; fair = tests.3; possible = tests.4; made = tests.5 }

@@ -5,9 +5,13 @@ use Rattle.std.specs.List.{range_with_len}
 use Rattle.std.proofs.lemmas.Grind.{flat_map-append}
 use Rattle.std.proofs.lemmas.List.{append-nil, length-map}
 use Rattle.std.proofs.lemmas.List.FromFn.{length-map-range_with_len, get_or-map-range_with_len}
-use Rattle.clock_setup.specs.Limits.{IsRow}
+use Rattle.clock_setup.specs.declared.prices.PricePair.{PricePair}
+use Rattle.clock_setup.specs.Limits.{SetupFields, IsRow, public_setup}
 use Rattle.clock_setup.specs.Demands.{IsGrid}
-use Rattle.clock_bids.specs.Sheet.{IsGoodSheet, asked_demands}
+use Rattle.clock_bids.specs.declared.sheet.Own.{Own}
+use Rattle.clock_bids.specs.declared.sheet.Bid.{Bid}
+use Rattle.clock_bids.specs.Holding.{holding_of}
+use Rattle.clock_bids.specs.Sheet.{sheet_fault, IsGoodSheet, asked_demands}
 use Rattle.clock_bids.proofs.Good.{good_sheet_chains, good_sheet_row}
 use Rattle.clock_processor.specs.Board.{IsWithinEligibility}
 use Rattle.clock_house.specs.Standing.{Holding}
@@ -26,6 +30,19 @@ pub flat_map-range_more : {A : Type 0} (f : ℕ → List A) (n : ℕ) → flat_m
 flat_map-range_more f n =
     ap (flat_map f) (range_more 0 n n (omega arith)) ∙ flat_map-append f (range_with_len 0 n) (n ∷ []) ∙ ap (λ xs. flat_map f (range_with_len 0 n) ++ xs) (append-nil (f n))
 
+-- equal arguments are judged alike
+pub good_as : (setup like : SetupFields) (round n : ℕ) (prices list : List PricePair) (held : Holding) (own : Own) (bids same : List Bid) →
+    like ≡ setup → n ≡ round → list ≡ prices → own.eligibility ≡ held.eligibility → own.demands.now ≡ held.demands → same ≡ bids →
+    IsGoodSheet (public_setup setup) round prices held bids → IsGoodSheet (public_setup like) n list (holding_of own) same
+good_as setup like round n prices list held own bids same setups rounds lists eligibilities demands sheets good =
+    ap (λ (one : SetupFields). sheet_fault (public_setup one) n list (holding_of own) same) setups
+    ∙ ap (λ (one : ℕ). sheet_fault (public_setup setup) one list (holding_of own) same) rounds
+    ∙ ap (λ (one : List PricePair). sheet_fault (public_setup setup) round one (holding_of own) same) lists
+    ∙ ap (λ (one : ℕ). sheet_fault (public_setup setup) round prices (record { eligibility = one; demands = own.demands.now }) same) eligibilities
+    ∙ ap (λ (one : List ℕ). sheet_fault (public_setup setup) round prices (record { eligibility = held.eligibility; demands = one }) same) demands
+    ∙ ap (λ (one : List Bid). sheet_fault (public_setup setup) round prices held one) sheets
+    ∙ good
+
 module _ (house : HouseFields) where
   -- a holding for each bidder
   pub in-many : length (open_round_in house).holdings ≡ length house.setup.bidders
@@ -39,17 +56,17 @@ module _ (house : HouseFields) where
   within_grid grid within =
       (within.bidders ∙ length-map (open_round_in house).holdings (λ (held : Holding). held.eligibility) ∙ in-many, λ k d lt. (within.rows k d lt).each)
 
-  module _ (sound : IsOpen house.setup.products (open_round_in house)) (bidder : ℕ) (lt : bidder < length house.setup.bidders) where
+  module _ (sound : IsOpen (public_setup house.setup) (open_round_in house)) (bidder : ℕ) (lt : bidder < length house.setup.bidders) where
     -- the bids in force are good
-    pub in-good : IsGoodSheet house.setup.products (standing_in house).prices (holding_in house bidder).eligibility (holding_in house bidder).demands (bids_at house.sheets bidder)
+    pub in-good : IsGoodSheet (public_setup house.setup) (standing_in house).round (standing_in house).prices (holding_in house bidder) (bids_at house.sheets bidder)
     in-good =
-        subst (λ (held : Holding). IsGoodSheet house.setup.products (standing_in house).prices held.eligibility held.demands (bids_at house.sheets bidder)) (in-held bidder lt)
+        subst (λ (held : Holding). IsGoodSheet (public_setup house.setup) (standing_in house).round (standing_in house).prices held (bids_at house.sheets bidder)) (in-held bidder lt)
         (sound.good bidder (omega (arith, lt, in-many)))
 
     pub in-known : All (λ bid. bid.product < length house.setup.products) (bids_at house.sheets bidder)
     in-known =
-        (good_sheet_chains house.setup.products (standing_in house).prices (holding_in house bidder).demands (bids_at house.sheets bidder) (holding_in house bidder).eligibility in-good).known
+        (good_sheet_chains (public_setup house.setup) (standing_in house).round (standing_in house).prices (holding_in house bidder) (bids_at house.sheets bidder) in-good).known
 
     -- they ask for a row of demands
     pub in-asked : IsRow house.setup.products (asked_demands (length house.setup.products) (bids_at house.sheets bidder))
-    in-asked = good_sheet_row house.setup.products (standing_in house).prices (holding_in house bidder).eligibility (holding_in house bidder).demands (bids_at house.sheets bidder) in-good
+    in-asked = good_sheet_row (public_setup house.setup) (standing_in house).round (standing_in house).prices (holding_in house bidder) (bids_at house.sheets bidder) in-good

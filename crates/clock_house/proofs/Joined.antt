@@ -1,35 +1,11 @@
 -- All bidders' requests, one bidder's after another's.
-use Rattle.std.proofs.Common.{◌≡◌, ℕ, zero, suc, ◌+◌, ◌-◌, ◌<◌, ◌≤◌, inl, inr, List, ◌++◌, ap, sym, subst, ◌∙◌, arith, get_or, length, All, length-append}
+use Rattle.std.proofs.Common.{◌≡◌, ℕ, zero, suc, ◌+◌, ◌<◌, ◌≤◌, List, arith, All}
 use Rattle.std.specs.Prelude.{flat_map}
 use Rattle.std.specs.List.{range_with_len, AllPairs}
-use Rattle.std.proofs.lemmas.Bool.{cases_lt}
-use Rattle.std.proofs.lemmas.List.{get_or_append_left, get_or-append-add}
 use Rattle.std.proofs.lemmas.List.Elements.{All-append, All-nil, All-weaker}
+use Rattle.clock_device.proofs.Pairs.{AllPairs-append}
 use Rattle.clock_bids.specs.declared.change.Change.{Change}
 use Rattle.clock_bids.specs.Requests.{AreApart}
-
-module _ {A : Type 0} (R : A → A → Type 0) (xs ys : List A) where
-  -- an element of the second list
-  in_second : (j : ℕ) (d : A) → length xs ≤ j → get_or (xs ++ ys) j d ≡ get_or ys (j - length xs) d
-  in_second j d from = ap (λ i. get_or (xs ++ ys) i d) (omega (arith, from)) ∙ get_or-append-add xs ys (j - length xs) d
-
-  -- pairs within each of two lists and across them
-  pub AllPairs-append : AllPairs R xs → AllPairs R ys → ((i j : ℕ) (d : A) → i < length xs → j < length ys → R (get_or xs i d) (get_or ys j d)) → AllPairs R (xs ++ ys)
-  AllPairs-append first second across i j d before within =
-      let long : length (xs ++ ys) ≡ length xs + length ys = length-append xs ys in
-      elim (cases_lt j (length xs)) as (λ _. R (get_or (xs ++ ys) i d) (get_or (xs ++ ys) j d)) [
-        | inl left ↦
-            subst (λ one. R one (get_or (xs ++ ys) j d)) (sym (get_or_append_left xs ys d i (omega (arith, before, left))))
-            (subst (R (get_or xs i d)) (sym (get_or_append_left xs ys d j left)) (first i j d before left))
-        | inr right ↦ elim (cases_lt i (length xs)) as (λ _. R (get_or (xs ++ ys) i d) (get_or (xs ++ ys) j d)) [
-          | inl left ↦
-              subst (λ one. R one (get_or (xs ++ ys) j d)) (sym (get_or_append_left xs ys d i left))
-              (subst (R (get_or xs i d)) (sym (in_second j d right)) (across i (j - length xs) d left (omega (arith, within, long, right))))
-          | inr beyond ↦
-              subst (λ one. R one (get_or (xs ++ ys) j d)) (sym (in_second i d beyond))
-              (subst (R (get_or ys (i - length xs) d)) (sym (in_second j d right)) (second (i - length xs) (j - length xs) d (omega (arith, before, beyond)) (omega (arith, within, long, right))))
-        ]
-      ]
 
 module _ (requests_of : ℕ → List Change) (bidders : ℕ) where
   -- what holds of each bidder's requests holds of all
@@ -51,4 +27,4 @@ module _ (requests_of : ℕ → List Change) (bidders : ℕ) where
       (omega (arith, within)) in
       let mine : All (λ (change : Change). change.bidder ≡ a) (requests_of a) = own a (omega (arith, within)) in
       AllPairs-append AreApart (requests_of a) rest (apart a (omega (arith, within))) (apart_joined own apart (a + 1) n (omega (arith, within)))
-      (λ i j d i_in j_in bidder product place. omega (arith, mine i d i_in, later j d j_in, bidder))
+      (λ i d i_in j e j_in bidder product place. omega (arith, mine i d i_in, later j e j_in, bidder))

@@ -5,7 +5,7 @@ use Rattle.std.proofs.lemmas.Option.{none-some, slice_get_within, get_or_from_sl
 use Rattle.std.proofs.lemmas.List.Elements.{All-nil, All-cons, All-head, All-tail, All-append}
 use Rattle.std.proofs.lemmas.List.{reverse-reverse}
 use Rattle.std.proofs.lemmas.List.FromFn.{length-map-range_with_len}
-use Rattle.clock_setup.specs.Limits.{IsSetup}
+use Rattle.clock_setup.specs.Limits.{IsSetup, public_setup}
 use Rattle.clock_bids.specs.declared.sheet.Bid.{Bid}
 use Rattle.clock_house.specs.Command.{Command}
 use Rattle.clock_house.specs.Closing.{OpenRound}
@@ -76,8 +76,8 @@ module _ (house : HouseFields) (limits : IsSetup house.setup) (commands : List C
       } in round in
       ap (λ (closed : List ClosedRound). at closed house.sheets) stands.closed ∙ ap (at (history house.setup commands).closed) stands.sheets
 
-  pub stands_going : (standing_in house).ended ≡ false → IsOpen house.setup.products (open_round_in house)
+  pub stands_going : (standing_in house).ended ≡ false → IsOpen (public_setup house.setup) (open_round_in house)
   stands_going going =
-      subst (IsOpen house.setup.products) (sym stands_open)
+      subst (IsOpen (public_setup house.setup)) (sym stands_open)
       (open_sound house.setup limits (history house.setup commands) (sound house.setup limits commands)
       (ap (λ (closed : List ClosedRound). (standing house.setup.products closed).ended) (sym stands.closed) ∙ going))

@@ -4,7 +4,8 @@ use Rattle.std.specs.Prelude.{Some, None, Result, Ok, Err, reverse, slice_get}
 use Rattle.std.proofs.lemmas.List.FromFn.{length-map-range_with_len}
 use Rattle.std.proofs.lemmas.List.{reverse-reverse, length-reverse, reverse-append}
 use Rattle.std.proofs.lemmas.Option.{none-some}
-use Rattle.clock_setup.specs.Limits.{SetupFields}
+use Rattle.clock_setup.specs.declared.increments.Increments.{Increments}
+use Rattle.clock_setup.specs.Limits.{SetupFields, public_setup}
 use Rattle.clock_order.specs.declared.ties.Tie.{Tie}
 use Rattle.clock_house.specs.declared.fault.CloseFault.{CloseFault}
 use Rattle.clock_house.specs.Standing.{first_holding, holding_after}
@@ -20,23 +21,23 @@ module _ (setup : SetupFields) where
   round-closed [] all going = refl
   round-closed (last ∷ rounds) all going = ap (λ ended. cond ended last.sheet.round (last.sheet.round + 1)) going ∙ omega (arith, all.0)
 
-  numbered_closing : (auction : Auction) (round increment : ℕ) (ties : List Tie) (answer : Result ClosedRound CloseFault) → closing_of setup auction round increment ties ≡ answer →
+  numbered_closing : (auction : Auction) (round : ℕ) (increments : Increments) (ties : List Tie) (answer : Result ClosedRound CloseFault) → closing_of setup auction round increments ties ≡ answer →
       AreNumbered (length setup.bidders) (length setup.products) auction.closed →
-      AreNumbered (length setup.bidders) (length setup.products) (after_closing auction (close round increment ties) answer).closed
-  numbered_closing auction round increment ties (Ok done) e all =
-      let is : IsClosing setup.products setup.requirement (open_round setup auction) round increment ties done
-      = closing_passed setup.products setup.requirement (open_round setup auction) round increment ties done e in
+      AreNumbered (length setup.bidders) (length setup.products) (after_closing auction (close round increments ties) answer).closed
+  numbered_closing auction round increments ties (Ok done) e all =
+      let is : IsClosing (public_setup setup) (open_round setup auction) round increments ties done
+      = closing_passed (public_setup setup) (open_round setup auction) round increments ties done e in
       let number : (standing setup.products auction.closed).round ≡ suc (length auction.closed) = round-closed auction.closed all is.going in
       let bidders : length (open_round setup auction).holdings ≡ length setup.bidders = length-map-range_with_len _ 0 (length setup.bidders) in
       (ap (λ one. one.sheet.round) is.made ∙ number, ap (λ one. length one.slips) is.made ∙ length-map-range_with_len _ 0 _ ∙ bidders, ap (λ one. length one.sheet.lines) is.made ∙ length-map-range_with_len _ 0 _, all)
-  numbered_closing auction round increment ties (Err fault) e all = all
+  numbered_closing auction round increments ties (Err fault) e all = all
 
   -- so it is after every list of commands
   pub numbered : (commands : List Command) → AreNumbered (length setup.bidders) (length setup.products) (history setup commands).closed
   numbered [] = tt
   numbered (put author round bids ∷ earlier) = numbered earlier
-  numbered (close round increment ties ∷ earlier) =
-      numbered_closing (history setup earlier) round increment ties (closing_of setup (history setup earlier) round increment ties) refl (numbered earlier)
+  numbered (close round increments ties ∷ earlier) =
+      numbered_closing (history setup earlier) round increments ties (closing_of setup (history setup earlier) round increments ties) refl (numbered earlier)
   numbered (other ∷ earlier) = numbered earlier
 
 module _ {A : Type 0} where

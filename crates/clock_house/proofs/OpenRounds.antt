@@ -1,22 +1,22 @@
 -- An open round that is in order can be settled, and its outcome is in order again.
-use Rattle.std.proofs.Common.{◌≡◌, ℕ, ◌<◌, ◌≤◌, List, [], sym, subst, ◌∙◌, arith, get_or, length, All}
+use Rattle.std.proofs.Common.{◌≡◌, ℕ, ◌*◌, ◌/◌, ◌<◌, ◌≤◌, List, [], cond, ap, sym, subst, ◌∙◌, arith, get_or, length, All, eq-eqb}
 use Rattle.std.specs.Prelude.{flat_map, IsPermutation}
 use Rattle.std.specs.List.{AllPairs}
 use Rattle.std.proofs.lemmas.List.{get_or-map, length-map, get_or_default}
 use Rattle.std.proofs.lemmas.List.FromFn.{length-map-range_with_len, get_or-map-range_with_len}
 use Rattle.std.proofs.lemmas.List.Elements.{All-weaker}
-use Rattle.clock_setup.specs.declared.setup.Product.{Product}
-use Rattle.clock_setup.specs.Limits.{IsRow}
+use Rattle.clock_setup.specs.Limits.{PublicSetup, IsRow}
 use Rattle.clock_setup.specs.Demands.{row_of}
 use Rattle.clock_setup.specs.Eligibility.{activity}
 use Rattle.clock_bids.specs.declared.change.Change.{Change}
+use Rattle.clock_bids.specs.Holding.{activity_limit}
 use Rattle.clock_bids.specs.Sheet.{asked_demands}
 use Rattle.clock_bids.specs.Requests.{AreChangesOf, AreApart, IsChangeOf}
 use Rattle.clock_processor.specs.Board.{IsWithinEligibility, IsBoard, new_board}
 use Rattle.clock_processor.specs.Requests.{CanSettle}
 use Rattle.clock_processor.proofs.AllBidders.{can_settle_all}
 use Rattle.clock_processor.proofs.ProperEnd.{settled_board}
-use Rattle.clock_posting.specs.PostedPrice.{IsPricedBy}
+use Rattle.clock_posting.specs.PostedPrice.{IsWithinPrices}
 use Rattle.clock_house.specs.Standing.{Holding}
 use Rattle.clock_house.specs.Closing.{OpenRound, holding_at, bids_at, bidder_numbers, requests_of, asked_grid, settlement}
 use Rattle.clock_house.specs.Laws.{IsOpen, eligibilities_of, grid_of}
@@ -24,43 +24,51 @@ use Rattle.clock_house.proofs.Joined.{all_joined, apart_joined}
 use Rattle.clock_bids.proofs.Good.{good_sheet_row, good_sheet_activity}
 use Rattle.clock_bids.proofs.GoodChanges.{good_sheet_changes}
 
-module _ (products : List Product) (now : OpenRound) (sound : IsOpen products now) where
+module _ (setup : PublicSetup) (now : OpenRound) (sound : IsOpen setup now) where
   eligibility_at : (bidder : ℕ) → bidder < length now.holdings → get_or (eligibilities_of now) bidder 0 ≡ (holding_at now.holdings bidder).eligibility
   eligibility_at bidder lt = get_or-map (λ (holding : Holding). holding.eligibility) now.holdings bidder (record { eligibility = 0; demands = [] }) 0 lt
 
   demands_at : (bidder : ℕ) → bidder < length now.holdings → row_of (grid_of now) bidder ≡ (holding_at now.holdings bidder).demands
   demands_at bidder lt = get_or-map (λ (holding : Holding). holding.demands) now.holdings bidder (record { eligibility = 0; demands = [] }) [] lt
 
+  -- in the first round a sheet may ask for the eligibility
+  first_limit : (round eligibility : ℕ) → round ≡ 1 → activity_limit setup round eligibility ≡ eligibility
+  first_limit round eligibility first = ap (λ is. cond is eligibility (eligibility * setup.limit / 100)) (eq-eqb round 1 first)
+
   -- a grid of rows that are within the limits
   within_by : (grid : List (List ℕ)) → length grid ≡ length now.holdings →
-      ((bidder : ℕ) → bidder < length now.holdings → IsRow products (row_of grid bidder)) →
-      ((bidder : ℕ) → bidder < length now.holdings → activity products (row_of grid bidder) ≤ (holding_at now.holdings bidder).eligibility) →
-      IsWithinEligibility products (eligibilities_of now) grid
+      ((bidder : ℕ) → bidder < length now.holdings → IsRow setup.products (row_of grid bidder)) →
+      ((bidder : ℕ) → bidder < length now.holdings → activity setup.products (row_of grid bidder) ≤ (holding_at now.holdings bidder).eligibility) →
+      IsWithinEligibility setup.products (eligibilities_of now) grid
   within_by grid many rows within = record {
     bidders = many ∙ sym (length-map now.holdings _);
-    rows = λ bidder d lt. subst (IsRow products) (get_or_default grid bidder [] d lt) (rows bidder (omega (arith, lt, many)));
+    rows = λ bidder d lt. subst (IsRow setup.products) (get_or_default grid bidder [] d lt) (rows bidder (omega (arith, lt, many)));
     within = λ bidder lt. omega (arith, within bidder (omega (arith, lt, many)), eligibility_at bidder (omega (arith, lt, many)));
   }
 
   -- before the round
-  pub before_within : IsWithinEligibility products (eligibilities_of now) (grid_of now)
+  pub before_within : IsWithinEligibility setup.products (eligibilities_of now) (grid_of now)
   before_within = within_by (grid_of now) (length-map now.holdings _)
-      (λ bidder lt. subst (IsRow products) (sym (demands_at bidder lt)) (sound.held bidder lt).row)
-      (λ bidder lt. subst (λ (row : List ℕ). activity products row ≤ (holding_at now.holdings bidder).eligibility) (sym (demands_at bidder lt)) (sound.held bidder lt).within)
+      (λ bidder lt. subst (IsRow setup.products) (sym (demands_at bidder lt)) (sound.held bidder lt).row)
+      (λ bidder lt. subst (λ (row : List ℕ). activity setup.products row ≤ (holding_at now.holdings bidder).eligibility) (sym (demands_at bidder lt)) (sound.held bidder lt).within)
 
   -- what good sheets ask for in the first round
-  asked_row : (bidder : ℕ) → bidder < length now.holdings → row_of (asked_grid products now) bidder ≡ asked_demands (length products) (bids_at now.sheets bidder)
-  asked_row bidder lt = get_or-map-range_with_len (λ b. asked_demands (length products) (bids_at now.sheets b)) 0 (length now.holdings) bidder bidder [] lt (omega arith)
+  asked_row : (bidder : ℕ) → bidder < length now.holdings → row_of (asked_grid setup.products now) bidder ≡ asked_demands (length setup.products) (bids_at now.sheets bidder)
+  asked_row bidder lt = get_or-map-range_with_len (λ b. asked_demands (length setup.products) (bids_at now.sheets b)) 0 (length now.holdings) bidder bidder [] lt (omega arith)
 
-  pub asked_within : IsWithinEligibility products (eligibilities_of now) (asked_grid products now)
-  asked_within = within_by (asked_grid products now) (length-map-range_with_len _ 0 (length now.holdings))
-      (λ bidder lt. subst (IsRow products) (sym (asked_row bidder lt)) (good_sheet_row products now.standing.prices _ _ (bids_at now.sheets bidder) (sound.good bidder lt)))
-      (λ bidder lt. subst (λ (row : List ℕ). activity products row ≤ (holding_at now.holdings bidder).eligibility) (sym (asked_row bidder lt)) (good_sheet_activity products now.standing.prices _ _ (bids_at now.sheets bidder) (sound.good bidder lt)))
+  pub asked_within : now.standing.round ≡ 1 → IsWithinEligibility setup.products (eligibilities_of now) (asked_grid setup.products now)
+  asked_within first = within_by (asked_grid setup.products now) (length-map-range_with_len _ 0 (length now.holdings))
+      (λ bidder lt. subst (IsRow setup.products) (sym (asked_row bidder lt))
+      (good_sheet_row setup now.standing.round now.standing.prices (holding_at now.holdings bidder) (bids_at now.sheets bidder) (sound.good bidder lt)))
+      (λ bidder lt. subst (λ (row : List ℕ). activity setup.products row ≤ (holding_at now.holdings bidder).eligibility) (sym (asked_row bidder lt))
+      (subst (λ (most : ℕ). activity setup.products (asked_demands (length setup.products) (bids_at now.sheets bidder)) ≤ most)
+      (first_limit now.standing.round (holding_at now.holdings bidder).eligibility first)
+      (good_sheet_activity setup now.standing.round now.standing.prices (holding_at now.holdings bidder) (bids_at now.sheets bidder) (sound.good bidder lt))))
 
   -- a bidder's requests in a later round
-  pub changes_at : 2 ≤ now.standing.round → (bidder : ℕ) → bidder < length now.holdings → AreChangesOf products now.standing.prices (holding_at now.holdings bidder).demands bidder (requests_of now bidder)
+  pub changes_at : 2 ≤ now.standing.round → (bidder : ℕ) → bidder < length now.holdings → AreChangesOf setup.products now.standing.prices (holding_at now.holdings bidder).demands bidder (requests_of now bidder)
   changes_at later bidder lt =
-      good_sheet_changes products now.standing.prices (holding_at now.holdings bidder).eligibility (holding_at now.holdings bidder).demands bidder (bids_at now.sheets bidder)
+      good_sheet_changes setup now.standing.round now.standing.prices (holding_at now.holdings bidder) bidder (bids_at now.sheets bidder)
       sound.few_products sound.limits sound.priced.each (sound.priced.rising later) (sound.held bidder lt).row (sound.good bidder lt)
 
   abbrev pub all_requests : List Change
@@ -70,26 +78,26 @@ module _ (products : List Product) (now : OpenRound) (sound : IsOpen products no
   pub own_places : 2 ≤ now.standing.round → AllPairs AreApart all_requests
   own_places later =
       apart_joined (requests_of now) (length now.holdings)
-      (λ bidder lt. All-weaker (IsChangeOf products now.standing.prices bidder) (λ (change : Change). change.bidder ≡ bidder) (λ change is. is.bidder) (requests_of now bidder) (changes_at later bidder lt).each)
+      (λ bidder lt. All-weaker (IsChangeOf setup.products now.standing.prices bidder) (λ (change : Change). change.bidder ≡ bidder) (λ change is. is.bidder) (requests_of now bidder) (changes_at later bidder lt).each)
       (λ bidder lt. (changes_at later bidder lt).apart) 0 (length now.holdings) (omega arith)
 
   -- each is made at a price of its product
-  pub priced_requests : 2 ≤ now.standing.round → All (IsPricedBy now.standing.prices) all_requests
+  pub priced_requests : 2 ≤ now.standing.round → All (IsWithinPrices now.standing.prices) all_requests
   priced_requests later =
-      all_joined (requests_of now) (length now.holdings) (IsPricedBy now.standing.prices) 0 (length now.holdings)
-      (λ bidder from lt. All-weaker (IsChangeOf products now.standing.prices bidder) (IsPricedBy now.standing.prices)
+      all_joined (requests_of now) (length now.holdings) (IsWithinPrices now.standing.prices) 0 (length now.holdings)
+      (λ bidder from lt. All-weaker (IsChangeOf setup.products now.standing.prices bidder) (IsWithinPrices now.standing.prices)
       (λ change is. record { product = omega (arith, is.product, sound.priced.each); from_start = is.from_start; to_clock = is.to_clock }) (requests_of now bidder) (changes_at later bidder lt).each)
       (omega arith)
 
   -- in whatever order, they can be settled
-  pub can_settle : 2 ≤ now.standing.round → (list : List Change) → IsPermutation all_requests list → CanSettle (new_board products (eligibilities_of now) (grid_of now)) list
+  pub can_settle : 2 ≤ now.standing.round → (list : List Change) → IsPermutation all_requests list → CanSettle (new_board setup.products (eligibilities_of now) (grid_of now)) list
   can_settle later list same =
-      can_settle_all products now.standing.prices (eligibilities_of now) (grid_of now) (requests_of now) (length now.holdings) sound.few_bidders
+      can_settle_all setup.products now.standing.prices (eligibilities_of now) (grid_of now) (requests_of now) (length now.holdings) sound.few_bidders
       (length-map now.holdings _) (length-map now.holdings _)
-      (λ bidder lt. subst (λ (row : List ℕ). AreChangesOf products now.standing.prices row bidder (requests_of now bidder)) (sym (demands_at bidder lt)) (changes_at later bidder lt))
+      (λ bidder lt. subst (λ (row : List ℕ). AreChangesOf setup.products now.standing.prices row bidder (requests_of now bidder)) (sym (demands_at bidder lt)) (changes_at later bidder lt))
       list same
 
-  before_board : IsBoard products (eligibilities_of now) (grid_of now)
+  before_board : IsBoard setup.products (eligibilities_of now) (grid_of now)
   before_board = record {
     limits = sound.limits;
     few_products = sound.few_products;
@@ -98,6 +106,6 @@ module _ (products : List Product) (now : OpenRound) (sound : IsOpen products no
   }
 
   -- after a later round
-  pub settled_within : 2 ≤ now.standing.round → (list : List Change) → IsPermutation all_requests list → IsWithinEligibility products (eligibilities_of now) (settlement products now list).grid
+  pub settled_within : 2 ≤ now.standing.round → (list : List Change) → IsPermutation all_requests list → IsWithinEligibility setup.products (eligibilities_of now) (settlement setup.products now list).grid
   settled_within later list same =
-      (settled_board (new_board products (eligibilities_of now) (grid_of now)) list before_board (can_settle later list same)).held
+      (settled_board (new_board setup.products (eligibilities_of now) (grid_of now)) list before_board (can_settle later list same)).held

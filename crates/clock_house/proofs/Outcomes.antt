@@ -4,27 +4,30 @@ use Rattle.std.specs.Prelude.{None, Any, map, sum_by, IsPermutation}
 use Rattle.std.specs.List.{range_with_len}
 use Rattle.std.proofs.lemmas.List.{length-map}
 use Rattle.std.proofs.lemmas.List.FromFn.{length-map-range_with_len}
-use Rattle.std.proofs.lemmas.List.Elements.{All-weaker, All-map}
+use Rattle.std.proofs.lemmas.List.Elements.{All-weaker}
 use Rattle.clock_money.specs.Price.{highest_price}
 use Rattle.clock_setup.specs.declared.setup.Product.{Product}
 use Rattle.clock_setup.specs.declared.prices.PricePair.{PricePair}
-use Rattle.clock_setup.specs.Limits.{supply_of}
+use Rattle.clock_setup.specs.declared.increments.Increments.{Increments}
+use Rattle.clock_setup.specs.Limits.{PublicSetup, IsProduct, supply_of}
+use Rattle.clock_setup.specs.Increments.{AreIncrements}
 use Rattle.clock_setup.specs.Prices.{prices_at, opening_prices}
 use Rattle.clock_setup.specs.Demands.{total_of}
 use Rattle.clock_order.specs.declared.ties.Tie.{Tie}
 use Rattle.clock_processor.specs.Board.{IsWithinEligibility}
 use Rattle.clock_processor.proofs.Supply.{settled_supplied}
 use Rattle.clock_posting.specs.declared.sheet.Line.{Line}
-use Rattle.clock_posting.specs.Posting.{has_ended, opening_posted, first_at_limit, next_prices, price_limit_fault, sheet_line, lines_of_round, next_pair, IsBetween, IsRising, IsAtClock}
-use Rattle.clock_posting.specs.PostedPrice.{posted_prices, IsOrdered, IsPricedBy}
+use Rattle.clock_posting.specs.Posting.{has_ended, opening_posted, first_at_limit, next_price, next_prices, price_limit_fault, sheet_line, lines_of_round, next_pair, IsBetween, IsRising, IsAtClock}
+use Rattle.clock_posting.specs.PostedPrice.{posted_prices, IsPriceRange, IsWithinPrices}
 use Rattle.clock_posting.proofs.Ranges.{all_in_range}
-use Rattle.clock_posting.proofs.Laws.{lines_between, lines_show, next_rising, next_within, opening_between, opening_dollars}
+use Rattle.clock_posting.proofs.Laws.{lines_between, lines_show, opening_between, opening_dollars}
 use Rattle.clock_posting.proofs.Posted.{length-posted_prices, posted_between, posted_dollars, some_at_clock}
 use Rattle.clock_house.specs.Standing.{Standing}
 use Rattle.clock_house.specs.Closing.{OpenRound, Outcome, requests, first_outcome, later_outcome, outcome, settlement}
 use Rattle.clock_house.specs.Laws.{HasSoundPrices, IsOpen, eligibilities_of, grid_of}
 use Rattle.clock_house.proofs.OpenRounds.{all_requests, asked_within, settled_within, priced_requests}
 use Rattle.clock_order.proofs.InOrder.{processing_permutes}
+use Rattle.clock_house.proofs.NextPrices.{next_rising, next_within}
 use Rattle.clock_house.proofs.Sums.{sum_by-lt_sum_by, length-le-sum_by, sum_by-map, map-get_or}
 use Rattle.std.proofs.lemmas.List.Sorted.{All-permutation}
 
@@ -44,142 +47,142 @@ first_or_later (suc zero) some = inl refl
 first_or_later (suc (suc n)) some = inr (omega arith)
 
 -- posted prices of a round: one for each product, from 1 on, between start and clock price
-pub record ArePosted (products : List Product) (prices : List PricePair) (grid : List (List ℕ)) (posted : List ℕ) (increment : ℕ) : Type 0 where
+pub record ArePosted (products : List Product) (prices : List PricePair) (grid : List (List ℕ)) (posted : List ℕ) (increments : Increments) : Type 0 where
   pub each : length posted ≡ length products
   pub some : All (λ price. 1 ≤ price) posted
-  pub between : All IsBetween (lines_of_round products prices grid posted increment)
+  pub between : All IsBetween (lines_of_round products prices grid posted increments)
 
-module _ (products : List Product) (now : OpenRound) (sound : IsOpen products now) (ties : List Tie) (first : 1 ≤ now.standing.round) where
-  later_list : IsPermutation (all_requests products now sound) (requests now ties)
-  later_list = processing_permutes ties (all_requests products now sound)
+module _ (setup : PublicSetup) (now : OpenRound) (sound : IsOpen setup now) (ties : List Tie) (first : 1 ≤ now.standing.round) where
+  later_list : IsPermutation (all_requests setup now sound) (requests now ties)
+  later_list = processing_permutes ties (all_requests setup now sound)
 
   -- every bidder's demands are within its eligibility
-  pub outcome_within : IsWithinEligibility products (eligibilities_of now) (outcome products now ties).grid
-  outcome_within = elim (first_or_later now.standing.round first) as (λ _. IsWithinEligibility products (eligibilities_of now) (outcome products now ties).grid) [
-    | inl one ↦ subst (λ (result : Outcome). IsWithinEligibility products (eligibilities_of now) result.grid) (sym (outcome-first products now ties one)) (asked_within products now sound)
-    | inr later ↦ subst (λ (result : Outcome). IsWithinEligibility products (eligibilities_of now) result.grid) (sym (outcome-later products now ties later)) (settled_within products now sound later (requests now ties) later_list)
+  pub outcome_within : IsWithinEligibility setup.products (eligibilities_of now) (outcome setup.products now ties).grid
+  outcome_within = elim (first_or_later now.standing.round first) as (λ _. IsWithinEligibility setup.products (eligibilities_of now) (outcome setup.products now ties).grid) [
+    | inl one ↦ subst (λ (result : Outcome). IsWithinEligibility setup.products (eligibilities_of now) result.grid) (sym (outcome-first setup.products now ties one)) (asked_within setup now sound one)
+    | inr later ↦ subst (λ (result : Outcome). IsWithinEligibility setup.products (eligibilities_of now) result.grid) (sym (outcome-later setup.products now ties later)) (settled_within setup now sound later (requests now ties) later_list)
   ]
 
-  priced_list : 2 ≤ now.standing.round → All (IsPricedBy now.standing.prices) (requests now ties)
-  priced_list later = All-permutation (IsPricedBy now.standing.prices) (all_requests products now sound) (requests now ties) later_list (priced_requests products now sound later)
+  priced_list : 2 ≤ now.standing.round → All (IsWithinPrices now.standing.prices) (requests now ties)
+  priced_list later = All-permutation (IsWithinPrices now.standing.prices) (all_requests setup now sound) (requests now ties) later_list (priced_requests setup now sound later)
 
-  first_posted : (increment : ℕ) → now.standing.prices ≡ opening_prices products → ArePosted products now.standing.prices (first_outcome products now).grid (first_outcome products now).posted increment
-  first_posted increment opening = record {
-    each = length-map products _;
-    some = opening_dollars products sound.limits;
-    between = subst (λ (prices : List PricePair). All IsBetween (lines_of_round products prices (first_outcome products now).grid (opening_posted products) increment)) (sym opening)
-        (lines_between products (opening_prices products) (first_outcome products now).grid (opening_posted products) increment
-        (opening_between products (first_outcome products now).grid increment));
+  first_posted : (increments : Increments) → now.standing.prices ≡ opening_prices setup.products → ArePosted setup.products now.standing.prices (first_outcome setup.products now).grid (first_outcome setup.products now).posted increments
+  first_posted increments opening = record {
+    each = length-map setup.products _;
+    some = opening_dollars setup.products sound.limits;
+    between = subst (λ (prices : List PricePair). All IsBetween (lines_of_round setup.products prices (first_outcome setup.products now).grid (opening_posted setup.products) increments)) (sym opening)
+        (lines_between setup.products (opening_prices setup.products) (first_outcome setup.products now).grid (opening_posted setup.products) increments
+        (opening_between setup.products (first_outcome setup.products now).grid increments));
   }
 
-  later_posted : (increment : ℕ) → 2 ≤ now.standing.round →
-      ArePosted products now.standing.prices (later_outcome products now (requests now ties)).grid (later_outcome products now (requests now ties)).posted increment
-  later_posted increment later =
-      let end = settlement products now (requests now ties) in
+  later_posted : (increments : Increments) → 2 ≤ now.standing.round →
+      ArePosted setup.products now.standing.prices (later_outcome setup.products now (requests now ties)).grid (later_outcome setup.products now (requests now ties)).posted increments
+  later_posted increments later =
+      let end = settlement setup.products now (requests now ties) in
       let prices = now.standing.prices in
       record {
-        each = length-posted_prices products prices (requests now ties) end.left end.grid;
-        some = posted_dollars products prices (requests now ties) end.left end.grid sound.priced.each sound.priced.ordered (priced_list later) sound.priced.some;
-        between = lines_between products prices end.grid (posted_prices products prices (requests now ties) end.left end.grid) increment
-            (λ k lt. posted_between products prices (requests now ties) end.left end.grid increment k sound.priced.each sound.priced.ordered (priced_list later) lt);
+        each = length-posted_prices setup.products prices (requests now ties) end.left end.grid;
+        some = posted_dollars setup.products prices (requests now ties) end.left end.grid sound.priced.each sound.priced.ordered (priced_list later) sound.priced.some;
+        between = lines_between setup.products prices end.grid (posted_prices setup.products prices (requests now ties) end.left end.grid) increments
+            (λ k lt. posted_between setup.products prices (requests now ties) end.left end.grid increments k sound.priced.each sound.priced.ordered (priced_list later) lt);
       }
 
   -- the prices posted
-  pub outcome_posted : (increment : ℕ) → (now.standing.round ≡ 1 → now.standing.prices ≡ opening_prices products) →
-      ArePosted products now.standing.prices (outcome products now ties).grid (outcome products now ties).posted increment
-  outcome_posted increment opening = elim (first_or_later now.standing.round first) as (λ _. ArePosted products now.standing.prices (outcome products now ties).grid (outcome products now ties).posted increment) [
-    | inl one ↦ subst (λ (result : Outcome). ArePosted products now.standing.prices result.grid result.posted increment) (sym (outcome-first products now ties one)) (first_posted increment (opening one))
-    | inr later ↦ subst (λ (result : Outcome). ArePosted products now.standing.prices result.grid result.posted increment) (sym (outcome-later products now ties later)) (later_posted increment later)
+  pub outcome_posted : (increments : Increments) → (now.standing.round ≡ 1 → now.standing.prices ≡ opening_prices setup.products) →
+      ArePosted setup.products now.standing.prices (outcome setup.products now ties).grid (outcome setup.products now ties).posted increments
+  outcome_posted increments opening = elim (first_or_later now.standing.round first) as (λ _. ArePosted setup.products now.standing.prices (outcome setup.products now ties).grid (outcome setup.products now ties).posted increments) [
+    | inl one ↦ subst (λ (result : Outcome). ArePosted setup.products now.standing.prices result.grid result.posted increments) (sym (outcome-first setup.products now ties one)) (first_posted increments (opening one))
+    | inr later ↦ subst (λ (result : Outcome). ArePosted setup.products now.standing.prices result.grid result.posted increments) (sym (outcome-later setup.products now ties later)) (later_posted increments later)
   ]
 
   -- in a later round that goes on, some price has risen to the clock price
-  pub outcome_risen : (increment : ℕ) → 2 ≤ now.standing.round → has_ended products (outcome products now ties).grid ≡ false →
-      Any IsAtClock (lines_of_round products now.standing.prices (outcome products now ties).grid (outcome products now ties).posted increment)
-  outcome_risen increment later going =
-      let end = settlement products now (requests now ties) in
-      let same = outcome-later products now ties later in
-      subst (λ (result : Outcome). Any IsAtClock (lines_of_round products now.standing.prices result.grid result.posted increment)) (sym same)
-      (some_at_clock products now.standing.prices (requests now ties) end.left end.grid increment (ap (λ (result : Outcome). has_ended products result.grid) (sym same) ∙ going))
+  pub outcome_risen : (increments : Increments) → 2 ≤ now.standing.round → has_ended setup.products (outcome setup.products now ties).grid ≡ false →
+      Any IsAtClock (lines_of_round setup.products now.standing.prices (outcome setup.products now ties).grid (outcome setup.products now ties).posted increments)
+  outcome_risen increments later going =
+      let end = settlement setup.products now (requests now ties) in
+      let same = outcome-later setup.products now ties later in
+      subst (λ (result : Outcome). Any IsAtClock (lines_of_round setup.products now.standing.prices result.grid result.posted increments)) (sym same)
+      (some_at_clock setup.products now.standing.prices (requests now ties) end.left end.grid increments (ap (λ (result : Outcome). has_ended setup.products result.grid) (sym same) ∙ going))
 
   -- a product that was sold out stays so
-  pub outcome_supplied : 2 ≤ now.standing.round → (product : ℕ) → supply_of products product ≤ total_of (grid_of now) product → supply_of products product ≤ total_of (outcome products now ties).grid product
+  pub outcome_supplied : 2 ≤ now.standing.round → (product : ℕ) → supply_of setup.products product ≤ total_of (grid_of now) product → supply_of setup.products product ≤ total_of (outcome setup.products now ties).grid product
   outcome_supplied later product sold =
-      omega (arith, sold, settled_supplied products (eligibilities_of now) (requests now ties) (grid_of now) product, ap (λ (result : Outcome). total_of result.grid product) (outcome-later products now ties later))
+      omega (arith, sold, settled_supplied setup.products (eligibilities_of now) (requests now ties) (grid_of now) product, ap (λ (result : Outcome). total_of result.grid product) (outcome-later setup.products now ties later))
 
 -- the next prices of a round that goes on
-module _ (products : List Product) (now : Standing) (priced : HasSoundPrices products now) (grid : List (List ℕ)) (posted : List ℕ) (increment : ℕ) (are : ArePosted products now.prices grid posted increment)
-    (rise : 1 ≤ increment) (going : has_ended products grid ≡ false) (possible : price_limit_fault products grid posted increment ≡ None)
-    (risen : 2 ≤ now.round → Any IsAtClock (lines_of_round products now.prices grid posted increment)) where
+module _ (products : List Product) (now : Standing) (priced : HasSoundPrices products now) (grid : List (List ℕ)) (posted : List ℕ) (increments : Increments) (are : ArePosted products now.prices grid posted increments)
+    (limits : All IsProduct products) (rise : AreIncrements (length products) increments) (going : has_ended products grid ≡ false) (possible : price_limit_fault products grid posted increments ≡ None)
+    (risen : 2 ≤ now.round → Any IsAtClock (lines_of_round products now.prices grid posted increments)) where
   lines : List Line
-  lines = lines_of_round products now.prices grid posted increment
+  lines = lines_of_round products now.prices grid posted increments
 
-  no_limit : (ended : Bool) → ended ≡ false → cond ended None (first_at_limit posted increment) ≡ None → first_at_limit posted increment ≡ None
+  no_limit : (ended : Bool) → ended ≡ false → cond ended None (first_at_limit products increments posted) ≡ None → first_at_limit products increments posted ≡ None
   no_limit true e h = cc
   no_limit false e h = h
 
-  limit : first_at_limit posted increment ≡ None
+  limit : first_at_limit products increments posted ≡ None
   limit = no_limit (has_ended products grid) going possible
 
-  shown : next_prices posted increment ≡ map next_pair (lines_of_round products now.prices grid posted increment)
-  shown = lines_show products now.prices grid posted increment are.each going limit
+  shown : next_prices products increments posted ≡ map next_pair (lines_of_round products now.prices grid posted increments)
+  shown = lines_show products now.prices grid posted increments going
 
-  rising : All IsRising (map next_pair (lines_of_round products now.prices grid posted increment))
-  rising = subst (All IsRising) shown (next_rising posted increment rise are.some)
+  rising : All IsRising (map next_pair (lines_of_round products now.prices grid posted increments))
+  rising = subst (All IsRising) shown (next_rising products increments posted limit rise limits are.each are.some)
 
   -- the sum of start prices, taken from the lines
-  starts : sum_by (λ (line : Line). line.start) (lines_of_round products now.prices grid posted increment) ≡ sum_by (λ (pair : PricePair). pair.start) now.prices
+  starts : sum_by (λ (line : Line). line.start) (lines_of_round products now.prices grid posted increments) ≡ sum_by (λ (pair : PricePair). pair.start) now.prices
   starts =
-      sum_by-map (λ (line : Line). line.start) (sheet_line products now.prices grid posted increment) (range_with_len 0 (length products))
+      sum_by-map (λ (line : Line). line.start) (sheet_line products now.prices grid posted increments) (range_with_len 0 (length products))
       ∙ sym (sum_by-map (λ (pair : PricePair). pair.start) (prices_at now.prices) (range_with_len 0 (length products)))
       ∙ ap (sum_by (λ (pair : PricePair). pair.start)) (map-get_or now.prices (length products) (record { start = 0; clock = 0 }) priced.each)
 
-  above_start : 2 ≤ now.round → All (λ (line : Line). line.start < line.clock) (lines_of_round products now.prices grid posted increment)
+  above_start : 2 ≤ now.round → All (λ (line : Line). line.start < line.clock) (lines_of_round products now.prices grid posted increments)
   above_start later =
-      all_in_range (λ (line : Line). line.start < line.clock) (sheet_line products now.prices grid posted increment) (length products)
+      all_in_range (λ (line : Line). line.start < line.clock) (sheet_line products now.prices grid posted increments) (length products)
       (λ k lt. priced.rising later k (record { start = 0; clock = 0 }) (omega (arith, lt, priced.each)))
 
-  sum_rises : 2 ≤ now.round → sum_by (λ (pair : PricePair). pair.start) now.prices < sum_by (λ (line : Line). line.posted) (lines_of_round products now.prices grid posted increment)
+  sum_rises : 2 ≤ now.round → sum_by (λ (pair : PricePair). pair.start) now.prices < sum_by (λ (line : Line). line.posted) (lines_of_round products now.prices grid posted increments)
   sum_rises later =
       let here = risen later in
-      let long : here.0 < length (lines_of_round products now.prices grid posted increment) = here.2 in
-      let line : Line = get_or (lines_of_round products now.prices grid posted increment) here.0 here.1 in
+      let long : here.0 < length (lines_of_round products now.prices grid posted increments) = here.2 in
+      let line : Line = get_or (lines_of_round products now.prices grid posted increments) here.0 here.1 in
       let at : line.posted ≡ line.clock = subst (λ (one : Line). one.posted ≡ one.clock) (sym here.3) here.4 in
       let above : line.start < line.clock = above_start later here.0 here.1 long in
-      let less = sum_by-lt_sum_by (λ (line : Line). line.start) (λ (line : Line). line.posted) (lines_of_round products now.prices grid posted increment) here.0 here.1 long
-      (All-weaker IsBetween (λ (line : Line). line.start ≤ line.posted) (λ line is. is.from_start) (lines_of_round products now.prices grid posted increment) are.between)
+      let less = sum_by-lt_sum_by (λ (line : Line). line.start) (λ (line : Line). line.posted) (lines_of_round products now.prices grid posted increments) here.0 here.1 long
+      (All-weaker IsBetween (λ (line : Line). line.start ≤ line.posted) (λ line is. is.from_start) (lines_of_round products now.prices grid posted increments) are.between)
       (omega (arith, at, above)) in
       omega (arith, less, starts)
 
-  long_lines : length (map next_pair (lines_of_round products now.prices grid posted increment)) ≡ length products
-  long_lines = length-map (lines_of_round products now.prices grid posted increment) next_pair ∙ length-map-range_with_len (sheet_line products now.prices grid posted increment) 0 (length products)
+  long_lines : length (map next_pair (lines_of_round products now.prices grid posted increments)) ≡ length products
+  long_lines = length-map (lines_of_round products now.prices grid posted increments) next_pair ∙ length-map-range_with_len (sheet_line products now.prices grid posted increments) 0 (length products)
 
-  next_starts : sum_by (λ (pair : PricePair). pair.start) (map next_pair (lines_of_round products now.prices grid posted increment)) ≡ sum_by (λ (line : Line). line.posted) (lines_of_round products now.prices grid posted increment)
-  next_starts = sum_by-map (λ (pair : PricePair). pair.start) next_pair (lines_of_round products now.prices grid posted increment)
+  next_starts : sum_by (λ (pair : PricePair). pair.start) (map next_pair (lines_of_round products now.prices grid posted increments)) ≡ sum_by (λ (line : Line). line.posted) (lines_of_round products now.prices grid posted increments)
+  next_starts = sum_by-map (λ (pair : PricePair). pair.start) next_pair (lines_of_round products now.prices grid posted increments)
 
-  next_some : All (λ (pair : PricePair). 1 ≤ pair.start) (map next_pair (lines_of_round products now.prices grid posted increment))
-  next_some = subst (All (λ (pair : PricePair). 1 ≤ pair.start)) shown (All-map (λ (pair : PricePair). 1 ≤ pair.start) _ posted are.some)
+  next_some : All (λ (pair : PricePair). 1 ≤ pair.start) (map next_pair (lines_of_round products now.prices grid posted increments))
+  next_some = subst (All (λ (pair : PricePair). 1 ≤ pair.start)) shown (all_in_range (λ (pair : PricePair). 1 ≤ pair.start) (next_price products increments posted) (length products) (λ k lt. are.some k 0 (omega (arith, lt, are.each))))
 
-  next_highest : All (λ (pair : PricePair). pair.start ≤ highest_price) (map next_pair (lines_of_round products now.prices grid posted increment))
+  next_highest : All (λ (pair : PricePair). pair.start ≤ highest_price) (map next_pair (lines_of_round products now.prices grid posted increments))
   next_highest =
-      let clocks : All (λ (pair : PricePair). pair.clock ≤ highest_price) (map next_pair (lines_of_round products now.prices grid posted increment)) = subst (All (λ (pair : PricePair). pair.clock ≤ highest_price)) shown (next_within posted increment limit) in
+      let clocks : All (λ (pair : PricePair). pair.clock ≤ highest_price) (map next_pair (lines_of_round products now.prices grid posted increments)) = subst (All (λ (pair : PricePair). pair.clock ≤ highest_price)) shown (next_within products increments posted limit) in
       λ k d lt. omega (arith, rising k d lt, clocks k d lt)
 
   bounded_next : (next : ℕ) → next ≡ now.round + 1 → 1 ≤ now.round →
-      next + length products ≤ 2 + sum_by (λ (pair : PricePair). pair.start) (map next_pair (lines_of_round products now.prices grid posted increment))
-  bounded_next next is some = elim (first_or_later now.round some) as (λ _. next + length products ≤ 2 + sum_by (λ (pair : PricePair). pair.start) (map next_pair (lines_of_round products now.prices grid posted increment))) [
-    | inl one ↦ omega (arith, is, one, long_lines, length-le-sum_by (λ (pair : PricePair). pair.start) (map next_pair (lines_of_round products now.prices grid posted increment)) next_some)
+      next + length products ≤ 2 + sum_by (λ (pair : PricePair). pair.start) (map next_pair (lines_of_round products now.prices grid posted increments))
+  bounded_next next is some = elim (first_or_later now.round some) as (λ _. next + length products ≤ 2 + sum_by (λ (pair : PricePair). pair.start) (map next_pair (lines_of_round products now.prices grid posted increments))) [
+    | inl one ↦ omega (arith, is, one, long_lines, length-le-sum_by (λ (pair : PricePair). pair.start) (map next_pair (lines_of_round products now.prices grid posted increments)) next_some)
     | inr later ↦ omega (arith, is, priced.bounded later, next_starts, sum_rises later)
   ]
 
   -- they are in order again
-  pub priced_next : (standing : Standing) → standing.round ≡ now.round + 1 → standing.prices ≡ map next_pair (lines_of_round products now.prices grid posted increment) → 1 ≤ now.round → HasSoundPrices products standing
+  pub priced_next : (standing : Standing) → standing.round ≡ now.round + 1 → standing.prices ≡ map next_pair (lines_of_round products now.prices grid posted increments) → 1 ≤ now.round → HasSoundPrices products standing
   priced_next standing number prices some =
       let P = λ (list : List PricePair). HasSoundPrices products (record { ended = standing.ended; round = standing.round; prices = list }) in
       subst P (sym prices)
       (record {
         numbered = omega (arith, number);
         each = long_lines;
-        ordered = All-weaker IsRising IsOrdered (λ pair is. omega (arith, is)) (map next_pair (lines_of_round products now.prices grid posted increment)) rising;
+        ordered = All-weaker IsRising IsPriceRange (λ pair is. omega (arith, is)) (map next_pair (lines_of_round products now.prices grid posted increments)) rising;
         some = next_some;
         highest = next_highest;
         rising = λ _. rising;

@@ -4,6 +4,7 @@ use Rattle.std.specs.Prelude.{Option, Some, None, is_none}
 use Rattle.std.proofs.lemmas.Bool.{cases_eq}
 use Rattle.std.proofs.lemmas.List.{get_or-set_same, get_or-set_other, length-set}
 use Rattle.std.proofs.lemmas.List.FromFn.{fill_by_all, length-map-range_with_len, get_or-map-range_with_len}
+use Rattle.clock_setup.specs.Limits.{public_setup}
 use Rattle.clock_bids.specs.declared.sheet.Bid.{Bid}
 use Rattle.clock_house.specs.declared.fault.PutFault.{PutFault}
 use Rattle.clock_house.specs.Command.{Command, put}
@@ -22,8 +23,8 @@ other_by false good e = refl
 
 module _ (house : HouseFields) (bidder round : ℕ) (bids : List Bid) (commands : List Command) (stands : StandsFor commands house) where
   -- the fault by the commands is that by the house
-  fault_same : put_fault house.setup.products (standing house.setup.products (history house.setup commands).closed) (holding house.setup (history house.setup commands).closed bidder) round bids ≡ put_fault_in house bidder round bids
-  fault_same = ap (λ (closed : List ClosedRound). put_fault house.setup.products (standing house.setup.products closed) (holding house.setup closed bidder) round bids) (sym stands.closed)
+  fault_same : put_fault (public_setup house.setup) (standing house.setup.products (history house.setup commands).closed) (holding house.setup (history house.setup commands).closed bidder) round bids ≡ put_fault_in house bidder round bids
+  fault_same = ap (λ (closed : List ClosedRound). put_fault (public_setup house.setup) (standing house.setup.products closed) (holding house.setup closed bidder) round bids) (sym stands.closed)
 
   -- the sheet in force that the house keeps
   pub sheet_at : (who : ℕ) → who < length house.setup.bidders → get_or house.sheets who None ≡ sheet_in_force house.setup (history house.setup commands) who
@@ -36,9 +37,9 @@ module _ (house : HouseFields) (bidder round : ℕ) (bids : List Bid) (commands 
 
   -- of another bidder, or refused, it is no accepted sheet
   refused : (fault : PutFault) → put_fault_in house bidder round bids ≡ Some fault → (who : ℕ) →
-      (bidder == who) && is_none (put_fault house.setup.products (standing house.setup.products (history house.setup commands).closed) (holding house.setup (history house.setup commands).closed who) round bids) ≡ false
+      (bidder == who) && is_none (put_fault (public_setup house.setup) (standing house.setup.products (history house.setup commands).closed) (holding house.setup (history house.setup commands).closed who) round bids) ≡ false
   refused fault e who =
-      let judged = λ (one : ℕ). put_fault house.setup.products (standing house.setup.products (history house.setup commands).closed) (holding house.setup (history house.setup commands).closed one) round bids in
+      let judged = λ (one : ℕ). put_fault (public_setup house.setup) (standing house.setup.products (history house.setup commands).closed) (holding house.setup (history house.setup commands).closed one) round bids in
       elim (cases_eq bidder who) as (λ _. (bidder == who) && is_none (judged who) ≡ false) [
         | inl same ↦ skip_by (bidder == who) (is_none (judged who)) (ap is_none (ap judged (sym same) ∙ fault_same ∙ e))
         | inr differ ↦ other_by (bidder == who) (is_none (judged who)) (ne_eqb bidder who differ)
@@ -64,7 +65,7 @@ module _ (house : HouseFields) (bidder round : ℕ) (bids : List Bid) (commands 
             get_or-set_other house.sheets bidder who (Some bids) None differ
             ∙ sheet_at who who_in
             ∙ sym (in_force-skipped house.setup (history house.setup commands) bidder round bids who
-            (other_by (bidder == who) (is_none (put_fault house.setup.products (standing house.setup.products (history house.setup commands).closed) (holding house.setup (history house.setup commands).closed who) round bids)) (ne_eqb bidder who (λ e. differ (sym e)))))
+            (other_by (bidder == who) (is_none (put_fault (public_setup house.setup) (standing house.setup.products (history house.setup commands).closed) (holding house.setup (history house.setup commands).closed who) round bids)) (ne_eqb bidder who (λ e. differ (sym e)))))
       ]
 
   -- a sheet that is put is in force, and the others stay

@@ -1,6 +1,7 @@
 -- What a house is for a bidder is what the bidder's view shows.
 use Rattle.std.proofs.Common.{◌≡◌, ℕ, ◌<◌, List, [], refl, ap, ◌∙◌, length}
 use Rattle.std.specs.Prelude.{Option, Some, None, option_map, slice_index_or}
+use Rattle.clock_setup.specs.Limits.{public_setup}
 use Rattle.clock_bids.specs.declared.sheet.Bid.{Bid}
 use Rattle.clock_posting.specs.declared.sheet.RoundSheet.{RoundSheet}
 use Rattle.clock_house.specs.declared.slip.Slip.{Slip}
@@ -13,20 +14,20 @@ use Rattle.clock_house.proofs.Isolation.{seen}
 use Rattle.clock_house.proofs.Puts.{sheet_at}
 
 module _ (house : HouseFields) (bidder : ℕ) (commands : List Command) (stands : StandsFor commands house) where
-  pub standing_seen : standing_in house ≡ seen_standing house.setup.products (view_of house.setup bidder commands)
+  pub standing_seen : standing_in house ≡ seen_standing (public_setup house.setup) (view_of house.setup bidder commands)
   standing_seen = ap (standing house.setup.products) stands.closed ∙ (seen house.setup bidder commands).standing
 
-  pub holding_seen : holding_in house bidder ≡ seen_holding house.setup.products (bidder_at house.setup bidder) (view_of house.setup bidder commands)
+  pub holding_seen : holding_in house bidder ≡ seen_holding (public_setup house.setup) (bidder_at house.setup bidder) (view_of house.setup bidder commands)
   holding_seen = ap (λ (closed : List ClosedRound). holding house.setup closed bidder) stands.closed ∙ (seen house.setup bidder commands).holding
 
   pub put_fault_seen : (round : ℕ) (bids : List Bid) →
-      put_fault_in house bidder round bids ≡ seen_put_fault house.setup.products (bidder_at house.setup bidder) (view_of house.setup bidder commands) round bids
+      put_fault_in house bidder round bids ≡ seen_put_fault (public_setup house.setup) (bidder_at house.setup bidder) (view_of house.setup bidder commands) round bids
   put_fault_seen round bids =
-      ap (λ (now : Standing). put_fault house.setup.products now (holding_in house bidder) round bids) standing_seen
-      ∙ ap (λ (own : Holding). put_fault house.setup.products (seen_standing house.setup.products (view_of house.setup bidder commands)) own round bids) holding_seen
+      ap (λ (now : Standing). put_fault (public_setup house.setup) now (holding_in house bidder) round bids) standing_seen
+      ∙ ap (λ (own : Holding). put_fault (public_setup house.setup) (seen_standing (public_setup house.setup) (view_of house.setup bidder commands)) own round bids) holding_seen
 
   pub in_force_seen : bidder < length house.setup.bidders →
-      slice_index_or house.sheets bidder None ≡ seen_in_force house.setup.products (bidder_at house.setup bidder) (view_of house.setup bidder commands)
+      slice_index_or house.sheets bidder None ≡ seen_in_force (public_setup house.setup) (bidder_at house.setup bidder) (view_of house.setup bidder commands)
   in_force_seen known = sheet_at house bidder 0 [] commands stands bidder known ∙ (seen house.setup bidder commands).in_force
 
   -- the sheet and the slip of a closed round

@@ -3,7 +3,7 @@ use Rattle.std.proofs.Common.{◌≡◌, ℕ, List, [], ◌∷◌, ◌==◌, ◌
 use Rattle.std.specs.Prelude.{Option, Some, None, is_none, slice_get, filter_map}
 use Rattle.std.specs.List.{cons_option}
 use Rattle.std.proofs.lemmas.Option.{none-some}
-use Rattle.clock_setup.specs.declared.setup.Product.{Product}
+use Rattle.clock_setup.specs.Limits.{PublicSetup}
 use Rattle.clock_setup.specs.Faults.{first_fault}
 use Rattle.clock_bids.specs.declared.sheet.Bid.{Bid}
 use Rattle.clock_bids.specs.declared.sheet.BidFault.{BidFault}
@@ -23,20 +23,20 @@ judged false true round None e = refl
 judged false true round (Some fault) e = absurd (none-some _ (sym e))
 
 -- a sheet that may be put is good
-pub good_of_put : (products : List Product) (now : Standing) (held : Holding) (round : ℕ) (bids : List Bid) → put_fault products now held round bids ≡ None →
-    IsGoodSheet products now.prices held.eligibility held.demands bids
-good_of_put products now held round bids e =
-    judged now.ended (round == now.round) now.round (sheet_fault products now.prices held.eligibility held.demands bids) e
+pub good_of_put : (setup : PublicSetup) (now : Standing) (held : Holding) (round : ℕ) (bids : List Bid) → put_fault setup now held round bids ≡ None →
+    IsGoodSheet setup now.round now.prices held bids
+good_of_put setup now held round bids e =
+    judged now.ended (round == now.round) now.round (sheet_fault setup now.round now.prices held bids) e
 
 is_none_none : {A : Type 0} (o : Option A) → is_none o ≡ true → o ≡ None
 is_none_none None e = refl
 is_none_none (Some x) e = let bad : false ≡ true = e in cc
 
-module _ (products : List Product) (now : Standing) (held : Holding) (bidder : ℕ) where
+module _ (setup : PublicSetup) (now : Standing) (held : Holding) (bidder : ℕ) where
   first_good : (command_bids : Option (List Bid)) (rest : List (List Bid)) (bids : List Bid) →
-      ((one : List Bid) → command_bids ≡ Some one → IsGoodSheet products now.prices held.eligibility held.demands one) →
-      (slice_get rest 0 ≡ Some bids → IsGoodSheet products now.prices held.eligibility held.demands bids) →
-      slice_get (cons_option command_bids rest) 0 ≡ Some bids → IsGoodSheet products now.prices held.eligibility held.demands bids
+      ((one : List Bid) → command_bids ≡ Some one → IsGoodSheet setup now.round now.prices held one) →
+      (slice_get rest 0 ≡ Some bids → IsGoodSheet setup now.round now.prices held bids) →
+      slice_get (cons_option command_bids rest) 0 ≡ Some bids → IsGoodSheet setup now.round now.prices held bids
   first_good None rest bids own later e = later e
   first_good (Some one) rest bids own later e = own bids e
 
@@ -45,16 +45,16 @@ module _ (products : List Product) (now : Standing) (held : Holding) (bidder : �
   accepted true false fault bids one is e = absurd (none-some _ e)
   accepted false good fault bids one is e = absurd (none-some _ e)
 
-  accepted_good : (command : Command) (one : List Bid) → accepted_bids products now held bidder command ≡ Some one → IsGoodSheet products now.prices held.eligibility held.demands one
+  accepted_good : (command : Command) (one : List Bid) → accepted_bids setup now held bidder command ≡ Some one → IsGoodSheet setup now.round now.prices held one
   accepted_good (put author round bids) one e =
-      let found = accepted (author == bidder) (is_none (put_fault products now held round bids)) (put_fault products now held round bids) bids one refl e in
-      ap (sheet_fault products now.prices held.eligibility held.demands) (sym found.1) ∙ good_of_put products now held round bids found.0
-  accepted_good (close round increment ties) one e = absurd (none-some _ e)
+      let found = accepted (author == bidder) (is_none (put_fault setup now held round bids)) (put_fault setup now held round bids) bids one refl e in
+      ap (sheet_fault setup now.round now.prices held) (sym found.1) ∙ good_of_put setup now held round bids found.0
+  accepted_good (close round increments ties) one e = absurd (none-some _ e)
   accepted_good other one e = absurd (none-some _ e)
 
   -- the first accepted sheet is good
-  pub first_accepted_good : (since : List Command) (bids : List Bid) → slice_get (filter_map (accepted_bids products now held bidder) since) 0 ≡ Some bids →
-      IsGoodSheet products now.prices held.eligibility held.demands bids
+  pub first_accepted_good : (since : List Command) (bids : List Bid) → slice_get (filter_map (accepted_bids setup now held bidder) since) 0 ≡ Some bids →
+      IsGoodSheet setup now.round now.prices held bids
   first_accepted_good [] bids e = absurd (none-some _ e)
   first_accepted_good (command ∷ since) bids e =
-      first_good (accepted_bids products now held bidder command) (filter_map (accepted_bids products now held bidder) since) bids (accepted_good command) (first_accepted_good since bids) e
+      first_good (accepted_bids setup now held bidder command) (filter_map (accepted_bids setup now held bidder) since) bids (accepted_good command) (first_accepted_good since bids) e

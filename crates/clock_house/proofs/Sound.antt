@@ -1,14 +1,15 @@
 -- After every list of commands the auction is in order.
-use Rattle.std.proofs.Common.{◌≡◌, ℕ, zero, suc, ◌+◌, ◌<◌, ◌≤◌, List, [], ◌∷◌, Bool, true, false, cond, ◌&&◌, refl, ap, sym, subst, ◌∙◌, arith, get_or, length, All}
+use Rattle.std.proofs.Common.{◌≡◌, ℕ, zero, suc, ◌+◌, ◌<◌, ◌≤◌, List, [], ◌∷◌, Bool, true, false, cond, refl, ap, sym, subst, ◌∙◌, arith, get_or, length, All}
 use Rattle.std.specs.Prelude.{Option, Some, None, Result, Ok, Err, map, unwrap_or}
 use Rattle.std.specs.List.{range_with_len, AllPairs}
-use Rattle.std.proofs.lemmas.Bool.{leb-true}
 use Rattle.std.proofs.lemmas.List.{get_or-map, length-map}
 use Rattle.std.proofs.lemmas.List.FromFn.{length-map-range_with_len, get_or-map-range_with_len}
 use Rattle.std.proofs.lemmas.List.Elements.{All-map}
 use Rattle.clock_setup.specs.declared.setup.Product.{Product}
 use Rattle.clock_setup.specs.declared.prices.PricePair.{PricePair}
-use Rattle.clock_setup.specs.Limits.{SetupFields, IsSetup}
+use Rattle.clock_setup.specs.declared.increments.Increments.{Increments}
+use Rattle.clock_setup.specs.Limits.{SetupFields, IsSetup, public_setup}
+use Rattle.clock_setup.specs.IncrementLaws.{increments_of_test}
 use Rattle.clock_setup.specs.Demands.{row_of, total_of}
 use Rattle.clock_setup.specs.Eligibility.{activity}
 use Rattle.clock_setup.proofs.DemandLaws.{activity_zeros, zeros_row}
@@ -28,14 +29,11 @@ use Rattle.clock_house.specs.Laws.{IsWithinLimits, HasSoundPrices, AreNumbered, 
 use Rattle.clock_house.proofs.Closings.{IsClosing, closing_passed}
 use Rattle.clock_house.proofs.Numbers.{numbered, round-closed}
 use Rattle.clock_house.proofs.Sheets.{first_accepted_good}
-use Rattle.clock_house.proofs.Sums.{map-map, map-get_or}
+use Rattle.std.proofs.lemmas.Simd.{map-map}
+use Rattle.clock_house.proofs.Sums.{map-get_or}
 use Rattle.clock_house.proofs.Eligible.{next_eligibility_within}
 use Rattle.clock_house.proofs.Bounds.{round_bounded}
 use Rattle.clock_house.proofs.Outcomes.{outcome_within, outcome_posted, outcome_risen, outcome_supplied, priced_next}
-
-and_left : (a b : Bool) → a && b ≡ true → a ≡ true
-and_left true b e = refl
-and_left false b e = e
 
 -- a pair of each later element with the first, and all pairs of the later ones
 AllPairs-cons : {A : Type 0} (R : A → A → Type 0) (x : A) (xs : List A) → All (R x) xs → AllPairs R xs → AllPairs R (x ∷ xs)
@@ -89,14 +87,14 @@ module _ (setup : SetupFields) (limits : IsSetup setup) where
 
     -- a sheet in force is good, and so is none
     good_or_none : (bidder : ℕ) (sheet : Option (List Bid)) → sheet_in_force setup auction bidder ≡ sheet →
-        IsGoodSheet setup.products (standing setup.products auction.closed).prices (holding setup auction.closed bidder).eligibility (holding setup auction.closed bidder).demands (unwrap_or sheet [])
+        IsGoodSheet (public_setup setup) (standing setup.products auction.closed).round (standing setup.products auction.closed).prices (holding setup auction.closed bidder) (unwrap_or sheet [])
     good_or_none bidder None e =
-        empty_sheet_good setup.products (standing setup.products auction.closed).prices (holding setup auction.closed bidder).eligibility (holding setup auction.closed bidder).demands
+        empty_sheet_good (public_setup setup) (standing setup.products auction.closed).round (standing setup.products auction.closed).prices (holding setup auction.closed bidder)
     good_or_none bidder (Some bids) e =
-        first_accepted_good setup.products (standing setup.products auction.closed) (holding setup auction.closed bidder) bidder auction.since bids e
+        first_accepted_good (public_setup setup) (standing setup.products auction.closed) (holding setup auction.closed bidder) bidder auction.since bids e
 
     -- an auction that goes on has an open round in order
-    pub open_sound : (standing setup.products auction.closed).ended ≡ false → IsOpen setup.products (open_round setup auction)
+    pub open_sound : (standing setup.products auction.closed).ended ≡ false → IsOpen (public_setup setup) (open_round setup auction)
     open_sound going = record {
       limits = limits.products;
       few_products = limits.product_count.1;
@@ -104,8 +102,8 @@ module _ (setup : SetupFields) (limits : IsSetup setup) where
       held = λ bidder lt. subst (IsWithinLimits setup.products) (sym (held_at bidder (omega (arith, lt, many)))) (sound.held bidder (omega (arith, lt, many)));
       priced = sound.priced going;
       good = λ bidder lt.
-          subst (λ (held : Holding). IsGoodSheet setup.products (standing setup.products auction.closed).prices held.eligibility held.demands (bids_at (open_round setup auction).sheets bidder)) (sym (held_at bidder (omega (arith, lt, many))))
-          (subst (IsGoodSheet setup.products (standing setup.products auction.closed).prices (holding setup auction.closed bidder).eligibility (holding setup auction.closed bidder).demands) (sym (bids_of bidder (omega (arith, lt, many))))
+          subst (λ (held : Holding). IsGoodSheet (public_setup setup) (standing setup.products auction.closed).round (standing setup.products auction.closed).prices held (bids_at (open_round setup auction).sheets bidder)) (sym (held_at bidder (omega (arith, lt, many))))
+          (subst (IsGoodSheet (public_setup setup) (standing setup.products auction.closed).round (standing setup.products auction.closed).prices (holding setup auction.closed bidder)) (sym (bids_of bidder (omega (arith, lt, many))))
           (good_or_none bidder (sheet_in_force setup auction bidder) refl));
     }
 
@@ -131,30 +129,30 @@ module _ (setup : SetupFields) (limits : IsSetup setup) where
     last_slips last rounds e =
         let all : AreNumbered (length setup.bidders) (length setup.products) (last ∷ rounds) = subst (AreNumbered (length setup.bidders) (length setup.products)) e sound.numbered in all.1
 
-    module _ (round increment : ℕ) (ties : List Tie) (done : ClosedRound) (is : IsClosing setup.products setup.requirement (open_round setup auction) round increment ties done) where
+    module _ (round : ℕ) (increments : Increments) (ties : List Tie) (done : ClosedRound) (is : IsClosing (public_setup setup) (open_round setup auction) round increments ties done) where
       abbrev result : Outcome
       result = outcome setup.products (open_round setup auction) ties
 
-      here : IsOpen setup.products (open_round setup auction)
+      here : IsOpen (public_setup setup) (open_round setup auction)
       here = open_sound is.going
 
       some_round : 1 ≤ (standing setup.products auction.closed).round
       some_round = omega (arith, round_is is.going)
 
       within : IsWithinEligibility setup.products (eligibilities_of (open_round setup auction)) (outcome setup.products (open_round setup auction) ties).grid
-      within = outcome_within setup.products (open_round setup auction) here ties some_round
+      within = outcome_within (public_setup setup) (open_round setup auction) here ties some_round
 
       rows_many : length (outcome setup.products (open_round setup auction) ties).grid ≡ length setup.bidders
       rows_many = within.bidders ∙ length-map (open_round setup auction).holdings _ ∙ many
 
       -- the slip of a bidder
       slip_is : (bidder : ℕ) → bidder < length setup.bidders →
-          slip_of bidder done ≡ slip_after setup.products setup.requirement (standing setup.products auction.closed).round (holding setup auction.closed bidder).eligibility (row_of (outcome setup.products (open_round setup auction) ties).grid bidder)
+          slip_of bidder done ≡ slip_after (public_setup setup) (standing setup.products auction.closed).round (holding setup auction.closed bidder).eligibility (row_of (outcome setup.products (open_round setup auction) ties).grid bidder)
       slip_is bidder lt =
           ap (slip_of bidder) is.made
-          ∙ get_or-map-range_with_len (λ b. slip_after setup.products setup.requirement (standing setup.products auction.closed).round (holding_at (open_round setup auction).holdings b).eligibility (row_of (outcome setup.products (open_round setup auction) ties).grid b))
+          ∙ get_or-map-range_with_len (λ b. slip_after (public_setup setup) (standing setup.products auction.closed).round (holding_at (open_round setup auction).holdings b).eligibility (row_of (outcome setup.products (open_round setup auction) ties).grid b))
           0 (length (open_round setup auction).holdings) bidder bidder no_slip (omega (arith, lt, many)) (omega arith)
-          ∙ ap (λ (held : Holding). slip_after setup.products setup.requirement (standing setup.products auction.closed).round held.eligibility (row_of (outcome setup.products (open_round setup auction) ties).grid bidder)) (held_at bidder lt)
+          ∙ ap (λ (held : Holding). slip_after (public_setup setup) (standing setup.products auction.closed).round held.eligibility (row_of (outcome setup.products (open_round setup auction) ties).grid bidder)) (held_at bidder lt)
 
       -- each bidder stays within its limits
       pub held_next : (bidder : ℕ) → bidder < length setup.bidders → IsWithinLimits setup.products (holding_after (slip_of bidder done))
@@ -172,29 +170,29 @@ module _ (setup : SetupFields) (limits : IsSetup setup) where
       priced_after going =
           let result : Outcome = outcome setup.products (open_round setup auction) ties in
           let before : Standing = standing setup.products auction.closed in
-          let made : closed_round setup.products setup.requirement (open_round setup auction) increment (outcome setup.products (open_round setup auction) ties) ≡ done = sym is.made in
+          let made : closed_round (public_setup setup) (open_round setup auction) increments (outcome setup.products (open_round setup auction) ties) ≡ done = sym is.made in
           let goes_on : has_ended setup.products (outcome setup.products (open_round setup auction) ties).grid ≡ false = ap (λ (one : ClosedRound). one.sheet.ended) made ∙ going in
           let number : (standing setup.products (done ∷ auction.closed)).round ≡ (standing setup.products auction.closed).round + 1 =
           ap (λ ended. cond ended done.sheet.round (done.sheet.round + 1)) going ∙ ap (λ (one : ClosedRound). one.sheet.round + 1) is.made in
           priced_next setup.products (standing setup.products auction.closed) (sound.priced is.going)
-          (outcome setup.products (open_round setup auction) ties).grid (outcome setup.products (open_round setup auction) ties).posted increment
-          (outcome_posted setup.products (open_round setup auction) here ties some_round increment (first_prices auction.closed (round_is is.going)))
-          (leb-true 1 increment (and_left _ _ is.within)) goes_on is.possible
-          (λ later. outcome_risen setup.products (open_round setup auction) here ties some_round increment later goes_on)
+          (outcome setup.products (open_round setup auction) ties).grid (outcome setup.products (open_round setup auction) ties).posted increments
+          (outcome_posted (public_setup setup) (open_round setup auction) here ties some_round increments (first_prices auction.closed (round_is is.going)))
+          limits.products (increments_of_test (length setup.products) increments is.within) goes_on is.possible
+          (λ later. outcome_risen (public_setup setup) (open_round setup auction) here ties some_round increments later goes_on)
           (standing setup.products (done ∷ auction.closed)) number (ap (λ (one : ClosedRound). map next_pair one.sheet.lines) is.made) some_round
 
       -- the demands on the slips are the round's grid
       grid_is : grid_after done ≡ (outcome setup.products (open_round setup auction) ties).grid
       grid_is =
           ap grid_after is.made
-          ∙ map-map (λ (slip : Slip). slip.demands) (λ b. slip_after setup.products setup.requirement (standing setup.products auction.closed).round (holding_at (open_round setup auction).holdings b).eligibility (row_of (outcome setup.products (open_round setup auction) ties).grid b)) (bidder_numbers (open_round setup auction))
+          ∙ map-map (λ (slip : Slip). slip.demands) (λ b. slip_after (public_setup setup) (standing setup.products auction.closed).round (holding_at (open_round setup auction).holdings b).eligibility (row_of (outcome setup.products (open_round setup auction) ties).grid b)) (bidder_numbers (open_round setup auction))
           ∙ map-get_or (outcome setup.products (open_round setup auction) ties).grid (length (open_round setup auction).holdings) [] (rows_many ∙ sym many)
 
       -- in a later round nothing that was sold out comes free
       supplied_next : (last : ClosedRound) (rounds : List ClosedRound) → auction.closed ≡ last ∷ rounds → StaysSupplied setup.products done last
       supplied_next last rounds e product sold =
           let later : 2 ≤ (standing setup.products auction.closed).round = omega (arith, round_is is.going, ap length e) in
-          let kept = outcome_supplied setup.products (open_round setup auction) here ties some_round later product
+          let kept = outcome_supplied (public_setup setup) (open_round setup auction) here ties some_round later product
           (omega (arith, sold, ap (λ (grid : List (List ℕ)). total_of grid product) (sym (before_later auction.closed last rounds e (last_slips last rounds e))))) in
           omega (arith, kept, ap (λ (grid : List (List ℕ)). total_of grid product) grid_is)
 
@@ -224,18 +222,18 @@ module _ (setup : SetupFields) (limits : IsSetup setup) where
       let P = λ (closed : List ClosedRound). IsSound setup (record { closed = closed; since = new.since }) in
       subst P (sym same) (record { numbered = sound.numbered; held = sound.held; priced = sound.priced; supplied = sound.supplied; few = sound.few })
 
-  after_closing_sound : (auction : Auction) (round increment : ℕ) (ties : List Tie) (answer : Result ClosedRound CloseFault) → closing_of setup auction round increment ties ≡ answer →
-      AreNumbered (length setup.bidders) (length setup.products) (after_closing auction (close round increment ties) answer).closed →
-      IsSound setup auction → IsSound setup (after_closing auction (close round increment ties) answer)
-  after_closing_sound auction round increment ties (Ok done) e all sound =
-      sound_next auction sound round increment ties done (closing_passed setup.products setup.requirement (open_round setup auction) round increment ties done e) all
-  after_closing_sound auction round increment ties (Err fault) e all sound = same_closed auction (after_closing auction (close round increment ties) (Err fault)) refl sound
+  after_closing_sound : (auction : Auction) (round : ℕ) (increments : Increments) (ties : List Tie) (answer : Result ClosedRound CloseFault) → closing_of setup auction round increments ties ≡ answer →
+      AreNumbered (length setup.bidders) (length setup.products) (after_closing auction (close round increments ties) answer).closed →
+      IsSound setup auction → IsSound setup (after_closing auction (close round increments ties) answer)
+  after_closing_sound auction round increments ties (Ok done) e all sound =
+      sound_next auction sound round increments ties done (closing_passed (public_setup setup) (open_round setup auction) round increments ties done e) all
+  after_closing_sound auction round increments ties (Err fault) e all sound = same_closed auction (after_closing auction (close round increments ties) (Err fault)) refl sound
 
   -- the auction is in order after every list of commands
   pub sound : (commands : List Command) → IsSound setup (history setup commands)
   sound [] = first_sound
   sound (put author round bids ∷ earlier) = same_closed (history setup earlier) (history setup (put author round bids ∷ earlier)) refl (sound earlier)
-  sound (close round increment ties ∷ earlier) =
-      after_closing_sound (history setup earlier) round increment ties (closing_of setup (history setup earlier) round increment ties) refl
-      (numbered setup (close round increment ties ∷ earlier)) (sound earlier)
+  sound (close round increments ties ∷ earlier) =
+      after_closing_sound (history setup earlier) round increments ties (closing_of setup (history setup earlier) round increments ties) refl
+      (numbered setup (close round increments ties ∷ earlier)) (sound earlier)
   sound (other ∷ earlier) = same_closed (history setup earlier) (history setup (other ∷ earlier)) refl (sound earlier)

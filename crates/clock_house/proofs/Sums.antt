@@ -31,10 +31,6 @@ pub sum_by-map : {A B : Type 0} (f : B → ℕ) (g : A → B) (xs : List A) → 
 sum_by-map f g [] = refl
 sum_by-map f g (x ∷ xs) = omega (arith, sum_by-cons f (g x) (map g xs), sum_by-cons (λ x. f (g x)) x xs, sum_by-map f g xs)
 
-pub map-map : {A B C : Type 0} (g : B → C) (f : A → B) (xs : List A) → map g (map f xs) ≡ map (λ x. g (f x)) xs
-map-map g f [] = refl
-map-map g f (x ∷ xs) = ap (λ ys. g (f x) ∷ ys) (map-map g f xs)
-
 -- a list is that of its elements by place
 pub map-get_or : {A : Type 0} (xs : List A) (n : ℕ) (d : A) → length xs ≡ n → map (λ k. get_or xs k d) (range_with_len 0 n) ≡ xs
 map-get_or xs n d long = sym (fill_by_all (λ k. get_or xs k d) xs n d long (λ k lt. refl))

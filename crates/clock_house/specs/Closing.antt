@@ -2,14 +2,16 @@
 --     OpenRound      where the auction stands, what each bidder holds, and the sheets in force
 --     requests round ties      all bidders' requests, in the order of processing
 --     outcome products round ties      the demands and the posted prices after the round
---     closed_round products requirement round increment outcome      the sheet and the slips of the round
---     closing_checks products round number increment ties outcome      what a closing is checked for, in turn
---     closing products requirement round number increment ties      the round that a closing adds, or its first fault
+--     closed_round setup round increments outcome      the sheet and the slips of the round
+--     closing_checks setup round number increments ties outcome      what a closing is checked for, in turn
+--     closing setup round number increments ties      the round that a closing adds, or its first fault
 use Rattle.std.specs.Prelude.{ℕ, List, [], ◌∷◌, ◌++◌, Bool, not, ◌==◌, if◌then◌else◌, Option, None, Result, unwrap_or, length, map, flat_map, slice_index_or}
 use Rattle.std.specs.List.{range_with_len}
 use Rattle.clock_setup.specs.declared.setup.Product.{Product}
 use Rattle.clock_setup.specs.declared.prices.PricePair.{PricePair}
-use Rattle.clock_setup.specs.Limits.{is_within}
+use Rattle.clock_setup.specs.declared.increments.Increments.{Increments}
+use Rattle.clock_setup.specs.Limits.{PublicSetup}
+use Rattle.clock_setup.specs.Increments.{are_increments}
 use Rattle.clock_setup.specs.Demands.{row_of}
 use Rattle.clock_setup.specs.Faults.{first_fault, unless}
 use Rattle.clock_setup.specs.Eligibility.{activity, next_eligibility}
@@ -93,43 +95,43 @@ outcome products now ties =
     if now.standing.round == 1 then first_outcome products now else later_outcome products now (requests now ties)
 
 -- a bidder's slip: its activity, its next eligibility and its demands after the round
-abbrev pub slip_after : List Product → ℕ → ℕ → ℕ → List ℕ → Slip
-slip_after products requirement round held demands = record {
+abbrev pub slip_after : PublicSetup → ℕ → ℕ → List ℕ → Slip
+slip_after setup round eligibility demands = record {
   round = round;
-  activity = activity products demands;
-  eligibility = next_eligibility held (activity products demands) requirement;
+  activity = activity setup.products demands;
+  eligibility = next_eligibility eligibility (activity setup.products demands) setup.requirement;
   demands = demands;
 }
 
 -- the slip of each bidder
-abbrev pub slips_after : List Product → ℕ → OpenRound → List (List ℕ) → List Slip
-slips_after products requirement now grid =
-    map (λ bidder. slip_after products requirement now.standing.round (holding_at now.holdings bidder).eligibility (row_of grid bidder))
+abbrev pub slips_after : PublicSetup → OpenRound → List (List ℕ) → List Slip
+slips_after setup now grid =
+    map (λ bidder. slip_after setup now.standing.round (holding_at now.holdings bidder).eligibility (row_of grid bidder))
     (bidder_numbers now)
 
 -- the sheet and the slips of the round
-abbrev pub closed_round : List Product → ℕ → OpenRound → ℕ → Outcome → ClosedRound
-closed_round products requirement now increment result = record {
-  sheet = round_sheet now.standing.round products now.standing.prices result.grid result.posted increment;
-  slips = slips_after products requirement now result.grid;
+abbrev pub closed_round : PublicSetup → OpenRound → Increments → Outcome → ClosedRound
+closed_round setup now increments result = record {
+  sheet = round_sheet now.standing.round setup.products now.standing.prices result.grid result.posted increments;
+  slips = slips_after setup now result.grid;
 }
 
 -- an outcome posts nothing where the auction would go on and a product can have no next clock price
-abbrev pub outcome_checks : List Product → ℕ → Outcome → List (CloseFault × Bool)
-outcome_checks products increment result =
-    fault_check close_faults.PriceLimit (price_limit_fault products result.grid result.posted increment)
+abbrev pub outcome_checks : List Product → Increments → Outcome → List (CloseFault × Bool)
+outcome_checks products increments result =
+    fault_check close_faults.PriceLimit (price_limit_fault products result.grid result.posted increments)
 
--- the auction goes on, the round is the current one, the increment is 1 to 50, the tie numbers have no fault, and no next clock price would be too high
-abbrev pub closing_checks : List Product → OpenRound → ℕ → ℕ → List Tie → Outcome → List (CloseFault × Bool)
-closing_checks products now round increment ties result =
+-- the auction goes on, the round is the current one, there is an increment of 1 to 50 percent for each product, the tie numbers have no fault, and no next clock price would be too high
+abbrev pub closing_checks : PublicSetup → OpenRound → ℕ → Increments → List Tie → Outcome → List (CloseFault × Bool)
+closing_checks setup now round increments ties result =
     (close_faults.Ended, not now.standing.ended)
     ∷ (close_faults.WrongRound now.standing.round, round == now.standing.round)
-    ∷ (close_faults.Increment, is_within 1 50 increment)
-    ∷ fault_check close_faults.Tie (tie_fault (length now.holdings) (length products) ties)
-    ++ outcome_checks products increment result
+    ∷ (close_faults.Increment, are_increments (length setup.products) increments)
+    ∷ fault_check close_faults.Tie (tie_fault (length now.holdings) (length setup.products) ties)
+    ++ outcome_checks setup.products increments result
 
 -- the round that a closing adds, or its first fault
-abbrev pub closing : List Product → ℕ → OpenRound → ℕ → ℕ → List Tie → Result ClosedRound CloseFault
-closing products requirement now round increment ties =
-    unless (first_fault (closing_checks products now round increment ties (outcome products now ties)))
-    (closed_round products requirement now increment (outcome products now ties))
+abbrev pub closing : PublicSetup → OpenRound → ℕ → Increments → List Tie → Result ClosedRound CloseFault
+closing setup now round increments ties =
+    unless (first_fault (closing_checks setup now round increments ties (outcome setup.products now ties)))
+    (closed_round setup now increments (outcome setup.products now ties))

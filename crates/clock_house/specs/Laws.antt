@@ -1,39 +1,43 @@
 -- What holds after every list of commands.
---     IsWithinLimits products held      a bidder's demands are within the caps and its eligibility
+--     IsWithinLimits products holding      a bidder's demands are within the caps and its eligibility
 --     HasSoundPrices products now      the prices of a round that goes on
 --     AreNumbered bidders products closed      the closed rounds are numbered from 1 on
 --     StaysSupplied products later earlier      a product's total, once at supply, never falls below it
 --     IsSound setup auction      all of these
---     IsOpen products now      an open round is in order
-use Rattle.std.specs.Prelude.{◌≡◌, ℕ, suc, ◌+◌, ◌<◌, ◌≤◌, List, [], ◌∷◌, false, length, map, sum_by, All}
+--     IsOpen setup now      an open round is in order
+use Rattle.std.specs.Prelude.{◌≡◌, ℕ, suc, ◌+◌, ◌*◌, ◌<◌, ◌≤◌, List, [], ◌∷◌, false, length, map, sum_by, All}
 use Rattle.std.specs.List.{AllPairs}
 use Rattle.clock_money.specs.Price.{highest_price}
 use Rattle.clock_setup.specs.declared.setup.Product.{Product}
-use Rattle.clock_setup.specs.Limits.{SetupFields, IsProduct, IsRow, supply_of}
+use Rattle.clock_setup.specs.Limits.{SetupFields, PublicSetup, IsProduct, IsRow, most_products, most_bidders, most_eligibility, supply_of}
 use Rattle.clock_setup.specs.Demands.{total_of}
 use Rattle.clock_setup.specs.Eligibility.{activity}
 use Rattle.clock_bids.specs.Sheet.{IsGoodSheet}
 use Rattle.clock_posting.specs.Posting.{IsRising}
-use Rattle.clock_posting.specs.PostedPrice.{IsOrdered}
+use Rattle.clock_posting.specs.PostedPrice.{IsPriceRange}
 use Rattle.clock_house.specs.Standing.{Standing, Holding}
 use Rattle.clock_house.specs.Closing.{OpenRound, holding_at, bids_at}
 use Rattle.clock_house.specs.History.{ClosedRound, Auction, standing, holding}
 
 -- a demand for each product, none above its cap, and the activity within the eligibility, which is at most 10^12
-pub record IsWithinLimits (products : List Product) (held : Holding) : Type 0 where
-  pub row : IsRow products held.demands
-  pub within : activity products held.demands ≤ held.eligibility
-  pub most : held.eligibility ≤ 1000000000000
+pub record IsWithinLimits (products : List Product) (holding : Holding) : Type 0 where
+  pub row : IsRow products holding.demands
+  pub within : activity products holding.demands ≤ holding.eligibility
+  pub most : holding.eligibility ≤ most_eligibility
 
 -- a round from 1 on, a pair of prices for each product, in order, at start prices from 1 to 10^12, and from round 2 on the clock price above the start price; from then on some start price has risen in each round, so that the rounds are bounded
 pub record HasSoundPrices (products : List Product) (now : Standing) : Type 0 where
   pub numbered : 1 ≤ now.round
   pub each : length now.prices ≡ length products
-  pub ordered : All IsOrdered now.prices
+  pub ordered : All IsPriceRange now.prices
   pub some : All (λ pair. 1 ≤ pair.start) now.prices
   pub highest : All (λ pair. pair.start ≤ highest_price) now.prices
   pub rising : 2 ≤ now.round → All IsRising now.prices
   pub bounded : 2 ≤ now.round → now.round + length products ≤ 2 + sum_by (λ pair. pair.start) now.prices
+
+-- the most rounds that an auction can have: one for each dollar of the highest prices together, and two
+abbrev pub most_rounds : ℕ
+most_rounds = most_products * highest_price + 2
 
 -- the closed rounds, the newest first, have the numbers down to 1, and each has a slip for each bidder and a line for each product
 abbrev pub AreNumbered : ℕ → ℕ → List ClosedRound → Type 0
@@ -56,17 +60,17 @@ pub record IsSound (setup : SetupFields) (auction : Auction) : Type 0 where
   pub held : (bidder : ℕ) → bidder < length setup.bidders → IsWithinLimits setup.products (holding setup auction.closed bidder)
   pub priced : (standing setup.products auction.closed).ended ≡ false → HasSoundPrices setup.products (standing setup.products auction.closed)
   pub supplied : AllPairs (StaysSupplied setup.products) auction.closed
-  pub few : length auction.closed ≤ 4096000000000002
+  pub few : length auction.closed ≤ most_rounds
 
 -- an open round of a set-up: bidders within their limits, prices in order, and a good sheet of each bidder, as an empty one is
-pub record IsOpen (products : List Product) (now : OpenRound) : Type 0 where
-  pub limits : All IsProduct products
-  pub few_products : length products ≤ 4096
-  pub few_bidders : length now.holdings ≤ 512
-  pub held : (bidder : ℕ) → bidder < length now.holdings → IsWithinLimits products (holding_at now.holdings bidder)
-  pub priced : HasSoundPrices products now.standing
+pub record IsOpen (setup : PublicSetup) (now : OpenRound) : Type 0 where
+  pub limits : All IsProduct setup.products
+  pub few_products : length setup.products ≤ most_products
+  pub few_bidders : length now.holdings ≤ most_bidders
+  pub held : (bidder : ℕ) → bidder < length now.holdings → IsWithinLimits setup.products (holding_at now.holdings bidder)
+  pub priced : HasSoundPrices setup.products now.standing
   pub good : (bidder : ℕ) → bidder < length now.holdings →
-      IsGoodSheet products now.standing.prices (holding_at now.holdings bidder).eligibility (holding_at now.holdings bidder).demands (bids_at now.sheets bidder)
+      IsGoodSheet setup now.standing.round now.standing.prices (holding_at now.holdings bidder) (bids_at now.sheets bidder)
 
 -- the eligibilities before the round
 abbrev pub eligibilities_of : OpenRound → List ℕ

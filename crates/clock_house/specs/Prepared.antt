@@ -4,12 +4,14 @@
 --     FitsSheet prepared house, FitsClosing prepared house      the house accepts what was prepared
 --     Results, closed_by results      a posting and its slips, and the round that they are
 --     AreResults closing results      they are the round of a closing
---     posting_of house increment outcome, posting_in house increment ties      the round that an outcome adds, and that of the current round
+--     posting_of house increments outcome, posting_in house increments ties      the round that an outcome adds, and that of the current round
 use Rattle.std.specs.Prelude.{◌≡◌, ℕ, ◌<◌, List, length, None, Result, Ok}
+use Rattle.clock_setup.specs.declared.increments.Increments.{Increments}
+use Rattle.clock_setup.specs.Limits.{public_setup}
 use Rattle.clock_setup.specs.Faults.{first_fault, unless}
 use Rattle.clock_bids.specs.declared.sheet.Bid.{Bid}
 use Rattle.clock_order.specs.declared.ties.Tie.{Tie}
-use Rattle.clock_posting.specs.declared.sheet.Posting.{Posting}
+use Rattle.clock_posting.specs.declared.posting.Posting.{Posting}
 use Rattle.clock_posting.specs.Posting.{IsConsistent}
 use Rattle.clock_house.specs.declared.slip.Slip.{Slip}
 use Rattle.clock_house.specs.declared.fault.CloseFault.{CloseFault}
@@ -24,10 +26,10 @@ pub record PreparedSheet : Type 0 where
   pub round : ℕ
   pub bids : List Bid
 
--- a closing of a round by an increment and tie numbers, and the round that it adds
+-- a closing of a round by increments and tie numbers, and the round that it adds
 pub record PreparedClosing : Type 0 where
   pub round : ℕ
-  pub increment : ℕ
+  pub increments : Increments
   pub ties : List Tie
   pub closed : ClosedRound
 
@@ -38,7 +40,7 @@ pub record FitsSheet (prepared : PreparedSheet) (house : HouseFields) : Type 0 w
 
 -- the house accepts the closing, and it adds what was prepared
 abbrev pub FitsClosing : PreparedClosing → HouseFields → Type 0
-FitsClosing prepared house = closing_in house prepared.round prepared.increment prepared.ties ≡ Ok prepared.closed
+FitsClosing prepared house = closing_in house prepared.round prepared.increments prepared.ties ≡ Ok prepared.closed
 
 -- the round that a posting and its slips are
 abbrev pub closed_by : Posting → List Slip → ClosedRound
@@ -50,11 +52,11 @@ pub record AreResults (closing : Result ClosedRound CloseFault) (results : Resul
   pub laws : IsConsistent results.posting
 
 -- the round that an outcome adds, or the product that has no next clock price
-abbrev pub posting_of : HouseFields → ℕ → Outcome → Result ClosedRound CloseFault
-posting_of house increment result =
-    unless (first_fault (outcome_checks house.setup.products increment result))
-    (closed_round house.setup.products house.setup.requirement (open_round_in house) increment result)
+abbrev pub posting_of : HouseFields → Increments → Outcome → Result ClosedRound CloseFault
+posting_of house increments result =
+    unless (first_fault (outcome_checks house.setup.products increments result))
+    (closed_round (public_setup house.setup) (open_round_in house) increments result)
 
 -- the same of the outcome of the current round
-abbrev pub posting_in : HouseFields → ℕ → List Tie → Result ClosedRound CloseFault
-posting_in house increment ties = posting_of house increment (outcome house.setup.products (open_round_in house) ties)
+abbrev pub posting_in : HouseFields → Increments → List Tie → Result ClosedRound CloseFault
+posting_in house increments ties = posting_of house increments (outcome house.setup.products (open_round_in house) ties)

@@ -1,16 +1,17 @@
 -- What a sheet is judged by: where the auction stands, which everyone knows, and what the bidder holds, which is its own.
 --     Standing      whether the auction has ended, the current round and its prices
---     Holding      a bidder's eligibility and demands
 --     first_standing products, first_holding products row      before the first round
 --     standing_after sheet, holding_after slip      after a closed round
---     put_fault products standing holding round bids      the first fault of a sheet put for a round
+--     put_fault setup standing holding round bids      the first fault of a sheet put for a round
 use Rattle.std.specs.Prelude.{ℕ, ◌+◌, List, ◌∷◌, Bool, false, not, ◌==◌, if◌then◌else◌, Option, length, map, replicate}
 use Rattle.clock_setup.specs.declared.setup.Product.{Product}
 use Rattle.clock_setup.specs.declared.setup.Bidder.{Bidder}
 use Rattle.clock_setup.specs.declared.prices.PricePair.{PricePair}
 use Rattle.clock_setup.specs.Prices.{opening_prices}
+use Rattle.clock_setup.specs.Limits.{PublicSetup}
 use Rattle.clock_setup.specs.Faults.{first_fault}
 use Rattle.clock_bids.specs.declared.sheet.Bid.{Bid}
+pub use Rattle.clock_bids.specs.Holding.{Holding}
 use Rattle.clock_bids.specs.Sheet.{sheet_fault}
 use Rattle.clock_posting.specs.declared.sheet.RoundSheet.{RoundSheet}
 use Rattle.clock_posting.specs.Posting.{next_pair}
@@ -24,11 +25,6 @@ pub record Standing : Type 0 where
   pub ended : Bool
   pub round : ℕ
   pub prices : List PricePair
-
--- what a bidder holds: its eligibility, and a demand for each product
-pub record Holding : Type 0 where
-  pub eligibility : ℕ
-  pub demands : List ℕ
 
 -- the first round is at the opening prices
 abbrev pub first_standing : List Product → Standing
@@ -51,8 +47,8 @@ abbrev pub holding_after : Slip → Holding
 holding_after slip = record { eligibility = slip.eligibility; demands = slip.demands }
 
 -- the auction has ended, the round is not the current one, or the bids have a fault
-abbrev pub put_fault : List Product → Standing → Holding → ℕ → List Bid → Option PutFault
-put_fault products standing holding round bids = first_fault (
+abbrev pub put_fault : PublicSetup → Standing → Holding → ℕ → List Bid → Option PutFault
+put_fault setup standing holding round bids = first_fault (
     (put_faults.Ended, not standing.ended)
     ∷ (put_faults.WrongRound standing.round, round == standing.round)
-    ∷ fault_check put_faults.Bid (sheet_fault products standing.prices holding.eligibility holding.demands bids))
+    ∷ fault_check put_faults.Bid (sheet_fault setup standing.round standing.prices holding bids))

@@ -3,11 +3,9 @@
 use crate::House;
 use clock_bids::Bid;
 use clock_processor::Plain;
-use clock_setup::read_setup;
+use clock_setup::fixtures::ONE_PRODUCT;
+use clock_setup::{Increments, read_setup};
 use std::test::Fail;
-
-const DOCUMENT: &[u8] =
-    b"{\"bidders\":[{\"eligibility\":10,\"name\":\"X\",\"token\":\"XXXXXXXXXXXXXXXX\"},{\"eligibility\":10,\"name\":\"Y\",\"token\":\"YYYYYYYYYYYYYYYY\"}],\"operator\":\"OPERATOROPERATOR\",\"products\":[{\"cap\":2,\"name\":\"A\",\"opening\":100,\"supply\":2,\"units\":1}],\"requirement\":95,\"version\":1}";
 
 /// So many blocks of the product at a price.
 fn blocks(quantity: u64, price: u64) -> Bid {
@@ -20,12 +18,12 @@ fn blocks(quantity: u64, price: u64) -> Bid {
 
 #[test]
 fn a_round_in_ten_lines(rt: HostRuntime) -> Result<(), Fail> {
-    let setup = read_setup(rt.alloc(), DOCUMENT)?;
+    let setup = read_setup(rt.alloc(), ONE_PRODUCT.as_bytes())?;
     let mut house = House::new(rt.alloc(), setup, Plain)?;
     assert!(rt; house.setup().bidders.as_slice().len() == 2);
     house.put_sheet(0, house.round(), &[blocks(2, 100)])?;
     house.put_sheet(1, house.round(), &[blocks(1, 100)])?;
-    house.close(house.round(), 10, &[])?;
+    house.close(house.round(), &Increments::Single(10), &[])?;
     let sheet = house.sheet(1).ok_or("the round is not closed")?;
     assert!(rt; !sheet.ended && house.round() == 2);
     assert_eq!(rt; house.own(0).eligibility, 3);

@@ -32,7 +32,7 @@ pub enum PutFault {
 ///
 /// - `Ended`: the auction has ended.
 /// - `WrongRound`: the closing is for another round than the current one, which is told.
-/// - `Increment`: the increment is not 1 to 50 percent.
+/// - `Increment`: an increment is not 1 to 50 percent, or a list has not one for each product.
 /// - `Tie`: the tie numbers have this fault.
 /// - `PriceLimit`: the next clock price of this product would be above the highest price.
 /// - `NoMemory`: there was no memory.

@@ -1,8 +1,11 @@
-ghost use Rattle.std.specs.Prelude.{◌≡◌};
+ghost use Rattle.std.specs.Prelude.{◌≡◌, IfOk};
 
 use crate::results::Results;
 use clock_bids::Sheet;
+use clock_device::NoMemory;
 use clock_order::Ties;
+use clock_setup::Increments;
+use std::alloc::Global;
 use std::marker::Model;
 
 /// A bidder's sheet that a house accepts and has not put in force yet.
@@ -26,12 +29,12 @@ impl Model for PreparedPut {
 
 /// A closing that a house accepts and has not made yet.
 ///
-/// Contracts see the round, the increment and the tie numbers that were asked for, and the round
+/// Contracts see the round, the increments and the tie numbers that were asked for, and the round
 /// that the closing adds. It fits each house where this closing adds that round.
 #[derive(Drop)]
 pub struct Prepared {
     pub(crate) round: u64,
-    pub(crate) increment: u64,
+    pub(crate) increments: Increments,
     pub(crate) ties: Ties,
     pub(crate) results: Results,
 }
@@ -42,7 +45,7 @@ impl Model for Prepared {
 
     ghost Value = { PreparedClosing };
 
-    ghost view = { λ p. record { round = p.round; increment = p.increment; ties = p.ties; closed = closed_by p.results.posting p.results.slips } };
+    ghost view = { λ p. record { round = p.round; increments = p.increments; ties = p.ties; closed = closed_by p.results.posting p.results.slips } };
 
     ghost invariant = { λ p. IsConsistent p.results.posting };
 }
@@ -53,5 +56,15 @@ impl Prepared {
         ensures { result ≡ self.now.closed.sheet.ended }
     {
         self.results.posting.sheet.ended
+    }
+}
+
+/// Equal increments.
+pub(crate) fn copy_of(alloc: Global, increments: &Increments) -> Result<Increments, NoMemory>
+    ensures { IfOk result (λ copy. copy ≡ increments.now) }
+{
+    match increments {
+        Increments::Single(increment) => Ok(Increments::Single(*increment)),
+        Increments::PerProduct(list) => Ok(Increments::PerProduct(list.copy(alloc)?)),
     }
 }

@@ -1,13 +1,14 @@
 ghost use Rattle.std.specs.Prelude.{◌≡◌, ◌<◌, ◌≤◌, ℕ, List, [], false, length, map, flat_map, IfOk, IfErr};
 ghost use Rattle.std.specs.List.{range_with_len};
-ghost use Rattle.clock_setup.specs.Limits.{IsRow};
+ghost use Rattle.clock_setup.specs.Limits.{IsRow, public_setup, most_bidders};
+ghost use Rattle.clock_setup.specs.Faults.{IsRefusal};
+ghost use Rattle.clock_setup.specs.Increments.{AreIncrements};
 ghost use Rattle.clock_setup.specs.Eligibility as eligibilities;
 ghost use Rattle.clock_bids.specs.Sheet as sheets;
 ghost use Rattle.clock_processor.specs.Board.{IsWithinEligibility};
 ghost use Rattle.clock_house.specs.Closing as rules;
 ghost use Rattle.clock_house.specs.House.{standing_in, holding_in, open_round_in};
 ghost use Rattle.clock_house.specs.declared.fault.CloseFault.TheVariants as close_faults;
-ghost use Rattle.clock_house.specs.Faults.{IsRefusal};
 ghost use Rattle.clock_house.specs.Prepared.{AreResults, posting_in, posting_of};
 ghost use Rattle.clock_house.specs.Laws.{eligibilities_of, grid_of};
 
@@ -19,7 +20,7 @@ use clock_device::NoMemory;
 use clock_order::{Ties, ordered};
 use clock_posting::{Posting, post, post_first};
 use clock_processor::{Board, Processor};
-use clock_setup::{Amounts, Grid, Setup, activity, next_eligibility};
+use clock_setup::{Amounts, Grid, Increments, Setup, activity, next_eligibility};
 
 /// What a round comes to: its sheet with the prices of the next round, and the slip of each bidder.
 #[derive(Drop)]
@@ -32,48 +33,45 @@ pub(crate) struct Results {
 
 impl<P: Processor> House<P> {
     /// What the current round comes to.
-    pub(crate) fn results(&self, increment: u64, ties: &Ties) -> Result<Results, CloseFault>
+    pub(crate) fn results(&self, increments: &Increments, ties: &Ties) -> Result<Results, CloseFault>
         requires going { (standing_in self.now).ended ≡ false }
-        requires least { 1 ≤ increment }
-        requires most { increment ≤ 50 }
+        requires increments { AreIncrements (length self.now.setup.products) increments.now }
 
-        ensures ok { IfOk result (AreResults (posting_in self.now increment ties.now)) }
-        ensures err { IfErr result (IsRefusal close_faults.NoMemory (posting_in self.now increment ties.now)) }
+        ensures ok { IfOk result (AreResults (posting_in self.now increments.now ties.now)) }
+        ensures err { IfErr result (IsRefusal close_faults.NoMemory (posting_in self.now increments.now ties.now)) }
     {
         self.keeps();
         if self.round() == 1 {
-            self.first_results(increment)
+            self.first_results(increments)
         } else {
-            self.later_results(increment, ties)
+            self.later_results(increments, ties)
         }
     }
 
     /// What the first round comes to: the sheets' quantities stand as demands.
-    fn first_results(&self, increment: u64) -> Result<Results, CloseFault>
+    fn first_results(&self, increments: &Increments) -> Result<Results, CloseFault>
         requires going { (standing_in self.now).ended ≡ false }
         requires first { (standing_in self.now).round ≡ 1 }
-        requires least { 1 ≤ increment }
-        requires most { increment ≤ 50 }
+        requires increments { AreIncrements (length self.now.setup.products) increments.now }
 
-        ensures ok { IfOk result (AreResults (posting_of self.now increment (rules.first_outcome self.now.setup.products (open_round_in self.now)))) }
-        ensures err { IfErr result (IsRefusal close_faults.NoMemory (posting_of self.now increment (rules.first_outcome self.now.setup.products (open_round_in self.now)))) }
+        ensures ok { IfOk result (AreResults (posting_of self.now increments.now (rules.first_outcome self.now.setup.products (open_round_in self.now)))) }
+        ensures err { IfErr result (IsRefusal close_faults.NoMemory (posting_of self.now increments.now (rules.first_outcome self.now.setup.products (open_round_in self.now)))) }
     {
         self.keeps();
         let grid = self.asked_grid()?;
-        let posting = post_first(self.alloc(), self.setup(), &grid, increment)?;
+        let posting = post_first(self.alloc(), self.setup(), &grid, increments)?;
         let slips = self.slips(&grid)?;
         Ok(Results { posting, slips })
     }
 
     /// What a later round comes to: all bidders' requests are settled in their order.
-    fn later_results(&self, increment: u64, ties: &Ties) -> Result<Results, CloseFault>
+    fn later_results(&self, increments: &Increments, ties: &Ties) -> Result<Results, CloseFault>
         requires going { (standing_in self.now).ended ≡ false }
         requires later { 2 ≤ (standing_in self.now).round }
-        requires least { 1 ≤ increment }
-        requires most { increment ≤ 50 }
+        requires increments { AreIncrements (length self.now.setup.products) increments.now }
 
-        ensures ok { IfOk result (AreResults (posting_of self.now increment (rules.later_outcome self.now.setup.products (open_round_in self.now) (rules.requests (open_round_in self.now) ties.now)))) }
-        ensures err { IfErr result (IsRefusal close_faults.NoMemory (posting_of self.now increment (rules.later_outcome self.now.setup.products (open_round_in self.now) (rules.requests (open_round_in self.now) ties.now)))) }
+        ensures ok { IfOk result (AreResults (posting_of self.now increments.now (rules.later_outcome self.now.setup.products (open_round_in self.now) (rules.requests (open_round_in self.now) ties.now)))) }
+        ensures err { IfErr result (IsRefusal close_faults.NoMemory (posting_of self.now increments.now (rules.later_outcome self.now.setup.products (open_round_in self.now) (rules.requests (open_round_in self.now) ties.now)))) }
     {
         self.keeps();
         let changes = self.changes()?;
@@ -89,7 +87,7 @@ impl<P: Processor> House<P> {
             self.prices(),
             &requests,
             &settled,
-            increment,
+            increments,
         )?;
         let slips = self.slips(settled.grid())?;
         Ok(Results { posting, slips })
@@ -134,7 +132,7 @@ impl<P: Processor> House<P> {
     /// How many bidders there are.
     fn bidders(&self) -> u32
         ensures count { result ≡ length self.now.setup.bidders }
-        ensures few { result ≤ 512 }
+        ensures few { result ≤ most_bidders }
     {
         bidder_count(self.setup())
     }
@@ -188,7 +186,7 @@ impl<P: Processor> House<P> {
     fn slips(&self, grid: &Grid) -> Result<Slips, NoMemory>
         requires going { (standing_in self.now).ended ≡ false }
         requires within { IsWithinEligibility self.now.setup.products (eligibilities_of (open_round_in self.now)) grid.now }
-        ensures { IfOk result (λ slips. slips ≡ rules.slips_after self.now.setup.products self.now.setup.requirement (open_round_in self.now) grid.now) }
+        ensures { IfOk result (λ slips. slips ≡ rules.slips_after (public_setup self.now.setup) (open_round_in self.now) grid.now) }
     {
         let mut slips = Slips::new(self.alloc());
         for bidder in 0..self.bidders() {
@@ -202,7 +200,7 @@ impl<P: Processor> House<P> {
         requires bidder { bidder < length self.now.setup.bidders }
         requires row { IsRow self.now.setup.products demands.now }
         requires within { eligibilities.activity self.now.setup.products demands.now ≤ (holding_in self.now bidder).eligibility }
-        ensures { IfOk result (λ slip. slip ≡ rules.slip_after self.now.setup.products self.now.setup.requirement (standing_in self.now).round (holding_in self.now bidder).eligibility demands.now) }
+        ensures { IfOk result (λ slip. slip ≡ rules.slip_after (public_setup self.now.setup) (standing_in self.now).round (holding_in self.now bidder).eligibility demands.now) }
     {
         self.keeps();
         let own = self.own(bidder);

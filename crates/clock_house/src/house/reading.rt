@@ -1,12 +1,13 @@
 //! What a house tells: no call here takes memory or changes anything.
 
 ghost use Rattle.std.specs.Prelude.{◌≡◌, ◌<◌, ◌≤◌, ◌-◌, ℕ, List, None, false, length, slice_get, slice_index_or, IfSome, option_map, option_copied};
-ghost use Rattle.clock_setup.specs.Limits.{SetupFields, IsSetup};
+ghost use Rattle.clock_setup.specs.Limits.{SetupFields, IsSetup, public_setup};
+ghost use Rattle.clock_bids.specs.Holding.{holding_of};
 ghost use Rattle.clock_house.specs.Command.{Command, other};
 ghost use Rattle.clock_house.specs.History.{history, bidder_at, slip_of, round_at};
 ghost use Rattle.clock_house.specs.View.{IsSeen, seen_standing, seen_holding, seen_in_force, seen_round};
 ghost use Rattle.clock_house.specs.House.{standing_in, holding_in, open_round_in, IsFollowedBy, StandsFor, ToView};
-ghost use Rattle.clock_house.specs.Laws.{IsSound, IsWithinLimits, HasSoundPrices, IsOpen};
+ghost use Rattle.clock_house.specs.Laws.{IsSound, IsWithinLimits, HasSoundPrices, IsOpen, most_rounds};
 
 use crate::closed_round::ClosedRound;
 use crate::house::House;
@@ -26,7 +27,7 @@ impl<P> House<P> {
     /// The current round, which is one more than the number of closed rounds, or after the end the last closed one.
     pub fn round(&self) -> u64
         ensures is { result ≡ (standing_in self.now).round }
-        ensures seen { (bidder : ℕ) → ToView self.now bidder (λ view. result ≡ (seen_standing self.now.setup.products view).round) }
+        ensures seen { (bidder : ℕ) → ToView self.now bidder (λ view. result ≡ (seen_standing (public_setup self.now.setup) view).round) }
     {
         self.round
     }
@@ -34,7 +35,7 @@ impl<P> House<P> {
     /// Whether the auction has ended.
     pub fn ended(&self) -> bool
         ensures is { result ≡ (standing_in self.now).ended }
-        ensures seen { (bidder : ℕ) → ToView self.now bidder (λ view. result ≡ (seen_standing self.now.setup.products view).ended) }
+        ensures seen { (bidder : ℕ) → ToView self.now bidder (λ view. result ≡ (seen_standing (public_setup self.now.setup) view).ended) }
     {
         self.ended
     }
@@ -49,9 +50,9 @@ impl<P> House<P> {
         ensures round { result.round ≡ (standing_in self.now).round }
         ensures eligibility { result.eligibility ≡ (holding_in self.now bidder).eligibility }
         ensures demands { result.demands.now ≡ (holding_in self.now bidder).demands }
-        ensures limits { IsWithinLimits self.now.setup.products (record { eligibility = result.eligibility; demands = result.demands.now }) }
-        ensures seen_round { ToView self.now bidder (λ view. result.round ≡ (seen_standing self.now.setup.products view).round) }
-        ensures seen { ToView self.now bidder (λ view. seen_holding self.now.setup.products (bidder_at self.now.setup bidder) view ≡ record { eligibility = result.eligibility; demands = result.demands.now }) }
+        ensures limits { IsWithinLimits self.now.setup.products (holding_of result) }
+        ensures seen_round { ToView self.now bidder (λ view. result.round ≡ (seen_standing (public_setup self.now.setup) view).round) }
+        ensures seen { ToView self.now bidder (λ view. seen_holding (public_setup self.now.setup) (bidder_at self.now.setup bidder) view ≡ holding_of result) }
     {
         self.keeps();
         self.holding_now(bidder)
@@ -87,7 +88,7 @@ impl<P> House<P> {
     pub fn bids(&self, bidder: u32) -> Option<&Sheet>
         requires { bidder < length self.now.setup.bidders }
         ensures is { option_copied result ≡ slice_index_or self.now.sheets bidder None }
-        ensures seen { ToView self.now bidder (λ view. option_copied result ≡ seen_in_force self.now.setup.products (bidder_at self.now.setup bidder) view) }
+        ensures seen { ToView self.now bidder (λ view. option_copied result ≡ seen_in_force (public_setup self.now.setup) (bidder_at self.now.setup bidder) view) }
     {
         self.sheets.as_slice()[bidder as usize].as_ref()
     }
@@ -128,9 +129,9 @@ impl<P> House<P> {
         ensures limits { IsSetup self.now.setup }
         ensures within { (bidder : ℕ) → bidder < length self.now.setup.bidders → IsWithinLimits self.now.setup.products (holding_in self.now bidder) }
         ensures priced { (standing_in self.now).ended ≡ false → HasSoundPrices self.now.setup.products (standing_in self.now) }
-        ensures going { (standing_in self.now).ended ≡ false → IsOpen self.now.setup.products (open_round_in self.now) }
+        ensures going { (standing_in self.now).ended ≡ false → IsOpen (public_setup self.now.setup) (open_round_in self.now) }
         ensures sheets { length self.now.sheets ≡ length self.now.setup.bidders }
-        ensures rounds { length self.now.closed ≤ 4096000000000002 }
+        ensures rounds { length self.now.closed ≤ most_rounds }
         ensures others { IsFollowedBy other self.now self.now }
         ensures views { (setup : SetupFields) (bidder : ℕ) (commands : List Command) → IsSeen setup bidder commands }
     {

@@ -1,18 +1,21 @@
-use Rattle.std.proofs.Common.{◌≡◌, ℕ, ◌<◌, List, ◌++◌, length, ap, sym, ◌∙◌, arith}
-use Rattle.std.specs.Prelude.{flat_map}
+use Rattle.std.proofs.Common.{◌≡◌, ℕ, ◌<◌, List, [], ◌++◌, length, ap, sym, ◌∙◌, arith}
+use Rattle.std.specs.Prelude.{Option, flat_map, unwrap_or}
 use Rattle.std.specs.List.{range_with_len}
 use Rattle.clock_bids.specs.Changes.{changes_of_sheet}
 use Rattle.clock_bids.specs.declared.change.Change.{Change}
+use Rattle.clock_bids.specs.declared.sheet.Bid.{Bid}
 use Rattle.clock_house.specs.Standing.{Holding}
 use Rattle.clock_house.specs.Closing.{bids_at, requests_of}
-use Rattle.clock_house.specs.House.{standing_in, open_round_in}
-use Rattle.clock_house.proofs.InHouse.{in-many, in-held, in-good, flat_map-range_more}
+use Rattle.clock_house.specs.House.{standing_in, holding_in, open_round_in}
+use Rattle.clock_house.proofs.InHouse.{good_as, in-many, in-held, in-good, flat_map-range_more}
 use Rattle.clock_house.proofs.house.House.changes.Goals as goal
 
 pub changes_of-requires-clause-good : goal.changes_of-requires-clause-good
 changes_of-requires-clause-good g c =
     let lt : c.loop-bidder.bidder < length c.args.self.now.setup.bidders = omega arith in
-    rw (c.setup.ensures, c.prices.ensures, c.own.ensures.eligibility, c.own.ensures.demands, c.bids.ensures.is)
+    good_as c.args.self.now.setup _ (standing_in c.args.self.now).round _ (standing_in c.args.self.now).prices _ (holding_in c.args.self.now c.loop-bidder.bidder) c.own.result
+    (bids_at c.args.self.now.sheets c.loop-bidder.bidder) _
+    c.setup.ensures c.own.ensures.round c.prices.ensures c.own.ensures.eligibility c.own.ensures.demands (ap (λ (sheet : Option (List Bid)). unwrap_or sheet []) c.bids.ensures.is)
     (in-good c.args.self.now (c.keeps.ensures.going c.requires.going) c.loop-bidder.bidder lt)
 
 pub loop-bidder-preserved : goal.loop-bidder-preserved

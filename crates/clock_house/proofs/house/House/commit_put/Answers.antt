@@ -1,5 +1,7 @@
-use Rattle.std.proofs.Common.{◌∷◌, refl, arith}
+use Rattle.std.proofs.Common.{◌∷◌, refl, sym, subst, arith}
 use Rattle.clock_house.specs.Command.{put}
+use Rattle.clock_house.specs.House.{HouseFields}
+use Rattle.clock_house.specs.Prepared.{PreparedSheet, FitsSheet}
 use Rattle.clock_house.proofs.Kept.{stands_sheets}
 use Rattle.clock_house.proofs.Puts.{put-accepted}
 use Rattle.clock_house.proofs.house.House.commit_put.Goals as goal
@@ -13,7 +15,8 @@ set-requires g c =
 pub invariant_of-self : goal.invariant_of-self
 invariant_of-self g c =
     let known = rw (← c.self.view_is, ← c.prepared.view_is) at c.requires.known in
-    let good = rw (← c.self.view_is, ← c.prepared.view_is) at c.requires.good in
+    let here = subst (λ (p : PreparedSheet). FitsSheet p c.args.self.now) (sym c.prepared.view_is) c.requires in
+    let good = (subst (λ (house : HouseFields). FitsSheet (record { bidder = c.prepared.inside.bidder; round = c.prepared.inside.round; bids = c.prepared.inside.sheet }) house) (sym c.self.view_is) here).good in
     record {
       commands = put c.prepared.inside.bidder c.prepared.inside.round c.prepared.inside.sheet ∷ c.self.invariant.commands;
       stands = rw c.set.ensures
@@ -27,7 +30,8 @@ invariant_of-self g c =
 pub returns-clause-followed : goal.returns-clause-followed
 returns-clause-followed g c =
     let known = rw (← c.self.view_is, ← c.prepared.view_is) at c.requires.known in
-    let good = rw (← c.self.view_is, ← c.prepared.view_is) at c.requires.good in
+    let here = subst (λ (p : PreparedSheet). FitsSheet p c.args.self.now) (sym c.prepared.view_is) c.requires in
+    let good = (subst (λ (house : HouseFields). FitsSheet (record { bidder = c.prepared.inside.bidder; round = c.prepared.inside.round; bids = c.prepared.inside.sheet }) house) (sym c.self.view_is) here).good in
     rw (← c.self.view_is, ← c.prepared.view_is)
     (record {
       setup = refl;

@@ -3,7 +3,7 @@ use Rattle.std.specs.List.{range_with_len}
 use Rattle.clock_house.specs.Standing.{Holding}
 use Rattle.clock_house.specs.House.{holding_in}
 use Rattle.clock_house.proofs.Filled.{IsFilled, filled-all}
-use Rattle.clock_house.proofs.Sums.{map-map}
+use Rattle.std.proofs.lemmas.Simd.{map-map}
 use Rattle.clock_house.proofs.house.House.demands.Goals as goal
 
 pub returns : goal.returns

@@ -4,7 +4,7 @@ use Rattle.std.specs.List.{range_with_len}
 use Rattle.std.proofs.lemmas.List.FromFn.{map-range_with_len_more}
 use Rattle.clock_house.specs.Standing.{Holding}
 use Rattle.clock_house.specs.House.{holding_in}
-use Rattle.clock_house.proofs.Sums.{map-map}
+use Rattle.std.proofs.lemmas.Simd.{map-map}
 use Rattle.clock_house.proofs.house.House.eligibilities.Goals as goal
 
 pub loop-bidder-preserved : goal.loop-bidder-preserved

@@ -4,6 +4,7 @@ use Rattle.std.specs.List.{range_with_len}
 use Rattle.std.proofs.lemmas.List.{get_or-map, length-map}
 use Rattle.std.proofs.lemmas.List.FromFn.{map-range_with_len_more}
 use Rattle.clock_setup.specs.Demands.{row_of}
+use Rattle.clock_setup.specs.Limits.{public_setup}
 use Rattle.clock_house.specs.declared.slip.Slip.{Slip}
 use Rattle.clock_house.specs.Standing.{Holding}
 use Rattle.clock_house.specs.Closing.{holding_at, slip_after}
@@ -34,10 +35,10 @@ pub loop-bidder-preserved : goal.loop-bidder-preserved
 loop-bidder-preserved g c =
     let in_house : c.loop-bidder.bidder < length c.args.self.now.setup.bidders = omega arith in
     let house : HouseFields = c.args.self.now in
-    let f = λ (bidder : ℕ). slip_after c.args.self.now.setup.products c.args.self.now.setup.requirement (standing_in c.args.self.now).round (holding_at (open_round_in c.args.self.now).holdings bidder).eligibility (row_of c.args.grid.now bidder) in
+    let f = λ (bidder : ℕ). slip_after (public_setup c.args.self.now.setup) (standing_in c.args.self.now).round (holding_at (open_round_in c.args.self.now).holdings bidder).eligibility (row_of c.args.grid.now bidder) in
     let exact = rw c.row.ensures at c.in_ok-slip_after.ensures in
     let slip : c.in_ok-slip_after.field-0 ≡ f c.loop-bidder.bidder =
-    exact ∙ ap (λ (held : Holding). slip_after c.args.self.now.setup.products c.args.self.now.setup.requirement (standing_in c.args.self.now).round held.eligibility (row_of c.args.grid.now c.loop-bidder.bidder)) (sym (in-held c.args.self.now c.loop-bidder.bidder in_house)) in
+    exact ∙ ap (λ (held : Holding). slip_after (public_setup c.args.self.now.setup) (standing_in c.args.self.now).round held.eligibility (row_of c.args.grid.now c.loop-bidder.bidder)) (sym (in-held c.args.self.now c.loop-bidder.bidder in_house)) in
     c.in_ok-push.ensures.ok
     ∙ ap (λ (xs : List Slip). xs ++ c.in_ok-slip_after.field-0 ∷ []) c.loop-bidder.invariant
     ∙ ap (λ (one : Slip). map f (range_with_len 0 c.loop-bidder.bidder) ++ one ∷ []) slip
@@ -46,5 +47,5 @@ loop-bidder-preserved g c =
 pub returns : goal.returns
 returns g c =
     let done : c.loop-bidder.bidder ≡ length c.args.self.now.setup.bidders = omega arith in
-    let f = λ (bidder : ℕ). slip_after c.args.self.now.setup.products c.args.self.now.setup.requirement (standing_in c.args.self.now).round (holding_at (open_round_in c.args.self.now).holdings bidder).eligibility (row_of c.args.grid.now bidder) in
+    let f = λ (bidder : ℕ). slip_after (public_setup c.args.self.now.setup) (standing_in c.args.self.now).round (holding_at (open_round_in c.args.self.now).holdings bidder).eligibility (row_of c.args.grid.now bidder) in
     c.loop-bidder.invariant ∙ ap (λ (n : ℕ). map f (range_with_len 0 n)) (done ∙ sym (in-many c.args.self.now))
