@@ -16,6 +16,7 @@ by_round (suc (suc n)) bound = bound (omega arith)
 -- the rounds are bounded by the sum of the highest prices
 pub round_bounded : (products : List Product) (now : Standing) → length products ≤ most_products → HasSoundPrices products now → now.round ≤ most_rounds
 round_bounded products now few priced =
-    let starts : sum_by (λ (pair : PricePair). pair.start) now.prices ≤ length now.prices * 1000000000000 = sum_by-le (λ (pair : PricePair). pair.start) 1000000000000 now.prices priced.highest in
+    let starts : sum_by (λ (pair : PricePair). pair.start) now.prices ≤ length now.prices * 1000000000000 =
+    sum_by-le (λ (pair : PricePair). pair.start) 1000000000000 now.prices priced.highest in
     let many : length now.prices * 1000000000000 ≤ 4096000000000000 = omega (arith, few, priced.each) in
     by_round now.round (λ later. omega (arith, priced.bounded later, starts, many))

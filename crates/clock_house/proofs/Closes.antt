@@ -17,7 +17,8 @@ use Rattle.clock_house.specs.Prepared.{PreparedClosing, FitsClosing}
 use Rattle.clock_house.proofs.Closings.{IsClosing, closing_passed}
 use Rattle.clock_house.proofs.Kept.{stands_open}
 
-module _ (house : HouseFields) (limits : IsSetup house.setup) (round : ℕ) (increments : Increments) (ties : List Tie) (commands : List Command) (stands : StandsFor commands house) where
+module _ (house : HouseFields) (limits : IsSetup house.setup) (round : ℕ) (increments : Increments) (ties : List Tie) (commands : List Command)
+    (stands : StandsFor commands house) where
   -- the closing by the commands is that by the house
   closing_same : closing_of house.setup (history house.setup commands) round increments ties ≡ closing_in house round increments ties
   closing_same = ap (λ (now : OpenRound). closing (public_setup house.setup) now round increments ties) (sym (stands_open house limits commands stands))
@@ -26,10 +27,12 @@ module _ (house : HouseFields) (limits : IsSetup house.setup) (round : ℕ) (inc
   closed_with answer = (after_closing (history house.setup commands) (close round increments ties) answer).closed
 
   abbrev sheets_with : Result ClosedRound CloseFault → List (Option (List Bid))
-  sheets_with answer = for_each_bidder house.setup (sheet_in_force house.setup (after_closing (history house.setup commands) (close round increments ties) answer))
+  sheets_with answer =
+      for_each_bidder house.setup (sheet_in_force house.setup (after_closing (history house.setup commands) (close round increments ties) answer))
 
   -- an accepted closing adds its round, and no sheet is in force
-  pub close-accepted : (done : ClosedRound) (closed : List ClosedRound) (sheets : List (Option (List Bid))) (spare : ℕ) → closing_in house round increments ties ≡ Ok done →
+  pub close-accepted : (done : ClosedRound) (closed : List ClosedRound) (sheets : List (Option (List Bid))) (spare : ℕ) →
+      closing_in house round increments ties ≡ Ok done →
       closed ≡ done ∷ house.closed → sheets ≡ for_each_bidder house.setup (λ bidder. None) →
       StandsFor (close round increments ties ∷ commands) (record { setup = house.setup; closed = closed; sheets = sheets; spare = spare })
   close-accepted done closed sheets spare e added none = record {
@@ -45,7 +48,8 @@ module _ (house : HouseFields) (limits : IsSetup house.setup) (round : ℕ) (inc
   }
 
 -- a refused closing is one more command
-pub close-followed : (house : HouseFields) (limits : IsSetup house.setup) (round : ℕ) (increments : Increments) (ties : List Tie) (fault : CloseFault) → closing_in house round increments ties ≡ Err fault →
+pub close-followed : (house : HouseFields) (limits : IsSetup house.setup) (round : ℕ) (increments : Increments) (ties : List Tie) (fault : CloseFault) →
+    closing_in house round increments ties ≡ Err fault →
     IsFollowedBy (close round increments ties) house house
 close-followed house limits round increments ties fault e = record {
   setup = refl;
@@ -69,10 +73,12 @@ stands_unchanged old new commands same stands = record {
 }
 
 -- the round of an accepted closing is the current one
-pub closed_number : (house : HouseFields) (round : ℕ) (increments : Increments) (ties : List Tie) (done : ClosedRound) → closing_in house round increments ties ≡ Ok done →
+pub closed_number : (house : HouseFields) (round : ℕ) (increments : Increments) (ties : List Tie) (done : ClosedRound) →
+    closing_in house round increments ties ≡ Ok done →
     ((standing_in house).ended ≡ false) × (done.sheet.round ≡ (standing_in house).round)
 closed_number house round increments ties done e =
-    let is : IsClosing (public_setup house.setup) (open_round_in house) round increments ties done = closing_passed (public_setup house.setup) (open_round_in house) round increments ties done e in
+    let is : IsClosing (public_setup house.setup) (open_round_in house) round increments ties done =
+    closing_passed (public_setup house.setup) (open_round_in house) round increments ties done e in
     (is.going, ap (λ (one : ClosedRound). one.sheet.round) is.made)
 
 -- the prices that are kept for the next round are those that the lines show
@@ -82,7 +88,8 @@ taken_prices None old lines ended going end shown = let bad : ended ≡ true = e
 taken_prices (Some list) old lines ended going end shown = shown
 
 -- what a closing goes by is the same where all but the room is
-closing_unchanged : (old new : HouseFields) → IsUnchanged old new → (round : ℕ) (increments : Increments) (ties : List Tie) → closing_in new round increments ties ≡ closing_in old round increments ties
+closing_unchanged : (old new : HouseFields) → IsUnchanged old new → (round : ℕ) (increments : Increments) (ties : List Tie) →
+    closing_in new round increments ties ≡ closing_in old round increments ties
 closing_unchanged old new same round increments ties =
     let by = λ (setup : SetupFields) (closed : List ClosedRound) (sheets : List (Option (List Bid))).
     closing_in (record { setup = setup; closed = closed; sheets = sheets; spare = old.spare }) round increments ties in
@@ -101,7 +108,8 @@ module _ (old mid new : HouseFields) (round : ℕ) (increments : Increments) (ti
       ∙ ap (closing_in mid prepared.round prepared.increments) (sym asked.2)
       ∙ fits
 
-  pub close-done : FitsClosing prepared mid → IsUnchanged old mid → HasClosed prepared.closed mid new → IfOk (closing_in old round increments ties) (λ closed. HasClosed closed old new)
+  pub close-done : FitsClosing prepared mid → IsUnchanged old mid → HasClosed prepared.closed mid new →
+      IfOk (closing_in old round increments ties) (λ closed. HasClosed closed old new)
   close-done fits same done =
       subst (λ (answer : Result ClosedRound CloseFault). IfOk answer (λ closed. HasClosed closed old new)) (sym (asked_closing fits same))
       (record {
@@ -110,7 +118,8 @@ module _ (old mid new : HouseFields) (round : ℕ) (increments : Increments) (ti
         sheets = done.sheets ∙ ap (λ (setup : SetupFields). for_each_bidder setup (λ bidder. None)) same.setup;
       })
 
-  pub close-done-followed : StandsStill old mid → IsFollowedBy (close prepared.round prepared.increments prepared.ties) mid new → IsFollowedBy (close round increments ties) old new
+  pub close-done-followed : StandsStill old mid → IsFollowedBy (close prepared.round prepared.increments prepared.ties) mid new →
+      IsFollowedBy (close round increments ties) old new
   close-done-followed still followed = record {
     setup = followed.setup ∙ still.setup;
     stands = λ commands stands.

@@ -1,6 +1,6 @@
 -- What an accepted closing tells.
 use Rattle.std.proofs.Common.{◌≡◌, ℕ, List, ◌∷◌, ◌++◌, Bool, true, false, not, ◌==◌, refl}
-use Rattle.std.specs.Prelude.{Option, Some, None, Result, Ok, Err, length}
+use Rattle.std.specs.Prelude.{Option, Some, None, Ok, Err, length}
 use Rattle.clock_setup.specs.declared.increments.Increments.{Increments}
 use Rattle.clock_setup.specs.Limits.{PublicSetup}
 use Rattle.clock_setup.specs.Increments.{are_increments}
@@ -13,9 +13,10 @@ use Rattle.clock_house.specs.declared.closed_round.ClosedRound.{ClosedRound}
 use Rattle.clock_house.specs.declared.fault.CloseFault.{CloseFault}
 use Rattle.clock_house.specs.declared.fault.CloseFault.TheVariants as close_faults
 use Rattle.clock_house.specs.Faults.{fault_check}
-use Rattle.clock_house.specs.Closing.{OpenRound, Outcome, outcome, closed_round, closing}
+use Rattle.clock_house.specs.Closing.{OpenRound, outcome, closed_round, closing}
 
--- the auction goes on, the round is the current one, increment and tie numbers have no fault, no next clock price is too high, and the round is that of the outcome
+-- the auction goes on, the round is the current one, increment and tie numbers have no fault, no next clock price is too high, and the round is that
+-- of the outcome
 pub record IsClosing (setup : PublicSetup) (now : OpenRound) (round : ℕ) (increments : Increments) (ties : List Tie) (closed : ClosedRound) : Type 0 where
   pub going : now.standing.ended ≡ false
   pub current : (round == now.standing.round) ≡ true
@@ -47,10 +48,12 @@ passed false true true round None None made closed e = (refl, refl, refl, refl, 
 pub closing_passed : (setup : PublicSetup) (now : OpenRound) (round : ℕ) (increments : Increments) (ties : List Tie) (closed : ClosedRound) →
     closing setup now round increments ties ≡ Ok closed → IsClosing setup now round increments ties closed
 closing_passed setup now round increments ties closed e =
-    let tests : Passed now.standing.ended (round == now.standing.round) (are_increments (length setup.products) increments) (tie_fault (length now.holdings) (length setup.products) ties)
+    let tests : Passed now.standing.ended (round == now.standing.round) (are_increments (length setup.products) increments)
+    (tie_fault (length now.holdings) (length setup.products) ties)
     (price_limit_fault setup.products (outcome setup.products now ties).grid (outcome setup.products now ties).posted increments)
     (closed_round setup now increments (outcome setup.products now ties)) closed
-    = passed now.standing.ended (round == now.standing.round) (are_increments (length setup.products) increments) now.standing.round (tie_fault (length now.holdings) (length setup.products) ties)
+    = passed now.standing.ended (round == now.standing.round) (are_increments (length setup.products) increments) now.standing.round
+    (tie_fault (length now.holdings) (length setup.products) ties)
     (price_limit_fault setup.products (outcome setup.products now ties).grid (outcome setup.products now ties).posted increments)
     (closed_round setup now increments (outcome setup.products now ties)) closed e in
     record { going = tests.0; current = tests.1; within = tests.2; fair = tests.3; possible = tests.4; made = tests.5 }

@@ -58,15 +58,19 @@ drop_without_room_keeps_demand : Newest (run one_product (append first_round (pu
     (line 100 110 100 None None ∷ []) ((2 ∷ []) ∷ (0 ∷ []) ∷ []) (3 ∷ 0 ∷ [])
 drop_without_room_keeps_demand = (refl, refl, refl)
 
-drop_applied_in_part : Newest (run one_product (append first_round (put 0 2 (bid 0 0 103 ∷ []) ∷ put 1 2 (bid 0 1 110 ∷ []) ∷ close 2 (Single 10) [] ∷ []))) 2 true
+drop_applied_in_part : Newest (run one_product (append first_round (put 0 2 (bid 0 0 103 ∷ []) ∷ put 1 2 (bid 0 1 110 ∷ []) ∷ close 2 (Single 10) [] ∷ [])))
+    2 true
     (line 100 110 103 None None ∷ []) ((1 ∷ []) ∷ (1 ∷ []) ∷ []) (2 ∷ 2 ∷ [])
 drop_applied_in_part = (refl, refl, refl)
 
-lower_tie_number_first : Newest (run one_product (append first_round (put 0 2 (bid 0 1 104 ∷ []) ∷ put 1 2 (bid 0 0 104 ∷ []) ∷ close 2 (Single 10) (tie 0 0 9 ∷ tie 1 0 3 ∷ []) ∷ []))) 2 true
+lower_tie_number_first : Newest
+    (run one_product (append first_round (put 0 2 (bid 0 1 104 ∷ []) ∷ put 1 2 (bid 0 0 104 ∷ []) ∷ close 2 (Single 10) (tie 0 0 9 ∷ tie 1 0 3 ∷ []) ∷ [])))
+    2 true
     (line 100 110 104 None None ∷ []) ((2 ∷ []) ∷ (0 ∷ []) ∷ []) (3 ∷ 0 ∷ [])
 lower_tie_number_first = (refl, refl, refl)
 
-lower_bidder_first : Newest (run one_product (append first_round (put 0 2 (bid 0 1 104 ∷ []) ∷ put 1 2 (bid 0 0 104 ∷ []) ∷ close 2 (Single 10) [] ∷ []))) 2 true
+lower_bidder_first : Newest (run one_product (append first_round (put 0 2 (bid 0 1 104 ∷ []) ∷ put 1 2 (bid 0 0 104 ∷ []) ∷ close 2 (Single 10) [] ∷ []))) 2
+    true
     (line 100 110 104 None None ∷ []) ((1 ∷ []) ∷ (1 ∷ []) ∷ []) (2 ∷ 2 ∷ [])
 lower_bidder_first = (refl, refl, refl)
 
@@ -89,7 +93,8 @@ three_applications : let auction = run two_products (append first_of_two second_
     (settlement two_products.products (open_round two_products auction) (requests (open_round two_products auction) [])).applied ≡ 3
 three_applications = refl
 
-only_excess_demand_raises_the_price : Newest (run two_products (put 0 1 (bid 1 2 100 ∷ []) ∷ put 1 1 (bid 0 1 100 ∷ []) ∷ put 2 1 (bid 1 1 100 ∷ []) ∷ close 1 (Single 10) []
+only_excess_demand_raises_the_price : Newest (run two_products
+    (put 0 1 (bid 1 2 100 ∷ []) ∷ put 1 1 (bid 0 1 100 ∷ []) ∷ put 2 1 (bid 1 1 100 ∷ []) ∷ close 1 (Single 10) []
     ∷ put 0 2 (bid 1 2 110 ∷ []) ∷ put 2 2 (bid 1 1 110 ∷ []) ∷ close 2 (Single 10) [] ∷ [])) 2 false
     (line 100 110 100 None (Some 110) ∷ line 100 110 110 (Some 3) (Some 121) ∷ []) ((0 ∷ 2 ∷ []) ∷ (1 ∷ 0 ∷ []) ∷ (0 ∷ 1 ∷ []) ∷ []) (2 ∷ 1 ∷ 1 ∷ [])
 only_excess_demand_raises_the_price = (refl, refl, refl)
@@ -105,10 +110,13 @@ second_close : closing_of one_product (run one_product (close 1 (Single 10) [] �
 second_close = refl
 
 -- the typed refusals
-sheet_for_another_round : put_fault (public_setup one_product) (standing one_product.products (run one_product first_round).closed) (holding one_product (run one_product first_round).closed 0) 1 (bid 0 2 110 ∷ []) ≡ Some (put_faults.WrongRound 2)
+sheet_for_another_round : put_fault (public_setup one_product) (standing one_product.products (run one_product first_round).closed)
+    (holding one_product (run one_product first_round).closed 0) 1 (bid 0 2 110 ∷ []) ≡ Some (put_faults.WrongRound 2)
 sheet_for_another_round = refl
 
-sheet_after_the_end : put_fault (public_setup one_product) (standing one_product.products (run one_product (append first_round (close 2 (Single 10) [] ∷ []))).closed) (holding one_product (run one_product (append first_round (close 2 (Single 10) [] ∷ []))).closed 0) 2 [] ≡ Some put_faults.Ended
+sheet_after_the_end : put_fault (public_setup one_product) (standing one_product.products
+    (run one_product (append first_round (close 2 (Single 10) [] ∷ []))).closed)
+    (holding one_product (run one_product (append first_round (close 2 (Single 10) [] ∷ []))).closed 0) 2 [] ≡ Some put_faults.Ended
 sheet_after_the_end = refl
 
 abbrev at_highest : SetupFields
@@ -132,7 +140,8 @@ third_round : Newest (run one_product (append first_round (put 0 2 (bid 0 2 110 
     (line 110 121 115 None None ∷ []) ((1 ∷ []) ∷ (1 ∷ []) ∷ []) (2 ∷ 2 ∷ [])
 third_round = (refl, refl, refl)
 
-quantity_over_the_cap : put_fault (public_setup one_product) (standing one_product.products []) (holding one_product [] 0) 1 (bid 0 3 100 ∷ []) ≡ Some (put_faults.Bid (OverCap 0))
+quantity_over_the_cap : put_fault (public_setup one_product) (standing one_product.products []) (holding one_product [] 0) 1 (bid 0 3 100 ∷ [])
+    ≡ Some (put_faults.Bid (OverCap 0))
 quantity_over_the_cap = refl
 
 increment_of_0 : closing_of one_product (run one_product []) 1 (Single 0) [] ≡ Err close_faults.Increment
@@ -157,10 +166,12 @@ an_increment_for_each_product : Newest (run granules_and_increments (first_of_gr
     (line 100 100 100 None (Some 125) ∷ line 100 100 100 (Some 3) (Some 120) ∷ []) ((0 ∷ 2 ∷ []) ∷ (2 ∷ 0 ∷ []) ∷ (0 ∷ 1 ∷ []) ∷ []) (2 ∷ 2 ∷ 1 ∷ [])
 an_increment_for_each_product = (refl, refl, refl)
 
-increments_for_one_of_two_products : closing_of granules_and_increments (run granules_and_increments []) 1 (PerProduct (10 ∷ [])) [] ≡ Err close_faults.Increment
+increments_for_one_of_two_products : closing_of granules_and_increments (run granules_and_increments []) 1 (PerProduct (10 ∷ [])) []
+    ≡ Err close_faults.Increment
 increments_for_one_of_two_products = refl
 
-an_increment_of_51_among_others : closing_of granules_and_increments (run granules_and_increments []) 1 (PerProduct (10 ∷ 51 ∷ [])) [] ≡ Err close_faults.Increment
+an_increment_of_51_among_others : closing_of granules_and_increments (run granules_and_increments []) 1 (PerProduct (10 ∷ 51 ∷ [])) []
+    ≡ Err close_faults.Increment
 an_increment_of_51_among_others = refl
 
 -- the activity limit: in round 1 the eligibility of 8, in round 2 a sheet may ask for 10
@@ -187,7 +198,8 @@ above_the_limit = refl
 at_the_limit : judged activity_limit first_of_limit 0 2 (bid 0 3 104 ∷ bid 1 2 106 ∷ []) ≡ None
 at_the_limit = refl
 
-without_a_limit_above_the_eligibility : judged (record activity_limit { limit = 100 }) first_of_limit 0 2 (bid 0 3 104 ∷ bid 1 2 106 ∷ []) ≡ Some (put_faults.Bid OverActivity)
+without_a_limit_above_the_eligibility : judged (record activity_limit { limit = 100 }) first_of_limit 0 2 (bid 0 3 104 ∷ bid 1 2 106 ∷ [])
+    ≡ Some (put_faults.Bid OverActivity)
 without_a_limit_above_the_eligibility = refl
 
 -- the reduction is applied by 1, and the increase by 1 of 2, so that the activity stays within the eligibility

@@ -28,7 +28,8 @@ range_more a (suc n) j e =
 
 pub flat_map-range_more : {A : Type 0} (f : ℕ → List A) (n : ℕ) → flat_map f (range_with_len 0 (n + 1)) ≡ flat_map f (range_with_len 0 n) ++ f n
 flat_map-range_more f n =
-    ap (flat_map f) (range_more 0 n n (omega arith)) ∙ flat_map-append f (range_with_len 0 n) (n ∷ []) ∙ ap (λ xs. flat_map f (range_with_len 0 n) ++ xs) (append-nil (f n))
+    ap (flat_map f) (range_more 0 n n (omega arith)) ∙ flat_map-append f (range_with_len 0 n) (n ∷ [])
+    ∙ ap (λ xs. flat_map f (range_with_len 0 n) ++ xs) (append-nil (f n))
 
 -- equal arguments are judged alike
 pub good_as : (setup like : SetupFields) (round n : ℕ) (prices list : List PricePair) (held : Holding) (own : Own) (bids same : List Bid) →
@@ -49,24 +50,30 @@ module _ (house : HouseFields) where
   in-many = length-map-range_with_len (holding_in house) 0 (length house.setup.bidders)
 
   pub in-held : (bidder : ℕ) → bidder < length house.setup.bidders → holding_at (open_round_in house).holdings bidder ≡ holding_in house bidder
-  in-held bidder lt = get_or-map-range_with_len (holding_in house) 0 (length house.setup.bidders) bidder bidder (record { eligibility = 0; demands = [] }) lt (omega arith)
+  in-held bidder lt = get_or-map-range_with_len (holding_in house) 0 (length house.setup.bidders) bidder bidder
+      (record { eligibility = 0; demands = [] }) lt (omega arith)
 
   -- demands within the eligibilities are a grid
-  pub within_grid : (grid : List (List ℕ)) → IsWithinEligibility house.setup.products (eligibilities_of (open_round_in house)) grid → IsGrid (length house.setup.bidders) (length house.setup.products) grid
+  pub within_grid : (grid : List (List ℕ)) → IsWithinEligibility house.setup.products (eligibilities_of (open_round_in house)) grid →
+      IsGrid (length house.setup.bidders) (length house.setup.products) grid
   within_grid grid within =
       (within.bidders ∙ length-map (open_round_in house).holdings (λ (held : Holding). held.eligibility) ∙ in-many, λ k d lt. (within.rows k d lt).each)
 
   module _ (sound : IsOpen (public_setup house.setup) (open_round_in house)) (bidder : ℕ) (lt : bidder < length house.setup.bidders) where
     -- the bids in force are good
-    pub in-good : IsGoodSheet (public_setup house.setup) (standing_in house).round (standing_in house).prices (holding_in house bidder) (bids_at house.sheets bidder)
+    pub in-good : IsGoodSheet (public_setup house.setup) (standing_in house).round (standing_in house).prices (holding_in house bidder)
+        (bids_at house.sheets bidder)
     in-good =
-        subst (λ (held : Holding). IsGoodSheet (public_setup house.setup) (standing_in house).round (standing_in house).prices held (bids_at house.sheets bidder)) (in-held bidder lt)
+        subst (λ (held : Holding). IsGoodSheet (public_setup house.setup) (standing_in house).round (standing_in house).prices held
+        (bids_at house.sheets bidder)) (in-held bidder lt)
         (sound.good bidder (omega (arith, lt, in-many)))
 
     pub in-known : All (λ bid. bid.product < length house.setup.products) (bids_at house.sheets bidder)
     in-known =
-        (good_sheet_chains (public_setup house.setup) (standing_in house).round (standing_in house).prices (holding_in house bidder) (bids_at house.sheets bidder) in-good).known
+        (good_sheet_chains (public_setup house.setup) (standing_in house).round (standing_in house).prices (holding_in house bidder)
+        (bids_at house.sheets bidder) in-good).known
 
     -- they ask for a row of demands
     pub in-asked : IsRow house.setup.products (asked_demands (length house.setup.products) (bids_at house.sheets bidder))
-    in-asked = good_sheet_row (public_setup house.setup) (standing_in house).round (standing_in house).prices (holding_in house bidder) (bids_at house.sheets bidder) in-good
+    in-asked = good_sheet_row (public_setup house.setup) (standing_in house).round (standing_in house).prices (holding_in house bidder)
+        (bids_at house.sheets bidder) in-good

@@ -1,5 +1,5 @@
 -- What a house that stands for a list of commands keeps.
-use Rattle.std.proofs.Common.{◌≡◌, ℕ, zero, suc, ◌-◌, ◌≤◌, List, [], ◌∷◌, ◌++◌, false, length, refl, ap, sym, subst, ◌∙◌, arith, All}
+use Rattle.std.proofs.Common.{◌≡◌, ℕ, zero, suc, ◌-◌, ◌≤◌, List, [], ◌∷◌, false, length, refl, ap, sym, subst, ◌∙◌, arith, All}
 use Rattle.std.specs.Prelude.{Option, Some, None, reverse, slice_get}
 use Rattle.std.proofs.lemmas.Option.{none-some, slice_get_within, get_or_from_slice_get}
 use Rattle.std.proofs.lemmas.List.Elements.{All-nil, All-cons, All-head, All-tail, All-append}
@@ -54,7 +54,8 @@ all_whole bidders products [] all = All-nil (IsWhole bidders products)
 all_whole bidders products (round ∷ rounds) all = All-cons (IsWhole bidders products) round rounds (all.1, all.2) (all_whole bidders products rounds all.3)
 
 -- a closed round has a slip for each bidder and a line for each product
-pub numbered_whole : (bidders products n : ℕ) (closed : List ClosedRound) (one : ClosedRound) → AreNumbered bidders products closed → round_at n closed ≡ Some one →
+pub numbered_whole : (bidders products n : ℕ) (closed : List ClosedRound) (one : ClosedRound) → AreNumbered bidders products closed →
+    round_at n closed ≡ Some one →
     (length one.slips ≡ bidders) × (length one.sheet.lines ≡ products)
 numbered_whole bidders products n closed one all e = found_all (IsWhole bidders products) n closed one (all_whole bidders products closed all) e
 

@@ -55,13 +55,19 @@ module _ (products : List Product) (increments : Increments) (posted : List ℕ)
       All IsRising (next_prices products increments posted)
   next_rising are limits each some =
       all_in_range IsRising (next_price products increments posted) (length products)
-      (λ k below. omega (arith, clock_is k below,
-      above-raised (get_or posted k 0) (increment_at increments k) (granule_of products k) (some k 0 (omega (arith, each, below)))
-      (increment_within (length products) increments k are below).0 (limits k no_product below).granule.0))
+      (λ k below. omega (
+        arith,
+        clock_is k below,
+        above-raised (get_or posted k 0) (increment_at increments k) (granule_of products k) (some k 0 (omega (arith, each, below)))
+            (increment_within (length products) increments k are below).0 (limits k no_product below).granule.0,
+      ))
 
   -- and not above the highest price
   pub next_within : All (λ (pair : PricePair). pair.clock ≤ highest_price) (next_prices products increments posted)
   next_within =
       all_in_range (λ (pair : PricePair). pair.clock ≤ highest_price) (next_price products increments posted) (length products)
-      (λ k below. omega (arith, clock_is k below,
-      leb-true (raised_at k) highest_price (kept (nat_le (raised_at k) highest_price) (raised_at k) (has_next k below))))
+      (λ k below. omega (
+        arith,
+        clock_is k below,
+        leb-true (raised_at k) highest_price (kept (nat_le (raised_at k) highest_price) (raised_at k) (has_next k below)),
+      ))

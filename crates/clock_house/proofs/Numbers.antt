@@ -1,5 +1,5 @@
 -- Closed rounds are numbered from 1 on, and each has a slip for each bidder and a line for each product.
-use Rattle.std.proofs.Common.{◌≡◌, ℕ, zero, suc, ◌+◌, ◌-◌, ◌<◌, List, [], ◌∷◌, ◌++◌, false, cond, inl, inr, length, refl, ap, sym, ◌∙◌, arith, eq-eqb, ne_eqb}
+use Rattle.std.proofs.Common.{◌≡◌, ℕ, suc, ◌+◌, ◌-◌, List, [], ◌∷◌, ◌++◌, false, cond, length, refl, ap, sym, ◌∙◌, arith}
 use Rattle.std.specs.Prelude.{Some, None, Result, Ok, Err, reverse, slice_get}
 use Rattle.std.proofs.lemmas.List.FromFn.{length-map-range_with_len}
 use Rattle.std.proofs.lemmas.List.{reverse-reverse, length-reverse, reverse-append}
@@ -21,15 +21,21 @@ module _ (setup : SetupFields) where
   round-closed [] all going = refl
   round-closed (last ∷ rounds) all going = ap (λ ended. cond ended last.sheet.round (last.sheet.round + 1)) going ∙ omega (arith, all.0)
 
-  numbered_closing : (auction : Auction) (round : ℕ) (increments : Increments) (ties : List Tie) (answer : Result ClosedRound CloseFault) → closing_of setup auction round increments ties ≡ answer →
+  numbered_closing : (auction : Auction) (round : ℕ) (increments : Increments) (ties : List Tie) (answer : Result ClosedRound CloseFault) →
+      closing_of setup auction round increments ties ≡ answer →
       AreNumbered (length setup.bidders) (length setup.products) auction.closed →
       AreNumbered (length setup.bidders) (length setup.products) (after_closing auction (close round increments ties) answer).closed
   numbered_closing auction round increments ties (Ok done) e all =
       let is : IsClosing (public_setup setup) (open_round setup auction) round increments ties done
       = closing_passed (public_setup setup) (open_round setup auction) round increments ties done e in
       let number : (standing setup.products auction.closed).round ≡ suc (length auction.closed) = round-closed auction.closed all is.going in
-      let bidders : length (open_round setup auction).holdings ≡ length setup.bidders = length-map-range_with_len _ 0 (length setup.bidders) in
-      (ap (λ one. one.sheet.round) is.made ∙ number, ap (λ one. length one.slips) is.made ∙ length-map-range_with_len _ 0 _ ∙ bidders, ap (λ one. length one.sheet.lines) is.made ∙ length-map-range_with_len _ 0 _, all)
+      let bidders : length (open_round setup auction).holdings ≡ length setup.bidders = length-map-range_with_len _ 0 (length setup.bidders) in (
+        ap (λ one. one.sheet.round) is.made ∙ number,
+        ap (λ one. length one.slips) is.made ∙ length-map-range_with_len _ 0 _
+            ∙ bidders,
+        ap (λ one. length one.sheet.lines) is.made ∙ length-map-range_with_len _ 0 _,
+        all,
+      )
   numbered_closing auction round increments ties (Err fault) e all = all
 
   -- so it is after every list of commands
@@ -60,15 +66,18 @@ module _ {A : Type 0} where
   last-reverse xs = ap (λ ys. slice_get ys (length ys - 1)) (sym (reverse-reverse xs)) ∙ last_of_reverse (reverse xs)
 
 -- the slips of the newest round are one for each bidder
-pub newest_slips : (bidders products : ℕ) (closed : List ClosedRound) (last : ClosedRound) → AreNumbered bidders products closed → slice_get closed 0 ≡ Some last → length last.slips ≡ bidders
+pub newest_slips : (bidders products : ℕ) (closed : List ClosedRound) (last : ClosedRound) → AreNumbered bidders products closed →
+    slice_get closed 0 ≡ Some last → length last.slips ≡ bidders
 newest_slips bidders products [] last all e = absurd (none-some last e)
 newest_slips bidders products (round ∷ rounds) last all e = let same : round ≡ last = cc in ap (λ one. length one.slips) (sym same) ∙ all.1
 
 -- what a bidder holds is on its slip of the newest round, or in its row of the set-up
-pub holding-newest : (setup : SetupFields) (bidder : ℕ) (closed : List ClosedRound) (last : ClosedRound) → slice_get closed 0 ≡ Some last → holding setup closed bidder ≡ holding_after (slip_of bidder last)
+pub holding-newest : (setup : SetupFields) (bidder : ℕ) (closed : List ClosedRound) (last : ClosedRound) → slice_get closed 0 ≡ Some last →
+    holding setup closed bidder ≡ holding_after (slip_of bidder last)
 holding-newest setup bidder [] last e = absurd (none-some last e)
 holding-newest setup bidder (round ∷ rounds) last e = let same : round ≡ last = cc in ap (λ one. holding_after (slip_of bidder one)) same
 
-pub holding-first : (setup : SetupFields) (bidder : ℕ) (closed : List ClosedRound) → slice_get closed 0 ≡ None → holding setup closed bidder ≡ first_holding setup.products (bidder_at setup bidder)
+pub holding-first : (setup : SetupFields) (bidder : ℕ) (closed : List ClosedRound) → slice_get closed 0 ≡ None →
+    holding setup closed bidder ≡ first_holding setup.products (bidder_at setup bidder)
 holding-first setup bidder [] e = refl
 holding-first setup bidder (round ∷ rounds) e = absurd (none-some round (sym e))

@@ -50,11 +50,14 @@ module _ (setup : PublicSetup) (now : OpenRound) (sound : IsOpen setup now) wher
   pub before_within : IsWithinEligibility setup.products (eligibilities_of now) (grid_of now)
   before_within = within_by (grid_of now) (length-map now.holdings _)
       (λ bidder lt. subst (IsRow setup.products) (sym (demands_at bidder lt)) (sound.held bidder lt).row)
-      (λ bidder lt. subst (λ (row : List ℕ). activity setup.products row ≤ (holding_at now.holdings bidder).eligibility) (sym (demands_at bidder lt)) (sound.held bidder lt).within)
+      (λ bidder lt. subst (λ (row : List ℕ). activity setup.products row ≤ (holding_at now.holdings bidder).eligibility) (sym (demands_at bidder lt))
+      (sound.held bidder lt).within)
 
   -- what good sheets ask for in the first round
-  asked_row : (bidder : ℕ) → bidder < length now.holdings → row_of (asked_grid setup.products now) bidder ≡ asked_demands (length setup.products) (bids_at now.sheets bidder)
-  asked_row bidder lt = get_or-map-range_with_len (λ b. asked_demands (length setup.products) (bids_at now.sheets b)) 0 (length now.holdings) bidder bidder [] lt (omega arith)
+  asked_row : (bidder : ℕ) → bidder < length now.holdings → row_of (asked_grid setup.products now) bidder
+      ≡ asked_demands (length setup.products) (bids_at now.sheets bidder)
+  asked_row bidder lt = get_or-map-range_with_len (λ b. asked_demands (length setup.products) (bids_at now.sheets b)) 0
+      (length now.holdings) bidder bidder [] lt (omega arith)
 
   pub asked_within : now.standing.round ≡ 1 → IsWithinEligibility setup.products (eligibilities_of now) (asked_grid setup.products now)
   asked_within first = within_by (asked_grid setup.products now) (length-map-range_with_len _ 0 (length now.holdings))
@@ -66,7 +69,8 @@ module _ (setup : PublicSetup) (now : OpenRound) (sound : IsOpen setup now) wher
       (good_sheet_activity setup now.standing.round now.standing.prices (holding_at now.holdings bidder) (bids_at now.sheets bidder) (sound.good bidder lt))))
 
   -- a bidder's requests in a later round
-  pub changes_at : 2 ≤ now.standing.round → (bidder : ℕ) → bidder < length now.holdings → AreChangesOf setup.products now.standing.prices (holding_at now.holdings bidder).demands bidder (requests_of now bidder)
+  pub changes_at : 2 ≤ now.standing.round → (bidder : ℕ) → bidder < length now.holdings →
+      AreChangesOf setup.products now.standing.prices (holding_at now.holdings bidder).demands bidder (requests_of now bidder)
   changes_at later bidder lt =
       good_sheet_changes setup now.standing.round now.standing.prices (holding_at now.holdings bidder) bidder (bids_at now.sheets bidder)
       sound.few_products sound.limits sound.priced.each (sound.priced.rising later) (sound.held bidder lt).row (sound.good bidder lt)
@@ -78,7 +82,8 @@ module _ (setup : PublicSetup) (now : OpenRound) (sound : IsOpen setup now) wher
   pub own_places : 2 ≤ now.standing.round → AllPairs AreApart all_requests
   own_places later =
       apart_joined (requests_of now) (length now.holdings)
-      (λ bidder lt. All-weaker (IsChangeOf setup.products now.standing.prices bidder) (λ (change : Change). change.bidder ≡ bidder) (λ change is. is.bidder) (requests_of now bidder) (changes_at later bidder lt).each)
+      (λ bidder lt. All-weaker (IsChangeOf setup.products now.standing.prices bidder) (λ (change : Change). change.bidder ≡ bidder) (λ change is. is.bidder)
+      (requests_of now bidder) (changes_at later bidder lt).each)
       (λ bidder lt. (changes_at later bidder lt).apart) 0 (length now.holdings) (omega arith)
 
   -- each is made at a price of its product
@@ -86,15 +91,18 @@ module _ (setup : PublicSetup) (now : OpenRound) (sound : IsOpen setup now) wher
   priced_requests later =
       all_joined (requests_of now) (length now.holdings) (IsWithinPrices now.standing.prices) 0 (length now.holdings)
       (λ bidder from lt. All-weaker (IsChangeOf setup.products now.standing.prices bidder) (IsWithinPrices now.standing.prices)
-      (λ change is. record { product = omega (arith, is.product, sound.priced.each); from_start = is.from_start; to_clock = is.to_clock }) (requests_of now bidder) (changes_at later bidder lt).each)
+      (λ change is. record { product = omega (arith, is.product, sound.priced.each); from_start = is.from_start; to_clock = is.to_clock })
+      (requests_of now bidder) (changes_at later bidder lt).each)
       (omega arith)
 
   -- in whatever order, they can be settled
-  pub can_settle : 2 ≤ now.standing.round → (list : List Change) → IsPermutation all_requests list → CanSettle (new_board setup.products (eligibilities_of now) (grid_of now)) list
+  pub can_settle : 2 ≤ now.standing.round → (list : List Change) → IsPermutation all_requests list →
+      CanSettle (new_board setup.products (eligibilities_of now) (grid_of now)) list
   can_settle later list same =
       can_settle_all setup.products now.standing.prices (eligibilities_of now) (grid_of now) (requests_of now) (length now.holdings) sound.few_bidders
       (length-map now.holdings _) (length-map now.holdings _)
-      (λ bidder lt. subst (λ (row : List ℕ). AreChangesOf setup.products now.standing.prices row bidder (requests_of now bidder)) (sym (demands_at bidder lt)) (changes_at later bidder lt))
+      (λ bidder lt. subst (λ (row : List ℕ). AreChangesOf setup.products now.standing.prices row bidder (requests_of now bidder))
+      (sym (demands_at bidder lt)) (changes_at later bidder lt))
       list same
 
   before_board : IsBoard setup.products (eligibilities_of now) (grid_of now)
@@ -106,6 +114,7 @@ module _ (setup : PublicSetup) (now : OpenRound) (sound : IsOpen setup now) wher
   }
 
   -- after a later round
-  pub settled_within : 2 ≤ now.standing.round → (list : List Change) → IsPermutation all_requests list → IsWithinEligibility setup.products (eligibilities_of now) (settlement setup.products now list).grid
+  pub settled_within : 2 ≤ now.standing.round → (list : List Change) → IsPermutation all_requests list →
+      IsWithinEligibility setup.products (eligibilities_of now) (settlement setup.products now list).grid
   settled_within later list same =
       (settled_board (new_board setup.products (eligibilities_of now) (grid_of now)) list before_board (can_settle later list same)).held

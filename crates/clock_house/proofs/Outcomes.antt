@@ -32,13 +32,16 @@ use Rattle.clock_house.proofs.Sums.{sum_by-lt_sum_by, length-le-sum_by, sum_by-m
 use Rattle.std.proofs.lemmas.List.Sorted.{All-permutation}
 
 -- the outcome of the first round, and of a later one
-pub outcome-first : (products : List Product) (now : OpenRound) (ties : List Tie) → now.standing.round ≡ 1 → outcome products now ties ≡ first_outcome products now
+pub outcome-first : (products : List Product) (now : OpenRound) (ties : List Tie) → now.standing.round ≡ 1 →
+    outcome products now ties ≡ first_outcome products now
 outcome-first products now ties e =
     ap (λ first. cond first (first_outcome products now) (later_outcome products now (requests now ties))) (eq-eqb now.standing.round 1 e)
 
-pub outcome-later : (products : List Product) (now : OpenRound) (ties : List Tie) → 2 ≤ now.standing.round → outcome products now ties ≡ later_outcome products now (requests now ties)
+pub outcome-later : (products : List Product) (now : OpenRound) (ties : List Tie) → 2 ≤ now.standing.round →
+    outcome products now ties ≡ later_outcome products now (requests now ties)
 outcome-later products now ties later =
-    ap (λ first. cond first (first_outcome products now) (later_outcome products now (requests now ties))) (ne_eqb now.standing.round 1 (λ e. omega (arith, e, later)))
+    ap (λ first. cond first (first_outcome products now) (later_outcome products now (requests now ties)))
+    (ne_eqb now.standing.round 1 (λ e. omega (arith, e, later)))
 
 -- the first round or a later one
 pub first_or_later : (round : ℕ) → 1 ≤ round → (round ≡ 1) ⊎ (2 ≤ round)
@@ -58,65 +61,89 @@ module _ (setup : PublicSetup) (now : OpenRound) (sound : IsOpen setup now) (tie
 
   -- every bidder's demands are within its eligibility
   pub outcome_within : IsWithinEligibility setup.products (eligibilities_of now) (outcome setup.products now ties).grid
-  outcome_within = elim (first_or_later now.standing.round first) as (λ _. IsWithinEligibility setup.products (eligibilities_of now) (outcome setup.products now ties).grid) [
-    | inl one ↦ subst (λ (result : Outcome). IsWithinEligibility setup.products (eligibilities_of now) result.grid) (sym (outcome-first setup.products now ties one)) (asked_within setup now sound one)
-    | inr later ↦ subst (λ (result : Outcome). IsWithinEligibility setup.products (eligibilities_of now) result.grid) (sym (outcome-later setup.products now ties later)) (settled_within setup now sound later (requests now ties) later_list)
-  ]
+  outcome_within = elim (first_or_later now.standing.round first)
+      as (λ _. IsWithinEligibility setup.products (eligibilities_of now) (outcome setup.products now ties).grid) [
+        | inl one ↦ subst (λ (result : Outcome). IsWithinEligibility setup.products (eligibilities_of now) result.grid)
+            (sym (outcome-first setup.products now ties one)) (asked_within setup now sound one)
+        | inr later ↦ subst (λ (result : Outcome). IsWithinEligibility setup.products (eligibilities_of now) result.grid)
+            (sym (outcome-later setup.products now ties later)) (settled_within setup now sound later (requests now ties) later_list)
+      ]
 
   priced_list : 2 ≤ now.standing.round → All (IsWithinPrices now.standing.prices) (requests now ties)
-  priced_list later = All-permutation (IsWithinPrices now.standing.prices) (all_requests setup now sound) (requests now ties) later_list (priced_requests setup now sound later)
+  priced_list later = All-permutation (IsWithinPrices now.standing.prices) (all_requests setup now sound) (requests now ties) later_list
+      (priced_requests setup now sound later)
 
-  first_posted : (increments : Increments) → now.standing.prices ≡ opening_prices setup.products → ArePosted setup.products now.standing.prices (first_outcome setup.products now).grid (first_outcome setup.products now).posted increments
+  first_posted : (increments : Increments) → now.standing.prices ≡ opening_prices setup.products →
+      ArePosted setup.products now.standing.prices (first_outcome setup.products now).grid (first_outcome setup.products now).posted increments
   first_posted increments opening = record {
     each = length-map setup.products _;
     some = opening_dollars setup.products sound.limits;
-    between = subst (λ (prices : List PricePair). All IsBetween (lines_of_round setup.products prices (first_outcome setup.products now).grid (opening_posted setup.products) increments)) (sym opening)
+    between =
+        subst (λ (prices : List PricePair). All IsBetween (lines_of_round setup.products prices (first_outcome setup.products now).grid
+        (opening_posted setup.products) increments)) (sym opening)
         (lines_between setup.products (opening_prices setup.products) (first_outcome setup.products now).grid (opening_posted setup.products) increments
         (opening_between setup.products (first_outcome setup.products now).grid increments));
   }
 
   later_posted : (increments : Increments) → 2 ≤ now.standing.round →
-      ArePosted setup.products now.standing.prices (later_outcome setup.products now (requests now ties)).grid (later_outcome setup.products now (requests now ties)).posted increments
+      ArePosted setup.products now.standing.prices (later_outcome setup.products now (requests now ties)).grid
+      (later_outcome setup.products now (requests now ties)).posted increments
   later_posted increments later =
       let end = settlement setup.products now (requests now ties) in
       let prices = now.standing.prices in
       record {
         each = length-posted_prices setup.products prices (requests now ties) end.left end.grid;
-        some = posted_dollars setup.products prices (requests now ties) end.left end.grid sound.priced.each sound.priced.ordered (priced_list later) sound.priced.some;
+        some = posted_dollars setup.products prices (requests now ties) end.left end.grid sound.priced.each sound.priced.ordered
+            (priced_list later) sound.priced.some;
         between = lines_between setup.products prices end.grid (posted_prices setup.products prices (requests now ties) end.left end.grid) increments
-            (λ k lt. posted_between setup.products prices (requests now ties) end.left end.grid increments k sound.priced.each sound.priced.ordered (priced_list later) lt);
+            (λ k lt. posted_between setup.products prices (requests now ties) end.left end.grid increments k sound.priced.each sound.priced.ordered
+            (priced_list later) lt);
       }
 
   -- the prices posted
   pub outcome_posted : (increments : Increments) → (now.standing.round ≡ 1 → now.standing.prices ≡ opening_prices setup.products) →
       ArePosted setup.products now.standing.prices (outcome setup.products now ties).grid (outcome setup.products now ties).posted increments
-  outcome_posted increments opening = elim (first_or_later now.standing.round first) as (λ _. ArePosted setup.products now.standing.prices (outcome setup.products now ties).grid (outcome setup.products now ties).posted increments) [
-    | inl one ↦ subst (λ (result : Outcome). ArePosted setup.products now.standing.prices result.grid result.posted increments) (sym (outcome-first setup.products now ties one)) (first_posted increments (opening one))
-    | inr later ↦ subst (λ (result : Outcome). ArePosted setup.products now.standing.prices result.grid result.posted increments) (sym (outcome-later setup.products now ties later)) (later_posted increments later)
-  ]
+  outcome_posted increments opening = elim (first_or_later now.standing.round first)
+      as (λ _. ArePosted setup.products now.standing.prices (outcome setup.products now ties).grid (outcome setup.products now ties).posted increments) [
+        | inl one ↦ subst (λ (result : Outcome). ArePosted setup.products now.standing.prices result.grid result.posted increments)
+            (sym (outcome-first setup.products now ties one)) (first_posted increments (opening one))
+        | inr later ↦ subst (λ (result : Outcome). ArePosted setup.products now.standing.prices result.grid result.posted increments)
+            (sym (outcome-later setup.products now ties later)) (later_posted increments later)
+      ]
 
   -- in a later round that goes on, some price has risen to the clock price
   pub outcome_risen : (increments : Increments) → 2 ≤ now.standing.round → has_ended setup.products (outcome setup.products now ties).grid ≡ false →
-      Any IsAtClock (lines_of_round setup.products now.standing.prices (outcome setup.products now ties).grid (outcome setup.products now ties).posted increments)
+      Any IsAtClock (lines_of_round setup.products now.standing.prices (outcome setup.products now ties).grid
+      (outcome setup.products now ties).posted increments)
   outcome_risen increments later going =
       let end = settlement setup.products now (requests now ties) in
       let same = outcome-later setup.products now ties later in
       subst (λ (result : Outcome). Any IsAtClock (lines_of_round setup.products now.standing.prices result.grid result.posted increments)) (sym same)
-      (some_at_clock setup.products now.standing.prices (requests now ties) end.left end.grid increments (ap (λ (result : Outcome). has_ended setup.products result.grid) (sym same) ∙ going))
+      (some_at_clock setup.products now.standing.prices (requests now ties) end.left end.grid increments
+      (ap (λ (result : Outcome). has_ended setup.products result.grid) (sym same) ∙ going))
 
   -- a product that was sold out stays so
-  pub outcome_supplied : 2 ≤ now.standing.round → (product : ℕ) → supply_of setup.products product ≤ total_of (grid_of now) product → supply_of setup.products product ≤ total_of (outcome setup.products now ties).grid product
+  pub outcome_supplied : 2 ≤ now.standing.round → (product : ℕ) → supply_of setup.products product ≤ total_of (grid_of now) product →
+      supply_of setup.products product ≤ total_of (outcome setup.products now ties).grid product
   outcome_supplied later product sold =
-      omega (arith, sold, settled_supplied setup.products (eligibilities_of now) (requests now ties) (grid_of now) product, ap (λ (result : Outcome). total_of result.grid product) (outcome-later setup.products now ties later))
+      omega (
+        arith,
+        sold,
+        settled_supplied setup.products (eligibilities_of now) (requests now ties) (grid_of now) product,
+        ap (λ (result : Outcome). total_of result.grid product) (outcome-later setup.products now ties later),
+      )
 
 -- the next prices of a round that goes on
-module _ (products : List Product) (now : Standing) (priced : HasSoundPrices products now) (grid : List (List ℕ)) (posted : List ℕ) (increments : Increments) (are : ArePosted products now.prices grid posted increments)
-    (limits : All IsProduct products) (rise : AreIncrements (length products) increments) (going : has_ended products grid ≡ false) (possible : price_limit_fault products grid posted increments ≡ None)
+module _ (products : List Product) (now : Standing) (priced : HasSoundPrices products now) (grid : List (List ℕ)) (posted : List ℕ)
+    (increments : Increments) (are : ArePosted products now.prices grid posted increments)
+    (limits : All IsProduct products) (rise : AreIncrements (length products) increments) (going : has_ended products grid ≡ false)
+    (possible : price_limit_fault products grid posted increments ≡ None)
     (risen : 2 ≤ now.round → Any IsAtClock (lines_of_round products now.prices grid posted increments)) where
   lines : List Line
   lines = lines_of_round products now.prices grid posted increments
 
-  no_limit : (ended : Bool) → ended ≡ false → cond ended None (first_at_limit products increments posted) ≡ None → first_at_limit products increments posted ≡ None
+  no_limit : (ended : Bool) → ended ≡ false → cond ended None (first_at_limit products increments posted) ≡ None →
+      first_at_limit products increments posted ≡ None
   no_limit true e h = cc
   no_limit false e h = h
 
@@ -130,7 +157,8 @@ module _ (products : List Product) (now : Standing) (priced : HasSoundPrices pro
   rising = subst (All IsRising) shown (next_rising products increments posted limit rise limits are.each are.some)
 
   -- the sum of start prices, taken from the lines
-  starts : sum_by (λ (line : Line). line.start) (lines_of_round products now.prices grid posted increments) ≡ sum_by (λ (pair : PricePair). pair.start) now.prices
+  starts : sum_by (λ (line : Line). line.start) (lines_of_round products now.prices grid posted increments)
+      ≡ sum_by (λ (pair : PricePair). pair.start) now.prices
   starts =
       sum_by-map (λ (line : Line). line.start) (sheet_line products now.prices grid posted increments) (range_with_len 0 (length products))
       ∙ sym (sum_by-map (λ (pair : PricePair). pair.start) (prices_at now.prices) (range_with_len 0 (length products)))
@@ -141,48 +169,66 @@ module _ (products : List Product) (now : Standing) (priced : HasSoundPrices pro
       all_in_range (λ (line : Line). line.start < line.clock) (sheet_line products now.prices grid posted increments) (length products)
       (λ k lt. priced.rising later k (record { start = 0; clock = 0 }) (omega (arith, lt, priced.each)))
 
-  sum_rises : 2 ≤ now.round → sum_by (λ (pair : PricePair). pair.start) now.prices < sum_by (λ (line : Line). line.posted) (lines_of_round products now.prices grid posted increments)
+  sum_rises : 2 ≤ now.round → sum_by (λ (pair : PricePair). pair.start) now.prices < sum_by (λ (line : Line). line.posted)
+      (lines_of_round products now.prices grid posted increments)
   sum_rises later =
       let here = risen later in
       let long : here.0 < length (lines_of_round products now.prices grid posted increments) = here.2 in
       let line : Line = get_or (lines_of_round products now.prices grid posted increments) here.0 here.1 in
       let at : line.posted ≡ line.clock = subst (λ (one : Line). one.posted ≡ one.clock) (sym here.3) here.4 in
       let above : line.start < line.clock = above_start later here.0 here.1 long in
-      let less = sum_by-lt_sum_by (λ (line : Line). line.start) (λ (line : Line). line.posted) (lines_of_round products now.prices grid posted increments) here.0 here.1 long
-      (All-weaker IsBetween (λ (line : Line). line.start ≤ line.posted) (λ line is. is.from_start) (lines_of_round products now.prices grid posted increments) are.between)
+      let less = sum_by-lt_sum_by (λ (line : Line). line.start) (λ (line : Line). line.posted)
+      (lines_of_round products now.prices grid posted increments) here.0 here.1 long
+      (All-weaker IsBetween (λ (line : Line). line.start ≤ line.posted) (λ line is. is.from_start)
+      (lines_of_round products now.prices grid posted increments) are.between)
       (omega (arith, at, above)) in
       omega (arith, less, starts)
 
   long_lines : length (map next_pair (lines_of_round products now.prices grid posted increments)) ≡ length products
-  long_lines = length-map (lines_of_round products now.prices grid posted increments) next_pair ∙ length-map-range_with_len (sheet_line products now.prices grid posted increments) 0 (length products)
+  long_lines = length-map (lines_of_round products now.prices grid posted increments) next_pair
+      ∙ length-map-range_with_len (sheet_line products now.prices grid posted increments) 0 (length products)
 
-  next_starts : sum_by (λ (pair : PricePair). pair.start) (map next_pair (lines_of_round products now.prices grid posted increments)) ≡ sum_by (λ (line : Line). line.posted) (lines_of_round products now.prices grid posted increments)
+  next_starts : sum_by (λ (pair : PricePair). pair.start) (map next_pair (lines_of_round products now.prices grid posted increments))
+      ≡ sum_by (λ (line : Line). line.posted) (lines_of_round products now.prices grid posted increments)
   next_starts = sum_by-map (λ (pair : PricePair). pair.start) next_pair (lines_of_round products now.prices grid posted increments)
 
   next_some : All (λ (pair : PricePair). 1 ≤ pair.start) (map next_pair (lines_of_round products now.prices grid posted increments))
-  next_some = subst (All (λ (pair : PricePair). 1 ≤ pair.start)) shown (all_in_range (λ (pair : PricePair). 1 ≤ pair.start) (next_price products increments posted) (length products) (λ k lt. are.some k 0 (omega (arith, lt, are.each))))
+  next_some = subst (All (λ (pair : PricePair). 1 ≤ pair.start)) shown
+      (all_in_range (λ (pair : PricePair). 1 ≤ pair.start) (next_price products increments posted) (length products)
+      (λ k lt. are.some k 0 (omega (arith, lt, are.each))))
 
   next_highest : All (λ (pair : PricePair). pair.start ≤ highest_price) (map next_pair (lines_of_round products now.prices grid posted increments))
   next_highest =
-      let clocks : All (λ (pair : PricePair). pair.clock ≤ highest_price) (map next_pair (lines_of_round products now.prices grid posted increments)) = subst (All (λ (pair : PricePair). pair.clock ≤ highest_price)) shown (next_within products increments posted limit) in
+      let clocks : All (λ (pair : PricePair). pair.clock ≤ highest_price) (map next_pair (lines_of_round products now.prices grid posted increments)) =
+      subst (All (λ (pair : PricePair). pair.clock ≤ highest_price)) shown (next_within products increments posted limit) in
       λ k d lt. omega (arith, rising k d lt, clocks k d lt)
 
   bounded_next : (next : ℕ) → next ≡ now.round + 1 → 1 ≤ now.round →
       next + length products ≤ 2 + sum_by (λ (pair : PricePair). pair.start) (map next_pair (lines_of_round products now.prices grid posted increments))
-  bounded_next next is some = elim (first_or_later now.round some) as (λ _. next + length products ≤ 2 + sum_by (λ (pair : PricePair). pair.start) (map next_pair (lines_of_round products now.prices grid posted increments))) [
-    | inl one ↦ omega (arith, is, one, long_lines, length-le-sum_by (λ (pair : PricePair). pair.start) (map next_pair (lines_of_round products now.prices grid posted increments)) next_some)
-    | inr later ↦ omega (arith, is, priced.bounded later, next_starts, sum_rises later)
-  ]
+  bounded_next next is some = elim (first_or_later now.round some) as (λ _. next + length products
+      ≤ 2 + sum_by (λ (pair : PricePair). pair.start) (map next_pair (lines_of_round products now.prices grid posted increments))) [
+        | inl one ↦ omega (
+          arith,
+          is,
+          one,
+          long_lines,
+          length-le-sum_by (λ (pair : PricePair). pair.start)
+              (map next_pair (lines_of_round products now.prices grid posted increments)) next_some,
+        )
+        | inr later ↦ omega (arith, is, priced.bounded later, next_starts, sum_rises later)
+      ]
 
   -- they are in order again
-  pub priced_next : (standing : Standing) → standing.round ≡ now.round + 1 → standing.prices ≡ map next_pair (lines_of_round products now.prices grid posted increments) → 1 ≤ now.round → HasSoundPrices products standing
+  pub priced_next : (standing : Standing) → standing.round ≡ now.round + 1 →
+      standing.prices ≡ map next_pair (lines_of_round products now.prices grid posted increments) → 1 ≤ now.round → HasSoundPrices products standing
   priced_next standing number prices some =
       let P = λ (list : List PricePair). HasSoundPrices products (record { ended = standing.ended; round = standing.round; prices = list }) in
       subst P (sym prices)
       (record {
         numbered = omega (arith, number);
         each = long_lines;
-        ordered = All-weaker IsRising IsPriceRange (λ pair is. omega (arith, is)) (map next_pair (lines_of_round products now.prices grid posted increments)) rising;
+        ordered = All-weaker IsRising IsPriceRange (λ pair is. omega (arith, is))
+            (map next_pair (lines_of_round products now.prices grid posted increments)) rising;
         some = next_some;
         highest = next_highest;
         rising = λ _. rising;

@@ -30,24 +30,30 @@ module _ (setup : PublicSetup) (now : OpenRound) (increments : Increments) (resu
   by_limit limit = unless (first_fault (fault_check close_faults.PriceLimit limit)) (closed_round setup now increments result)
 
   -- a posting and its slips
-  pub posts : (posting : Posting) (slips : List Slip) → IsPosting now.standing.round setup.products now.standing.prices result.grid result.posted increments posting →
+  pub posts : (posting : Posting) (slips : List Slip) →
+      IsPosting now.standing.round setup.products now.standing.prices result.grid result.posted increments posting →
       slips ≡ slips_after setup now result.grid → IsConsistent posting →
       AreResults (by_limit (price_limit_fault setup.products result.grid result.posted increments)) (record { posting = posting; slips = slips })
   posts posting slips is are laws = record {
     closes =
         ap by_limit is.possible
-        ∙ ap (λ (sheet : RoundSheet). let round : ClosedRound = record { sheet = sheet; slips = slips_after setup now result.grid } in let done : Result ClosedRound CloseFault = Ok round in done) (sym is.sheet)
-        ∙ ap (λ (list : List Slip). let round : ClosedRound = record { sheet = posting.sheet; slips = list } in let done : Result ClosedRound CloseFault = Ok round in done) (sym are);
+        ∙ ap (λ (sheet : RoundSheet). let round : ClosedRound = record { sheet = sheet; slips = slips_after setup now result.grid } in let done : Result
+        ClosedRound CloseFault = Ok round in done) (sym is.sheet)
+        ∙ ap (λ (list : List Slip). let round : ClosedRound = record { sheet = posting.sheet; slips = list } in let done : Result ClosedRound CloseFault =
+        Ok round in done) (sym are);
     laws = laws;
   }
 
   -- a refusal of the posting
-  posts_told : (limit : Option ℕ) (fault : PostFault) → IsFirstFault post_faults.NoMemory (post_fault limit) fault → IsRefusal close_faults.NoMemory (by_limit limit) (told_of_post fault)
+  posts_told : (limit : Option ℕ) (fault : PostFault) → IsFirstFault post_faults.NoMemory (post_fault limit) fault →
+      IsRefusal close_faults.NoMemory (by_limit limit) (told_of_post fault)
   posts_told None (post_faults.PriceLimit product) is = λ other. absurd (none-some _ (is (λ same. cc)))
-  posts_told (Some limit) (post_faults.PriceLimit product) is = λ other. let same : Some (post_faults.PriceLimit limit) ≡ Some (post_faults.PriceLimit product) = is (λ same. cc) in cc
+  posts_told (Some limit) (post_faults.PriceLimit product) is = λ other. let same : Some (post_faults.PriceLimit limit)
+      ≡ Some (post_faults.PriceLimit product) = is (λ same. cc) in cc
   posts_told limit post_faults.NoMemory is = λ other. absurd (other refl)
 
-  pub posts-refused : (fault : PostFault) → IsFirstFault post_faults.NoMemory (post_fault (price_limit_fault setup.products result.grid result.posted increments)) fault →
+  pub posts-refused : (fault : PostFault) → IsFirstFault post_faults.NoMemory
+      (post_fault (price_limit_fault setup.products result.grid result.posted increments)) fault →
       IsRefusal close_faults.NoMemory (by_limit (price_limit_fault setup.products result.grid result.posted increments)) (told_of_post fault)
   posts-refused fault is = posts_told (price_limit_fault setup.products result.grid result.posted increments) fault is
 
@@ -62,18 +68,22 @@ module _ (setup : PublicSetup) (now : OpenRound) (round : ℕ) (increments : Inc
   closes-tied : now.standing.ended ≡ false → round ≡ now.standing.round → are_increments (length setup.products) increments ≡ true → (tied : Option TieFault) →
       tie_fault (length now.holdings) (length setup.products) ties ≡ tied → closing setup now round increments ties ≡ by_tests false true true tied
   closes-tied going current within tied found =
-      ap (λ ended. by_tests ended (round == now.standing.round) (are_increments (length setup.products) increments) (tie_fault (length now.holdings) (length setup.products) ties)) going
-      ∙ ap (λ same. by_tests false same (are_increments (length setup.products) increments) (tie_fault (length now.holdings) (length setup.products) ties)) (eq-eqb round now.standing.round current)
+      ap (λ ended. by_tests ended (round == now.standing.round) (are_increments (length setup.products) increments)
+      (tie_fault (length now.holdings) (length setup.products) ties)) going
+      ∙ ap (λ same. by_tests false same (are_increments (length setup.products) increments) (tie_fault (length now.holdings) (length setup.products) ties))
+      (eq-eqb round now.standing.round current)
       ∙ ap (λ good. by_tests false true good (tie_fault (length now.holdings) (length setup.products) ties)) within
       ∙ ap (by_tests false true true) found
 
   -- with good tie numbers
-  pub closes-fair : now.standing.ended ≡ false → round ≡ now.standing.round → are_increments (length setup.products) increments ≡ true → tie_fault (length now.holdings) (length setup.products) ties ≡ None →
+  pub closes-fair : now.standing.ended ≡ false → round ≡ now.standing.round → are_increments (length setup.products) increments ≡ true →
+      tie_fault (length now.holdings) (length setup.products) ties ≡ None →
       closing setup now round increments ties ≡ by_tests false true true None
   closes-fair going current within fair = closes-tied going current within None fair
 
   -- with a fault of the tie numbers
-  pub closes-tie_fault : (fault : TieFault) → now.standing.ended ≡ false → round ≡ now.standing.round → are_increments (length setup.products) increments ≡ true →
+  pub closes-tie_fault : (fault : TieFault) → now.standing.ended ≡ false → round ≡ now.standing.round →
+      are_increments (length setup.products) increments ≡ true →
       IsFirstFault tie_faults.NoMemory (tie_fault (length now.holdings) (length setup.products) ties) fault →
       IsRefusal close_faults.NoMemory (closing setup now round increments ties) (told_of_tie fault)
   closes-tie_fault (tie_faults.Range i) going current within is = λ other. closes-tied going current within (Some (tie_faults.Range i)) (is (λ same. cc))

@@ -23,8 +23,11 @@ other_by false good e = refl
 
 module _ (house : HouseFields) (bidder round : ℕ) (bids : List Bid) (commands : List Command) (stands : StandsFor commands house) where
   -- the fault by the commands is that by the house
-  fault_same : put_fault (public_setup house.setup) (standing house.setup.products (history house.setup commands).closed) (holding house.setup (history house.setup commands).closed bidder) round bids ≡ put_fault_in house bidder round bids
-  fault_same = ap (λ (closed : List ClosedRound). put_fault (public_setup house.setup) (standing house.setup.products closed) (holding house.setup closed bidder) round bids) (sym stands.closed)
+  fault_same : put_fault (public_setup house.setup) (standing house.setup.products (history house.setup commands).closed)
+      (holding house.setup (history house.setup commands).closed bidder) round bids ≡ put_fault_in house bidder round bids
+  fault_same =
+      ap (λ (closed : List ClosedRound). put_fault (public_setup house.setup) (standing house.setup.products closed)
+      (holding house.setup closed bidder) round bids) (sym stands.closed)
 
   -- the sheet in force that the house keeps
   pub sheet_at : (who : ℕ) → who < length house.setup.bidders → get_or house.sheets who None ≡ sheet_in_force house.setup (history house.setup commands) who
@@ -37,9 +40,11 @@ module _ (house : HouseFields) (bidder round : ℕ) (bids : List Bid) (commands 
 
   -- of another bidder, or refused, it is no accepted sheet
   refused : (fault : PutFault) → put_fault_in house bidder round bids ≡ Some fault → (who : ℕ) →
-      (bidder == who) && is_none (put_fault (public_setup house.setup) (standing house.setup.products (history house.setup commands).closed) (holding house.setup (history house.setup commands).closed who) round bids) ≡ false
+      (bidder == who) && is_none (put_fault (public_setup house.setup) (standing house.setup.products (history house.setup commands).closed)
+      (holding house.setup (history house.setup commands).closed who) round bids) ≡ false
   refused fault e who =
-      let judged = λ (one : ℕ). put_fault (public_setup house.setup) (standing house.setup.products (history house.setup commands).closed) (holding house.setup (history house.setup commands).closed one) round bids in
+      let judged = λ (one : ℕ). put_fault (public_setup house.setup) (standing house.setup.products (history house.setup commands).closed)
+      (holding house.setup (history house.setup commands).closed one) round bids in
       elim (cases_eq bidder who) as (λ _. (bidder == who) && is_none (judged who) ≡ false) [
         | inl same ↦ skip_by (bidder == who) (is_none (judged who)) (ap is_none (ap judged (sym same) ∙ fault_same ∙ e))
         | inr differ ↦ other_by (bidder == who) (is_none (judged who)) (ne_eqb bidder who differ)
@@ -49,29 +54,36 @@ module _ (house : HouseFields) (bidder round : ℕ) (bids : List Bid) (commands 
   pub put-refused : (fault : PutFault) → put_fault_in house bidder round bids ≡ Some fault → StandsFor (put bidder round bids ∷ commands) house
   put-refused fault e = record {
     closed = stands.closed;
-    sheets = fill_by_all (sheet_in_force house.setup (history house.setup (put bidder round bids ∷ commands))) house.sheets (length house.setup.bidders) None many
+    sheets = fill_by_all (sheet_in_force house.setup (history house.setup (put bidder round bids ∷ commands))) house.sheets
+        (length house.setup.bidders) None many
         (λ who lt. sheet_at who lt ∙ sym (in_force-skipped house.setup (history house.setup commands) bidder round bids who (refused fault e who)));
   }
 
   accepted_at : bidder < length house.setup.bidders → put_fault_in house bidder round bids ≡ None → (who : ℕ) → who < length house.setup.bidders →
       get_or (set house.sheets bidder (Some bids)) who None ≡ sheet_in_force house.setup (history house.setup (put bidder round bids ∷ commands)) who
   accepted_at lt e who who_in =
-      elim (cases_eq who bidder) as (λ _. get_or (set house.sheets bidder (Some bids)) who None ≡ sheet_in_force house.setup (history house.setup (put bidder round bids ∷ commands)) who) [
+      elim (cases_eq who bidder) as (λ _. get_or (set house.sheets bidder (Some bids)) who None
+      ≡ sheet_in_force house.setup (history house.setup (put bidder round bids ∷ commands)) who) [
         | inl same ↦
-            subst (λ (one : ℕ). get_or (set house.sheets bidder (Some bids)) one None ≡ sheet_in_force house.setup (history house.setup (put bidder round bids ∷ commands)) one) (sym same)
+            subst (λ (one : ℕ). get_or (set house.sheets bidder (Some bids)) one None
+            ≡ sheet_in_force house.setup (history house.setup (put bidder round bids ∷ commands)) one) (sym same)
             (get_or-set_same house.sheets bidder (Some bids) None (omega (arith, lt, many))
             ∙ sym (in_force-accepted house.setup (history house.setup commands) bidder round bids (eq-eqb bidder bidder refl) (ap is_none (fault_same ∙ e))))
         | inr differ ↦
             get_or-set_other house.sheets bidder who (Some bids) None differ
             ∙ sheet_at who who_in
             ∙ sym (in_force-skipped house.setup (history house.setup commands) bidder round bids who
-            (other_by (bidder == who) (is_none (put_fault (public_setup house.setup) (standing house.setup.products (history house.setup commands).closed) (holding house.setup (history house.setup commands).closed who) round bids)) (ne_eqb bidder who (λ e. differ (sym e)))))
+            (other_by (bidder == who)
+            (is_none (put_fault (public_setup house.setup) (standing house.setup.products (history house.setup commands).closed)
+            (holding house.setup (history house.setup commands).closed who) round bids)) (ne_eqb bidder who (λ e. differ (sym e)))))
       ]
 
   -- a sheet that is put is in force, and the others stay
-  pub put-accepted : bidder < length house.setup.bidders → put_fault_in house bidder round bids ≡ None → StandsFor (put bidder round bids ∷ commands) (with_sheet house bidder bids)
+  pub put-accepted : bidder < length house.setup.bidders → put_fault_in house bidder round bids ≡ None →
+      StandsFor (put bidder round bids ∷ commands) (with_sheet house bidder bids)
   put-accepted lt e = record {
     closed = stands.closed;
-    sheets = fill_by_all (sheet_in_force house.setup (history house.setup (put bidder round bids ∷ commands))) (set house.sheets bidder (Some bids)) (length house.setup.bidders) None
+    sheets = fill_by_all (sheet_in_force house.setup (history house.setup (put bidder round bids ∷ commands))) (set house.sheets bidder (Some bids))
+        (length house.setup.bidders) None
         (length-set house.sheets bidder (Some bids) ∙ many) (accepted_at lt e);
   }

@@ -21,10 +21,12 @@ module _ (house : HouseFields) (bidder : ℕ) (commands : List Command) (stands 
   holding_seen = ap (λ (closed : List ClosedRound). holding house.setup closed bidder) stands.closed ∙ (seen house.setup bidder commands).holding
 
   pub put_fault_seen : (round : ℕ) (bids : List Bid) →
-      put_fault_in house bidder round bids ≡ seen_put_fault (public_setup house.setup) (bidder_at house.setup bidder) (view_of house.setup bidder commands) round bids
+      put_fault_in house bidder round bids ≡ seen_put_fault (public_setup house.setup) (bidder_at house.setup bidder)
+      (view_of house.setup bidder commands) round bids
   put_fault_seen round bids =
       ap (λ (now : Standing). put_fault (public_setup house.setup) now (holding_in house bidder) round bids) standing_seen
-      ∙ ap (λ (own : Holding). put_fault (public_setup house.setup) (seen_standing (public_setup house.setup) (view_of house.setup bidder commands)) own round bids) holding_seen
+      ∙ ap (λ (own : Holding). put_fault (public_setup house.setup)
+      (seen_standing (public_setup house.setup) (view_of house.setup bidder commands)) own round bids) holding_seen
 
   pub in_force_seen : bidder < length house.setup.bidders →
       slice_index_or house.sheets bidder None ≡ seen_in_force (public_setup house.setup) (bidder_at house.setup bidder) (view_of house.setup bidder commands)
@@ -34,16 +36,20 @@ module _ (house : HouseFields) (bidder : ℕ) (commands : List Command) (stands 
   both_seen : (n : ℕ) → option_map (shown_to bidder) (round_at n house.closed) ≡ seen_round n (view_of house.setup bidder commands)
   both_seen n = ap (λ (closed : List ClosedRound). option_map (shown_to bidder) (round_at n closed)) stands.closed ∙ (seen house.setup bidder commands).rounds n
 
-  sheet_part : (found : Option ClosedRound) → option_map (λ closed. closed.sheet) found ≡ option_map (λ (seen : RoundSheet × Slip). seen.0) (option_map (shown_to bidder) found)
+  sheet_part : (found : Option ClosedRound) → option_map (λ closed. closed.sheet) found
+      ≡ option_map (λ (seen : RoundSheet × Slip). seen.0) (option_map (shown_to bidder) found)
   sheet_part None = refl
   sheet_part (Some closed) = refl
 
-  slip_part : (found : Option ClosedRound) → option_map (slip_of bidder) found ≡ option_map (λ (seen : RoundSheet × Slip). seen.1) (option_map (shown_to bidder) found)
+  slip_part : (found : Option ClosedRound) → option_map (slip_of bidder) found
+      ≡ option_map (λ (seen : RoundSheet × Slip). seen.1) (option_map (shown_to bidder) found)
   slip_part None = refl
   slip_part (Some closed) = refl
 
-  pub sheet_seen : (n : ℕ) → option_map (λ closed. closed.sheet) (round_at n house.closed) ≡ option_map (λ seen. seen.0) (seen_round n (view_of house.setup bidder commands))
+  pub sheet_seen : (n : ℕ) → option_map (λ closed. closed.sheet) (round_at n house.closed)
+      ≡ option_map (λ seen. seen.0) (seen_round n (view_of house.setup bidder commands))
   sheet_seen n = sheet_part (round_at n house.closed) ∙ ap (option_map (λ (seen : RoundSheet × Slip). seen.0)) (both_seen n)
 
-  pub slip_seen : (n : ℕ) → option_map (slip_of bidder) (round_at n house.closed) ≡ option_map (λ seen. seen.1) (seen_round n (view_of house.setup bidder commands))
+  pub slip_seen : (n : ℕ) → option_map (slip_of bidder) (round_at n house.closed)
+      ≡ option_map (λ seen. seen.1) (seen_round n (view_of house.setup bidder commands))
   slip_seen n = slip_part (round_at n house.closed) ∙ ap (option_map (λ (seen : RoundSheet × Slip). seen.1)) (both_seen n)

@@ -40,12 +40,14 @@ module _ (setup : PublicSetup) (now : Standing) (held : Holding) (bidder : ℕ) 
   first_good None rest bids own later e = later e
   first_good (Some one) rest bids own later e = own bids e
 
-  accepted : (own good : Bool) (fault : Option PutFault) (bids one : List Bid) → is_none fault ≡ good → cond (own && good) (Some bids) None ≡ Some one → (fault ≡ None) × (bids ≡ one)
+  accepted : (own good : Bool) (fault : Option PutFault) (bids one : List Bid) → is_none fault ≡ good → cond (own && good) (Some bids) None ≡ Some one →
+      (fault ≡ None) × (bids ≡ one)
   accepted true true fault bids one is e = (is_none_none fault is, cc)
   accepted true false fault bids one is e = absurd (none-some _ e)
   accepted false good fault bids one is e = absurd (none-some _ e)
 
-  accepted_good : (command : Command) (one : List Bid) → accepted_bids setup now held bidder command ≡ Some one → IsGoodSheet setup now.round now.prices held one
+  accepted_good : (command : Command) (one : List Bid) → accepted_bids setup now held bidder command ≡ Some one →
+      IsGoodSheet setup now.round now.prices held one
   accepted_good (put author round bids) one e =
       let found = accepted (author == bidder) (is_none (put_fault setup now held round bids)) (put_fault setup now held round bids) bids one refl e in
       ap (sheet_fault setup now.round now.prices held) (sym found.1) ∙ good_of_put setup now held round bids found.0
@@ -57,4 +59,5 @@ module _ (setup : PublicSetup) (now : Standing) (held : Holding) (bidder : ℕ) 
       IsGoodSheet setup now.round now.prices held bids
   first_accepted_good [] bids e = absurd (none-some _ e)
   first_accepted_good (command ∷ since) bids e =
-      first_good (accepted_bids setup now held bidder command) (filter_map (accepted_bids setup now held bidder) since) bids (accepted_good command) (first_accepted_good since bids) e
+      first_good (accepted_bids setup now held bidder command) (filter_map (accepted_bids setup now held bidder) since) bids (accepted_good command)
+      (first_accepted_good since bids) e

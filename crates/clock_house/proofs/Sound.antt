@@ -1,5 +1,5 @@
 -- After every list of commands the auction is in order.
-use Rattle.std.proofs.Common.{◌≡◌, ℕ, zero, suc, ◌+◌, ◌<◌, ◌≤◌, List, [], ◌∷◌, Bool, true, false, cond, refl, ap, sym, subst, ◌∙◌, arith, get_or, length, All}
+use Rattle.std.proofs.Common.{◌≡◌, ℕ, zero, suc, ◌+◌, ◌<◌, ◌≤◌, List, [], ◌∷◌, false, cond, refl, ap, sym, subst, ◌∙◌, arith, get_or, length, All}
 use Rattle.std.specs.Prelude.{Option, Some, None, Result, Ok, Err, map, unwrap_or}
 use Rattle.std.specs.List.{range_with_len, AllPairs}
 use Rattle.std.proofs.lemmas.List.{get_or-map, length-map}
@@ -80,16 +80,22 @@ module _ (setup : SetupFields) (limits : IsSetup setup) where
     many = length-map-range_with_len (holding setup auction.closed) 0 (length setup.bidders)
 
     held_at : (bidder : ℕ) → bidder < length setup.bidders → holding_at (open_round setup auction).holdings bidder ≡ holding setup auction.closed bidder
-    held_at bidder lt = get_or-map-range_with_len (holding setup auction.closed) 0 (length setup.bidders) bidder bidder (record { eligibility = 0; demands = [] }) lt (omega arith)
+    held_at bidder lt = get_or-map-range_with_len (holding setup auction.closed) 0 (length setup.bidders) bidder bidder
+        (record { eligibility = 0; demands = [] }) lt (omega arith)
 
-    bids_of : (bidder : ℕ) → bidder < length setup.bidders → bids_at (open_round setup auction).sheets bidder ≡ unwrap_or (sheet_in_force setup auction bidder) []
-    bids_of bidder lt = ap (λ sheet. unwrap_or sheet []) (get_or-map-range_with_len (sheet_in_force setup auction) 0 (length setup.bidders) bidder bidder None lt (omega arith))
+    bids_of : (bidder : ℕ) → bidder < length setup.bidders →
+        bids_at (open_round setup auction).sheets bidder ≡ unwrap_or (sheet_in_force setup auction bidder) []
+    bids_of bidder lt =
+        ap (λ sheet. unwrap_or sheet []) (get_or-map-range_with_len (sheet_in_force setup auction) 0 (length setup.bidders) bidder bidder None lt
+        (omega arith))
 
     -- a sheet in force is good, and so is none
     good_or_none : (bidder : ℕ) (sheet : Option (List Bid)) → sheet_in_force setup auction bidder ≡ sheet →
-        IsGoodSheet (public_setup setup) (standing setup.products auction.closed).round (standing setup.products auction.closed).prices (holding setup auction.closed bidder) (unwrap_or sheet [])
+        IsGoodSheet (public_setup setup) (standing setup.products auction.closed).round (standing setup.products auction.closed).prices
+        (holding setup auction.closed bidder) (unwrap_or sheet [])
     good_or_none bidder None e =
-        empty_sheet_good (public_setup setup) (standing setup.products auction.closed).round (standing setup.products auction.closed).prices (holding setup auction.closed bidder)
+        empty_sheet_good (public_setup setup) (standing setup.products auction.closed).round (standing setup.products auction.closed).prices
+        (holding setup auction.closed bidder)
     good_or_none bidder (Some bids) e =
         first_accepted_good (public_setup setup) (standing setup.products auction.closed) (holding setup auction.closed bidder) bidder auction.since bids e
 
@@ -102,8 +108,11 @@ module _ (setup : SetupFields) (limits : IsSetup setup) where
       held = λ bidder lt. subst (IsWithinLimits setup.products) (sym (held_at bidder (omega (arith, lt, many)))) (sound.held bidder (omega (arith, lt, many)));
       priced = sound.priced going;
       good = λ bidder lt.
-          subst (λ (held : Holding). IsGoodSheet (public_setup setup) (standing setup.products auction.closed).round (standing setup.products auction.closed).prices held (bids_at (open_round setup auction).sheets bidder)) (sym (held_at bidder (omega (arith, lt, many))))
-          (subst (IsGoodSheet (public_setup setup) (standing setup.products auction.closed).round (standing setup.products auction.closed).prices (holding setup auction.closed bidder)) (sym (bids_of bidder (omega (arith, lt, many))))
+          subst (λ (held : Holding). IsGoodSheet (public_setup setup) (standing setup.products auction.closed).round
+          (standing setup.products auction.closed).prices held (bids_at (open_round setup auction).sheets bidder))
+          (sym (held_at bidder (omega (arith, lt, many))))
+          (subst (IsGoodSheet (public_setup setup) (standing setup.products auction.closed).round (standing setup.products auction.closed).prices
+          (holding setup auction.closed bidder)) (sym (bids_of bidder (omega (arith, lt, many))))
           (good_or_none bidder (sheet_in_force setup auction bidder) refl));
     }
 
@@ -117,7 +126,8 @@ module _ (setup : SetupFields) (limits : IsSetup setup) where
     first_prices (last ∷ rounds) number one = absurd (omega (arith, number, one))
 
     -- the demands before a later round are those on the slips of the round before
-    before_later : (closed : List ClosedRound) (last : ClosedRound) (rounds : List ClosedRound) → closed ≡ last ∷ rounds → length last.slips ≡ length setup.bidders →
+    before_later : (closed : List ClosedRound) (last : ClosedRound) (rounds : List ClosedRound) → closed ≡ last ∷ rounds →
+        length last.slips ≡ length setup.bidders →
         map (λ (held : Holding). held.demands) (map (holding setup closed) (range_with_len 0 (length setup.bidders))) ≡ grid_after last
     before_later closed last rounds e slips =
         ap (λ (list : List ClosedRound). map (λ (held : Holding). held.demands) (map (holding setup list) (range_with_len 0 (length setup.bidders)))) e
@@ -127,9 +137,11 @@ module _ (setup : SetupFields) (limits : IsSetup setup) where
 
     last_slips : (last : ClosedRound) (rounds : List ClosedRound) → auction.closed ≡ last ∷ rounds → length last.slips ≡ length setup.bidders
     last_slips last rounds e =
-        let all : AreNumbered (length setup.bidders) (length setup.products) (last ∷ rounds) = subst (AreNumbered (length setup.bidders) (length setup.products)) e sound.numbered in all.1
+        let all : AreNumbered (length setup.bidders) (length setup.products) (last ∷ rounds) =
+        subst (AreNumbered (length setup.bidders) (length setup.products)) e sound.numbered in all.1
 
-    module _ (round : ℕ) (increments : Increments) (ties : List Tie) (done : ClosedRound) (is : IsClosing (public_setup setup) (open_round setup auction) round increments ties done) where
+    module _ (round : ℕ) (increments : Increments) (ties : List Tie) (done : ClosedRound)
+        (is : IsClosing (public_setup setup) (open_round setup auction) round increments ties done) where
       abbrev result : Outcome
       result = outcome setup.products (open_round setup auction) ties
 
@@ -147,12 +159,15 @@ module _ (setup : SetupFields) (limits : IsSetup setup) where
 
       -- the slip of a bidder
       slip_is : (bidder : ℕ) → bidder < length setup.bidders →
-          slip_of bidder done ≡ slip_after (public_setup setup) (standing setup.products auction.closed).round (holding setup auction.closed bidder).eligibility (row_of (outcome setup.products (open_round setup auction) ties).grid bidder)
+          slip_of bidder done ≡ slip_after (public_setup setup) (standing setup.products auction.closed).round
+          (holding setup auction.closed bidder).eligibility (row_of (outcome setup.products (open_round setup auction) ties).grid bidder)
       slip_is bidder lt =
           ap (slip_of bidder) is.made
-          ∙ get_or-map-range_with_len (λ b. slip_after (public_setup setup) (standing setup.products auction.closed).round (holding_at (open_round setup auction).holdings b).eligibility (row_of (outcome setup.products (open_round setup auction) ties).grid b))
+          ∙ get_or-map-range_with_len (λ b. slip_after (public_setup setup) (standing setup.products auction.closed).round
+          (holding_at (open_round setup auction).holdings b).eligibility (row_of (outcome setup.products (open_round setup auction) ties).grid b))
           0 (length (open_round setup auction).holdings) bidder bidder no_slip (omega (arith, lt, many)) (omega arith)
-          ∙ ap (λ (held : Holding). slip_after (public_setup setup) (standing setup.products auction.closed).round held.eligibility (row_of (outcome setup.products (open_round setup auction) ties).grid bidder)) (held_at bidder lt)
+          ∙ ap (λ (held : Holding). slip_after (public_setup setup) (standing setup.products auction.closed).round held.eligibility
+          (row_of (outcome setup.products (open_round setup auction) ties).grid bidder)) (held_at bidder lt)
 
       -- each bidder stays within its limits
       pub held_next : (bidder : ℕ) → bidder < length setup.bidders → IsWithinLimits setup.products (holding_after (slip_of bidder done))
@@ -160,8 +175,15 @@ module _ (setup : SetupFields) (limits : IsSetup setup) where
           let row : List ℕ = row_of (outcome setup.products (open_round setup auction) ties).grid bidder in
           let before : IsWithinLimits setup.products (holding setup auction.closed bidder) = sound.held bidder lt in
           let used : activity setup.products row ≤ (holding setup auction.closed bidder).eligibility =
-          omega (arith, within.within bidder (omega (arith, lt, rows_many)), get_or-map (λ (held : Holding). held.eligibility) (open_round setup auction).holdings bidder (record { eligibility = 0; demands = [] }) 0 (omega (arith, lt, many)), ap (λ (held : Holding). held.eligibility) (held_at bidder lt)) in
-          let kept = next_eligibility_within (holding setup auction.closed bidder).eligibility (activity setup.products row) setup.requirement used (omega (arith, limits.requirement.0)) limits.requirement.1 in
+          omega (
+            arith,
+            within.within bidder (omega (arith, lt, rows_many)),
+            get_or-map (λ (held : Holding). held.eligibility) (open_round setup auction).holdings bidder (record { eligibility = 0; demands = [] }) 0
+                (omega (arith, lt, many)),
+            ap (λ (held : Holding). held.eligibility) (held_at bidder lt),
+          ) in
+          let kept = next_eligibility_within (holding setup auction.closed bidder).eligibility (activity setup.products row) setup.requirement used
+          (omega (arith, limits.requirement.0)) limits.requirement.1 in
           subst (λ (slip : Slip). IsWithinLimits setup.products (holding_after slip)) (sym (slip_is bidder lt))
           (record { row = within.rows bidder [] (omega (arith, lt, rows_many)); within = kept.0; most = omega (arith, kept.1, before.most) })
 
@@ -170,8 +192,10 @@ module _ (setup : SetupFields) (limits : IsSetup setup) where
       priced_after going =
           let result : Outcome = outcome setup.products (open_round setup auction) ties in
           let before : Standing = standing setup.products auction.closed in
-          let made : closed_round (public_setup setup) (open_round setup auction) increments (outcome setup.products (open_round setup auction) ties) ≡ done = sym is.made in
-          let goes_on : has_ended setup.products (outcome setup.products (open_round setup auction) ties).grid ≡ false = ap (λ (one : ClosedRound). one.sheet.ended) made ∙ going in
+          let made : closed_round (public_setup setup) (open_round setup auction) increments (outcome setup.products (open_round setup auction) ties)
+          ≡ done = sym is.made in
+          let goes_on : has_ended setup.products (outcome setup.products (open_round setup auction) ties).grid ≡ false =
+          ap (λ (one : ClosedRound). one.sheet.ended) made ∙ going in
           let number : (standing setup.products (done ∷ auction.closed)).round ≡ (standing setup.products auction.closed).round + 1 =
           ap (λ ended. cond ended done.sheet.round (done.sheet.round + 1)) going ∙ ap (λ (one : ClosedRound). one.sheet.round + 1) is.made in
           priced_next setup.products (standing setup.products auction.closed) (sound.priced is.going)
@@ -185,7 +209,9 @@ module _ (setup : SetupFields) (limits : IsSetup setup) where
       grid_is : grid_after done ≡ (outcome setup.products (open_round setup auction) ties).grid
       grid_is =
           ap grid_after is.made
-          ∙ map-map (λ (slip : Slip). slip.demands) (λ b. slip_after (public_setup setup) (standing setup.products auction.closed).round (holding_at (open_round setup auction).holdings b).eligibility (row_of (outcome setup.products (open_round setup auction) ties).grid b)) (bidder_numbers (open_round setup auction))
+          ∙ map-map (λ (slip : Slip). slip.demands) (λ b. slip_after (public_setup setup) (standing setup.products auction.closed).round
+          (holding_at (open_round setup auction).holdings b).eligibility (row_of (outcome setup.products (open_round setup auction) ties).grid b))
+          (bidder_numbers (open_round setup auction))
           ∙ map-get_or (outcome setup.products (open_round setup auction) ties).grid (length (open_round setup auction).holdings) [] (rows_many ∙ sym many)
 
       -- in a later round nothing that was sold out comes free
@@ -193,17 +219,29 @@ module _ (setup : SetupFields) (limits : IsSetup setup) where
       supplied_next last rounds e product sold =
           let later : 2 ≤ (standing setup.products auction.closed).round = omega (arith, round_is is.going, ap length e) in
           let kept = outcome_supplied (public_setup setup) (open_round setup auction) here ties some_round later product
-          (omega (arith, sold, ap (λ (grid : List (List ℕ)). total_of grid product) (sym (before_later auction.closed last rounds e (last_slips last rounds e))))) in
+          (omega (
+            arith,
+            sold,
+            ap (λ (grid : List (List ℕ)). total_of grid product)
+                (sym (before_later auction.closed last rounds e (last_slips last rounds e))),
+          )) in
           omega (arith, kept, ap (λ (grid : List (List ℕ)). total_of grid product) grid_is)
 
       -- the auction after the closing is in order
-      pub sound_next : AreNumbered (length setup.bidders) (length setup.products) (done ∷ auction.closed) → IsSound setup (record { closed = done ∷ auction.closed; since = [] })
+      pub sound_next : AreNumbered (length setup.bidders) (length setup.products) (done ∷ auction.closed) →
+          IsSound setup (record { closed = done ∷ auction.closed; since = [] })
       sound_next all = record {
         numbered = all;
         held = held_next;
         priced = priced_after;
-        supplied = AllPairs-cons (StaysSupplied setup.products) done auction.closed (supplied_all setup.products done auction.closed sound.supplied supplied_next) sound.supplied;
-        few = omega (arith, round_is is.going, round_bounded setup.products (standing setup.products auction.closed) limits.product_count.1 (sound.priced is.going));
+        supplied = AllPairs-cons (StaysSupplied setup.products) done auction.closed
+            (supplied_all setup.products done auction.closed sound.supplied supplied_next) sound.supplied;
+        few = omega (
+          arith,
+          round_is is.going,
+          round_bounded setup.products (standing setup.products auction.closed) limits.product_count.1
+              (sound.priced is.going),
+        );
       }
 
   -- nothing is closed yet
@@ -222,12 +260,14 @@ module _ (setup : SetupFields) (limits : IsSetup setup) where
       let P = λ (closed : List ClosedRound). IsSound setup (record { closed = closed; since = new.since }) in
       subst P (sym same) (record { numbered = sound.numbered; held = sound.held; priced = sound.priced; supplied = sound.supplied; few = sound.few })
 
-  after_closing_sound : (auction : Auction) (round : ℕ) (increments : Increments) (ties : List Tie) (answer : Result ClosedRound CloseFault) → closing_of setup auction round increments ties ≡ answer →
+  after_closing_sound : (auction : Auction) (round : ℕ) (increments : Increments) (ties : List Tie) (answer : Result ClosedRound CloseFault) →
+      closing_of setup auction round increments ties ≡ answer →
       AreNumbered (length setup.bidders) (length setup.products) (after_closing auction (close round increments ties) answer).closed →
       IsSound setup auction → IsSound setup (after_closing auction (close round increments ties) answer)
   after_closing_sound auction round increments ties (Ok done) e all sound =
       sound_next auction sound round increments ties done (closing_passed (public_setup setup) (open_round setup auction) round increments ties done e) all
-  after_closing_sound auction round increments ties (Err fault) e all sound = same_closed auction (after_closing auction (close round increments ties) (Err fault)) refl sound
+  after_closing_sound auction round increments ties (Err fault) e all sound =
+      same_closed auction (after_closing auction (close round increments ties) (Err fault)) refl sound
 
   -- the auction is in order after every list of commands
   pub sound : (commands : List Command) → IsSound setup (history setup commands)

@@ -1,5 +1,5 @@
 -- Sums and maps of lists.
-use Rattle.std.proofs.Common.{◌≡◌, ℕ, zero, suc, ◌<◌, ◌≤◌, List, [], ◌∷◌, refl, ap, sym, arith, get_or, length, All}
+use Rattle.std.proofs.Common.{◌≡◌, ℕ, zero, suc, ◌<◌, ◌≤◌, List, [], ◌∷◌, refl, sym, arith, get_or, length, All}
 use Rattle.std.specs.Prelude.{sum_by, map}
 use Rattle.std.specs.List.{range_with_len}
 use Rattle.std.proofs.lemmas.List.Sums.{sum_by-cons}
@@ -14,12 +14,19 @@ module _ {A : Type 0} (f g : A → ℕ) where
       omega (arith, sum_by-cons f x xs, sum_by-cons g x xs, All-head (λ x. f x ≤ g x) x xs all, sum_by-le_sum_by xs (All-tail (λ x. f x ≤ g x) x xs all))
 
   -- where one part is less, so is the sum
-  pub sum_by-lt_sum_by : (xs : List A) (k : ℕ) (d : A) → k < length xs → All (λ x. f x ≤ g x) xs → f (get_or xs k d) < g (get_or xs k d) → sum_by f xs < sum_by g xs
+  pub sum_by-lt_sum_by : (xs : List A) (k : ℕ) (d : A) → k < length xs → All (λ x. f x ≤ g x) xs → f (get_or xs k d) < g (get_or xs k d) →
+      sum_by f xs < sum_by g xs
   sum_by-lt_sum_by [] k d lt all less = absurd (omega (arith, lt))
   sum_by-lt_sum_by (x ∷ xs) zero d lt all less =
       omega (arith, sum_by-cons f x xs, sum_by-cons g x xs, less, sum_by-le_sum_by xs (All-tail (λ x. f x ≤ g x) x xs all))
   sum_by-lt_sum_by (x ∷ xs) (suc k) d lt all less =
-      omega (arith, sum_by-cons f x xs, sum_by-cons g x xs, All-head (λ x. f x ≤ g x) x xs all, sum_by-lt_sum_by xs k d (omega (arith, lt)) (All-tail (λ x. f x ≤ g x) x xs all) less)
+      omega (
+        arith,
+        sum_by-cons f x xs,
+        sum_by-cons g x xs,
+        All-head (λ x. f x ≤ g x) x xs all,
+        sum_by-lt_sum_by xs k d (omega (arith, lt)) (All-tail (λ x. f x ≤ g x) x xs all) less,
+      )
 
 -- a sum of at least one a part
 pub length-le-sum_by : {A : Type 0} (f : A → ℕ) (xs : List A) → All (λ x. 1 ≤ f x) xs → length xs ≤ sum_by f xs

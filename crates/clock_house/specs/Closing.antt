@@ -121,7 +121,8 @@ abbrev pub outcome_checks : List Product → Increments → Outcome → List (Cl
 outcome_checks products increments result =
     fault_check close_faults.PriceLimit (price_limit_fault products result.grid result.posted increments)
 
--- the auction goes on, the round is the current one, there is an increment of 1 to 50 percent for each product, the tie numbers have no fault, and no next clock price would be too high
+-- the auction goes on, the round is the current one, there is an increment of 1 to 50 percent for each product, the tie numbers have no fault, and no
+-- next clock price would be too high
 abbrev pub closing_checks : PublicSetup → OpenRound → ℕ → Increments → List Tie → Outcome → List (CloseFault × Bool)
 closing_checks setup now round increments ties result =
     (close_faults.Ended, not now.standing.ended)

@@ -25,7 +25,8 @@ pub record IsWithinLimits (products : List Product) (holding : Holding) : Type 0
   pub within : activity products holding.demands ≤ holding.eligibility
   pub most : holding.eligibility ≤ most_eligibility
 
--- a round from 1 on, a pair of prices for each product, in order, at start prices from 1 to 10^12, and from round 2 on the clock price above the start price; from then on some start price has risen in each round, so that the rounds are bounded
+-- a round from 1 on, a pair of prices for each product, in order, at start prices from 1 to 10^12, and from round 2 on the clock price above the
+-- start price; from then on some start price has risen in each round, so that the rounds are bounded
 pub record HasSoundPrices (products : List Product) (now : Standing) : Type 0 where
   pub numbered : 1 ≤ now.round
   pub each : length now.prices ≡ length products
@@ -54,7 +55,8 @@ abbrev pub StaysSupplied : List Product → ClosedRound → ClosedRound → Type
 StaysSupplied products later earlier =
     (product : ℕ) → supply_of products product ≤ total_of (grid_after earlier) product → supply_of products product ≤ total_of (grid_after later) product
 
--- bidders within their limits, prices in order, rounds in order, no product that was sold out comes free again, and at most as many rounds as highest prices together allow, and two
+-- bidders within their limits, prices in order, rounds in order, no product that was sold out comes free again, and at most as many rounds as highest
+-- prices together allow, and two
 pub record IsSound (setup : SetupFields) (auction : Auction) : Type 0 where
   pub numbered : AreNumbered (length setup.bidders) (length setup.products) auction.closed
   pub held : (bidder : ℕ) → bidder < length setup.bidders → IsWithinLimits setup.products (holding setup auction.closed bidder)

@@ -33,12 +33,17 @@ pub(crate) struct Results {
 
 impl<P: Processor> House<P> {
     /// What the current round comes to.
-    pub(crate) fn results(&self, increments: &Increments, ties: &Ties) -> Result<Results, CloseFault>
+    pub(crate) fn results(
+        &self,
+        increments: &Increments,
+        ties: &Ties,
+    ) -> Result<Results, CloseFault>
         requires going { (standing_in self.now).ended ≡ false }
         requires increments { AreIncrements (length self.now.setup.products) increments.now }
 
         ensures ok { IfOk result (AreResults (posting_in self.now increments.now ties.now)) }
-        ensures err { IfErr result (IsRefusal close_faults.NoMemory (posting_in self.now increments.now ties.now)) }
+        ensures err { IfErr result (IsRefusal close_faults.NoMemory
+            (posting_in self.now increments.now ties.now)) }
     {
         self.keeps();
         if self.round() == 1 {
@@ -54,8 +59,11 @@ impl<P: Processor> House<P> {
         requires first { (standing_in self.now).round ≡ 1 }
         requires increments { AreIncrements (length self.now.setup.products) increments.now }
 
-        ensures ok { IfOk result (AreResults (posting_of self.now increments.now (rules.first_outcome self.now.setup.products (open_round_in self.now)))) }
-        ensures err { IfErr result (IsRefusal close_faults.NoMemory (posting_of self.now increments.now (rules.first_outcome self.now.setup.products (open_round_in self.now)))) }
+        ensures ok { IfOk result (AreResults (posting_of self.now increments.now
+            (rules.first_outcome self.now.setup.products (open_round_in self.now)))) }
+        ensures err { IfErr result (IsRefusal close_faults.NoMemory
+            (posting_of self.now increments.now
+            (rules.first_outcome self.now.setup.products (open_round_in self.now)))) }
     {
         self.keeps();
         let grid = self.asked_grid()?;
@@ -70,8 +78,13 @@ impl<P: Processor> House<P> {
         requires later { 2 ≤ (standing_in self.now).round }
         requires increments { AreIncrements (length self.now.setup.products) increments.now }
 
-        ensures ok { IfOk result (AreResults (posting_of self.now increments.now (rules.later_outcome self.now.setup.products (open_round_in self.now) (rules.requests (open_round_in self.now) ties.now)))) }
-        ensures err { IfErr result (IsRefusal close_faults.NoMemory (posting_of self.now increments.now (rules.later_outcome self.now.setup.products (open_round_in self.now) (rules.requests (open_round_in self.now) ties.now)))) }
+        ensures ok { IfOk result (AreResults (posting_of self.now increments.now
+            (rules.later_outcome self.now.setup.products (open_round_in self.now)
+            (rules.requests (open_round_in self.now) ties.now)))) }
+        ensures err { IfErr result (IsRefusal close_faults.NoMemory
+            (posting_of self.now increments.now
+            (rules.later_outcome self.now.setup.products (open_round_in self.now)
+            (rules.requests (open_round_in self.now) ties.now)))) }
     {
         self.keeps();
         let changes = self.changes()?;
@@ -96,7 +109,8 @@ impl<P: Processor> House<P> {
     /// The demands that the sheets in force ask for.
     fn asked_grid(&self) -> Result<Grid, NoMemory>
         requires { (standing_in self.now).ended ≡ false }
-        ensures { IfOk result (λ grid. grid ≡ rules.asked_grid self.now.setup.products (open_round_in self.now)) }
+        ensures { IfOk result (λ grid. grid ≡ rules.asked_grid self.now.setup.products
+            (open_round_in self.now)) }
     {
         self.keeps();
         let mut grid = Grid::zero(self.alloc(), self.setup())?;
@@ -111,7 +125,8 @@ impl<P: Processor> House<P> {
     fn asked(&self, bidder: u32) -> Result<Amounts, NoMemory>
         requires going { (standing_in self.now).ended ≡ false }
         requires bidder { bidder < length self.now.setup.bidders }
-        ensures asked { IfOk result (λ row. row ≡ sheets.asked_demands (length self.now.setup.products) (rules.bids_at self.now.sheets bidder)) }
+        ensures asked { IfOk result (λ row. row ≡ sheets.asked_demands
+            (length self.now.setup.products) (rules.bids_at self.now.sheets bidder)) }
         ensures row { IfOk result (IsRow self.now.setup.products) }
     {
         self.keeps();
@@ -141,7 +156,9 @@ impl<P: Processor> House<P> {
     fn changes(&self) -> Result<Changes, NoMemory>
         requires going { (standing_in self.now).ended ≡ false }
         requires later { 2 ≤ (standing_in self.now).round }
-        ensures { IfOk result (λ changes. changes ≡ flat_map (rules.requests_of (open_round_in self.now)) (rules.bidder_numbers (open_round_in self.now))) }
+        ensures { IfOk result (λ changes. changes ≡ flat_map
+            (rules.requests_of (open_round_in self.now))
+            (rules.bidder_numbers (open_round_in self.now))) }
     {
         self.keeps();
         let mut changes = Changes::new(self.alloc());
@@ -185,8 +202,10 @@ impl<P: Processor> House<P> {
     /// Each bidder's slip after a round with these demands.
     fn slips(&self, grid: &Grid) -> Result<Slips, NoMemory>
         requires going { (standing_in self.now).ended ≡ false }
-        requires within { IsWithinEligibility self.now.setup.products (eligibilities_of (open_round_in self.now)) grid.now }
-        ensures { IfOk result (λ slips. slips ≡ rules.slips_after (public_setup self.now.setup) (open_round_in self.now) grid.now) }
+        requires within { IsWithinEligibility self.now.setup.products
+            (eligibilities_of (open_round_in self.now)) grid.now }
+        ensures { IfOk result (λ slips. slips ≡ rules.slips_after (public_setup self.now.setup)
+            (open_round_in self.now) grid.now) }
     {
         let mut slips = Slips::new(self.alloc());
         for bidder in 0..self.bidders() {
@@ -199,8 +218,10 @@ impl<P: Processor> House<P> {
     fn slip_after(&self, bidder: u32, demands: &[u64]) -> Result<Slip, NoMemory>
         requires bidder { bidder < length self.now.setup.bidders }
         requires row { IsRow self.now.setup.products demands.now }
-        requires within { eligibilities.activity self.now.setup.products demands.now ≤ (holding_in self.now bidder).eligibility }
-        ensures { IfOk result (λ slip. slip ≡ rules.slip_after (public_setup self.now.setup) (standing_in self.now).round (holding_in self.now bidder).eligibility demands.now) }
+        requires within { eligibilities.activity self.now.setup.products demands.now ≤
+            (holding_in self.now bidder).eligibility }
+        ensures { IfOk result (λ slip. slip ≡ rules.slip_after (public_setup self.now.setup)
+            (standing_in self.now).round (holding_in self.now bidder).eligibility demands.now) }
     {
         self.keeps();
         let own = self.own(bidder);

@@ -27,7 +27,8 @@ impl<P> House<P> {
     /// The current round, which is one more than the number of closed rounds, or after the end the last closed one.
     pub fn round(&self) -> u64
         ensures is { result ≡ (standing_in self.now).round }
-        ensures seen { (bidder : ℕ) → ToView self.now bidder (λ view. result ≡ (seen_standing (public_setup self.now.setup) view).round) }
+        ensures seen { (bidder : ℕ) → ToView self.now bidder
+            (λ view. result ≡ (seen_standing (public_setup self.now.setup) view).round) }
     {
         self.round
     }
@@ -35,7 +36,8 @@ impl<P> House<P> {
     /// Whether the auction has ended.
     pub fn ended(&self) -> bool
         ensures is { result ≡ (standing_in self.now).ended }
-        ensures seen { (bidder : ℕ) → ToView self.now bidder (λ view. result ≡ (seen_standing (public_setup self.now.setup) view).ended) }
+        ensures seen { (bidder : ℕ) → ToView self.now bidder
+            (λ view. result ≡ (seen_standing (public_setup self.now.setup) view).ended) }
     {
         self.ended
     }
@@ -51,8 +53,10 @@ impl<P> House<P> {
         ensures eligibility { result.eligibility ≡ (holding_in self.now bidder).eligibility }
         ensures demands { result.demands.now ≡ (holding_in self.now bidder).demands }
         ensures limits { IsWithinLimits self.now.setup.products (holding_of result) }
-        ensures seen_round { ToView self.now bidder (λ view. result.round ≡ (seen_standing (public_setup self.now.setup) view).round) }
-        ensures seen { ToView self.now bidder (λ view. seen_holding (public_setup self.now.setup) (bidder_at self.now.setup bidder) view ≡ holding_of result) }
+        ensures seen_round { ToView self.now bidder (λ view. result.round
+            ≡ (seen_standing (public_setup self.now.setup) view).round) }
+        ensures seen { ToView self.now bidder (λ view. seen_holding (public_setup self.now.setup)
+            (bidder_at self.now.setup bidder) view ≡ holding_of result) }
     {
         self.keeps();
         self.holding_now(bidder)
@@ -88,16 +92,20 @@ impl<P> House<P> {
     pub fn bids(&self, bidder: u32) -> Option<&Sheet>
         requires { bidder < length self.now.setup.bidders }
         ensures is { option_copied result ≡ slice_index_or self.now.sheets bidder None }
-        ensures seen { ToView self.now bidder (λ view. option_copied result ≡ seen_in_force (public_setup self.now.setup) (bidder_at self.now.setup bidder) view) }
+        ensures seen { ToView self.now bidder (λ view. option_copied result ≡ seen_in_force
+            (public_setup self.now.setup) (bidder_at self.now.setup bidder) view) }
     {
         self.sheets.as_slice()[bidder as usize].as_ref()
     }
 
     /// The sheet of a closed round, or none where the round is not closed.
     pub fn sheet(&self, round: u64) -> Option<&RoundSheet>
-        ensures found { option_copied result ≡ option_map (λ closed. closed.sheet) (round_at round self.now.closed) }
-        ensures lines { IfSome result (λ sheet. length sheet.now.lines ≡ length self.now.setup.products) }
-        ensures seen { (bidder : ℕ) → ToView self.now bidder (λ view. option_copied result ≡ option_map (λ seen. seen.0) (seen_round round view)) }
+        ensures found { option_copied result ≡ option_map (λ closed. closed.sheet)
+            (round_at round self.now.closed) }
+        ensures lines { IfSome result (λ sheet. length sheet.now.lines
+            ≡ length self.now.setup.products) }
+        ensures seen { (bidder : ℕ) → ToView self.now bidder
+            (λ view. option_copied result ≡ option_map (λ seen. seen.0) (seen_round round view)) }
     {
         match closed_at(self.rounds.as_slice(), round) {
             Some(closed) => Some(&closed.sheet),
@@ -109,8 +117,10 @@ impl<P> House<P> {
     /// the set-up's.
     pub fn slip(&self, bidder: u32, round: u64) -> Option<&Slip>
         requires { bidder < length self.now.setup.bidders }
-        ensures found { option_copied result ≡ option_map (slip_of bidder) (round_at round self.now.closed) }
-        ensures seen { ToView self.now bidder (λ view. option_copied result ≡ option_map (λ seen. seen.1) (seen_round round view)) }
+        ensures found { option_copied result ≡ option_map (slip_of bidder)
+            (round_at round self.now.closed) }
+        ensures seen { ToView self.now bidder (λ view. option_copied result ≡ option_map
+            (λ seen. seen.1) (seen_round round view)) }
     {
         match closed_at(self.rounds.as_slice(), round) {
             Some(closed) => Some(slip_at(closed, bidder)),
@@ -125,15 +135,20 @@ impl<P> House<P> {
     /// any auction is for a bidder is what its view shows. It does nothing when it runs.
     pub fn keeps(&self)
         ensures stands { (commands : List Command) × StandsFor commands self.now }
-        ensures sound { (commands : List Command) → IsSound self.now.setup (history self.now.setup commands) }
+        ensures sound { (commands : List Command) → IsSound self.now.setup
+            (history self.now.setup commands) }
         ensures limits { IsSetup self.now.setup }
-        ensures within { (bidder : ℕ) → bidder < length self.now.setup.bidders → IsWithinLimits self.now.setup.products (holding_in self.now bidder) }
-        ensures priced { (standing_in self.now).ended ≡ false → HasSoundPrices self.now.setup.products (standing_in self.now) }
-        ensures going { (standing_in self.now).ended ≡ false → IsOpen (public_setup self.now.setup) (open_round_in self.now) }
+        ensures within { (bidder : ℕ) → bidder < length self.now.setup.bidders →
+            IsWithinLimits self.now.setup.products (holding_in self.now bidder) }
+        ensures priced { (standing_in self.now).ended ≡ false →
+            HasSoundPrices self.now.setup.products (standing_in self.now) }
+        ensures going { (standing_in self.now).ended ≡ false → IsOpen (public_setup self.now.setup)
+            (open_round_in self.now) }
         ensures sheets { length self.now.sheets ≡ length self.now.setup.bidders }
         ensures rounds { length self.now.closed ≤ most_rounds }
         ensures others { IsFollowedBy other self.now self.now }
-        ensures views { (setup : SetupFields) (bidder : ℕ) (commands : List Command) → IsSeen setup bidder commands }
+        ensures views { (setup : SetupFields) (bidder : ℕ) (commands : List Command) →
+            IsSeen setup bidder commands }
     {
         keep(&self.setup);
     }

@@ -5,4 +5,5 @@ use Rattle.clock_house.proofs.house.no_sheets.Goals as goal
 
 pub loop-preserved : goal.loop-preserved
 loop-preserved c =
-    c.in_ok-push.ensures.ok ∙ ap (λ xs. xs ++ None ∷ []) c.loop.invariant ∙ sym (map-range_with_len_more (λ bidder. None) 0 c.loop.counter c.loop.counter (omega arith))
+    c.in_ok-push.ensures.ok ∙ ap (λ xs. xs ++ None ∷ []) c.loop.invariant
+    ∙ sym (map-range_with_len_more (λ bidder. None) 0 c.loop.counter c.loop.counter (omega arith))

@@ -14,5 +14,7 @@ pub returns-clause-row : goal.returns-clause-row
 returns-clause-row g c =
     let products = c.args.self.now.setup.products in
     let asked = rw (c.setup.ensures, c.bids_in_force.ensures) at c.asked_demands.ensures in
-    IfOk-weaker c.asked_demands.result (λ row. row ≡ asked_demands (length c.args.self.now.setup.products) (bids_at c.args.self.now.sheets c.args.bidder)) (IsRow c.args.self.now.setup.products)
-    (λ row is. subst (IsRow c.args.self.now.setup.products) (sym is) (in-asked c.args.self.now (c.keeps.ensures.going c.requires.going) c.args.bidder c.requires.bidder)) asked
+    IfOk-weaker c.asked_demands.result (λ row. row ≡ asked_demands (length c.args.self.now.setup.products) (bids_at c.args.self.now.sheets c.args.bidder))
+    (IsRow c.args.self.now.setup.products)
+    (λ row is. subst (IsRow c.args.self.now.setup.products) (sym is)
+    (in-asked c.args.self.now (c.keeps.ensures.going c.requires.going) c.args.bidder c.requires.bidder)) asked

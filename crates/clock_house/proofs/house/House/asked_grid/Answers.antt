@@ -12,5 +12,6 @@ returns g c =
     let f = λ (bidder : ℕ). asked_demands (length c.args.self.now.setup.products) (bids_at c.args.self.now.sheets bidder) in
     let done : c.loop-bidder.bidder ≡ length c.args.self.now.setup.bidders = omega arith in
     filled-all f (length c.args.self.now.setup.products) (length c.args.self.now.setup.bidders) c.loop-bidder.grid
-    (subst (λ (n : ℕ). IsFilled f (length c.args.self.now.setup.products) (length c.args.self.now.setup.bidders) n c.loop-bidder.grid) done c.loop-bidder.invariant)
+    (subst (λ (n : ℕ). IsFilled f (length c.args.self.now.setup.products) (length c.args.self.now.setup.bidders) n c.loop-bidder.grid) done
+    c.loop-bidder.invariant)
     ∙ ap (λ (n : ℕ). map f (range_with_len 0 n)) (sym (in-many c.args.self.now))

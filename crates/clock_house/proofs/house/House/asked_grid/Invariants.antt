@@ -5,4 +5,5 @@ use Rattle.clock_house.proofs.Filled.{IsFilled}
 use Rattle.clock_house.proofs.house.House.asked_grid.Given as goal
 
 abbrev pub invariant-loop-bidder : goal.invariant-loop-bidder
-invariant-loop-bidder g l = IsFilled (λ bidder. asked_demands (length l.self.setup.products) (bids_at l.self.sheets bidder)) (length l.self.setup.products) (length l.self.setup.bidders) l.bidder l.grid
+invariant-loop-bidder g l = IsFilled (λ bidder. asked_demands (length l.self.setup.products) (bids_at l.self.sheets bidder)) (length l.self.setup.products)
+    (length l.self.setup.bidders) l.bidder l.grid

@@ -26,4 +26,5 @@ returns-clause-seen g c =
     let in_range : c.args.bidder < length c.self.inside.sheets = omega (arith, many, known) in
     let is = rw c.as_slice.ensures at c.index-as_slice-bidder.is in
     rw (← c.self.view_is)
-    (λ commands stands. c.as_ref.ensures.value ∙ get_or_read c.self.inside.sheets c.args.bidder _ in_range is None ∙ in_force_seen _ c.args.bidder commands stands known)
+    (λ commands stands. c.as_ref.ensures.value ∙ get_or_read c.self.inside.sheets c.args.bidder _ in_range is None
+    ∙ in_force_seen _ c.args.bidder commands stands known)

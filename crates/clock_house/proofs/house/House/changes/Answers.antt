@@ -13,9 +13,11 @@ use Rattle.clock_house.proofs.house.House.changes.Goals as goal
 pub changes_of-requires-clause-good : goal.changes_of-requires-clause-good
 changes_of-requires-clause-good g c =
     let lt : c.loop-bidder.bidder < length c.args.self.now.setup.bidders = omega arith in
-    good_as c.args.self.now.setup _ (standing_in c.args.self.now).round _ (standing_in c.args.self.now).prices _ (holding_in c.args.self.now c.loop-bidder.bidder) c.own.result
+    good_as c.args.self.now.setup _ (standing_in c.args.self.now).round _ (standing_in c.args.self.now).prices _
+    (holding_in c.args.self.now c.loop-bidder.bidder) c.own.result
     (bids_at c.args.self.now.sheets c.loop-bidder.bidder) _
-    c.setup.ensures c.own.ensures.round c.prices.ensures c.own.ensures.eligibility c.own.ensures.demands (ap (λ (sheet : Option (List Bid)). unwrap_or sheet []) c.bids.ensures.is)
+    c.setup.ensures c.own.ensures.round c.prices.ensures c.own.ensures.eligibility c.own.ensures.demands
+    (ap (λ (sheet : Option (List Bid)). unwrap_or sheet []) c.bids.ensures.is)
     (in-good c.args.self.now (c.keeps.ensures.going c.requires.going) c.loop-bidder.bidder lt)
 
 pub loop-bidder-preserved : goal.loop-bidder-preserved
@@ -24,7 +26,8 @@ loop-bidder-preserved g c =
     let f = requests_of (open_round_in c.args.self.now) in
     let exact = rw (c.prices.ensures, c.own.ensures.demands, c.bids.ensures.is) at c.in_ok-own.ensures.exact in
     let own : c.in_ok-own.own ≡ requests_of (open_round_in c.args.self.now) c.loop-bidder.bidder =
-    exact ∙ ap (λ (held : Holding). changes_of_sheet (standing_in c.args.self.now).prices held.demands c.loop-bidder.bidder (bids_at c.args.self.now.sheets c.loop-bidder.bidder)) (sym (in-held c.args.self.now c.loop-bidder.bidder lt)) in
+    exact ∙ ap (λ (held : Holding). changes_of_sheet (standing_in c.args.self.now).prices held.demands c.loop-bidder.bidder
+    (bids_at c.args.self.now.sheets c.loop-bidder.bidder)) (sym (in-held c.args.self.now c.loop-bidder.bidder lt)) in
     c.in_ok-extend_from_slice.ensures.ok
     ∙ ap (λ (xs : List Change). xs ++ c.as_slice.result.now) c.loop-bidder.invariant
     ∙ ap (λ (xs : List Change). flat_map (requests_of (open_round_in c.args.self.now)) (range_with_len 0 c.loop-bidder.bidder) ++ xs) (c.as_slice.ensures ∙ own)

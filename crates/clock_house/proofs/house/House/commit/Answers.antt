@@ -17,20 +17,29 @@ round_after-self-inside-requires g c =
     let fits = subst (λ (p : PreparedClosing). FitsClosing p c.args.self.now) (sym c.prepared.view_is) c.requires.fits in
     let number = closed_number c.args.self.now c.prepared.inside.round c.prepared.inside.increments c.prepared.inside.ties
     (closed_by c.prepared.inside.results.posting c.prepared.inside.results.slips) fits in
-    omega (arith, number.1, round_bounded c.args.self.now.setup.products (standing_in c.args.self.now) c.keeps.ensures.limits.product_count.1 (c.keeps.ensures.priced number.0))
+    omega (
+      arith,
+      number.1,
+      round_bounded c.args.self.now.setup.products (standing_in c.args.self.now) c.keeps.ensures.limits.product_count.1
+          (c.keeps.ensures.priced number.0),
+    )
 
 pub invariant_of-self : goal.invariant_of-self
 invariant_of-self g c =
     let here = subst (λ (p : PreparedClosing). FitsClosing p c.args.self.now) (sym c.prepared.view_is) c.requires.fits in
-    let fits = close-kept _ c.args.self.now c.prepared.inside.round c.prepared.inside.increments c.prepared.inside.increments c.prepared.inside.ties c.prepared.inside.ties
-        (closed_by c.prepared.inside.results.posting c.prepared.inside.results.slips) (sym c.self.view_is) refl refl here in
+    let fits = close-kept _ c.args.self.now c.prepared.inside.round c.prepared.inside.increments c.prepared.inside.increments c.prepared.inside.ties
+    c.prepared.inside.ties
+    (closed_by c.prepared.inside.results.posting c.prepared.inside.results.slips) (sym c.self.view_is) refl refl here in
     let limits = rw (← c.self.view_is) at c.keeps.ensures.limits in
     let asked = c.prepared.inside in
     let posting = c.prepared.inside.results.posting in
     let done : ClosedRound = closed_by c.prepared.inside.results.posting c.prepared.inside.results.slips in
-    let added : reverse c.push_round.new.rounds.items ≡ closed_by c.prepared.inside.results.posting c.prepared.inside.results.slips ∷ reverse c.self.inside.rounds.items =
-    ap reverse c.push_round.ensures ∙ reverse-append c.self.inside.rounds.items (closed_by c.prepared.inside.results.posting c.prepared.inside.results.slips ∷ []) in
-    let none = c.clear.ensures ∙ ap (λ (n : ℕ). map (λ (bidder : ℕ). let sheet : Option (List Bid) = None in sheet) (range_with_len 0 n)) (stands_sheets _ c.self.invariant.commands c.self.invariant.stands) in
+    let added : reverse c.push_round.new.rounds.items ≡ closed_by c.prepared.inside.results.posting c.prepared.inside.results.slips
+    ∷ reverse c.self.inside.rounds.items =
+    ap reverse c.push_round.ensures ∙ reverse-append c.self.inside.rounds.items
+    (closed_by c.prepared.inside.results.posting c.prepared.inside.results.slips ∷ []) in
+    let none = c.clear.ensures ∙ ap (λ (n : ℕ). map (λ (bidder : ℕ). let sheet : Option (List Bid) = None in sheet) (range_with_len 0 n))
+    (stands_sheets _ c.self.invariant.commands c.self.invariant.stands) in
     record {
       commands = close asked.round asked.increments asked.ties ∷ c.self.invariant.commands;
       stands = close-accepted _ limits asked.round asked.increments asked.ties c.self.invariant.commands c.self.invariant.stands done _ _ _ fits added none;
@@ -46,14 +55,18 @@ invariant_of-self g c =
 pub returns-clause-followed : goal.returns-clause-followed
 returns-clause-followed g c =
     let here = subst (λ (p : PreparedClosing). FitsClosing p c.args.self.now) (sym c.prepared.view_is) c.requires.fits in
-    let fits = close-kept _ c.args.self.now c.prepared.inside.round c.prepared.inside.increments c.prepared.inside.increments c.prepared.inside.ties c.prepared.inside.ties
-        (closed_by c.prepared.inside.results.posting c.prepared.inside.results.slips) (sym c.self.view_is) refl refl here in
+    let fits = close-kept _ c.args.self.now c.prepared.inside.round c.prepared.inside.increments c.prepared.inside.increments c.prepared.inside.ties
+    c.prepared.inside.ties
+    (closed_by c.prepared.inside.results.posting c.prepared.inside.results.slips) (sym c.self.view_is) refl refl here in
     let limits = rw (← c.self.view_is) at c.keeps.ensures.limits in
     let asked = c.prepared.inside in
     let done : ClosedRound = closed_by c.prepared.inside.results.posting c.prepared.inside.results.slips in
-    let added : reverse c.push_round.new.rounds.items ≡ closed_by c.prepared.inside.results.posting c.prepared.inside.results.slips ∷ reverse c.self.inside.rounds.items =
-    ap reverse c.push_round.ensures ∙ reverse-append c.self.inside.rounds.items (closed_by c.prepared.inside.results.posting c.prepared.inside.results.slips ∷ []) in
-    let none = c.clear.ensures ∙ ap (λ (n : ℕ). map (λ (bidder : ℕ). let sheet : Option (List Bid) = None in sheet) (range_with_len 0 n)) (stands_sheets _ c.self.invariant.commands c.self.invariant.stands) in
+    let added : reverse c.push_round.new.rounds.items ≡ closed_by c.prepared.inside.results.posting c.prepared.inside.results.slips
+    ∷ reverse c.self.inside.rounds.items =
+    ap reverse c.push_round.ensures ∙ reverse-append c.self.inside.rounds.items
+    (closed_by c.prepared.inside.results.posting c.prepared.inside.results.slips ∷ []) in
+    let none = c.clear.ensures ∙ ap (λ (n : ℕ). map (λ (bidder : ℕ). let sheet : Option (List Bid) = None in sheet) (range_with_len 0 n))
+    (stands_sheets _ c.self.invariant.commands c.self.invariant.stands) in
     rw (← c.self.view_is, ← c.prepared.view_is)
     (record {
       setup = refl;

@@ -16,11 +16,15 @@ pub invariant_of-self : goal.invariant_of-self
 invariant_of-self g c =
     let known = rw (← c.self.view_is, ← c.prepared.view_is) at c.requires.known in
     let here = subst (λ (p : PreparedSheet). FitsSheet p c.args.self.now) (sym c.prepared.view_is) c.requires in
-    let good = (subst (λ (house : HouseFields). FitsSheet (record { bidder = c.prepared.inside.bidder; round = c.prepared.inside.round; bids = c.prepared.inside.sheet }) house) (sym c.self.view_is) here).good in
+    let good =
+    (subst (λ (house : HouseFields). FitsSheet
+    (record { bidder = c.prepared.inside.bidder; round = c.prepared.inside.round; bids = c.prepared.inside.sheet }) house)
+    (sym c.self.view_is) here).good in
     record {
       commands = put c.prepared.inside.bidder c.prepared.inside.round c.prepared.inside.sheet ∷ c.self.invariant.commands;
       stands = rw c.set.ensures
-          (put-accepted _ c.prepared.inside.bidder c.prepared.inside.round c.prepared.inside.sheet c.self.invariant.commands c.self.invariant.stands known good);
+          (put-accepted _ c.prepared.inside.bidder c.prepared.inside.round c.prepared.inside.sheet c.self.invariant.commands c.self.invariant.stands known
+          good);
       ended_is = c.self.invariant.ended_is;
       round_is = c.self.invariant.round_is;
       prices_are = c.self.invariant.prices_are;
@@ -31,7 +35,10 @@ pub returns-clause-followed : goal.returns-clause-followed
 returns-clause-followed g c =
     let known = rw (← c.self.view_is, ← c.prepared.view_is) at c.requires.known in
     let here = subst (λ (p : PreparedSheet). FitsSheet p c.args.self.now) (sym c.prepared.view_is) c.requires in
-    let good = (subst (λ (house : HouseFields). FitsSheet (record { bidder = c.prepared.inside.bidder; round = c.prepared.inside.round; bids = c.prepared.inside.sheet }) house) (sym c.self.view_is) here).good in
+    let good =
+    (subst (λ (house : HouseFields). FitsSheet
+    (record { bidder = c.prepared.inside.bidder; round = c.prepared.inside.round; bids = c.prepared.inside.sheet }) house)
+    (sym c.self.view_is) here).good in
     rw (← c.self.view_is, ← c.prepared.view_is)
     (record {
       setup = refl;

@@ -11,5 +11,6 @@ returns g c =
     let f = λ (bidder : ℕ). (holding_in c.args.self.now bidder).demands in
     let done : c.loop-bidder.bidder ≡ length c.args.self.now.setup.bidders = omega arith in
     filled-all f (length c.args.self.now.setup.products) (length c.args.self.now.setup.bidders) c.loop-bidder.grid
-    (subst (λ (n : ℕ). IsFilled f (length c.args.self.now.setup.products) (length c.args.self.now.setup.bidders) n c.loop-bidder.grid) done c.loop-bidder.invariant)
+    (subst (λ (n : ℕ). IsFilled f (length c.args.self.now.setup.products) (length c.args.self.now.setup.bidders) n c.loop-bidder.grid) done
+    c.loop-bidder.invariant)
     ∙ sym (map-map (λ (held : Holding). held.demands) (holding_in c.args.self.now) (range_with_len 0 (length c.args.self.now.setup.bidders)))

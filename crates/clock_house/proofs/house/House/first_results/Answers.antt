@@ -9,11 +9,13 @@ use Rattle.clock_house.proofs.house.House.first_results.Goals as goal
 
 pub post_first-requires-clause-grid : goal.post_first-requires-clause-grid
 post_first-requires-clause-grid g c =
-    rw (c.setup.ensures, c.in_ok-grid.ensures) (within_grid c.args.self.now _ (asked_within (public_setup c.args.self.now.setup) (open_round_in c.args.self.now) (c.keeps.ensures.going c.requires.going) c.requires.first))
+    rw (c.setup.ensures, c.in_ok-grid.ensures) (within_grid c.args.self.now _
+    (asked_within (public_setup c.args.self.now.setup) (open_round_in c.args.self.now) (c.keeps.ensures.going c.requires.going) c.requires.first))
 
 pub slips-requires-clause-within : goal.slips-requires-clause-within
 slips-requires-clause-within g c =
-    rw c.in_ok-grid.ensures (asked_within (public_setup c.args.self.now.setup) (open_round_in c.args.self.now) (c.keeps.ensures.going c.requires.going) c.requires.first)
+    rw c.in_ok-grid.ensures (asked_within (public_setup c.args.self.now.setup) (open_round_in c.args.self.now)
+    (c.keeps.ensures.going c.requires.going) c.requires.first)
 
 pub returns-in_err-posting-clause-err : goal.returns-in_err-posting-clause-err
 returns-in_err-posting-clause-err g c =

@@ -11,16 +11,20 @@ use Rattle.clock_house.proofs.OpenRounds.{before_within, own_places, priced_requ
 use Rattle.clock_house.proofs.house.House.later_results.Goals as goal
 
 pub ordered-requires : goal.ordered-requires
-ordered-requires g c = rw c.in_ok-changes.ensures (own_places (public_setup c.args.self.now.setup) (open_round_in c.args.self.now) (c.keeps.ensures.going c.requires.going) c.requires.later)
+ordered-requires g c =
+    rw c.in_ok-changes.ensures (own_places (public_setup c.args.self.now.setup) (open_round_in c.args.self.now)
+    (c.keeps.ensures.going c.requires.going) c.requires.later)
 
 pub new-requires-clause-held : goal.new-requires-clause-held
-new-requires-clause-held g c = rw (c.setup.ensures, c.in_ok-eligibilities.ensures, c.in_ok-demands.ensures) (before_within (public_setup c.args.self.now.setup) (open_round_in c.args.self.now) (c.keeps.ensures.going c.requires.going))
+new-requires-clause-held g c = rw (c.setup.ensures, c.in_ok-eligibilities.ensures, c.in_ok-demands.ensures)
+    (before_within (public_setup c.args.self.now.setup) (open_round_in c.args.self.now) (c.keeps.ensures.going c.requires.going))
 
 pub settle-requires : goal.settle-requires
 settle-requires g c =
     let board = rw (c.setup.ensures, c.in_ok-eligibilities.ensures, c.in_ok-demands.ensures) at c.in_ok-board.ensures in
     let list = rw c.in_ok-changes.ensures at c.in_ok-requests.ensures.computed in
-    rw (board, list) (can_settle (public_setup c.args.self.now.setup) (open_round_in c.args.self.now) (c.keeps.ensures.going c.requires.going) c.requires.later _ (processing_permutes c.args.ties.now _))
+    rw (board, list) (can_settle (public_setup c.args.self.now.setup) (open_round_in c.args.self.now)
+    (c.keeps.ensures.going c.requires.going) c.requires.later _ (processing_permutes c.args.ties.now _))
 
 pub post-requires-clause-grid : goal.post-requires-clause-grid
 post-requires-clause-grid g c =
@@ -32,7 +36,8 @@ pub post-requires-clause-changes : goal.post-requires-clause-changes
 post-requires-clause-changes g c =
     let list = rw c.in_ok-changes.ensures at c.in_ok-requests.ensures.computed in
     rw (c.prices.ensures, list)
-    (All-permutation (IsWithinPrices (standing_in c.args.self.now).prices) _ _ (processing_permutes c.args.ties.now _) (priced_requests (public_setup c.args.self.now.setup) (open_round_in c.args.self.now) (c.keeps.ensures.going c.requires.going) c.requires.later))
+    (All-permutation (IsWithinPrices (standing_in c.args.self.now).prices) _ _ (processing_permutes c.args.ties.now _)
+    (priced_requests (public_setup c.args.self.now.setup) (open_round_in c.args.self.now) (c.keeps.ensures.going c.requires.going) c.requires.later))
 
 pub returns-in_err-posting-clause-err : goal.returns-in_err-posting-clause-err
 returns-in_err-posting-clause-err g c =
@@ -42,7 +47,9 @@ returns-in_err-posting-clause-err g c =
     let grid = rw (board, list) at c.in_ok-settled.ensures.settlement.grid in
     let left = rw (board, list) at c.in_ok-settled.ensures.settlement.left in
     let refused = rw (c.setup-2.ensures, c.prices.ensures, list, left, grid) at c.in_err-posting.ensures.err in
-    rw (told.1, told.2) (posts-refused (public_setup c.args.self.now.setup) (open_round_in c.args.self.now) c.args.increments.now (later_outcome c.args.self.now.setup.products (open_round_in c.args.self.now) (requests (open_round_in c.args.self.now) c.args.ties.now)) c.in_err-posting.field-0.0 refused)
+    rw (told.1, told.2) (posts-refused (public_setup c.args.self.now.setup) (open_round_in c.args.self.now) c.args.increments.now
+    (later_outcome c.args.self.now.setup.products (open_round_in c.args.self.now) (requests (open_round_in c.args.self.now) c.args.ties.now))
+    c.in_err-posting.field-0.0 refused)
 
 pub returns-clause-ok : goal.returns-clause-ok
 returns-clause-ok g c =
@@ -52,4 +59,6 @@ returns-clause-ok g c =
     let left = rw (board, list) at c.in_ok-settled.ensures.settlement.left in
     let posting = rw (c.setup-2.ensures, c.prices.ensures, c.round.ensures.is, list, left, grid) at c.in_ok-posting.ensures.ok in
     let slips = rw (c.grid.ensures, grid) at c.in_ok-slips.ensures in
-    posts (public_setup c.args.self.now.setup) (open_round_in c.args.self.now) c.args.increments.now (later_outcome c.args.self.now.setup.products (open_round_in c.args.self.now) (requests (open_round_in c.args.self.now) c.args.ties.now)) c.in_ok-posting.posting c.in_ok-slips.slips posting slips c.in_ok-posting.ensures.laws
+    posts (public_setup c.args.self.now.setup) (open_round_in c.args.self.now) c.args.increments.now
+    (later_outcome c.args.self.now.setup.products (open_round_in c.args.self.now) (requests (open_round_in c.args.self.now) c.args.ties.now))
+    c.in_ok-posting.posting c.in_ok-slips.slips posting slips c.in_ok-posting.ensures.laws

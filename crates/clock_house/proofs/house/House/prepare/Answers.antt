@@ -17,7 +17,8 @@ returns-in_err-results-clause-followed g c =
     let told = err_from_is_err_and c.from_residual-in_err-results.result c.from_residual-in_err-results.ensures.1 in
     let refused = rw c.in_ok-ties.ensures.listed at c.in_err-results.ensures.err in
     rw (told.1, told.2)
-    (λ other. close-followed c.args.self.now c.keeps.ensures.limits c.args.round c.args.increments.now c.args.ties.now _ (c.in_ok-ties.ensures.ok ∙ refused other))
+    (λ other. close-followed c.args.self.now c.keeps.ensures.limits c.args.round c.args.increments.now c.args.ties.now _
+    (c.in_ok-ties.ensures.ok ∙ refused other))
 
 pub returns-in_err-results-clause-answer : goal.returns-in_err-results-clause-answer
 returns-in_err-results-clause-answer g c =
@@ -33,7 +34,9 @@ returns-clause-answer g c =
 pub returns-clause-fits : goal.returns-clause-fits
 returns-clause-fits g c =
     let closes = rw c.in_ok-ties.ensures.listed at c.in_ok-results.ensures.ok.closes in
-    let whole = close-kept _ c.args.self.now c.args.round c.args.increments.now _ c.args.ties.now _ _ (sym c.self.view_is) c.in_ok-increments.ensures c.in_ok-ties.ensures.listed (c.in_ok-ties.ensures.ok ∙ closes) in
+    let whole = close-kept _ c.args.self.now c.args.round c.args.increments.now _ c.args.ties.now _ _
+    (sym c.self.view_is) c.in_ok-increments.ensures c.in_ok-ties.ensures.listed (c.in_ok-ties.ensures.ok ∙ closes) in
     let by = λ (items : List ClosedRound).
-        closing_in (record { setup = c.self.inside.setup; closed = reverse items; sheets = c.self.inside.sheets; spare = 0 }) c.args.round c.in_ok-increments.increments c.in_ok-ties.ties in
+    closing_in (record { setup = c.self.inside.setup; closed = reverse items; sheets = c.self.inside.sheets; spare = 0 }) c.args.round
+    c.in_ok-increments.increments c.in_ok-ties.ties in
     ap by c.in_ok-reserve.ensures.items ∙ whole

@@ -1,8 +1,5 @@
-use Rattle.std.proofs.Common.{◌∷◌, refl, ap, sym, subst, ◌∙◌}
-use Rattle.std.specs.Prelude.{Option}
+use Rattle.std.proofs.Common.{refl, sym, ◌∙◌}
 use Rattle.std.proofs.lemmas.Result.{err_from_is_err_and}
-use Rattle.clock_house.specs.declared.fault.PutFault.{PutFault}
-use Rattle.clock_house.specs.House.{AnswersPut}
 use Rattle.clock_house.proofs.Puts.{put-refused}
 use Rattle.clock_house.proofs.Seen.{put_fault_seen}
 use Rattle.clock_house.proofs.house.House.prepare_put.Goals as goal
@@ -13,7 +10,8 @@ returns-in_err-sheet-clause-followed g c =
     rw (told.1, told.2)
     (λ other. record {
       setup = refl;
-      stands = λ commands stands. put-refused c.args.self.now c.args.bidder c.args.round c.args.bids.now commands stands c.in_err-sheet.field-0.0 (c.in_err-sheet.ensures.answer other);
+      stands = λ commands stands. put-refused c.args.self.now c.args.bidder c.args.round c.args.bids.now commands stands c.in_err-sheet.field-0.0
+          (c.in_err-sheet.ensures.answer other);
     })
 
 pub returns-in_err-sheet-clause-seen : goal.returns-in_err-sheet-clause-seen

@@ -9,7 +9,8 @@ pub returns-in-Some-clause-found : goal.returns-in-Some-clause-found
 returns-in-Some-clause-found g c =
     let some = rw c.as_slice.ensures.value at c.in-Some.ensures.some in
     rw (← c.self.view_is)
-    (ap (option_map (λ (one : ClosedRound). one.sheet)) (sym (found_round c.args.round c.self.inside.rounds.items (Some c.in-Some.closed.now) c.in-Some.ensures.none some)))
+    (ap (option_map (λ (one : ClosedRound). one.sheet)) (sym
+    (found_round c.args.round c.self.inside.rounds.items (Some c.in-Some.closed.now) c.in-Some.ensures.none some)))
 
 pub returns-in-None-clause-found : goal.returns-in-None-clause-found
 returns-in-None-clause-found g c =
@@ -22,7 +23,8 @@ returns-in-Some-clause-seen g c =
     let some = rw c.as_slice.ensures.value at c.in-Some.ensures.some in
     rw (← c.self.view_is)
     (λ bidder commands stands.
-    ap (option_map (λ (one : ClosedRound). one.sheet)) (sym (found_round c.args.round c.self.inside.rounds.items (Some c.in-Some.closed.now) c.in-Some.ensures.none some))
+    ap (option_map (λ (one : ClosedRound). one.sheet))
+    (sym (found_round c.args.round c.self.inside.rounds.items (Some c.in-Some.closed.now) c.in-Some.ensures.none some))
     ∙ sheet_seen _ bidder commands stands c.args.round)
 
 pub returns-in-None-clause-seen : goal.returns-in-None-clause-seen

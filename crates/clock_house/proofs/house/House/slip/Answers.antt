@@ -18,7 +18,8 @@ pub returns-in-Some-clause-found : goal.returns-in-Some-clause-found
 returns-in-Some-clause-found g c =
     let some = rw c.as_slice.ensures.value at c.in-Some.ensures.some in
     rw (← c.self.view_is)
-    (ap Some c.slip_at.ensures ∙ ap (option_map (slip_of c.args.bidder)) (sym (found_round c.args.round c.self.inside.rounds.items (Some c.in-Some.closed.now) c.in-Some.ensures.none some)))
+    (ap Some c.slip_at.ensures ∙ ap (option_map (slip_of c.args.bidder))
+    (sym (found_round c.args.round c.self.inside.rounds.items (Some c.in-Some.closed.now) c.in-Some.ensures.none some)))
 
 pub returns-in-None-clause-found : goal.returns-in-None-clause-found
 returns-in-None-clause-found g c =
@@ -32,7 +33,8 @@ returns-in-Some-clause-seen g c =
     rw (← c.self.view_is)
     (λ commands stands.
     ap Some c.slip_at.ensures
-    ∙ ap (option_map (slip_of c.args.bidder)) (sym (found_round c.args.round c.self.inside.rounds.items (Some c.in-Some.closed.now) c.in-Some.ensures.none some))
+    ∙ ap (option_map (slip_of c.args.bidder))
+    (sym (found_round c.args.round c.self.inside.rounds.items (Some c.in-Some.closed.now) c.in-Some.ensures.none some))
     ∙ slip_seen _ c.args.bidder commands stands c.args.round)
 
 pub returns-in-None-clause-seen : goal.returns-in-None-clause-seen

@@ -14,12 +14,22 @@ use Rattle.clock_house.proofs.house.House.slips.Goals as goal
 
 pub row-requires : goal.row-requires
 row-requires g c =
-    omega (arith, c.requires.within.bidders, length-map (open_round_in c.args.self.now).holdings (λ (held : Holding). held.eligibility), in-many c.args.self.now)
+    omega (
+      arith,
+      c.requires.within.bidders,
+      length-map (open_round_in c.args.self.now).holdings (λ (held : Holding). held.eligibility),
+      in-many c.args.self.now,
+    )
 
 pub slip_after-requires-clause-row : goal.slip_after-requires-clause-row
 slip_after-requires-clause-row g c =
     let lt : c.loop-bidder.bidder < length c.args.grid.now =
-    omega (arith, c.requires.within.bidders, length-map (open_round_in c.args.self.now).holdings (λ (held : Holding). held.eligibility), in-many c.args.self.now) in
+    omega (
+      arith,
+      c.requires.within.bidders,
+      length-map (open_round_in c.args.self.now).holdings (λ (held : Holding). held.eligibility),
+      in-many c.args.self.now,
+    ) in
     rw c.row.ensures (c.requires.within.rows c.loop-bidder.bidder [] lt)
 
 pub slip_after-requires-clause-within : goal.slip_after-requires-clause-within
@@ -28,17 +38,26 @@ slip_after-requires-clause-within g c =
     let in_house : c.loop-bidder.bidder < length c.args.self.now.setup.bidders = omega arith in
     let lt : c.loop-bidder.bidder < length c.args.grid.now =
     omega (arith, c.requires.within.bidders, length-map (open_round_in c.args.self.now).holdings (λ (held : Holding). held.eligibility), many) in
-    let at = get_or-map (λ (held : Holding). held.eligibility) (open_round_in c.args.self.now).holdings c.loop-bidder.bidder (record { eligibility = 0; demands = [] }) 0 (omega (arith, in_house, many)) in
-    rw c.row.ensures (omega (arith, c.requires.within.within c.loop-bidder.bidder lt, at, ap (λ (held : Holding). held.eligibility) (in-held c.args.self.now c.loop-bidder.bidder in_house)))
+    let at = get_or-map (λ (held : Holding). held.eligibility) (open_round_in c.args.self.now).holdings c.loop-bidder.bidder
+    (record { eligibility = 0; demands = [] }) 0 (omega (arith, in_house, many)) in
+    rw c.row.ensures
+    (omega (
+      arith,
+      c.requires.within.within c.loop-bidder.bidder lt,
+      at,
+      ap (λ (held : Holding). held.eligibility) (in-held c.args.self.now c.loop-bidder.bidder in_house),
+    ))
 
 pub loop-bidder-preserved : goal.loop-bidder-preserved
 loop-bidder-preserved g c =
     let in_house : c.loop-bidder.bidder < length c.args.self.now.setup.bidders = omega arith in
     let house : HouseFields = c.args.self.now in
-    let f = λ (bidder : ℕ). slip_after (public_setup c.args.self.now.setup) (standing_in c.args.self.now).round (holding_at (open_round_in c.args.self.now).holdings bidder).eligibility (row_of c.args.grid.now bidder) in
+    let f = λ (bidder : ℕ). slip_after (public_setup c.args.self.now.setup) (standing_in c.args.self.now).round
+    (holding_at (open_round_in c.args.self.now).holdings bidder).eligibility (row_of c.args.grid.now bidder) in
     let exact = rw c.row.ensures at c.in_ok-slip_after.ensures in
     let slip : c.in_ok-slip_after.field-0 ≡ f c.loop-bidder.bidder =
-    exact ∙ ap (λ (held : Holding). slip_after (public_setup c.args.self.now.setup) (standing_in c.args.self.now).round held.eligibility (row_of c.args.grid.now c.loop-bidder.bidder)) (sym (in-held c.args.self.now c.loop-bidder.bidder in_house)) in
+    exact ∙ ap (λ (held : Holding). slip_after (public_setup c.args.self.now.setup) (standing_in c.args.self.now).round held.eligibility
+    (row_of c.args.grid.now c.loop-bidder.bidder)) (sym (in-held c.args.self.now c.loop-bidder.bidder in_house)) in
     c.in_ok-push.ensures.ok
     ∙ ap (λ (xs : List Slip). xs ++ c.in_ok-slip_after.field-0 ∷ []) c.loop-bidder.invariant
     ∙ ap (λ (one : Slip). map f (range_with_len 0 c.loop-bidder.bidder) ++ one ∷ []) slip
@@ -47,5 +66,6 @@ loop-bidder-preserved g c =
 pub returns : goal.returns
 returns g c =
     let done : c.loop-bidder.bidder ≡ length c.args.self.now.setup.bidders = omega arith in
-    let f = λ (bidder : ℕ). slip_after (public_setup c.args.self.now.setup) (standing_in c.args.self.now).round (holding_at (open_round_in c.args.self.now).holdings bidder).eligibility (row_of c.args.grid.now bidder) in
+    let f = λ (bidder : ℕ). slip_after (public_setup c.args.self.now.setup) (standing_in c.args.self.now).round
+    (holding_at (open_round_in c.args.self.now).holdings bidder).eligibility (row_of c.args.grid.now bidder) in
     c.loop-bidder.invariant ∙ ap (λ (n : ℕ). map f (range_with_len 0 n)) (done ∙ sym (in-many c.args.self.now))

@@ -8,4 +8,6 @@ use Rattle.clock_house.specs.House.{open_round_in, standing_in}
 use Rattle.clock_house.proofs.house.House.slips.Given as goal
 
 abbrev pub invariant-loop-bidder : goal.invariant-loop-bidder
-invariant-loop-bidder g l = l.slips ≡ map (λ bidder. slip_after (public_setup l.self.setup) (standing_in l.self).round (holding_at (open_round_in l.self).holdings bidder).eligibility (row_of l.grid bidder)) (range_with_len 0 l.bidder)
+invariant-loop-bidder g l = l.slips
+    ≡ map (λ bidder. slip_after (public_setup l.self.setup) (standing_in l.self).round (holding_at (open_round_in l.self).holdings bidder).eligibility
+    (row_of l.grid bidder)) (range_with_len 0 l.bidder)
