@@ -27,7 +27,7 @@ use Rattle.clock_house.specs.Closing.{OpenRound, Outcome, requests, first_outcom
 use Rattle.clock_house.specs.Laws.{HasSoundPrices, IsOpen, eligibilities_of, grid_of}
 use Rattle.clock_house.proofs.OpenRounds.{all_requests, asked_within, settled_within, priced_requests}
 use Rattle.clock_order.proofs.InOrder.{processing_permutes}
-use Rattle.clock_house.proofs.NextPrices.{next_rising, next_within}
+use Rattle.clock_posting.proofs.NextPrices.{next_rising, next_within}
 use Rattle.clock_house.proofs.Sums.{sum_by-lt_sum_by, length-le-sum_by, sum_by-map, map-get_or}
 use Rattle.std.proofs.lemmas.List.Sorted.{All-permutation}
 
