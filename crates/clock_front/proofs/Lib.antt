@@ -7,3 +7,4 @@ mod ProgressLaws
 mod RouteLaws
 mod MemberLaws
 mod ReplyLaws
+mod TokenLaws

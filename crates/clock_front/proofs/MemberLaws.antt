@@ -10,6 +10,7 @@ use Rattle.std.proofs.lemmas.Str.{is_utf8-from_IsUtf8, IsUtf8-from_is_utf8}
 use Rattle.serde_json.specs.Read.{read}
 use Rattle.clock_setup.specs.Members.{is_count, each, ◌>>=◌}
 use Rattle.clock_setup.specs.SetupDocument.{json}
+use Rattle.clock_front.specs.CloseBodies.{tie_from}
 
 -- an object has as many members as its map has entries
 members_len-view : (entries : List (String Global × Value)) → members_len (members_view entries) ≡ length entries
@@ -74,3 +75,13 @@ no_json bytes none = by (is_utf8 bytes) refl
     by : (t : Bool) → is_utf8 bytes ≡ t → cond (is_utf8 bytes) (read bytes) None ≡ None
     by true e = ap (λ t. cond t (read bytes) None) e ∙ none (IsUtf8-from_is_utf8 bytes e)
     by false e = ap (λ t. cond t (read bytes) None) e
+
+-- ---- tie numbers
+
+-- a list of another length than three is no tie number
+pub no_tie : (items : List Value) → (length items ≡ 3 → ⊥) → tie_from (items_view items) ≡ None
+no_tie [] other = refl
+no_tie (a ∷ []) other = refl
+no_tie (a ∷ (b ∷ [])) other = refl
+no_tie (a ∷ (b ∷ (c ∷ []))) other = absurd (other refl)
+no_tie (a ∷ (b ∷ (c ∷ (d ∷ items)))) other = refl

@@ -8,3 +8,7 @@ pub mod Routes
 pub mod Bodies
 pub mod Replies
 pub mod ShownReply
+pub mod CloseBodies
+pub mod Askers
+pub mod HeldTokens
+pub mod TokenTable

@@ -7,6 +7,7 @@
 ghost use Rattle.clock_front.specs.FramingLaws as laws;
 
 mod body_fault;
+mod close_body;
 mod head;
 mod head_room;
 mod headers;
@@ -19,8 +20,10 @@ mod routes;
 mod scan;
 #[cfg(test)]
 mod tests;
+mod tokens;
 
 pub use body_fault::BodyFault;
+pub use close_body::{CloseBody, read_close};
 pub use head::EndedHead;
 pub use progress::Progress;
 pub use put_body::{PutBody, read_put};

@@ -1,5 +1,6 @@
 //! What the bodies of requests mean.
-use crate::{BodyFault, read_put};
+use crate::{BodyFault, read_close, read_put};
+use clock_setup::Increments;
 use std::alloc::Global;
 use std::test::Fail;
 
@@ -73,4 +74,47 @@ fn a_number_is_whole_and_of_64_bits(rt: HostRuntime) -> Result<(), Fail> {
         );
     }
     Ok(())
+}
+
+/// The round, the increments by product and the number of ties of a closing's body, or its fault.
+fn closing_of(alloc: Global, body: &[u8]) -> Result<(u64, usize, usize), BodyFault> {
+    let closing = read_close(alloc, body)?;
+    let increments = match &closing.increments {
+        Increments::Single(_) => 0,
+        Increments::PerProduct(increments) => increments.as_slice().len(),
+    };
+    Ok((closing.round, increments, closing.ties.as_slice().len()))
+}
+
+#[test]
+fn a_closing_has_one_form_of_increments(rt: HostRuntime) {
+    for (body, closing) in [
+        (
+            b"{\"increment\":10,\"round\":1,\"ties\":[]}".as_slice(),
+            Ok((1, 0, 0)),
+        ),
+        (
+            b"{\"increments\":[10,20],\"round\":2,\"ties\":[[0,1,5],[1,0,3]]}",
+            Ok((2, 2, 2)),
+        ),
+        (
+            b"{\"increment\":10,\"increments\":[10],\"round\":1,\"ties\":[]}",
+            Err(BodyFault::Shape),
+        ),
+        (b"{\"round\":1,\"ties\":[]}", Err(BodyFault::Shape)),
+        (
+            b"{\"increment\":10,\"round\":1,\"ties\":[[0,1]]}",
+            Err(BodyFault::Shape),
+        ),
+        (
+            b"{\"increment\":10,\"round\":1,\"ties\":[[0,1,5,6]]}",
+            Err(BodyFault::Shape),
+        ),
+        (
+            b"{\"increment\":10,\"round\":1,\"ties\":[}",
+            Err(BodyFault::NotJson),
+        ),
+    ] {
+        assert_eq!(rt; closing_of(rt.alloc(), body), closing);
+    }
 }

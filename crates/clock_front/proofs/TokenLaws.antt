@@ -1,0 +1,71 @@
+-- Tables of tokens.
+use Rattle.std.proofs.Common.{◌≡◌, ℕ, ◌+◌, ◌<◌, suc, Bool, true, false, cond, List, [], ◌∷◌, length, get_or, drop, map, Vec, Option, Some, None, refl, sym, ◌∙◌, ap, add-one}
+use Rattle.std.specs.Prelude.{nat_eq, unwrap_or}
+use Rattle.std.specs.declared.alloc.Global.{Global}
+use Rattle.std.specs.Cmp.Lexicographic.{pointwise, bytes_decides}
+use Rattle.std.specs.Map.{lookup}
+use Rattle.std.proofs.lemmas.List.{drop_more}
+use Rattle.indexmap.specs.IndexMap.{insert_entry}
+use Rattle.clock_setup.specs.declared.setup.Bidder.{Bidder as BidderRow}
+use Rattle.clock_front.specs.Heads.{same_bytes}
+use Rattle.clock_front.specs.Askers.{holder, bidder_tokens}
+use Rattle.clock_front.specs.HeldTokens.{listed, found}
+use Rattle.clock_front.specs.declared.tokens.Asker.{Asker}
+use Rattle.clock_front.specs.declared.tokens.Asker.TheVariants.{Nobody, Bidder}
+
+abbrev pub Entries : Type 0
+Entries = List (Vec ℕ Global × Asker)
+
+abbrev same_key : Vec ℕ Global → Vec ℕ Global → Bool
+same_key a b = pointwise nat_eq a.items b.items
+
+-- equal keys are the same to a query
+same_query : (other a b : List ℕ) → pointwise nat_eq a b ≡ true → same_bytes other a ≡ same_bytes other b
+same_query other a b e = ap (same_bytes other) ((bytes_decides a b).0 e)
+
+-- a token that is added is found, and the others as before
+pub found-insert : (entries : Entries) (key : Vec ℕ Global) (asker : Asker) (other : List ℕ)
+    → found (insert_entry same_key entries key asker) other ≡ cond (same_bytes other key.items) asker (found entries other)
+found-insert [] key asker other = refl
+found-insert (entry ∷ entries) key asker other = by (same_key key entry.0) refl (found-insert entries key asker other)
+  where
+    later : (s t : Bool) (x y : Asker) (rest : Asker) → (s ≡ true → t ≡ true → ⊥) → cond s x (cond t y rest) ≡ cond t y (cond s x rest)
+    later true true x y rest differ = absurd (differ refl refl)
+    later true false x y rest differ = refl
+    later false t x y rest differ = refl
+
+    twice : (s t : Bool) → s ≡ t → cond s asker (found entries other) ≡ cond t asker (cond s entry.1 (found entries other))
+    twice true true e = refl
+    twice true false e = absurd cc
+    twice false true e = absurd cc
+    twice false false e = refl
+
+    by : (t : Bool) → same_key key entry.0 ≡ t → found (insert_entry same_key entries key asker) other ≡ cond (same_bytes other key.items) asker (found entries other)
+        → found (insert_entry same_key (entry ∷ entries) key asker) other ≡ cond (same_bytes other key.items) asker (found (entry ∷ entries) other)
+    by true e rest =
+        ap (λ t. found (cond t ((entry.0, asker) ∷ entries) (entry ∷ insert_entry same_key entries key asker)) other) e
+        ∙ twice (same_bytes other entry.0.items) (same_bytes other key.items) (sym (same_query other key.items entry.0.items e))
+    by false e rest =
+        ap (λ t. found (cond t ((entry.0, asker) ∷ entries) (entry ∷ insert_entry same_key entries key asker)) other) e
+        ∙ ap (λ found_later. cond (same_bytes other entry.0.items) entry.1 found_later) rest
+        ∙ sym (later (same_bytes other key.items) (same_bytes other entry.0.items) asker entry.1 (found entries other)
+        (λ a b. (let same : pointwise nat_eq key.items entry.0.items ≡ true = (bytes_decides key.items entry.0.items).1 (sym ((bytes_decides other key.items).0 a) ∙ (bytes_decides other entry.0.items).0 b) in
+        let bad : true ≡ false = sym same ∙ e in cc)))
+
+-- a look-up by a query
+pub found-lookup : (entries : Entries) (token : List ℕ) → unwrap_or (lookup (λ key. pointwise nat_eq token key.items) entries) Nobody ≡ found entries token
+found-lookup [] token = refl
+found-lookup (entry ∷ entries) token = by (same_bytes token entry.0.items) (found-lookup entries token)
+  where
+    by : (t : Bool) → unwrap_or (lookup (λ key. pointwise nat_eq token key.items) entries) Nobody ≡ found entries token
+        → unwrap_or (cond t (Some entry.1) (lookup (λ key. pointwise nat_eq token key.items) entries)) Nobody ≡ cond t entry.1 (found entries token)
+    by true later = refl
+    by false later = later
+
+-- one more bidder, from the last on
+pub one_more_bidder : (bidders : List BidderRow) (n : ℕ) (d : BidderRow) (token : List ℕ) → n < length bidders
+    → holder (bidder_tokens n (drop n bidders)) token
+    ≡ cond (same_bytes token (get_or bidders n d).token) (Bidder n) (holder (bidder_tokens (n + 1) (drop (n + 1) bidders)) token)
+one_more_bidder bidders n d token lt =
+    ap (λ rows. holder (bidder_tokens n rows) token) (drop_more bidders n d lt)
+    ∙ ap (λ k. cond (same_bytes token (get_or bidders n d).token) (Bidder n) (holder (bidder_tokens k (drop (n + 1) bidders)) token)) (sym (add-one n))
