@@ -1,0 +1,5 @@
+pub mod Codes
+pub mod Lists
+pub mod Names
+pub mod Pushes
+pub mod Texts

@@ -1,0 +1,28 @@
+-- The page of a refusal.
+--     refusal_value shown      the code, its place or round, and its status
+use Rattle.std.specs.Prelude.{ℕ, List, [], ◌∷◌, ◌++◌, Option, Some, None, codes, decimal}
+use Rattle.serde_json.specs.Data.{Data, string}
+use Rattle.clock_views.specs.Codes.{status_of, text_of}
+use Rattle.clock_views.specs.Refusals.{Shown}
+use Rattle.clock_views.specs.Values.{whole, object_of, member_if}
+
+-- the code, the place and the round where they are there, and the status
+unfoldable pub refusal_value : Shown → Data
+refusal_value shown = object_of (
+  ("code", string (text_of shown.code)) ∷
+  member_if "place" shown.place ++
+  member_if "round" shown.round ++
+  ("status", whole (status_of shown.code)) ∷ [])
+
+-- a label and the number behind it, where there is one
+abbrev pub number_if : List ℕ → Option ℕ → List ℕ
+number_if label None = []
+number_if label (Some n) = label ++ decimal n
+
+-- the same, byte for byte
+abbrev pub refusal_bytes : Shown → List ℕ
+refusal_bytes shown =
+    codes "{\"code\":\"" ++ text_of shown.code ++ codes "\""
+    ++ number_if (codes ",\"place\":") shown.place
+    ++ number_if (codes ",\"round\":") shown.round
+    ++ codes ",\"status\":" ++ decimal (status_of shown.code) ++ codes "}"

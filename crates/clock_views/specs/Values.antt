@@ -1,0 +1,63 @@
+-- The words in which pages are written: a page is a value of JSON (RFC 8259), and its text is the
+-- value's compact text, with no space.
+--     whole n, whole_or_null n      a number
+--     list_of value items      an array
+--     object_of members      an object
+--     member_if key number      a member only where there is a number
+--     true_or_false b      the word that a truth value is written as
+--     IsPage value text      the text is the value's compact text
+--     Adds piece old new      a piece was added at the end of a text
+--     item_text later value      an item of an array, with the comma before it
+use Prim.Native.String.{String}
+use Rattle.std.specs.Prelude.{◌≡◌, ℕ, List, [], ◌∷◌, ◌++◌, Bool, true, false, Option, Some, None, codes}
+use Rattle.serde_json.specs.Data.{Data, null, number, unsigned, array, object, Items, no_items, item, Members, no_members, member}
+use Rattle.serde_json.specs.Written.{compact_text, comma_if}
+
+-- a whole number
+abbrev pub whole : ℕ → Data
+whole n = number (unsigned n)
+
+-- a whole number, or null where there is none
+abbrev pub whole_or_null : Option ℕ → Data
+whole_or_null None = null
+whole_or_null (Some n) = whole n
+
+-- the items of an array, one for each item of a list
+abbrev pub items_of : {A : Type 0} → (A → Data) → List A → Items
+items_of value [] = no_items
+items_of value (x ∷ xs) = item (value x) (items_of value xs)
+
+-- an array
+abbrev pub list_of : {A : Type 0} → (A → Data) → List A → Data
+list_of value xs = array (items_of value xs)
+
+-- the members of an object, each a key and its value
+abbrev pub members_of : List (String × Data) → Members
+members_of [] = no_members
+members_of ((key, value) ∷ rest) = member (codes key) value (members_of rest)
+
+-- an object
+abbrev pub object_of : List (String × Data) → Data
+object_of members = object (members_of members)
+
+-- a member that stands only where there is a number
+abbrev pub member_if : String → Option ℕ → List (String × Data)
+member_if key None = []
+member_if key (Some n) = (key, whole n) ∷ []
+
+-- the word that a truth value is written as
+abbrev pub true_or_false : Bool → List ℕ
+true_or_false true = codes "true"
+true_or_false false = codes "false"
+
+-- the text is the value's compact text
+abbrev pub IsPage : Data → List ℕ → Type 0
+IsPage value text = text ≡ compact_text value
+
+-- a piece was added at the end of a text
+pub record Adds (piece old new : List ℕ) : Type 0 where
+  pub is : new ≡ old ++ piece
+
+-- an item of an array, behind a comma where it is a later one than the first
+abbrev pub item_text : Bool → Data → List ℕ
+item_text later value = comma_if later ++ compact_text value
