@@ -7,7 +7,8 @@ use Rattle.clock_views.specs.declared.code.Code.{Code}
 use Rattle.clock_views.specs.declared.code.Code.TheVariants.{Done, BadHead, BadLength, CutShort, BadJson, Token, Role, NoPage, NoRound, Method, Ended, WrongRound, LongBody, Shape, TooMany, UnknownProduct, PriceRange, OverCap, PriceOrder, MixedDirection, KeepPrice, OverActivity, Increment, TieRange, TieRepeated, TooManyTies, PriceLimit, LongHead, Coding, Memory}
 use Rattle.clock_views.specs.Codes.{text_of, status_of}
 use Rattle.clock_views.specs.Refusals.{Shown}
-use Rattle.clock_views.specs.RefusalPage.{refusal_value, refusal_bytes, number_if}
+use Rattle.clock_views.specs.RefusalPage.{refusal_value, refusal_bytes}
+use Rattle.clock_views.specs.Values.{number_if}
 
 -- no code has a character that JSON escapes
 plain : (code : Code) → escape (text_of code) ≡ text_of code

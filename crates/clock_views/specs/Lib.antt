@@ -4,4 +4,5 @@ pub mod OperatorPages
 pub mod PublicPages
 pub mod RefusalPage
 pub mod Refusals
+pub mod Temporary
 pub mod Values

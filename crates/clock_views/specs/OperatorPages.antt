@@ -22,10 +22,14 @@ result_value name held = object_of (
   ("eligibility", whole held.eligibility) ∷
   ("name", string name) ∷ [])
 
+-- what a bidder of a house holds
+abbrev pub result_in : HouseFields → ℕ → Data
+result_in house bidder = result_value (bidder_at house.setup bidder).name (holding_in house bidder)
+
 -- what each bidder holds, in the order of the set-up, whether the auction has ended, and the current round
 unfoldable pub results_value : HouseFields → Data
 results_value house = object_of (
-  ("bidders", list_of (λ bidder. result_value (bidder_at house.setup bidder).name (holding_in house bidder)) (range_with_len 0 (length house.setup.bidders))) ∷
+  ("bidders", list_of (result_in house) (range_with_len 0 (length house.setup.bidders))) ∷
   ("ended", boolean (standing_in house).ended) ∷
   ("round", whole (standing_in house).round) ∷ [])
 

@@ -1,10 +1,11 @@
 -- The page of a refusal.
 --     refusal_value shown      the code, its place or round, and its status
-use Rattle.std.specs.Prelude.{ℕ, List, [], ◌∷◌, ◌++◌, Option, Some, None, codes, decimal}
+--     refusal_bytes shown      the same page, byte for byte
+use Rattle.std.specs.Prelude.{ℕ, List, [], ◌∷◌, ◌++◌, codes, decimal}
 use Rattle.serde_json.specs.Data.{Data, string}
 use Rattle.clock_views.specs.Codes.{status_of, text_of}
 use Rattle.clock_views.specs.Refusals.{Shown}
-use Rattle.clock_views.specs.Values.{whole, object_of, member_if}
+use Rattle.clock_views.specs.Values.{whole, object_of, member_if, number_if}
 
 -- the code, the place and the round where they are there, and the status
 unfoldable pub refusal_value : Shown → Data
@@ -13,11 +14,6 @@ refusal_value shown = object_of (
   member_if "place" shown.place ++
   member_if "round" shown.round ++
   ("status", whole (status_of shown.code)) ∷ [])
-
--- a label and the number behind it, where there is one
-abbrev pub number_if : List ℕ → Option ℕ → List ℕ
-number_if label None = []
-number_if label (Some n) = label ++ decimal n
 
 -- the same, byte for byte
 abbrev pub refusal_bytes : Shown → List ℕ

@@ -5,11 +5,12 @@
 --     object_of members      an object
 --     member_if key number      a member only where there is a number
 --     true_or_false b      the word that a truth value is written as
+--     number_if label number      a label and a number only where there is one
 --     IsPage value text      the text is the value's compact text
 --     Adds piece old new      a piece was added at the end of a text
 --     item_text later value      an item of an array, with the comma before it
 use Prim.Native.String.{String}
-use Rattle.std.specs.Prelude.{◌≡◌, ℕ, List, [], ◌∷◌, ◌++◌, Bool, true, false, Option, Some, None, codes}
+use Rattle.std.specs.Prelude.{◌≡◌, ℕ, List, [], ◌∷◌, ◌++◌, Bool, true, false, Option, Some, None, codes, decimal}
 use Rattle.serde_json.specs.Data.{Data, null, number, unsigned, array, object, Items, no_items, item, Members, no_members, member}
 use Rattle.serde_json.specs.Written.{compact_text, comma_if}
 
@@ -49,6 +50,11 @@ member_if key (Some n) = (key, whole n) ∷ []
 abbrev pub true_or_false : Bool → List ℕ
 true_or_false true = codes "true"
 true_or_false false = codes "false"
+
+-- a label and the number behind it, where there is one
+abbrev pub number_if : List ℕ → Option ℕ → List ℕ
+number_if label None = []
+number_if label (Some n) = label ++ decimal n
 
 -- the text is the value's compact text
 abbrev pub IsPage : Data → List ℕ → Type 0

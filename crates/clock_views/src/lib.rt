@@ -16,7 +16,9 @@ pub use bidder::{
     push_slip_page, slip_page,
 };
 pub use code::Code;
-pub use operator::{closed_page, push_closed_page};
-pub use public::{push_status_page, status_page};
+pub use operator::{closed_page, push_closed_page, push_results_page, results_page};
+pub use public::{
+    products_page, push_products_page, push_sheet_page, push_status_page, sheet_page, status_page,
+};
 pub use refusal::Refusal;
 pub use refused::{push_refusal_page, refusal_page};

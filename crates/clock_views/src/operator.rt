@@ -1,13 +1,12 @@
 //! The pages of the operator.
 
-ghost use Rattle.std.specs.Prelude.{◌≡◌, ◌<◌, ◌≤◌, length, IfOk, OnOk};
+ghost use Rattle.std.specs.Prelude.{◌≡◌, ◌<◌, nat_lt, length, IfOk, OnOk};
+ghost use Rattle.std.specs.List.{range_with_len};
 ghost use Rattle.serde_json.specs.Written.{compact_text};
-ghost use Rattle.clock_setup.specs.Limits.{IsName};
-ghost use Rattle.clock_house.specs.History.{bidder_at};
-ghost use Rattle.clock_house.specs.House.{holding_in};
-ghost use Rattle.clock_views.specs.OperatorPages.{closed_value, closed_bytes, results_value, result_value};
-ghost use Rattle.clock_views.specs.Values.{IsPage, Adds, item_text};
+ghost use Rattle.clock_views.specs.OperatorPages.{closed_value, closed_bytes, results_value, result_in};
+ghost use Rattle.clock_views.specs.Values.{list_of, IsPage, Adds, item_text};
 
+use crate::bidder::name_of;
 use crate::pieces::{push_comma_if, push_label, push_name, push_number, push_numbers, push_truth};
 use clock_device::{NoMemory, Text};
 use clock_house::House;
@@ -38,4 +37,63 @@ pub fn push_closed_page(text: &mut Text, round: u64, ended: bool) -> Result<(), 
     push_truth(text, b",\"ended\":", ended)?;
     push_label(text, b"}")?;
     Ok(())
+}
+
+/// What each bidder holds now: its demands, its eligibility and its name, in the order of the
+/// set-up; whether the auction has ended, and the current round. At the end it is what each has won.
+///
+/// ```text
+/// {"bidders":[{"demands":[1],"eligibility":2,"name":"X"}],"ended":true,"round":2}
+/// ```
+pub fn results_page<P>(alloc: Global, house: &House<P>) -> Result<Text, NoMemory>
+    ensures { IfOk result (IsPage (results_value house.now)) }
+{
+    let mut text = Text::new(alloc);
+    push_results_page(&mut text, house)?;
+    Ok(text)
+}
+
+/// Adds the same page to a text.
+pub fn push_results_page<P>(text: &mut Text, house: &House<P>) -> Result<(), NoMemory>
+    ensures { OnOk result (Adds (compact_text (results_value house.now)) text.old text.new) }
+{
+    push_label(text, b"{\"bidders\":")?;
+    push_results(text, house)?;
+    push_truth(text, b",\"ended\":", house.ended())?;
+    push_number(text, b",\"round\":", house.round())?;
+    push_label(text, b"}")?;
+    Ok(())
+}
+
+/// Adds the array of what each bidder holds.
+fn push_results<P>(text: &mut Text, house: &House<P>) -> Result<(), NoMemory>
+    ensures { OnOk result (Adds (compact_text (list_of (result_in house.now) (range_with_len 0 (length house.now.setup.bidders)))) text.old text.new) }
+{
+    text.push(b'[')?;
+    for bidder in 0..bidder_count(house.setup()) {
+        push_result(text, house, bidder)?;
+    }
+    text.push(b']')?;
+    Ok(())
+}
+
+/// Adds what a bidder holds, behind a comma where it is not the first bidder.
+fn push_result<P>(text: &mut Text, house: &House<P>, bidder: u32) -> Result<(), NoMemory>
+    requires { bidder < length house.now.setup.bidders }
+    ensures { OnOk result (Adds (item_text (nat_lt 0 bidder) (result_in house.now bidder)) text.old text.new) }
+{
+    let own = house.own(bidder);
+    push_comma_if(text, bidder > 0)?;
+    push_numbers(text, b"{\"demands\":", own.demands)?;
+    push_number(text, b",\"eligibility\":", own.eligibility)?;
+    push_name(text, b",\"name\":", name_of(house.setup(), bidder))?;
+    push_label(text, b"}")?;
+    Ok(())
+}
+
+/// How many bidders a set-up has.
+fn bidder_count(setup: &Setup) -> u32
+    ensures { result ≡ length setup.now.bidders }
+{
+    setup.bidders.as_slice().len() as u32
 }

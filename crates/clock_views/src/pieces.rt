@@ -4,7 +4,7 @@ ghost use Rattle.std.specs.Prelude.{◌≡◌, ◌++◌, decimal, length, OnOk};
 ghost use Rattle.serde_json.specs.Data.{string};
 ghost use Rattle.serde_json.specs.Written.{compact_text, comma_if};
 ghost use Rattle.clock_setup.specs.Limits.{IsName};
-ghost use Rattle.clock_views.specs.Values.{whole, whole_or_null, list_of, true_or_false, Adds, item_text};
+ghost use Rattle.clock_views.specs.Values.{whole, whole_or_null, list_of, number_if, true_or_false, Adds, item_text};
 
 use clock_device::{NoMemory, Text};
 
@@ -21,6 +21,20 @@ pub(crate) fn push_number(text: &mut Text, label: &[u8], number: u64) -> Result<
 {
     text.extend_from_slice(label)?;
     text.push_number(number)
+}
+
+/// Adds a label and the number behind it, where there is one.
+pub(crate) fn push_number_if(
+    text: &mut Text,
+    label: &[u8],
+    number: Option<u64>,
+) -> Result<(), NoMemory>
+    ensures { OnOk result (Adds (number_if label.now number) text.old text.new) }
+{
+    match number {
+        Some(number) => push_number(text, label, number),
+        None => Ok(()),
+    }
 }
 
 /// Adds a label and the number behind it, or null where there is none.

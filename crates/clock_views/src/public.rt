@@ -1,13 +1,19 @@
-//! The pages that everyone may see.
+//! The pages that everyone may see. Their texts are functions of what is public of a set-up.
 
-ghost use Rattle.std.specs.Prelude.{◌≡◌, ◌++◌, IfOk, OnOk};
+ghost use Rattle.std.specs.Prelude.{◌≡◌, length, zip, All, IfOk, OnOk};
 ghost use Rattle.serde_json.specs.Written.{compact_text};
-ghost use Rattle.clock_views.specs.PublicPages.{status_value, status_bytes};
-ghost use Rattle.clock_views.specs.Values.{IsPage, Adds};
+ghost use Rattle.clock_setup.specs.Limits.{IsProduct};
+ghost use Rattle.clock_views.specs.PublicPages.{status_value, status_bytes, products_value, product_value, limit_text, line_value, sheet_value, from_version_2 as number_from_version_2};
+ghost use Rattle.clock_views.specs.Temporary.{public_setup, limit_of as the_limit, granule_of as the_granule};
+ghost use Rattle.clock_views.specs.Values.{list_of, IsPage, Adds, item_text};
 
-use crate::pieces::{push_label, push_number, push_truth};
+use crate::pieces::{
+    push_comma_if, push_label, push_name, push_number, push_number_if, push_number_or_null,
+    push_truth,
+};
 use clock_device::{NoMemory, Text};
-use clock_setup::Setup;
+use clock_posting::{Line, RoundSheet};
+use clock_setup::{Product, Setup};
 use std::alloc::Global;
 
 /// Where the auction stands: the current round, and whether the auction has ended.
@@ -22,8 +28,8 @@ pub fn status_page(
     round: u64,
     ended: bool,
 ) -> Result<Text, NoMemory>
-    ensures value { IfOk result (IsPage (status_value setup.now.version round ended)) }
-    ensures bytes { IfOk result (λ text. text ≡ status_bytes setup.now.version round ended) }
+    ensures value { IfOk result (IsPage (status_value (public_setup setup.now) round ended)) }
+    ensures bytes { IfOk result (λ text. text ≡ status_bytes (public_setup setup.now) round ended) }
 {
     let mut text = Text::new(alloc);
     push_status_page(&mut text, setup, round, ended)?;
@@ -37,18 +43,208 @@ pub fn push_status_page(
     round: u64,
     ended: bool,
 ) -> Result<(), NoMemory>
-    ensures { OnOk result (Adds (compact_text (status_value setup.now.version round ended)) text.old text.new) }
-{
-    push_status(text, setup.version, round, ended)
-}
-
-/// Adds the status of an auction whose set-up has this version.
-fn push_status(text: &mut Text, version: u64, round: u64, ended: bool) -> Result<(), NoMemory>
-    ensures { OnOk result (Adds (compact_text (status_value version round ended)) text.old text.new) }
+    ensures { OnOk result (Adds (compact_text (status_value (public_setup setup.now) round ended)) text.old text.new) }
 {
     push_truth(text, b"{\"ended\":", ended)?;
     push_number(text, b",\"round\":", round)?;
+    push_number(text, b",\"version\":", version_of(setup))?;
+    push_label(text, b"}")?;
+    Ok(())
+}
+
+/// What is auctioned: the products in the order of the set-up, and the activity requirement, with the
+/// activity limit and the granules from version 2 of the set-up document on.
+///
+/// ```text
+/// {"products":[{"cap":2,"name":"A","opening":100,"supply":2,"units":1}],"requirement":95,"version":1}
+/// ```
+pub fn products_page(alloc: Global, setup: &Setup) -> Result<Text, NoMemory>
+    ensures { IfOk result (IsPage (products_value (public_setup setup.now))) }
+{
+    let mut text = Text::new(alloc);
+    push_products_page(&mut text, setup)?;
+    Ok(text)
+}
+
+/// Adds the same page to a text.
+pub fn push_products_page(text: &mut Text, setup: &Setup) -> Result<(), NoMemory>
+    ensures { OnOk result (Adds (compact_text (products_value (public_setup setup.now))) text.old text.new) }
+{
+    push_offer(
+        text,
+        setup.version,
+        setup_limit(setup),
+        setup.requirement,
+        setup.products.as_slice(),
+    )
+}
+
+/// Adds the page of a set-up with this version, limit and requirement, and these products.
+fn push_offer(
+    text: &mut Text,
+    version: u64,
+    limit: u64,
+    requirement: u64,
+    products: &[Product],
+) -> Result<(), NoMemory>
+    requires { All IsProduct products.now }
+    ensures { OnOk result (Adds (compact_text (products_value (record { version = version; limit = limit; requirement = requirement; products = products.now }))) text.old text.new) }
+{
+    push_label(text, b"{")?;
+    push_limit(text, from_version_2(version, limit))?;
+    push_label(text, b"\"products\":")?;
+    push_products(text, version, products)?;
+    push_number(text, b",\"requirement\":", requirement)?;
     push_number(text, b",\"version\":", version)?;
     push_label(text, b"}")?;
     Ok(())
+}
+
+/// Adds the activity limit and the comma behind it, where there is one.
+fn push_limit(text: &mut Text, limit: Option<u64>) -> Result<(), NoMemory>
+    ensures { OnOk result (Adds (limit_text limit) text.old text.new) }
+{
+    if let Some(limit) = limit {
+        push_number(text, b"\"limit\":", limit)?;
+        push_label(text, b",")?;
+    }
+    Ok(())
+}
+
+/// Adds the array of some products.
+fn push_products(text: &mut Text, version: u64, products: &[Product]) -> Result<(), NoMemory>
+    requires { All IsProduct products.now }
+    ensures { OnOk result (Adds (compact_text (list_of (product_value version) products.now)) text.old text.new) }
+{
+    text.push(b'[')?;
+    for (i, product) in products.iter().enumerate() {
+        push_product(text, i > 0, version, product)?;
+    }
+    text.push(b']')?;
+    Ok(())
+}
+
+/// Adds a product, behind a comma where it is not the first.
+fn push_product(
+    text: &mut Text,
+    later: bool,
+    version: u64,
+    product: &Product,
+) -> Result<(), NoMemory>
+    requires { IsProduct product.now }
+    ensures { OnOk result (Adds (item_text later (product_value version product.now)) text.old text.new) }
+{
+    push_comma_if(text, later)?;
+    push_number(text, b"{\"cap\":", product.cap)?;
+    push_number_if(text, b",\"granule\":", from_version_2(version, granule_of(product)))?;
+    push_name(text, b",\"name\":", product.name.as_slice())?;
+    push_number(text, b",\"opening\":", product.opening.get())?;
+    push_number(text, b",\"supply\":", product.supply)?;
+    push_number(text, b",\"units\":", product.units)?;
+    push_label(text, b"}")?;
+    Ok(())
+}
+
+/// What a closed round has posted. There is a line for each product of the set-up.
+///
+/// ```text
+/// {"ended":true,"products":[{"clock":110,"demand":null,"name":"A","next":null,"posted":103,"start":100}],"round":2}
+/// ```
+pub fn sheet_page(alloc: Global, setup: &Setup, sheet: &RoundSheet) -> Result<Text, NoMemory>
+    requires { length sheet.now.lines ≡ length setup.now.products }
+    ensures { IfOk result (IsPage (sheet_value (public_setup setup.now) sheet.now)) }
+{
+    let mut text = Text::new(alloc);
+    push_sheet_page(&mut text, setup, sheet)?;
+    Ok(text)
+}
+
+/// Adds the same page to a text.
+pub fn push_sheet_page(
+    text: &mut Text,
+    setup: &Setup,
+    sheet: &RoundSheet,
+) -> Result<(), NoMemory>
+    requires { length sheet.now.lines ≡ length setup.now.products }
+    ensures { OnOk result (Adds (compact_text (sheet_value (public_setup setup.now) sheet.now)) text.old text.new) }
+{
+    push_truth(text, b"{\"ended\":", sheet.ended)?;
+    push_label(text, b",\"products\":")?;
+    push_lines(text, products_of(setup), sheet.lines.as_slice())?;
+    push_number(text, b",\"round\":", sheet.round)?;
+    push_label(text, b"}")?;
+    Ok(())
+}
+
+/// Adds the array of the lines of some products.
+fn push_lines(text: &mut Text, products: &[Product], lines: &[Line]) -> Result<(), NoMemory>
+    requires limits { All IsProduct products.now }
+    requires each { length lines.now ≡ length products.now }
+    ensures { OnOk result (Adds (compact_text (list_of (λ row. line_value row.0 row.1) (zip products.now lines.now))) text.old text.new) }
+{
+    text.push(b'[')?;
+    for (i, line) in lines.iter().enumerate() {
+        push_line(text, i > 0, &products[i], line)?;
+    }
+    text.push(b']')?;
+    Ok(())
+}
+
+/// Adds the line of a product, behind a comma where it is not the first.
+fn push_line(
+    text: &mut Text,
+    later: bool,
+    product: &Product,
+    line: &Line,
+) -> Result<(), NoMemory>
+    requires { IsProduct product.now }
+    ensures { OnOk result (Adds (item_text later (line_value product.now line.now)) text.old text.new) }
+{
+    push_comma_if(text, later)?;
+    push_number(text, b"{\"clock\":", line.clock.get())?;
+    push_number_or_null(text, b",\"demand\":", line.demand)?;
+    push_name(text, b",\"name\":", product.name.as_slice())?;
+    push_number_or_null(text, b",\"next\":", line.next)?;
+    push_number(text, b",\"posted\":", line.posted.get())?;
+    push_number(text, b",\"start\":", line.start.get())?;
+    push_label(text, b"}")?;
+    Ok(())
+}
+
+/// A number that set-up documents have from version 2 on.
+fn from_version_2(version: u64, number: u64) -> Option<u64>
+    ensures { result ≡ number_from_version_2 version number }
+{
+    if version >= 2 { Some(number) } else { None }
+}
+
+/// The version of a set-up.
+fn version_of(setup: &Setup) -> u64
+    ensures { result ≡ setup.now.version }
+{
+    setup.version
+}
+
+/// The activity limit of a set-up.
+fn setup_limit(setup: &Setup) -> u64
+    ensures { result ≡ the_limit setup.now }
+{
+    let _version = setup.version;
+    100
+}
+
+/// The granule of a product.
+fn granule_of(product: &Product) -> u64
+    ensures { result ≡ the_granule product.now }
+{
+    let _units = product.units;
+    1
+}
+
+/// The products of a set-up.
+fn products_of(setup: &Setup) -> &[Product]
+    ensures products { result.now ≡ setup.now.products }
+    ensures limits { All IsProduct result.now }
+{
+    setup.products.as_slice()
 }

@@ -2,12 +2,12 @@
 
 ghost use Rattle.std.specs.Prelude.{◌≡◌, ◌++◌, IfOk, OnOk};
 ghost use Rattle.serde_json.specs.Written.{compact_text};
-ghost use Rattle.clock_views.specs.RefusalPage.{refusal_value, refusal_bytes, number_if};
+ghost use Rattle.clock_views.specs.RefusalPage.{refusal_value, refusal_bytes};
 ghost use Rattle.clock_views.specs.Refusals.{IsShown};
 ghost use Rattle.clock_views.specs.Values.{IsPage, Adds};
 
 use crate::code::Code;
-use crate::pieces::{push_label, push_number};
+use crate::pieces::{push_label, push_number, push_number_if};
 use crate::refusal::Refusal;
 use clock_device::{NoMemory, Text};
 use std::alloc::Global;
@@ -58,14 +58,4 @@ fn push_refusal(
     push_number(text, b",\"status\":", u64::from(code.status()))?;
     push_label(text, b"}")?;
     Ok(())
-}
-
-/// Adds a label and the number behind it, where there is one.
-fn push_number_if(text: &mut Text, label: &[u8], number: Option<u64>) -> Result<(), NoMemory>
-    ensures { OnOk result (Adds (number_if label.now number) text.old text.new) }
-{
-    match number {
-        Some(number) => push_number(text, label, number),
-        None => Ok(()),
-    }
 }
