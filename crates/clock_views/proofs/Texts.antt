@@ -34,12 +34,12 @@ status_in_bytes setup round false = simp append_assoc
 
 product_with : (granule : Option ℕ) (product : Product)
     → compact_text (object_of (
-      ("cap", whole product.cap) ∷
-      member_if "granule" granule ++
-      ("name", string product.name) ∷
-      ("opening", whole product.opening) ∷
-      ("supply", whole product.supply) ∷
-      ("units", whole product.units) ∷ []))
+    ("cap", whole product.cap) ∷
+    member_if "granule" granule ++
+    ("name", string product.name) ∷
+    ("opening", whole product.opening) ∷
+    ("supply", whole product.supply) ∷
+    ("units", whole product.units) ∷ []))
     ≡ (codes "{\"cap\":" ++ decimal product.cap)
     ++ (number_if (codes ",\"granule\":") granule
     ++ ((codes ",\"name\":" ++ compact_text (string product.name))
@@ -63,10 +63,10 @@ product_in_pieces version product = product_with (from_version_2 version (granul
 
 products_with : (limit : Option ℕ) (products : Data) (requirement version : ℕ)
     → compact_text (object_of (
-      member_if "limit" limit ++
-      ("products", products) ∷
-      ("requirement", whole requirement) ∷
-      ("version", whole version) ∷ []))
+    member_if "limit" limit ++
+    ("products", products) ∷
+    ("requirement", whole requirement) ∷
+    ("version", whole version) ∷ []))
     ≡ codes "{" ++ (limit_text limit ++ (codes "\"products\":"
     ++ (compact_text products
     ++ ((codes ",\"requirement\":" ++ decimal requirement)

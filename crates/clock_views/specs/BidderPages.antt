@@ -15,19 +15,19 @@ use Rattle.clock_views.specs.Values.{whole, list_of, object_of}
 -- the activity, demands and eligibility that the bidder holds, whether the auction has ended, the bidder's name, and the current round
 unfoldable pub account_value : List Product → List ℕ → ℕ → Holding → Bool → Data
 account_value products name round held ended = object_of (
-  ("activity", whole (activity products held.demands)) ∷
-  ("demands", list_of whole held.demands) ∷
-  ("eligibility", whole held.eligibility) ∷
-  ("ended", boolean ended) ∷
-  ("name", string name) ∷
-  ("round", whole round) ∷ [])
+    ("activity", whole (activity products held.demands)) ∷
+    ("demands", list_of whole held.demands) ∷
+    ("eligibility", whole held.eligibility) ∷
+    ("ended", boolean ended) ∷
+    ("name", string name) ∷
+    ("round", whole round) ∷ [])
 
 -- a bid as it is handed in
 unfoldable pub bid_value : Bid → Data
 bid_value bid = object_of (
-  ("price", whole bid.price) ∷
-  ("product", whole bid.product) ∷
-  ("quantity", whole bid.quantity) ∷ [])
+    ("price", whole bid.price) ∷
+    ("product", whole bid.product) ∷
+    ("quantity", whole bid.quantity) ∷ [])
 
 -- the bids of a sheet in the order given, or null where there is no sheet
 abbrev pub sheet_or_null : Option (List Bid) → Data
@@ -37,23 +37,23 @@ sheet_or_null (Some bids) = list_of bid_value bids
 -- the sheet in force, and the current round
 unfoldable pub bids_value : ℕ → Option (List Bid) → Data
 bids_value round sheet = object_of (
-  ("bids", sheet_or_null sheet) ∷
-  ("round", whole round) ∷ [])
+    ("bids", sheet_or_null sheet) ∷
+    ("round", whole round) ∷ [])
 
 -- how many bids were accepted, and the current round
 unfoldable pub accepted_value : ℕ → ℕ → Data
 accepted_value round count = object_of (
-  ("accepted", boolean true) ∷
-  ("bids", whole count) ∷
-  ("round", whole round) ∷ [])
+    ("accepted", boolean true) ∷
+    ("bids", whole count) ∷
+    ("round", whole round) ∷ [])
 
 -- the activity, demands and eligibility after a closed round, and the number of that round
 unfoldable pub slip_value : Slip → Data
 slip_value slip = object_of (
-  ("activity", whole slip.activity) ∷
-  ("demands", list_of whole slip.demands) ∷
-  ("eligibility", whole slip.eligibility) ∷
-  ("round", whole slip.round) ∷ [])
+    ("activity", whole slip.activity) ∷
+    ("demands", list_of whole slip.demands) ∷
+    ("eligibility", whole slip.eligibility) ∷
+    ("round", whole slip.round) ∷ [])
 
 -- the accepted page, byte for byte
 abbrev pub accepted_bytes : ℕ → ℕ → List ℕ

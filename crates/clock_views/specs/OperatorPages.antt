@@ -12,15 +12,15 @@ use Rattle.clock_views.specs.Values.{whole, list_of, object_of, true_or_false}
 -- the round that was closed, and whether the auction ends with it
 unfoldable pub closed_value : ℕ → Bool → Data
 closed_value round ended = object_of (
-  ("closed", whole round) ∷
-  ("ended", boolean ended) ∷ [])
+    ("closed", whole round) ∷
+    ("ended", boolean ended) ∷ [])
 
 -- the demands, eligibility and name of one bidder
 unfoldable pub result_value : List ℕ → Holding → Data
 result_value name held = object_of (
-  ("demands", list_of whole held.demands) ∷
-  ("eligibility", whole held.eligibility) ∷
-  ("name", string name) ∷ [])
+    ("demands", list_of whole held.demands) ∷
+    ("eligibility", whole held.eligibility) ∷
+    ("name", string name) ∷ [])
 
 -- what a bidder of a house holds
 abbrev pub result_in : HouseFields → ℕ → Data
@@ -29,9 +29,9 @@ result_in house bidder = result_value (bidder_at house.setup bidder).name (holdi
 -- what each bidder holds, in the order of the set-up, whether the auction has ended, and the current round
 unfoldable pub results_value : HouseFields → Data
 results_value house = object_of (
-  ("bidders", list_of (result_in house) (range_with_len 0 (length house.setup.bidders))) ∷
-  ("ended", boolean (standing_in house).ended) ∷
-  ("round", whole (standing_in house).round) ∷ [])
+    ("bidders", list_of (result_in house) (range_with_len 0 (length house.setup.bidders))) ∷
+    ("ended", boolean (standing_in house).ended) ∷
+    ("round", whole (standing_in house).round) ∷ [])
 
 -- the closed page, byte for byte
 abbrev pub closed_bytes : ℕ → Bool → List ℕ

@@ -14,9 +14,9 @@ use Rattle.clock_views.specs.Values.{whole, whole_or_null, list_of, object_of, m
 -- whether the auction has ended, the current round, and the version of the set-up
 unfoldable pub status_value : PublicSetup → ℕ → Bool → Data
 status_value setup round ended = object_of (
-  ("ended", boolean ended) ∷
-  ("round", whole round) ∷
-  ("version", whole setup.version) ∷ [])
+    ("ended", boolean ended) ∷
+    ("round", whole round) ∷
+    ("version", whole setup.version) ∷ [])
 
 -- the same, byte for byte
 abbrev pub status_bytes : PublicSetup → ℕ → Bool → List ℕ
@@ -32,20 +32,20 @@ from_version_2 version n = if nat_le 2 version then Some n else None
 -- the most blocks that one bidder may demand, from version 2 on the granule, the name, the opening price, how many blocks there are, and the bidding units of one
 unfoldable pub product_value : ℕ → Product → Data
 product_value version product = object_of (
-  ("cap", whole product.cap) ∷
-  member_if "granule" (from_version_2 version (granule_of product)) ++
-  ("name", string product.name) ∷
-  ("opening", whole product.opening) ∷
-  ("supply", whole product.supply) ∷
-  ("units", whole product.units) ∷ [])
+    ("cap", whole product.cap) ∷
+    member_if "granule" (from_version_2 version (granule_of product)) ++
+    ("name", string product.name) ∷
+    ("opening", whole product.opening) ∷
+    ("supply", whole product.supply) ∷
+    ("units", whole product.units) ∷ [])
 
 -- from version 2 on the limit, the products in the order of the set-up, the requirement, and the version
 unfoldable pub products_value : PublicSetup → Data
 products_value setup = object_of (
-  member_if "limit" (from_version_2 setup.version setup.limit) ++
-  ("products", list_of (product_value setup.version) setup.products) ∷
-  ("requirement", whole setup.requirement) ∷
-  ("version", whole setup.version) ∷ [])
+    member_if "limit" (from_version_2 setup.version setup.limit) ++
+    ("products", list_of (product_value setup.version) setup.products) ∷
+    ("requirement", whole setup.requirement) ∷
+    ("version", whole setup.version) ∷ [])
 
 -- the limit and the comma behind it, where there is one
 abbrev pub limit_text : Option ℕ → List ℕ
@@ -55,16 +55,16 @@ limit_text (Some limit) = codes "\"limit\":" ++ (decimal limit ++ codes ",")
 -- the clock price, the demand where it is told, the product's name, the next clock price where there is one, the posted price, and the start price
 unfoldable pub line_value : Product → Line → Data
 line_value product line = object_of (
-  ("clock", whole line.clock) ∷
-  ("demand", whole_or_null line.demand) ∷
-  ("name", string product.name) ∷
-  ("next", whole_or_null line.next) ∷
-  ("posted", whole line.posted) ∷
-  ("start", whole line.start) ∷ [])
+    ("clock", whole line.clock) ∷
+    ("demand", whole_or_null line.demand) ∷
+    ("name", string product.name) ∷
+    ("next", whole_or_null line.next) ∷
+    ("posted", whole line.posted) ∷
+    ("start", whole line.start) ∷ [])
 
 -- whether the auction ends with the round, a line for each product, and the number of the round
 unfoldable pub sheet_value : PublicSetup → RoundSheet → Data
 sheet_value setup sheet = object_of (
-  ("ended", boolean sheet.ended) ∷
-  ("products", list_of (λ row. line_value row.0 row.1) (zip setup.products sheet.lines)) ∷
-  ("round", whole sheet.round) ∷ [])
+    ("ended", boolean sheet.ended) ∷
+    ("products", list_of (λ row. line_value row.0 row.1) (zip setup.products sheet.lines)) ∷
+    ("round", whole sheet.round) ∷ [])

@@ -10,10 +10,10 @@ use Rattle.clock_views.specs.Values.{whole, object_of, member_if, number_if}
 -- the code, the place and the round where they are there, and the status
 unfoldable pub refusal_value : Shown → Data
 refusal_value shown = object_of (
-  ("code", string (text_of shown.code)) ∷
-  member_if "place" shown.place ++
-  member_if "round" shown.round ++
-  ("status", whole (status_of shown.code)) ∷ [])
+    ("code", string (text_of shown.code)) ∷
+    member_if "place" shown.place ++
+    member_if "round" shown.round ++
+    ("status", whole (status_of shown.code)) ∷ [])
 
 -- the same, byte for byte
 abbrev pub refusal_bytes : Shown → List ℕ

@@ -81,11 +81,7 @@ pub fn bids_page(alloc: Global, round: u64, sheet: Option<&Sheet>) -> Result<Tex
 }
 
 /// Adds the same page to a text.
-pub fn push_bids_page(
-    text: &mut Text,
-    round: u64,
-    sheet: Option<&Sheet>,
-) -> Result<(), NoMemory>
+pub fn push_bids_page(text: &mut Text, round: u64, sheet: Option<&Sheet>) -> Result<(), NoMemory>
     ensures { OnOk result (Adds (compact_text (bids_value round (option_copied sheet.entry))) text.old text.new) }
 {
     push_label(text, b"{\"bids\":")?;

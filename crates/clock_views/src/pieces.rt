@@ -94,11 +94,7 @@ fn push_item(text: &mut Text, later: bool, number: u64) -> Result<(), NoMemory>
 }
 
 /// Adds a label and the array of numbers behind it.
-pub(crate) fn push_numbers(
-    text: &mut Text,
-    label: &[u8],
-    numbers: &[u64],
-) -> Result<(), NoMemory>
+pub(crate) fn push_numbers(text: &mut Text, label: &[u8], numbers: &[u64]) -> Result<(), NoMemory>
     ensures { OnOk result (Adds (label.now ++ compact_text (list_of whole numbers.now)) text.old text.new) }
 {
     text.extend_from_slice(label)?;

@@ -22,12 +22,7 @@ use std::alloc::Global;
 /// {"ended":false,"round":1,"version":1}
 /// ```
 #[tactic(auto, using(crate::proofs::Texts::status_in_bytes))]
-pub fn status_page(
-    alloc: Global,
-    setup: &Setup,
-    round: u64,
-    ended: bool,
-) -> Result<Text, NoMemory>
+pub fn status_page(alloc: Global, setup: &Setup, round: u64, ended: bool) -> Result<Text, NoMemory>
     ensures value { IfOk result (IsPage (status_value (public_setup setup.now) round ended)) }
     ensures bytes { IfOk result (λ text. text ≡ status_bytes (public_setup setup.now) round ended) }
 {
@@ -136,7 +131,11 @@ fn push_product(
 {
     push_comma_if(text, later)?;
     push_number(text, b"{\"cap\":", product.cap)?;
-    push_number_if(text, b",\"granule\":", from_version_2(version, granule_of(product)))?;
+    push_number_if(
+        text,
+        b",\"granule\":",
+        from_version_2(version, granule_of(product)),
+    )?;
     push_name(text, b",\"name\":", product.name.as_slice())?;
     push_number(text, b",\"opening\":", product.opening.get())?;
     push_number(text, b",\"supply\":", product.supply)?;
@@ -160,11 +159,7 @@ pub fn sheet_page(alloc: Global, setup: &Setup, sheet: &RoundSheet) -> Result<Te
 }
 
 /// Adds the same page to a text.
-pub fn push_sheet_page(
-    text: &mut Text,
-    setup: &Setup,
-    sheet: &RoundSheet,
-) -> Result<(), NoMemory>
+pub fn push_sheet_page(text: &mut Text, setup: &Setup, sheet: &RoundSheet) -> Result<(), NoMemory>
     requires { length sheet.now.lines ≡ length setup.now.products }
     ensures { OnOk result (Adds (compact_text (sheet_value (public_setup setup.now) sheet.now)) text.old text.new) }
 {
@@ -191,12 +186,7 @@ fn push_lines(text: &mut Text, products: &[Product], lines: &[Line]) -> Result<(
 }
 
 /// Adds the line of a product, behind a comma where it is not the first.
-fn push_line(
-    text: &mut Text,
-    later: bool,
-    product: &Product,
-    line: &Line,
-) -> Result<(), NoMemory>
+fn push_line(text: &mut Text, later: bool, product: &Product, line: &Line) -> Result<(), NoMemory>
     requires { IsProduct product.now }
     ensures { OnOk result (Adds (item_text later (line_value product.now line.now)) text.old text.new) }
 {

@@ -1,0 +1,176 @@
+//! What the pages show of an auction of one product, in which X drops two blocks in the second round
+//! and Y keeps one, so that X's drop is applied in part.
+
+use crate::tests::documents::ONE_PRODUCT;
+use crate::{account_page, bids_page, results_page, sheet_page, slip_page};
+use clock_bids::Bid;
+use clock_device::{NoMemory, Text};
+use clock_house::House;
+use clock_processor::Plain;
+use clock_setup::read_setup;
+use std::alloc::Global;
+use std::process::Abort;
+use std::test::Fail;
+
+const X: u32 = 0;
+
+const Y: u32 = 1;
+
+/// A house before its first round.
+fn opened(alloc: Global, document: &[u8]) -> Result<House<Plain>, Fail> {
+    let setup = read_setup(alloc, document)?;
+    Ok(House::new(alloc, setup, Plain)?)
+}
+
+/// A bidder of the house puts a sheet for the current round.
+fn put(rt: &impl Abort, house: &mut House<Plain>, bidder: u32, bids: &[Bid]) -> Result<(), Fail> {
+    assert!(rt; (bidder as usize) < house.setup().bidders.as_slice().len());
+    house.put_sheet(bidder, house.round(), bids)?;
+    Ok(())
+}
+
+/// The current round is closed.
+fn close(house: &mut House<Plain>) -> Result<(), Fail> {
+    house.close(house.round(), 10, &[])?;
+    Ok(())
+}
+
+/// A bid for the one product.
+fn bid(quantity: u64, price: u64) -> Bid {
+    Bid {
+        product: 0,
+        quantity,
+        price,
+    }
+}
+
+/// The auction in its second round, in which X holds two blocks and Y one.
+fn second_round(rt: &impl Abort, alloc: Global) -> Result<House<Plain>, Fail> {
+    let mut house = opened(alloc, ONE_PRODUCT)?;
+    put(rt, &mut house, X, &[bid(2, 100)])?;
+    put(rt, &mut house, Y, &[bid(1, 100)])?;
+    close(&mut house)?;
+    Ok(house)
+}
+
+/// The auction after X's drop, at its end.
+fn ended(rt: &impl Abort, alloc: Global) -> Result<House<Plain>, Fail> {
+    let mut house = second_round(rt, alloc)?;
+    put(rt, &mut house, X, &[bid(0, 103)])?;
+    put(rt, &mut house, Y, &[bid(1, 110)])?;
+    close(&mut house)?;
+    Ok(house)
+}
+
+/// The account page of a bidder.
+fn account_of(
+    rt: &impl Abort,
+    alloc: Global,
+    house: &House<Plain>,
+    bidder: u32,
+) -> Result<Text, NoMemory> {
+    assert!(rt; (bidder as usize) < house.setup().bidders.as_slice().len());
+    let own = house.own(bidder);
+    account_page(alloc, house.setup(), bidder, own, house.ended())
+}
+
+/// The bids page of a bidder.
+fn bids_of(
+    rt: &impl Abort,
+    alloc: Global,
+    house: &House<Plain>,
+    bidder: u32,
+) -> Result<Text, NoMemory> {
+    assert!(rt; (bidder as usize) < house.setup().bidders.as_slice().len());
+    bids_page(alloc, house.round(), house.bids(bidder))
+}
+
+/// The slip page of a bidder and a closed round.
+fn slip_of(
+    rt: &impl Abort,
+    alloc: Global,
+    house: &House<Plain>,
+    bidder: u32,
+    round: u64,
+) -> Result<Text, Fail> {
+    assert!(rt; (bidder as usize) < house.setup().bidders.as_slice().len());
+    let slip = house.slip(bidder, round).ok_or("the round is not closed")?;
+    Ok(slip_page(alloc, slip)?)
+}
+
+/// The sheet page of a closed round.
+fn sheet_of(
+    rt: &impl Abort,
+    alloc: Global,
+    house: &House<Plain>,
+    round: u64,
+) -> Result<Text, Fail> {
+    let sheet = house.sheet(round).ok_or("the round is not closed")?;
+    assert!(rt; sheet.lines.as_slice().len() == house.setup().products.as_slice().len());
+    Ok(sheet_page(alloc, house.setup(), sheet)?)
+}
+
+/// A page is this text.
+fn reads(rt: &impl Abort, page: &Text, expected: &[u8]) {
+    assert!(rt; page.as_slice() == expected);
+}
+
+#[test]
+fn account_in_the_second_round(rt: HostRuntime) -> Result<(), Fail> {
+    let house = second_round(&rt, rt.alloc())?;
+    let page = account_of(&rt, rt.alloc(), &house, X)?;
+    let expected =
+        b"{\"activity\":2,\"demands\":[2],\"eligibility\":3,\"ended\":false,\"name\":\"X\",\"round\":2}";
+    reads(&rt, &page, expected);
+    Ok(())
+}
+
+#[test]
+fn bids_in_force(rt: HostRuntime) -> Result<(), Fail> {
+    let mut house = opened(rt.alloc(), ONE_PRODUCT)?;
+    put(&rt, &mut house, X, &[bid(2, 100)])?;
+    let page = bids_of(&rt, rt.alloc(), &house, X)?;
+    reads(
+        &rt,
+        &page,
+        b"{\"bids\":[{\"price\":100,\"product\":0,\"quantity\":2}],\"round\":1}",
+    );
+    put(&rt, &mut house, X, &[])?;
+    let page = bids_of(&rt, rt.alloc(), &house, X)?;
+    reads(&rt, &page, b"{\"bids\":[],\"round\":1}");
+    Ok(())
+}
+
+#[test]
+fn no_bids_in_force(rt: HostRuntime) -> Result<(), Fail> {
+    let house = second_round(&rt, rt.alloc())?;
+    let page = bids_of(&rt, rt.alloc(), &house, X)?;
+    reads(&rt, &page, b"{\"bids\":null,\"round\":2}");
+    Ok(())
+}
+
+#[test]
+fn slip_and_sheet_of_the_second_round(rt: HostRuntime) -> Result<(), Fail> {
+    let house = ended(&rt, rt.alloc())?;
+    let slip = slip_of(&rt, rt.alloc(), &house, X, 2)?;
+    reads(
+        &rt,
+        &slip,
+        b"{\"activity\":1,\"demands\":[1],\"eligibility\":2,\"round\":2}",
+    );
+    let sheet = sheet_of(&rt, rt.alloc(), &house, 2)?;
+    let expected =
+        b"{\"ended\":true,\"products\":[{\"clock\":110,\"demand\":null,\"name\":\"A\",\"next\":null,\"posted\":103,\"start\":100}],\"round\":2}";
+    reads(&rt, &sheet, expected);
+    Ok(())
+}
+
+#[test]
+fn results_after_the_partial_drop(rt: HostRuntime) -> Result<(), Fail> {
+    let house = ended(&rt, rt.alloc())?;
+    let page = results_page(rt.alloc(), &house)?;
+    let expected =
+        b"{\"bidders\":[{\"demands\":[1],\"eligibility\":2,\"name\":\"X\"},{\"demands\":[1],\"eligibility\":2,\"name\":\"Y\"}],\"ended\":true,\"round\":2}";
+    reads(&rt, &page, expected);
+    Ok(())
+}
