@@ -4,5 +4,4 @@ pub mod OperatorPages
 pub mod PublicPages
 pub mod RefusalPage
 pub mod Refusals
-pub mod Temporary
 pub mod Values

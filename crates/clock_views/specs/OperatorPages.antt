@@ -4,7 +4,7 @@
 use Rattle.std.specs.Prelude.{ℕ, List, [], ◌∷◌, ◌++◌, Bool, length, codes, decimal}
 use Rattle.std.specs.List.{range_with_len}
 use Rattle.serde_json.specs.Data.{Data, boolean, string}
-use Rattle.clock_house.specs.Standing.{Holding}
+use Rattle.clock_bids.specs.Holding.{Holding}
 use Rattle.clock_house.specs.History.{bidder_at}
 use Rattle.clock_house.specs.House.{HouseFields, standing_in, holding_in}
 use Rattle.clock_views.specs.Values.{whole, list_of, object_of, true_or_false}

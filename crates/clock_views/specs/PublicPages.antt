@@ -6,7 +6,7 @@
 use Rattle.std.specs.Prelude.{ℕ, List, [], ◌∷◌, ◌++◌, Bool, nat_le, Option, Some, None, if◌then◌else◌, codes, decimal, zip}
 use Rattle.serde_json.specs.Data.{Data, boolean, string}
 use Rattle.clock_setup.specs.declared.setup.Product.{Product}
-use Rattle.clock_views.specs.Temporary.{PublicSetup, granule_of}
+use Rattle.clock_setup.specs.Limits.{PublicSetup}
 use Rattle.clock_posting.specs.declared.sheet.Line.{Line}
 use Rattle.clock_posting.specs.declared.sheet.RoundSheet.{RoundSheet}
 use Rattle.clock_views.specs.Values.{whole, whole_or_null, list_of, object_of, member_if, true_or_false}
@@ -33,7 +33,7 @@ from_version_2 version n = if nat_le 2 version then Some n else None
 unfoldable pub product_value : ℕ → Product → Data
 product_value version product = object_of (
     ("cap", whole product.cap) ∷
-    member_if "granule" (from_version_2 version (granule_of product)) ++
+    member_if "granule" (from_version_2 version product.granule) ++
     ("name", string product.name) ∷
     ("opening", whole product.opening) ∷
     ("supply", whole product.supply) ∷

@@ -2,9 +2,8 @@
 
 ghost use Rattle.std.specs.Prelude.{◌≡◌, length, zip, All, IfOk, OnOk};
 ghost use Rattle.serde_json.specs.Written.{compact_text};
-ghost use Rattle.clock_setup.specs.Limits.{IsProduct};
+ghost use Rattle.clock_setup.specs.Limits.{IsProduct, public_setup};
 ghost use Rattle.clock_views.specs.PublicPages.{status_value, status_bytes, products_value, product_value, limit_text, line_value, sheet_value, from_version_2 as number_from_version_2};
-ghost use Rattle.clock_views.specs.Temporary.{public_setup, limit_of as the_limit, granule_of as the_granule};
 ghost use Rattle.clock_views.specs.Values.{list_of, IsPage, Adds, item_text};
 
 use crate::pieces::{
@@ -68,7 +67,7 @@ pub fn push_products_page(text: &mut Text, setup: &Setup) -> Result<(), NoMemory
     push_offer(
         text,
         setup.version,
-        setup_limit(setup),
+        setup.limit,
         setup.requirement,
         setup.products.as_slice(),
     )
@@ -134,7 +133,7 @@ fn push_product(
     push_number_if(
         text,
         b",\"granule\":",
-        from_version_2(version, granule_of(product)),
+        from_version_2(version, product.granule),
     )?;
     push_name(text, b",\"name\":", product.name.as_slice())?;
     push_number(text, b",\"opening\":", product.opening.get())?;
@@ -213,22 +212,6 @@ fn version_of(setup: &Setup) -> u64
     ensures { result ≡ setup.now.version }
 {
     setup.version
-}
-
-/// The activity limit of a set-up.
-fn setup_limit(setup: &Setup) -> u64
-    ensures { result ≡ the_limit setup.now }
-{
-    let _version = setup.version;
-    100
-}
-
-/// The granule of a product.
-fn granule_of(product: &Product) -> u64
-    ensures { result ≡ the_granule product.now }
-{
-    let _units = product.units;
-    1
 }
 
 /// The products of a set-up.

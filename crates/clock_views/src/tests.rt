@@ -1,7 +1,6 @@
 //! Pages as they are shown, and the codes of replies.
 
 mod codes;
-mod documents;
 mod pages;
 mod refusals;
 mod rounds;

@@ -1,16 +1,16 @@
 //! Pages of a set-up and of single values.
 
-use crate::tests::documents::{GRANULES_AND_INCREMENTS, ONE_PRODUCT};
 use crate::{accepted_page, closed_page, products_page, status_page};
 use clock_device::Text;
+use clock_setup::fixtures::{GRANULES_AND_INCREMENTS, ONE_PRODUCT};
 use clock_setup::read_setup;
 use std::alloc::Global;
 use std::process::Abort;
 use std::test::Fail;
 
 /// The products page of a set-up document is this text.
-fn offers(rt: &impl Abort, alloc: Global, document: &[u8], expected: &[u8]) -> Result<(), Fail> {
-    let setup = read_setup(alloc, document)?;
+fn offers(rt: &impl Abort, alloc: Global, document: &str, expected: &[u8]) -> Result<(), Fail> {
+    let setup = read_setup(alloc, document.as_bytes())?;
     let page = products_page(alloc, &setup)?;
     assert!(rt; page.as_slice() == expected);
     Ok(())
@@ -31,8 +31,8 @@ fn products_of_version_2_have_granules(rt: HostRuntime) -> Result<(), Fail> {
 }
 
 /// The status page of the first round is this text.
-fn begins(rt: &impl Abort, alloc: Global, document: &[u8], expected: &[u8]) -> Result<(), Fail> {
-    let setup = read_setup(alloc, document)?;
+fn begins(rt: &impl Abort, alloc: Global, document: &str, expected: &[u8]) -> Result<(), Fail> {
+    let setup = read_setup(alloc, document.as_bytes())?;
     let page = status_page(alloc, &setup, 1, false)?;
     assert!(rt; page.as_slice() == expected);
     Ok(())

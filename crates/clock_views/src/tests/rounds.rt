@@ -1,13 +1,13 @@
 //! What the pages show of an auction of one product, in which X drops two blocks in the second round
 //! and Y keeps one, so that X's drop is applied in part.
 
-use crate::tests::documents::ONE_PRODUCT;
 use crate::{account_page, bids_page, results_page, sheet_page, slip_page};
 use clock_bids::Bid;
 use clock_device::{NoMemory, Text};
 use clock_house::House;
 use clock_processor::Plain;
-use clock_setup::read_setup;
+use clock_setup::fixtures::ONE_PRODUCT;
+use clock_setup::{Increments, read_setup};
 use std::alloc::Global;
 use std::process::Abort;
 use std::test::Fail;
@@ -17,8 +17,8 @@ const X: u32 = 0;
 const Y: u32 = 1;
 
 /// A house before its first round.
-fn opened(alloc: Global, document: &[u8]) -> Result<House<Plain>, Fail> {
-    let setup = read_setup(alloc, document)?;
+fn opened(alloc: Global, document: &str) -> Result<House<Plain>, Fail> {
+    let setup = read_setup(alloc, document.as_bytes())?;
     Ok(House::new(alloc, setup, Plain)?)
 }
 
@@ -31,7 +31,7 @@ fn put(rt: &impl Abort, house: &mut House<Plain>, bidder: u32, bids: &[Bid]) -> 
 
 /// The current round is closed.
 fn close(house: &mut House<Plain>) -> Result<(), Fail> {
-    house.close(house.round(), 10, &[])?;
+    house.close(house.round(), &Increments::Single(10), &[])?;
     Ok(())
 }
 

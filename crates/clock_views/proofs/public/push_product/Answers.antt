@@ -7,7 +7,7 @@ returns c =
     before c.in_ok-push_comma_if.ensures
     (together (product_in_pieces c.args.version c.args.product.now)
     (before c.in_ok-push_number.ensures
-    (before (rw (c.from_version_2.ensures, c.granule_of.ensures) at c.in_ok-push_number_if.ensures)
+    (before (rw c.from_version_2.ensures at c.in_ok-push_number_if.ensures)
     (before (rw c.as_slice.ensures at c.in_ok-push_name.ensures)
     (before (rw c.get.ensures.value at c.in_ok-push_number-2.ensures)
     (before c.in_ok-push_number-3.ensures
