@@ -2,4 +2,3 @@ mod IncrementText
 mod Grammar
 mod Reading
 mod Outcomes
-mod Limited

@@ -11,7 +11,7 @@ use Rattle.clock_bids.specs.declared.sheet.Bid.{Bid}
 use Rattle.clock_bids.specs.declared.sheet.BidFault.{BidFault}
 use Rattle.clock_bids.specs.declared.sheet.BidFault.TheVariants.{PriceOrder, MixedDirection, KeepPrice}
 use Rattle.clock_bids.specs.Sheet.{last_quantity, is_above_prices, keeps_direction, is_kept_at_clock}
-use Rattle.clock_bids.specs.Chains.{Climbs, Falls, Moves, up, down, kept, RisesFrom, Rises, IsInRange, IsGoodChain, last_after, last_of, is_step_on, step_checks}
+use Rattle.clock_bids.specs.Chains.{Climbs, Falls, Moves, up, down, kept, RisesFrom, IsInRange, IsGoodChain, last_after, last_of, is_step_on, step_checks}
 
 -- the last bid has the last quantity
 pub last_quantity-after : (bid : Bid) (bids : List Bid) → last_quantity bid.quantity bids ≡ (last_after bid bids).quantity

@@ -4,7 +4,7 @@ use Rattle.std.proofs.lemmas.Bool.{lt-leb}
 use Rattle.clock_setup.specs.Limits.{SetupFields, PublicSetup, public_setup}
 use Rattle.clock_setup.specs.declared.setup.Product.{Product}
 use Rattle.clock_setup.specs.declared.prices.PricePair.{PricePair}
-use Rattle.clock_setup.specs.Examples.{one_product, two_products}
+use Rattle.clock_setup.specs.Examples.{one_product, two_products, activity_limit}
 use Rattle.clock_setup.specs.Prices.{opening_prices}
 use Rattle.clock_bids.specs.declared.sheet.Bid.{Bid}
 use Rattle.clock_bids.specs.declared.sheet.BidFault.{BidFault}
@@ -12,8 +12,8 @@ use Rattle.clock_bids.specs.declared.change.Change.{Change}
 use Rattle.clock_bids.specs.declared.change.Kind.{Kind}
 use Rattle.clock_bids.specs.declared.change.Kind.TheVariants.{Increase, Reduction}
 use Rattle.clock_bids.specs.declared.sheet.BidFault.TheVariants.{TooMany, UnknownProduct, PriceRange, OverCap, PriceOrder, MixedDirection, KeepPrice, OverActivity}
-use Rattle.clock_bids.specs.Holding.{Holding, activity_limit}
-use Rattle.clock_bids.specs.Sheet.{sheet_fault}
+use Rattle.clock_bids.specs.Holding.{Holding, activity_limit as activity_limit_of}
+use Rattle.clock_bids.specs.Sheet.{most_bids, sheet_fault}
 use Rattle.clock_bids.specs.Changes.{changes_of_sheet}
 
 abbrev bid : ℕ → ℕ → ℕ → Bid
@@ -53,8 +53,8 @@ over_cap = refl
 two_bids_in_the_first_round : first one_product 10 (0 ∷ []) (bid 0 1 100 ∷ bid 0 2 100 ∷ []) ≡ Some (PriceOrder 1)
 two_bids_in_the_first_round = refl
 
-too_many : (bids : List Bid) → 8192 < length bids → first one_product 10 (0 ∷ []) bids ≡ Some TooMany
-too_many bids many = rw (lt-leb (length bids) 8192 many) refl
+too_many : (bids : List Bid) → most_bids < length bids → first one_product 10 (0 ∷ []) bids ≡ Some TooMany
+too_many bids many = rw (lt-leb (length bids) most_bids many) refl
 
 over_activity : first two_products 1 (0 ∷ 0 ∷ []) (bid 0 1 100 ∷ bid 1 1 100 ∷ []) ≡ Some OverActivity
 over_activity = refl
@@ -86,40 +86,37 @@ missing_bid = refl
 increases_in_a_chain : changes_of_sheet prices (0 ∷ []) 0 (bid 0 1 104 ∷ bid 0 2 110 ∷ []) ≡ change Increase 1 104 4 0 ∷ change Increase 1 110 10 1 ∷ []
 increases_in_a_chain = refl
 
--- two products of a set-up of version 2, whose activity limit is 125 percent
-abbrev wide : List ℕ → ℕ → ℕ → Product
-wide name units blocks = record { name = name; units = units; supply = blocks; cap = blocks; opening = 100; granule = 1 }
+-- an activity limit of 125 percent, with products of four blocks of two units, and with others of seven blocks of one unit
+abbrev limited : PublicSetup
+limited = public_setup activity_limit
 
-abbrev limited : ℕ → ℕ → ℕ → PublicSetup
-limited limit units blocks = record {
-  version = 2;
-  limit = limit;
-  requirement = 100;
-  products = wide (codes "A") units blocks ∷ wide (codes "B") units blocks ∷ [];
-}
+abbrev seven_blocks : List ℕ → Product
+seven_blocks name = record { name = name; units = 1; supply = 7; cap = 7; opening = 100; granule = 1 }
+
+abbrev limited_of_seven : PublicSetup
+limited_of_seven = record limited { products = seven_blocks (codes "A") ∷ seven_blocks (codes "B") ∷ [] }
 
 abbrev both : List PricePair
 both = record { start = 100; clock = 110 } ∷ record { start = 100; clock = 110 } ∷ []
 
-twelve_of_ten : sheet_fault (limited 125 1 7) 2 both (hold 10 (7 ∷ 3 ∷ [])) (bid 0 7 110 ∷ bid 1 5 110 ∷ []) ≡ None
+twelve_of_ten : sheet_fault limited_of_seven 2 both (hold 10 (7 ∷ 3 ∷ [])) (bid 0 7 110 ∷ bid 1 5 110 ∷ []) ≡ None
 twelve_of_ten = refl
 
-thirteen_of_ten : sheet_fault (limited 125 1 7) 2 both (hold 10 (7 ∷ 3 ∷ [])) (bid 0 7 110 ∷ bid 1 6 110 ∷ []) ≡ Some OverActivity
+thirteen_of_ten : sheet_fault limited_of_seven 2 both (hold 10 (7 ∷ 3 ∷ [])) (bid 0 7 110 ∷ bid 1 6 110 ∷ []) ≡ Some OverActivity
 thirteen_of_ten = refl
 
 -- of an eligibility of 8 a sheet may ask for 8 bidding units in round 1, and for 10 later
-ten_in_the_first_round : sheet_fault (limited 125 2 4) 1 (opening_prices (limited 125 2 4).products) (hold 8 (0 ∷ 0 ∷ []))
-    (bid 0 4 100 ∷ bid 1 1 100 ∷ []) ≡ Some OverActivity
+ten_in_the_first_round : sheet_fault limited 1 (opening_prices limited.products) (hold 8 (0 ∷ 0 ∷ [])) (bid 0 4 100 ∷ bid 1 1 100 ∷ []) ≡ Some OverActivity
 ten_in_the_first_round = refl
 
-twelve_of_eight : sheet_fault (limited 125 2 4) 2 both (hold 8 (4 ∷ 0 ∷ [])) (bid 0 3 104 ∷ bid 1 3 106 ∷ []) ≡ Some OverActivity
+twelve_of_eight : sheet_fault limited 2 both (hold 8 (4 ∷ 0 ∷ [])) (bid 0 3 104 ∷ bid 1 3 106 ∷ []) ≡ Some OverActivity
 twelve_of_eight = refl
 
-ten_of_eight : sheet_fault (limited 125 2 4) 2 both (hold 8 (4 ∷ 0 ∷ [])) (bid 0 3 104 ∷ bid 1 2 106 ∷ []) ≡ None
+ten_of_eight : sheet_fault limited 2 both (hold 8 (4 ∷ 0 ∷ [])) (bid 0 3 104 ∷ bid 1 2 106 ∷ []) ≡ None
 ten_of_eight = refl
 
-ten_of_eight_without_more : sheet_fault (limited 100 2 4) 2 both (hold 8 (4 ∷ 0 ∷ [])) (bid 0 3 104 ∷ bid 1 2 106 ∷ []) ≡ Some OverActivity
+ten_of_eight_without_more : sheet_fault (record limited { limit = 100 }) 2 both (hold 8 (4 ∷ 0 ∷ [])) (bid 0 3 104 ∷ bid 1 2 106 ∷ []) ≡ Some OverActivity
 ten_of_eight_without_more = refl
 
-the_limit_is_rounded_down : activity_limit (limited 125 1 7) 2 10 ≡ 12
+the_limit_is_rounded_down : activity_limit_of limited_of_seven 2 10 ≡ 12
 the_limit_is_rounded_down = refl

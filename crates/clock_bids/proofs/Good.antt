@@ -1,6 +1,6 @@
 -- What a sheet without a fault is, and what it asks for.
-use Rattle.std.proofs.Common.{◌≡◌, ℕ, zero, suc, ◌+◌, ◌*◌, ◌<◌, ◌≤◌, List, [], ◌∷◌, ◌++◌, Bool, true, false, cond, map, length, take, inl, inr, refl, ap, sym, subst, ◌∙◌, arith, get_or, set, All}
-use Rattle.std.specs.Prelude.{Option, Some, None, nat_lt, nat_le, slice_index, zip}
+use Rattle.std.proofs.Common.{◌≡◌, ℕ, zero, suc, ◌+◌, ◌*◌, ◌<◌, ◌≤◌, List, [], ◌∷◌, ◌++◌, Bool, cond, map, length, take, inl, inr, refl, ap, sym, subst, ◌∙◌, arith, get_or, set, All}
+use Rattle.std.specs.Prelude.{Option, Some, None, nat_le, slice_index, zip}
 use Rattle.std.specs.List.{range_with_len}
 use Rattle.std.proofs.lemmas.Bool.{leb-true, ltb-true, le-leb, lt-leb, and_parts, cases_Bool, cases_eq}
 use Rattle.std.proofs.lemmas.List.{take_more, take_all}
@@ -122,7 +122,7 @@ module _ (setup : PublicSetup) (round : ℕ) (prices : List PricePair) (holding 
 
   -- a good sheet has few bids, none with a fault, and asks for no more activity than the limit
   pub record HasNoFault : Type 0 where
-    pub few : length bids ≤ 8192
+    pub few : length bids ≤ most_bids
     pub each : first_fault (checks_of_bids setup.products prices holding.demands bids) ≡ None
     pub active : asked_activity ≤ activity_limit setup round holding.eligibility
 

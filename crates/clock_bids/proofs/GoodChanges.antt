@@ -1,26 +1,26 @@
 -- The changes of a good sheet can be settled: what each product's changes keep, they keep together.
-use Rattle.std.proofs.Common.{◌≡◌, ℕ, zero, suc, ◌+◌, ◌-◌, ◌<◌, ◌≤◌, List, [], ◌∷◌, ◌++◌, Bool, true, false, ◌&&◌, not, cond, map, length, ◌==◌, inl, inr, ◌⊎◌, refl, ap, sym, subst, ◌∙◌, arith, get_or, All}
+use Rattle.std.proofs.Common.{◌≡◌, ℕ, zero, suc, ◌+◌, ◌<◌, ◌≤◌, List, [], ◌∷◌, Bool, true, false, ◌&&◌, cond, length, ◌==◌, inl, inr, refl, ap, sym, subst, ◌∙◌, arith, get_or, All}
 use Rattle.std.specs.Prelude.{nat_le, sum_by, slice_index}
 use Rattle.std.specs.List.{filter, flat_map, range_with_len, AllPairs}
 use Rattle.clock_money.specs.Point.{price_point}
-use Rattle.std.proofs.lemmas.Bool.{le-leb, lt-leb, eq-eqb, ne_eqb, cases_eq, cases_order, and_left, and_right}
+use Rattle.std.proofs.lemmas.Bool.{le-leb, lt-leb, eq-eqb, ne_eqb, cases_eq, cases_order, and_right}
 use Rattle.std.proofs.lemmas.List.{length-append}
-use Rattle.std.proofs.lemmas.List.Elements.{All-cons, All-head, All-tail, All-weaker, All-nil, All-append}
+use Rattle.std.proofs.lemmas.List.Elements.{All-head, All-tail, All-weaker, All-nil, All-append}
 use Rattle.std.proofs.lemmas.List.Sums.{sum_by-cons, sum_by-append, length-filter, count_by-le-length}
 use Rattle.clock_device.proofs.Pairs.{AllPairs-append}
 use Rattle.clock_setup.specs.declared.setup.Product.{Product}
 use Rattle.clock_setup.specs.declared.prices.PricePair.{PricePair}
 use Rattle.clock_setup.specs.Prices.{prices_at}
-use Rattle.clock_setup.specs.Limits.{PublicSetup, cap_of, no_product, IsProduct, IsRow}
+use Rattle.clock_setup.specs.Limits.{PublicSetup, most_products, cap_of, no_product, IsProduct, IsRow}
 use Rattle.clock_bids.specs.declared.sheet.Bid.{Bid}
 use Rattle.clock_bids.specs.declared.change.Change.{Change}
 use Rattle.clock_bids.specs.declared.change.Kind.{Kind}
 use Rattle.clock_bids.specs.declared.change.Kind.TheVariants.{Increase, Reduction}
 use Rattle.clock_bids.specs.Holding.{Holding}
-use Rattle.clock_bids.specs.Sheet.{chain_of, last_quantity, IsGoodSheet}
+use Rattle.clock_bids.specs.Sheet.{chain_of, most_bids, IsGoodSheet}
 use Rattle.clock_bids.specs.Changes.{changes_of_product, changes_of_sheet}
-use Rattle.clock_bids.specs.Chains.{IsInRange, IsGoodChain, AreGoodChains}
-use Rattle.clock_bids.specs.Requests.{same_kind, is_request_of, asked_of, IsChangeOf, StandsBefore, AreApart, GoOneWay, KeepWithinCap, AreChangesOf}
+use Rattle.clock_bids.specs.Chains.{IsGoodChain}
+use Rattle.clock_bids.specs.Requests.{same_kind, is_request_of, asked_of, IsChangeOf, StandsBefore, AreApart, GoOneWay, AreChangesOf}
 use Rattle.clock_bids.proofs.Good.{no_sheet_fault, good_sheet_chains, last_quantity-le}
 use Rattle.clock_bids.proofs.Links.{IsStep, AreSteps, AreProductSteps, KeepsWithin, product_steps}
 
@@ -269,7 +269,7 @@ module _ (products : List Product) (prices : List PricePair) (demands : List ℕ
           count (from + 1) n (omega (arith, within)),
         )
 
-    pub together : length bids ≤ 8192 → length products ≤ 4096 → ((item : ℕ) → item < length products → slice_index demands item ≤ cap_of products item) →
+    pub together : length bids ≤ most_bids → length products ≤ most_products → ((item : ℕ) → item < length products → slice_index demands item ≤ cap_of products item) →
         AreChangesOf products prices demands owner (flat_map asks (range_with_len 0 (length products)))
     together few_bids few_products capped = record {
       few = omega (arith, count 0 (length products) (omega arith), length-filter-le (λ (bid : Bid). nat_le 0 bid.product) bids, few_bids, few_products);
@@ -290,7 +290,7 @@ module _ (products : List Product) (prices : List PricePair) (demands : List ℕ
 
 -- the changes of a good sheet
 module _ (setup : PublicSetup) (round : ℕ) (prices : List PricePair) (holding : Holding) (owner : ℕ) (bids : List Bid)
-    (few : length setup.products ≤ 4096) (limits : All IsProduct setup.products) (pairs_each : length prices ≡ length setup.products)
+    (few : length setup.products ≤ most_products) (limits : All IsProduct setup.products) (pairs_each : length prices ≡ length setup.products)
     (rising : All (λ pair. pair.start < pair.clock) prices) (row : IsRow setup.products holding.demands)
     (good : IsGoodSheet setup round prices holding bids) where
   pub sheet_steps : (item : ℕ) → item < length setup.products →

@@ -1,5 +1,5 @@
 -- The changes of one product's chain: each leaves the demand in one direction, and together they lead from the demand held to the last quantity.
-use Rattle.std.proofs.Common.{◌≡◌, ℕ, zero, suc, ◌+◌, ◌-◌, ◌<◌, ◌≤◌, List, [], ◌∷◌, ◌++◌, Bool, true, false, not, cond, map, length, ◌==◌, inl, inr, refl, ap, sym, subst, ◌∙◌, arith, get_or, All}
+use Rattle.std.proofs.Common.{◌≡◌, ℕ, suc, ◌+◌, ◌<◌, ◌≤◌, List, [], ◌∷◌, Bool, true, false, not, cond, map, length, ◌==◌, inl, inr, refl, ap, sym, subst, ◌∙◌, arith, All}
 use Rattle.std.specs.Prelude.{⊤, nat_lt, sum_by}
 use Rattle.std.specs.List.{filter, AllPairs}
 use Rattle.std.proofs.lemmas.Bool.{ltb-true, lt-ltb, le-ltb, eq-eqb, ne_eqb, cases_Bool}
@@ -8,6 +8,7 @@ use Rattle.std.proofs.lemmas.List.Kept.{AllPairs-cons}
 use Rattle.std.proofs.lemmas.List.Sums.{sum_by-cons}
 use Rattle.clock_money.specs.Point.{price_point}
 use Rattle.clock_setup.specs.declared.prices.PricePair.{PricePair}
+use Rattle.clock_setup.specs.Limits.{most_supply}
 use Rattle.clock_bids.specs.declared.sheet.Bid.{Bid}
 use Rattle.clock_bids.specs.declared.change.Change.{Change}
 use Rattle.clock_bids.specs.declared.change.Kind.{Kind}
@@ -78,7 +79,7 @@ pub record IsStep (owner item first : ℕ) (pair : PricePair) (way : Kind) (chan
   pub place : first ≤ change.place
   pub kind : change.kind ≡ way
   pub some : 1 ≤ change.amount
-  pub few : change.amount ≤ 1000
+  pub few : change.amount ≤ most_supply
   pub from_start : pair.start ≤ change.price
   pub to_clock : change.price ≤ pair.clock
   pub point : change.point ≡ price_point pair.start change.price pair.clock
@@ -152,7 +153,7 @@ module _ (owner item : ℕ) (pair : PricePair) where
   begins_without place before bid bids same =
       by_test (record { place = place; before = before; bid = bid }) (links_after place bid bids) true same
 
-module _ (owner item : ℕ) (pair : PricePair) (cap : ℕ) (small : cap ≤ 1000) where
+module _ (owner item : ℕ) (pair : PricePair) (cap : ℕ) (small : cap ≤ most_supply) where
   step_is : (way : Kind) (place from to price : ℕ) → LeadsOn way from to → from ≤ cap → to ≤ cap → pair.start ≤ price → price ≤ pair.clock →
       IsStep owner item place pair way (change_to owner item pair place from to price)
   step_is way place from to price on least most low high = record {
@@ -202,7 +203,7 @@ pub record AreProductSteps (owner item : ℕ) (pair : PricePair) (cap held : ℕ
   pub steps : AreSteps owner item 0 pair way blocks most changes
   pub within : KeepsWithin way cap held blocks
 
-module _ (owner item : ℕ) (pair : PricePair) (cap held : ℕ) (small : cap ≤ 1000) (least : held ≤ cap) where
+module _ (owner item : ℕ) (pair : PricePair) (cap held : ℕ) (small : cap ≤ most_supply) (least : held ≤ cap) where
   -- at most one more than there are bids, for where there is none
   more_room : (way : Kind) (blocks most : ℕ) (changes : List Change) → AreSteps owner item 0 pair way blocks most changes →
       AreSteps owner item 0 pair way blocks (most + 1) changes

@@ -1,7 +1,7 @@
 -- Tables with an entry for each product, made of the bids for it, and a further bid.
-use Rattle.std.proofs.Common.{◌≡◌, ℕ, ◌+◌, ◌<◌, ◌≤◌, List, [], ◌∷◌, ◌++◌, Bool, true, false, cond, map, length, ◌==◌, ◌-◌, replicate, take, zero, suc, inl, inr, refl, ap, sym, ◌∙◌, arith, get_or, set, append-nil}
-use Rattle.std.specs.Prelude.{Option, Some, None}
-use Rattle.std.specs.List.{filter, range_with_len}
+use Rattle.std.proofs.Common.{◌≡◌, ℕ, ◌+◌, ◌<◌, List, [], ◌∷◌, ◌++◌, cond, map, length, ◌==◌, ◌-◌, replicate, take, zero, suc, inl, inr, refl, ap, sym, ◌∙◌, arith, get_or, set, append-nil}
+use Rattle.std.specs.Prelude.{Some, None}
+use Rattle.std.specs.List.{range_with_len}
 use Rattle.std.proofs.lemmas.Bool.{eq-eqb, ne_eqb, cases_eq}
 use Rattle.std.proofs.lemmas.List.{take_more, same_lists, length-set, get_or-set_same, get_or-set_other}
 use Rattle.std.proofs.lemmas.List.Elements.{filter-append}

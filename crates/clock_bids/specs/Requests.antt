@@ -9,7 +9,8 @@ use Rattle.clock_money.specs.Point.{price_point}
 use Rattle.clock_setup.specs.declared.setup.Product.{Product}
 use Rattle.clock_setup.specs.declared.prices.PricePair.{PricePair}
 use Rattle.clock_setup.specs.Prices.{prices_at}
-use Rattle.clock_setup.specs.Limits.{cap_of}
+use Rattle.clock_setup.specs.Limits.{most_products, most_supply, cap_of}
+use Rattle.clock_bids.specs.Sheet.{most_bids}
 use Rattle.clock_bids.specs.declared.change.Change.{Change}
 use Rattle.clock_bids.specs.declared.change.Kind.{Kind}
 use Rattle.clock_bids.specs.declared.change.Kind.TheVariants.{Increase, Reduction}
@@ -30,12 +31,12 @@ abbrev pub asked_of : Kind → ℕ → ℕ → List Change → ℕ
 asked_of kind bidder product changes =
     sum_by (λ change. if is_request_of kind bidder product change then change.amount else 0) changes
 
--- the change names the bidder and a product, asks for 1 to 1,000 blocks, and stands at a price from the product's start price to its clock price
+-- the change names the bidder and a product, asks for a block or more, up to the most that a product can have, and stands at a price from the product's start price to its clock price
 pub record IsChangeOf (products : List Product) (prices : List PricePair) (owner : ℕ) (change : Change) : Type 0 where
   pub bidder : change.bidder ≡ owner
   pub product : change.product < length products
   pub some : 1 ≤ change.amount
-  pub few : change.amount ≤ 1000
+  pub few : change.amount ≤ most_supply
   pub from_start : (prices_at prices change.product).start ≤ change.price
   pub to_clock : change.price ≤ (prices_at prices change.product).clock
   pub point : change.point ≡ price_point (prices_at prices change.product).start change.price (prices_at prices change.product).clock
@@ -57,10 +58,10 @@ pub record KeepWithinCap (products : List Product) (demands : List ℕ) (bidder 
   pub raised : slice_index demands product + asked_of Increase bidder product changes ≤ cap_of products product
   pub reduced : asked_of Reduction bidder product changes ≤ slice_index demands product
 
--- changes of one bidder, by rising product and place, in one direction for each product, which keep its demands within 0 and the caps: at most one
--- for each of 8,192 bids, and one for each of 4,096 products without a bid
+-- changes of one bidder, by rising product and place, in one direction for each product, which keep its demands within 0 and the caps: at most
+-- one for each bid, and one for each product without a bid
 pub record AreChangesOf (products : List Product) (prices : List PricePair) (demands : List ℕ) (bidder : ℕ) (changes : List Change) : Type 0 where
-  pub few : length changes ≤ 12288
+  pub few : length changes ≤ most_bids + most_products
   pub each : All (IsChangeOf products prices bidder) changes
   pub sorted : AllPairs StandsBefore changes
   pub apart : AllPairs AreApart changes

@@ -1,4 +1,4 @@
-//! Sheets and changes of two small auctions.
+//! Sheets and changes of small auctions.
 
 ghost use Rattle.std.specs.Prelude.{◌≡◌, ◌≤◌, ◌<◌, length, All, IsTrue};
 ghost use Rattle.clock_setup.specs.Limits.{IsRow};
@@ -6,38 +6,16 @@ ghost use Rattle.clock_setup.specs.Limits.{IsRow};
 use crate::{
     Bid, BidFault, Change, Changes, Kind, Own, Sheet, asked_demands, changes_of, check_sheet,
 };
+use clock_device::NoMemory;
 use clock_money::{Point, Price};
+use clock_setup::fixtures::{ONE_PRODUCT, TWO_PRODUCTS};
 use clock_setup::{PricePair, Prices, Product, Setup, read_setup};
 use std::alloc::Global;
 use std::process::Abort;
 use std::test::Fail;
 
-/// One product A of two blocks opening at 100, and the bidders X and Y.
-const ONE_PRODUCT: &str = r#"{
-    "version": 1, "requirement": 95, "operator": "OPERATOROPERATOR",
-    "products": [{"name": "A", "units": 1, "supply": 2, "cap": 2, "opening": 100}],
-    "bidders": [
-        {"name": "X", "token": "XXXXXXXXXXXXXXXX", "eligibility": 10},
-        {"name": "Y", "token": "YYYYYYYYYYYYYYYY", "eligibility": 10}
-    ]
-}"#;
-
-/// Two products A and B of two blocks opening at 100, and the bidders X, Y and Z.
-const TWO_PRODUCTS: &str = r#"{
-    "version": 1, "requirement": 100, "operator": "OPERATOROPERATOR",
-    "products": [
-        {"name": "A", "units": 1, "supply": 2, "cap": 2, "opening": 100},
-        {"name": "B", "units": 1, "supply": 2, "cap": 2, "opening": 100}
-    ],
-    "bidders": [
-        {"name": "X", "token": "XXXXXXXXXXXXXXXX", "eligibility": 2},
-        {"name": "Y", "token": "YYYYYYYYYYYYYYYY", "eligibility": 2},
-        {"name": "Z", "token": "ZZZZZZZZZZZZZZZZ", "eligibility": 1}
-    ]
-}"#;
-
 /// Two products A and B of seven blocks each, and an activity limit of 125 percent.
-const ACTIVITY_LIMIT: &str = r#"{
+const SEVEN_BLOCKS: &str = r#"{
     "version": 2, "requirement": 100, "limit": 125, "operator": "OPERATOROPERATOR",
     "products": [
         {"name": "A", "units": 1, "supply": 7, "cap": 7, "opening": 100, "granule": 1},
@@ -193,38 +171,60 @@ fn fault_in(
     Ok(judged(rt, alloc, &setup, &prices, round.own, bids).err())
 }
 
-/// The changes that the first bidder asks for by a sheet, or by none.
-fn asked(
+/// The changes that the first bidder asks for by a sheet.
+fn asked_by(
     rt: &impl Abort,
     alloc: Global,
     setup: &Setup,
     prices: &Prices,
     own: Own,
-    bids: Option<&[Bid]>,
+    bids: &[Bid],
 ) -> Result<Changes, BidFault> {
     assert!(rt; own.round >= 2);
     assert!(rt; rise(prices));
     assert!(rt; fits(setup, prices, own.demands));
-    match bids {
-        Some(bids) => {
-            let sheet = check_sheet(alloc, setup, prices, own, bids)?;
-            Ok(changes_of(alloc, setup, prices, own, 0, Some(&sheet))?)
-        }
-        None => Ok(changes_of(alloc, setup, prices, own, 0, None)?),
-    }
+    let sheet = check_sheet(alloc, setup, prices, own, bids)?;
+    Ok(changes_of(alloc, setup, prices, own, 0, Some(&sheet))?)
 }
 
-/// Whether the first bidder asks for these changes by a sheet, or by none.
+/// The changes that the first bidder asks for without a sheet.
+fn asked_without(
+    rt: &impl Abort,
+    alloc: Global,
+    setup: &Setup,
+    prices: &Prices,
+    own: Own,
+) -> Result<Changes, NoMemory> {
+    assert!(rt; own.round >= 2);
+    assert!(rt; rise(prices));
+    assert!(rt; fits(setup, prices, own.demands));
+    changes_of(alloc, setup, prices, own, 0, None)
+}
+
+/// Whether the first bidder asks for these changes by a sheet.
 fn asks_for(
     rt: &impl Abort,
     alloc: Global,
     round: &Round,
-    bids: Option<&[Bid]>,
+    bids: &[Bid],
     wanted: &[Change],
 ) -> Result<bool, Fail> {
     let setup = read_setup(alloc, round.document.as_bytes())?;
     let prices = prices_of(alloc, &setup, round.start, round.clock)?;
-    let changes = asked(rt, alloc, &setup, &prices, round.own, bids)?;
+    let changes = asked_by(rt, alloc, &setup, &prices, round.own, bids)?;
+    Ok(changes.as_slice() == wanted)
+}
+
+/// Whether the first bidder asks for these changes without a sheet.
+fn asks_without(
+    rt: &impl Abort,
+    alloc: Global,
+    round: &Round,
+    wanted: &[Change],
+) -> Result<bool, Fail> {
+    let setup = read_setup(alloc, round.document.as_bytes())?;
+    let prices = prices_of(alloc, &setup, round.start, round.clock)?;
+    let changes = asked_without(rt, alloc, &setup, &prices, round.own)?;
     Ok(changes.as_slice() == wanted)
 }
 
@@ -236,14 +236,14 @@ fn a_chain_asks_for_a_change_at_each_bid(rt: HostRuntime) -> Result<(), Fail> {
         change(0, 1, Kind::Reduction, 1, 107),
     ];
     let round = second(ONE_PRODUCT, 3, &[2]);
-    assert!(rt; asks_for(&rt, rt.alloc(), &round, Some(&falling), &reductions)?);
+    assert!(rt; asks_for(&rt, rt.alloc(), &round, &falling, &reductions)?);
     let climbing = [bid(0, 1, 104), bid(0, 2, 110)];
     let increases = [
         change(0, 0, Kind::Increase, 1, 104),
         change(0, 1, Kind::Increase, 1, 110),
     ];
     let round = second(ONE_PRODUCT, 3, &[0]);
-    assert!(rt; asks_for(&rt, rt.alloc(), &round, Some(&climbing), &increases)?);
+    assert!(rt; asks_for(&rt, rt.alloc(), &round, &climbing, &increases)?);
     Ok(())
 }
 
@@ -251,9 +251,9 @@ fn a_chain_asks_for_a_change_at_each_bid(rt: HostRuntime) -> Result<(), Fail> {
 fn a_missing_bid_gives_up_the_demand_at_the_start_price(rt: HostRuntime) -> Result<(), Fail> {
     let round = second(ONE_PRODUCT, 3, &[2]);
     let given_up = [change(0, 0, Kind::Reduction, 2, 100)];
-    assert!(rt; asks_for(&rt, rt.alloc(), &round, Some(&[]), &given_up)?);
-    assert!(rt; asks_for(&rt, rt.alloc(), &round, None, &given_up)?);
-    assert!(rt; asks_for(&rt, rt.alloc(), &round, Some(&[bid(0, 2, 110)]), &[])?);
+    assert!(rt; asks_for(&rt, rt.alloc(), &round, &[], &given_up)?);
+    assert!(rt; asks_without(&rt, rt.alloc(), &round, &given_up)?);
+    assert!(rt; asks_for(&rt, rt.alloc(), &round, &[bid(0, 2, 110)], &[])?);
     Ok(())
 }
 
@@ -266,7 +266,7 @@ fn chains_of_two_products_may_be_interleaved(rt: HostRuntime) -> Result<(), Fail
         change(1, 0, Kind::Reduction, 1, 106),
         change(1, 1, Kind::Reduction, 1, 108),
     ];
-    assert!(rt; asks_for(&rt, rt.alloc(), &round, Some(&bids), &by_product)?);
+    assert!(rt; asks_for(&rt, rt.alloc(), &round, &bids, &by_product)?);
     Ok(())
 }
 
@@ -321,7 +321,7 @@ fn a_sheet_within_the_limits_is_accepted(rt: HostRuntime) -> Result<(), Fail> {
 #[test]
 fn a_later_sheet_may_ask_for_activity_up_to_the_limit(rt: HostRuntime) -> Result<(), Fail> {
     let alloc = rt.alloc();
-    let round = second(ACTIVITY_LIMIT, 10, &[7, 3]);
+    let round = second(SEVEN_BLOCKS, 10, &[7, 3]);
     let twelve = [bid(0, 7, 110), bid(1, 5, 110)];
     assert_eq!(rt; fault_in(&rt, alloc, &round, &twelve)?, None);
     let thirteen = [bid(0, 7, 110), bid(1, 6, 110)];

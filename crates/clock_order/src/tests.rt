@@ -7,33 +7,10 @@ use crate::{Tie, TieFault, Ties, ordered};
 use clock_bids::{Change, Changes, Kind};
 use clock_device::NoMemory;
 use clock_money::Point;
+use clock_setup::fixtures::{ONE_PRODUCT, TWO_PRODUCTS};
 use clock_setup::read_setup;
 use std::alloc::Global;
 use std::test::Fail;
-
-/// One product A of two blocks, and the bidders X and Y.
-const ONE_PRODUCT: &str = r#"{
-    "version": 1, "requirement": 95, "operator": "OPERATOROPERATOR",
-    "products": [{"name": "A", "units": 1, "supply": 2, "cap": 2, "opening": 100}],
-    "bidders": [
-        {"name": "X", "token": "XXXXXXXXXXXXXXXX", "eligibility": 10},
-        {"name": "Y", "token": "YYYYYYYYYYYYYYYY", "eligibility": 10}
-    ]
-}"#;
-
-/// Two products A and B of two blocks each, and the bidders X, Y and Z.
-const TWO_PRODUCTS: &str = r#"{
-    "version": 1, "requirement": 100, "operator": "OPERATOROPERATOR",
-    "products": [
-        {"name": "A", "units": 1, "supply": 2, "cap": 2, "opening": 100},
-        {"name": "B", "units": 1, "supply": 2, "cap": 2, "opening": 100}
-    ],
-    "bidders": [
-        {"name": "X", "token": "XXXXXXXXXXXXXXXX", "eligibility": 2},
-        {"name": "Y", "token": "YYYYYYYYYYYYYYYY", "eligibility": 2},
-        {"name": "Z", "token": "ZZZZZZZZZZZZZZZZ", "eligibility": 1}
-    ]
-}"#;
 
 /// A step of demand for a product, at a price between a start price and a clock price.
 #[derive(Clone, Copy)]

@@ -1,5 +1,5 @@
 use Rattle.std.proofs.Common.{◌≡◌, [], length, take, refl, ◌∙◌, sym, ap, get_or}
-use Rattle.std.specs.Prelude.{Some, None}
+use Rattle.std.specs.Prelude.{None}
 use Rattle.std.proofs.lemmas.List.{get_or_default}
 use Rattle.clock_setup.specs.Faults.{first_fault}
 use Rattle.clock_setup.proofs.FaultLaws.{turn_passed, turn_failed, turn_none}
