@@ -22,8 +22,8 @@ use Rattle.clock_processor.proofs.Supply.{same_or_not}
 use Rattle.clock_processor.proofs.Apply.{may_apply, sum_after, under_way_applied}
 use Rattle.clock_queue.specs.declared.queue.Queue.{Queue}
 use Rattle.clock_queue.specs.Lines.{line_of, line_by, woken_line, woken_by, product_line, bidder_line, HasLines}
-use Rattle.clock_queue.specs.Queue.{IsQueue, IsTracked, IsWaiting, IsInLine, IsWithinCount, SameTerms, line_at, count_in, room_in, with_first, progress, work}
-use Rattle.clock_queue.specs.Tests.{most_of_one}
+use Rattle.clock_queue.specs.Queue.{IsQueue, IsTracked, IsWaiting, IsInLine, StaysWithinTests, SameTerms, line_at, count_in, room_in, with_first, progress, work}
+use Rattle.clock_queue.specs.Bound.{most_of_one}
 use Rattle.clock_queue.proofs.Members.{Contains-cons_cases, Contains-first, Contains-rest, count_by_none}
 use Rattle.clock_queue.proofs.Counts.{line_most}
 use Rattle.clock_queue.proofs.Rooms.{room_kept, room_used}
@@ -43,14 +43,20 @@ held_by Reduction cap demand amount stays is = stays
 
 module _ (changes : List Change) (old : Queue) (first : ℕ) (is : IsQueue changes (with_first first old))
     (is_board : IsBoard old.board.products old.board.eligibilities old.board.grid) (some : 0 < room_in changes old first) where
+  -- the request
   abbrev change : Change
   change = get_or changes first no_change
 
-  abbrev r : ℕ
-  r = room_in changes old first
+  -- what is applied of it
+  abbrev amount : ℕ
+  amount = room_in changes old first
+
+  -- the line that it wakes, and who waits there
+  abbrev woken_at : ℕ
+  woken_at = woken_line change
 
   abbrev woken : List ℕ
-  woken = get_or old.lines (woken_line (get_or changes first no_change)) []
+  woken = get_or old.lines woken_at []
 
   pub is_admitted : first < old.admitted
   is_admitted = All-head (λ place. place < old.admitted) first old.ready is.ready
@@ -61,15 +67,15 @@ module _ (changes : List Change) (old : Queue) (first : ℕ) (is : IsQueue chang
   pub in_left : first < length old.left
   in_left = omega (arith, in_changes, is.under_way.each)
 
-  request : IsRequest (length old.board.eligibilities) (length old.board.products) (get_or changes first no_change)
+  request : IsRequest (length old.board.eligibilities) (length old.board.products) change
   request = is.under_way.requests first no_change in_changes
 
-  in_grid : (get_or changes first no_change).bidder < length old.board.grid
+  in_grid : change.bidder < length old.board.grid
   in_grid = omega (arith, request.bidder, is_board.held.bidders)
 
-  in_row : (get_or changes first no_change).product < length (row_of old.board.grid (get_or changes first no_change).bidder)
+  in_row : change.product < length (row_of old.board.grid change.bidder)
   in_row =
-      let row : IsRow old.board.products (row_of old.board.grid (get_or changes first no_change).bidder) = is_board.held.rows (get_or changes first no_change).bidder [] in_grid in
+      let row : IsRow old.board.products (row_of old.board.grid change.bidder) = is_board.held.rows change.bidder [] in_grid in
       omega (arith, request.product, row.each)
 
   some_units : (p : ℕ) → p < length old.board.products → 0 < units_of old.board.products p
@@ -77,64 +83,68 @@ module _ (changes : List Change) (old : Queue) (first : ℕ) (is : IsQueue chang
       let product : IsProduct (get_or old.board.products p no_product) = is_board.limits p no_product lt in
       omega (arith, product.units)
 
-  pub may_apply_first : MayApply old.board (get_or changes first no_change) (room_in changes old first)
+  pub may_apply_first : MayApply old.board change amount
   may_apply_first = may_apply old.board changes old.left first in_changes is.under_way.each is.under_way.requests is_board is.under_way.caps some
 
-  pub woken_in : woken_line (get_or changes first no_change) < length old.lines
+  pub woken_in : woken_at < length old.lines
   woken_in =
-      let lines : HasLines (length old.lines) (get_or changes first no_change) = is.lines first no_change in_changes in
-      woken_within (get_or changes first no_change).kind (get_or changes first no_change).bidder (get_or changes first no_change).product (length old.lines) lines.product lines.bidder
+      let lines : HasLines (length old.lines) change = is.lines first no_change in_changes in
+      woken_within change.kind change.bidder change.product (length old.lines) lines.product lines.bidder
 
   -- no more wait in the line than there are requests of one product or of one bidder
-  few_woken : length (get_or old.lines (woken_line (get_or changes first no_change)) []) ≤ most_of_one changes
+  few_woken : length woken ≤ most_of_one changes
   few_woken =
-      let line : ℕ = woken_line (get_or changes first no_change) in
-      omega (arith, is.counted line, sum_by-take-le (λ (change : Change). cond (line_of change == line) 1 0) changes old.admitted, line_most changes line)
+      omega (arith, is.counted woken_at, sum_by-take-le (λ (one : Change). cond (line_of one == woken_at) 1 0) changes old.admitted, line_most changes woken_at)
 
   -- one more application is counted
   one_applied : one_more old.board.applied ≡ old.board.applied + 1
   one_applied = omega (arith, is.under_way.countable)
 
-  module _ (ready : List ℕ) (moved : IsPermutation (old.ready ++ get_or old.lines (woken_line (get_or changes first no_change)) []) ready) where
+  module _ (ready : List ℕ) (moved : IsPermutation (old.ready ++ woken) ready) where
     -- the queue after the application
     abbrev pub after : Queue
     after = record {
-      board = applied_to old.board (get_or changes first no_change) (room_in changes old first);
-      left = set old.left first (get_or old.left first 0 - room_in changes old first);
+      board = applied_to old.board change amount;
+      left = set old.left first (get_or old.left first 0 - amount);
       admitted = old.admitted;
       ready = ready;
-      lines = set old.lines (woken_line (get_or changes first no_change)) [];
+      lines = set old.lines woken_at [];
     }
 
-    room_not_more : (place : ℕ) → place < length changes → (place ≡ first → ⊥) → (line_at changes place ≡ woken_line (get_or changes first no_change) → ⊥) → room_in changes after place ≤ room_in changes old place
+    room_not_more : (place : ℕ) → place < length changes → (place ≡ first → ⊥) → (line_at changes place ≡ woken_at → ⊥) →
+        room_in changes after place ≤ room_in changes old place
     room_not_more place lt differ apart =
         let other : Change = get_or changes place no_change in
         let of_other : IsRequest (length old.board.eligibilities) (length old.board.products) other = is.under_way.requests place no_change lt in
         omega (
           arith,
-          get_or-set_other old.left first place (get_or old.left first 0 - room_in changes old first) 0 differ,
-          room_kept old.board.products old.board.eligibilities old.board.grid (get_or changes first no_change).bidder (get_or changes first no_change).product in_grid in_row request.product
-              (get_or changes first no_change).kind other.kind (room_in changes old first) other.bidder other.product (some_units other.product of_other.product) apart,
+          get_or-set_other old.left first place (get_or old.left first 0 - amount) 0 differ,
+          room_kept old.board.products old.board.eligibilities old.board.grid change.bidder change.product in_grid in_row request.product
+              change.kind other.kind amount other.bidder other.product (some_units other.product of_other.product) apart,
         )
 
-    made_ready : (place : ℕ) → Contains (old.ready ++ get_or old.lines (woken_line (get_or changes first no_change)) []) place → IsTracked changes (with_first first after) place
-    made_ready place here = inl (Contains-rest first ready place (Contains-permutation (old.ready ++ get_or old.lines (woken_line (get_or changes first no_change)) []) ready place moved here))
+    made_ready : (place : ℕ) → Contains (old.ready ++ woken) place → IsTracked changes (with_first first after) place
+    made_ready place here = inl (Contains-rest first ready place (Contains-permutation (old.ready ++ woken) ready place moved here))
 
-    tracked_waiting : (place : ℕ) → place < length changes → (place ≡ first → ⊥) → IsWaiting changes (with_first first old) place → IsTracked changes (with_first first after) place
-    tracked_waiting place lt differ waiting = elim (same_or_not (line_at changes place) (woken_line (get_or changes first no_change))) as (λ _. IsTracked changes (with_first first after) place) [
-      | inl same ↦ made_ready place (Contains-append_right old.ready (get_or old.lines (woken_line (get_or changes first no_change)) []) place (subst (λ l. Contains (get_or old.lines l []) place) same waiting.in_line))
+    tracked_waiting : (place : ℕ) → place < length changes → (place ≡ first → ⊥) → IsWaiting changes (with_first first old) place →
+        IsTracked changes (with_first first after) place
+    tracked_waiting place lt differ waiting = elim (same_or_not (line_at changes place) woken_at) as (λ _. IsTracked changes (with_first first after) place) [
+      | inl same ↦ made_ready place (Contains-append_right old.ready woken place (subst (λ l. Contains (get_or old.lines l []) place) same waiting.in_line))
       | inr apart ↦ inr (inr (record {
-        in_line = subst (λ (list : List ℕ). Contains list place) (sym (get_or-set_other old.lines (woken_line (get_or changes first no_change)) (line_at changes place) [] [] apart)) waiting.in_line;
+        in_line = subst (λ (list : List ℕ). Contains list place) (sym (get_or-set_other old.lines woken_at (line_at changes place) [] [] apart))
+            waiting.in_line;
         no_room = omega (arith, room_not_more place lt differ apart, waiting.no_room);
       }))
     ]
 
-    tracked_other : (place : ℕ) → place < length changes → (place ≡ first → ⊥) → IsTracked changes (with_first first old) place → IsTracked changes (with_first first after) place
-    tracked_other place lt differ (inl here) = elim (Contains-cons_cases first old.ready place here) as (λ _. IsTracked changes (with_first first after) place) [
-      | inl same ↦ absurd (differ (sym same))
-      | inr rest ↦ made_ready place (Contains-append_left old.ready (get_or old.lines (woken_line (get_or changes first no_change)) []) place rest)
-    ]
-    tracked_other place lt differ (inr (inl nothing)) = inr (inl (get_or-set_other old.left first place (get_or old.left first 0 - room_in changes old first) 0 differ ∙ nothing))
+    tracked_other : (place : ℕ) → place < length changes → (place ≡ first → ⊥) → IsTracked changes (with_first first old) place →
+        IsTracked changes (with_first first after) place
+    tracked_other place lt differ (inl here) = elim (Contains-cons_cases first old.ready place here) as
+        (λ _. IsTracked changes (with_first first after) place) [
+          | inl same ↦ absurd (differ (sym same))
+          | inr rest ↦ made_ready place (Contains-append_left old.ready woken place rest)
+        ]
+    tracked_other place lt differ (inr (inl nothing)) = inr (inl (get_or-set_other old.left first place (get_or old.left first 0 - amount) 0 differ ∙ nothing))
     tracked_other place lt differ (inr (inr waiting)) = tracked_waiting place lt differ waiting
 
     tracked_after : (place : ℕ) → place < old.admitted → IsTracked changes (with_first first after) place
@@ -144,82 +154,100 @@ module _ (changes : List Change) (old : Queue) (first : ℕ) (is : IsQueue chang
     ]
 
     waiting_after : (line : ℕ) → All (IsInLine changes old.admitted line) (get_or after.lines line [])
-    waiting_after line = elim (same_or_not line (woken_line (get_or changes first no_change))) as (λ _. All (IsInLine changes old.admitted line) (get_or after.lines line [])) [
+    waiting_after line = elim (same_or_not line woken_at) as (λ _. All (IsInLine changes old.admitted line) (get_or after.lines line [])) [
       | inl same ↦
-          let empty : get_or after.lines line [] ≡ [] = ap (λ l. get_or after.lines l []) same ∙ get_or-set_same old.lines (woken_line (get_or changes first no_change)) [] [] woken_in in
+          let empty : get_or after.lines line [] ≡ [] = ap (λ l. get_or after.lines l []) same ∙ get_or-set_same old.lines woken_at [] [] woken_in in
           subst (λ (list : List ℕ). All (IsInLine changes old.admitted line) list) (sym empty) (All-nil (IsInLine changes old.admitted line))
-      | inr differ ↦ subst (λ (list : List ℕ). All (IsInLine changes old.admitted line) list) (sym (get_or-set_other old.lines (woken_line (get_or changes first no_change)) line [] [] differ)) (is.waiting line)
+      | inr differ ↦ subst (λ (list : List ℕ). All (IsInLine changes old.admitted line) list)
+          (sym (get_or-set_other old.lines woken_at line [] [] differ)) (is.waiting line)
     ]
 
-    -- of the line that was woken as many are ready as waited in it, and of another line none was added
-    counted_after : (line : ℕ) → count_in changes line (first ∷ ready) + length (get_or after.lines line []) ≤ count_by (λ (change : Change). line_of change == line) (take old.admitted changes)
+    -- of the line that was woken as many are ready as woken in it, and of another line none was added
+    counted_after : (line : ℕ) → count_in changes line (first ∷ ready) + length (get_or after.lines line []) ≤ count_by
+        (λ (change : Change). line_of change == line) (take old.admitted changes)
     counted_after line =
-        let waited : List ℕ = get_or old.lines (woken_line (get_or changes first no_change)) [] in
-        let in_ready : count_in changes line ready ≡ count_in changes line old.ready + count_in changes line waited =
-        sum_by-IsPermutation (λ place. cond (line_at changes place == line) 1 0) (old.ready ++ waited) ready moved ∙ sum_by-append (λ place. cond (line_at changes place == line) 1 0) old.ready waited in
+        let in_ready : count_in changes line ready ≡ count_in changes line old.ready + count_in changes line woken =
+        sum_by-IsPermutation (λ place. cond (line_at changes place == line) 1 0) (old.ready ++ woken) ready moved ∙ sum_by-append
+        (λ place. cond (line_at changes place == line) 1 0) old.ready woken in
         let with_old = sum_by-cons (λ place. cond (line_at changes place == line) 1 0) first old.ready in
         let with_new = sum_by-cons (λ place. cond (line_at changes place == line) 1 0) first ready in
-        elim (same_or_not line (woken_line (get_or changes first no_change))) as (λ _. count_in changes line (first ∷ ready) + length (get_or after.lines line []) ≤ count_by (λ (change : Change). line_of change == line) (take old.admitted changes)) [
+        elim (same_or_not line woken_at) as (λ _. count_in changes line (first ∷ ready) + length (get_or after.lines line []) ≤ count_by
+        (λ (change : Change). line_of change == line) (take old.admitted changes)) [
           | inl same ↦
-              let empty : get_or after.lines line [] ≡ [] = ap (λ l. get_or after.lines l []) same ∙ get_or-set_same old.lines (woken_line (get_or changes first no_change)) [] [] woken_in in
-              let before : length (get_or old.lines line []) ≡ length waited = ap (λ l. length (get_or old.lines l [])) same in
-              omega (arith, is.counted line, in_ready, with_old, with_new, ap length empty, before, count_by-le-length (λ place. line_at changes place == line) waited)
+              let empty : get_or after.lines line [] ≡ [] = ap (λ l. get_or after.lines l []) same ∙ get_or-set_same old.lines woken_at [] [] woken_in in
+              let before : length (get_or old.lines line []) ≡ length woken = ap (λ l. length (get_or old.lines l [])) same in
+              omega (
+                arith,
+                is.counted line,
+                in_ready,
+                with_old,
+                with_new,
+                ap length empty,
+                before,
+                count_by-le-length
+                    (λ place. line_at changes place == line) woken,
+              )
           | inr differ ↦
-              let none : count_in changes line waited ≡ 0 = count_by_none (λ place. line_at changes place == line) waited
-              (All-weaker (IsInLine changes old.admitted (woken_line (get_or changes first no_change))) (λ place. (line_at changes place == line) ≡ false)
-              (λ place at. ne_eqb (line_at changes place) line (λ e. differ (sym e ∙ at.own_line))) waited (is.waiting (woken_line (get_or changes first no_change)))) in
-              omega (arith, is.counted line, in_ready, with_old, with_new, none, ap length (get_or-set_other old.lines (woken_line (get_or changes first no_change)) line [] [] differ))
+              let none : count_in changes line woken ≡ 0 = count_by_none (λ place. line_at changes place == line) woken
+              (All-weaker (IsInLine changes old.admitted woken_at) (λ place. (line_at changes place == line) ≡ false)
+              (λ place at. ne_eqb (line_at changes place) line (λ e. differ (sym e ∙ at.own_line))) woken (is.waiting woken_at)) in
+              omega (arith, is.counted line, in_ready, with_old, with_new, none, ap length (get_or-set_other old.lines woken_at line [] [] differ))
         ]
 
     pub queue_after : IsQueue changes (with_first first after)
     queue_after = record {
-      under_way = under_way_applied old.board after.board changes old.left after.left first old.admitted in_changes is_board is.under_way some (refl, refl) refl refl refl;
-      lines = subst (λ n. All (HasLines n) changes) (sym (length-set old.lines (woken_line (get_or changes first no_change)) [])) is.lines;
+      under_way = under_way_applied old.board after.board changes old.left after.left first old.admitted in_changes is_board is.under_way some
+          (refl, refl) refl refl refl;
+      lines = subst (λ n. All (HasLines n) changes) (sym (length-set old.lines woken_at [])) is.lines;
       ready = All-cons (λ place. place < old.admitted) first ready is_admitted
-          (All-permutation (λ place. place < old.admitted) (old.ready ++ get_or old.lines (woken_line (get_or changes first no_change)) []) ready moved
-          (All-append (λ place. place < old.admitted) old.ready (get_or old.lines (woken_line (get_or changes first no_change)) []) (All-tail (λ place. place < old.admitted) first old.ready is.ready)
-          (All-weaker (IsInLine changes old.admitted (woken_line (get_or changes first no_change))) (λ place. place < old.admitted) (λ place at. at.admitted_before) (get_or old.lines (woken_line (get_or changes first no_change)) []) (is.waiting (woken_line (get_or changes first no_change))))));
+          (All-permutation (λ place. place < old.admitted) (old.ready ++ woken) ready moved
+          (All-append (λ place. place < old.admitted) old.ready woken (All-tail (λ place. place < old.admitted) first old.ready is.ready)
+          (All-weaker (IsInLine changes old.admitted woken_at) (λ place. place < old.admitted) (λ place at. at.admitted_before) woken (is.waiting woken_at))));
       waiting = waiting_after;
       tracked = tracked_after;
       counted = counted_after;
     }
 
-    length_ready : length ready ≡ length old.ready + length (get_or old.lines (woken_line (get_or changes first no_change)) [])
-    length_ready = length_permutation (old.ready ++ get_or old.lines (woken_line (get_or changes first no_change)) []) ready moved ∙ length-append old.ready (get_or old.lines (woken_line (get_or changes first no_change)) [])
+    length_ready : length ready ≡ length old.ready + length woken
+    length_ready = length_permutation (old.ready ++ woken) ready moved ∙ length-append old.ready woken
 
     -- the application pays for the tests of those that it woke
-    pub count_after : IsWithinCount changes old → IsWithinCount changes after
+    pub count_after : StaysWithinTests changes old → StaysWithinTests changes after
     count_after was =
-        let paid : one_more old.board.applied * most_of_one changes ≡ (old.board.applied + 1) * most_of_one changes = ap (λ n. n * most_of_one changes) one_applied in
+        let paid : one_more old.board.applied * most_of_one changes ≡ (old.board.applied + 1) * most_of_one changes =
+        ap (λ n. n * most_of_one changes) one_applied in
         omega (arith, was, paid, length_ready, few_woken)
 
     -- and takes a block of those that are left
     pub work_after : work changes after < work changes old
     work_after =
         let m : ℕ = most_of_one changes + 1 in
-        let less : sum after.left + room_in changes old first ≡ sum old.left = sum_after old.board changes old.left first in_changes is.under_way.each is.under_way.requests is_board is.under_way.caps in
-        let all : (sum after.left + room_in changes old first) * m ≡ sum old.left * m = ap (λ n. n * m) less in
-        let at_least : m * 1 ≤ m * room_in changes old first = mul-le-mul_left m some in
+        let less : sum after.left + amount ≡ sum old.left = sum_after old.board changes old.left first in_changes is.under_way.each
+        is.under_way.requests is_board is.under_way.caps in
+        let all : (sum after.left + amount) * m ≡ sum old.left * m = ap (λ n. n * m) less in
+        let at_least : m * 1 ≤ m * amount = mul-le-mul_left m some in
         omega (arith, all, at_least, length_ready, few_woken)
 
     pub progress_after : progress after ≡ with_application old.board.products old.board.eligibilities changes (progress old) first
     progress_after = λ k. record { admitted = old.admitted; left = after.left; grid = after.board.grid; applied = one_applied k }
 
-    room_of_after : room_of (get_or changes first no_change).kind old.board.products old.board.eligibilities old.board.grid (get_or changes first no_change).bidder (get_or changes first no_change).product ≡ room_in changes old first →
-        room_of (get_or changes first no_change).kind old.board.products old.board.eligibilities after.board.grid (get_or changes first no_change).bidder (get_or changes first no_change).product ≡ 0
+    room_of_after : room_of change.kind old.board.products old.board.eligibilities old.board.grid change.bidder change.product ≡ amount →
+        room_of change.kind old.board.products old.board.eligibilities after.board.grid change.bidder change.product ≡ 0
     room_of_after all =
-        let b : ℕ = (get_or changes first no_change).bidder in
-        let p : ℕ = (get_or changes first no_change).product in
-        let kind : Kind = (get_or changes first no_change).kind in
-        subst (λ a. room_of kind old.board.products old.board.eligibilities (with_demand old.board.grid b p (changed_demand kind (demand_at old.board.grid b p) a)) b p ≡ 0) all
+        let b : ℕ = change.bidder in
+        let p : ℕ = change.product in
+        let kind : Kind = change.kind in
+        subst (λ a. room_of kind old.board.products old.board.eligibilities
+        (with_demand old.board.grid b p (changed_demand kind (demand_at old.board.grid b p) a)) b p ≡ 0) all
         (room_used old.board.products old.board.eligibilities old.board.grid b p in_grid in_row request.product kind (some_units p request.product)
-        (λ reduces. omega (arith, all, held_by kind (cap_of old.board.products p) (demand_at old.board.grid b p) (room_in changes old first) may_apply_first.stays reduces)))
+        (λ reduces. omega (arith, all, held_by kind (cap_of old.board.products p) (demand_at old.board.grid b p) amount may_apply_first.stays reduces)))
 
     -- what is left of the request has no room
     pub no_room_after : room_in changes after first ≡ 0
     no_room_after =
-        let rest : get_or after.left first 0 ≡ get_or old.left first 0 - room_in changes old first = get_or-set_same old.left first (get_or old.left first 0 - room_in changes old first) 0 in_left in
-        elim (cases_lt (room_of (get_or changes first no_change).kind old.board.products old.board.eligibilities old.board.grid (get_or changes first no_change).bidder (get_or changes first no_change).product) (get_or old.left first 0)) as (λ _. room_in changes after first ≡ 0) [
+        let rest : get_or after.left first 0 ≡ get_or old.left first 0 - amount = get_or-set_same old.left first (get_or old.left first 0 - amount) 0 in_left in
+        elim (cases_lt (room_of change.kind old.board.products old.board.eligibilities old.board.grid change.bidder change.product)
+        (get_or old.left first 0)) as (λ _. room_in changes after first ≡ 0) [
           | inl less ↦ omega (arith, rest, room_of_after (omega (arith, less)))
           | inr more ↦ omega (arith, rest, more)
         ]
@@ -235,13 +263,14 @@ pub record IsApplied (changes : List Change) (first : ℕ) (old new : Queue) : T
 -- what holds of the queue after the application
 pub record HoldsAfter (changes : List Change) (first : ℕ) (old new : Queue) : Type 0 where
   pub queue : IsQueue changes (with_first first new)
-  pub counts : IsWithinCount changes old → IsWithinCount changes new
+  pub counts : StaysWithinTests changes old → StaysWithinTests changes new
   pub applied : progress new ≡ with_application old.board.products old.board.eligibilities changes (progress old) first
   pub terms : SameTerms old new
   pub no_room : room_in changes new first ≡ 0
   pub less : work changes new < work changes old
 
-pub holds_after : (changes : List Change) (first : ℕ) (old new : Queue) → IsQueue changes (with_first first old) → IsBoard old.board.products old.board.eligibilities old.board.grid → 0 < room_in changes old first →
+pub holds_after : (changes : List Change) (first : ℕ) (old new : Queue) → IsQueue changes (with_first first old) →
+    IsBoard old.board.products old.board.eligibilities old.board.grid → 0 < room_in changes old first →
     IsApplied changes first old new → HoldsAfter changes first old new
 holds_after changes first old new is is_board some applied =
     let same : after changes old first is is_board some new.ready applied.ready ≡ new =

@@ -10,7 +10,7 @@ use Rattle.clock_bids.specs.declared.change.Kind.TheVariants.{Increase, Reductio
 use Rattle.clock_processor.specs.Settling.{no_change}
 use Rattle.clock_processor.proofs.Supply.{same_or_not}
 use Rattle.clock_queue.specs.Lines.{line_of, line_by, product_line, bidder_line}
-use Rattle.clock_queue.specs.Tests.{most_of_one, count_of_product, count_of_bidder}
+use Rattle.clock_queue.specs.Bound.{most_of_one, count_of_product, count_of_bidder}
 
 -- a running greatest is no less than its start, and than each value
 fold_start : {X : Type 0} (f : X → ℕ) (a : ℕ) (xs : List X) → a ≤ fold (λ most x. max most (f x)) a xs
@@ -28,7 +28,8 @@ record IsAt {X : Type 0} (p : X → Bool) (d : X) (xs : List X) : Type 0 where
   within : place < length xs
   passes : p (get_or xs place d) ≡ true
 
-found_here : {X : Type 0} (p : X → Bool) (d x : X) (xs : List X) → (0 < count_by p xs → IsAt p d xs) → (passes : Bool) → p x ≡ passes → 0 < cond passes 1 0 + count_by p xs → IsAt p d (x ∷ xs)
+found_here : {X : Type 0} (p : X → Bool) (d x : X) (xs : List X) → (0 < count_by p xs → IsAt p d xs) → (passes : Bool) → p x ≡ passes →
+    0 < cond passes 1 0 + count_by p xs → IsAt p d (x ∷ xs)
 found_here p d x xs later true is some = record { place = 0; within = omega arith; passes = is }
 found_here p d x xs later false is some =
     let found : IsAt p d xs = later (omega (arith, some)) in
@@ -39,7 +40,8 @@ found p d [] some = absurd (omega (arith, some))
 found p d (x ∷ xs) some = found_here p d x xs (found p d xs) (p x) refl (omega (arith, some, sum_by-cons (λ y. cond (p y) 1 0) x xs))
 
 -- a bound that holds where something is counted, holds always
-bounded : (p : Change → Bool) (changes : List Change) (most : ℕ) → ((i : ℕ) → i < length changes → p (get_or changes i no_change) ≡ true → count_by p changes ≤ most) → count_by p changes ≤ most
+bounded : (p : Change → Bool) (changes : List Change) (most : ℕ) →
+    ((i : ℕ) → i < length changes → p (get_or changes i no_change) ≡ true → count_by p changes ≤ most) → count_by p changes ≤ most
 bounded p changes most each =
     elim (cases_lt 0 (count_by p changes)) as (λ _. count_by p changes ≤ most) [
       | inl some ↦ (let at : IsAt p no_change changes = found p no_change changes some in each at.place at.within at.passes)
@@ -49,11 +51,19 @@ bounded p changes most each =
 -- what is of a product or of a bidder at a place
 of_product : (changes : List Change) (i : ℕ) → i < length changes → count_of_product changes (get_or changes i no_change).product ≤ most_of_one changes
 of_product changes i lt =
-    omega (arith, fold_value (λ (change : Change). max (count_of_product changes change.product) (count_of_bidder changes change.bidder)) 0 changes i no_change lt)
+    omega (
+      arith,
+      fold_value (λ (change : Change). max (count_of_product changes change.product) (count_of_bidder changes change.bidder)) 0 changes i
+          no_change lt,
+    )
 
 of_bidder : (changes : List Change) (i : ℕ) → i < length changes → count_of_bidder changes (get_or changes i no_change).bidder ≤ most_of_one changes
 of_bidder changes i lt =
-    omega (arith, fold_value (λ (change : Change). max (count_of_product changes change.product) (count_of_bidder changes change.bidder)) 0 changes i no_change lt)
+    omega (
+      arith,
+      fold_value (λ (change : Change). max (count_of_product changes change.product) (count_of_bidder changes change.bidder)) 0 changes i
+          no_change lt,
+    )
 
 -- a request in a product's line is of the product, one in a bidder's line of the bidder
 product_part : (kind : Kind) (b p product : ℕ) → cond (line_by kind b p == product_line product) 1 0 ≤ cond (p == product) 1 0
@@ -61,8 +71,10 @@ product_part Increase b p product =
     let none : (bidder_line b == product_line product) ≡ false = ne_eqb (bidder_line b) (product_line product) (λ e. omega (arith, e)) in
     rw none (omega arith)
 product_part Reduction b p product = elim (same_or_not p product) as (λ _. cond (product_line p == product_line product) 1 0 ≤ cond (p == product) 1 0) [
-  | inl same ↦ (let one : (p == product) ≡ true = eq-eqb p product same in let both : (product_line p == product_line product) ≡ true = eq-eqb (product_line p) (product_line product) (ap product_line same) in rw (one, both) (omega arith))
-  | inr differ ↦ (let none : (product_line p == product_line product) ≡ false = ne_eqb (product_line p) (product_line product) (λ e. differ (omega (arith, e))) in rw none (omega arith))
+  | inl same ↦ (let one : (p == product) ≡ true = eq-eqb p product same in let both : (product_line p == product_line product) ≡ true = eq-eqb
+      (product_line p) (product_line product) (ap product_line same) in rw (one, both) (omega arith))
+  | inr differ ↦ (let none : (product_line p == product_line product) ≡ false = ne_eqb (product_line p) (product_line product)
+      (λ e. differ (omega (arith, e))) in rw none (omega arith))
 ]
 
 bidder_part : (kind : Kind) (b p bidder : ℕ) → cond (line_by kind b p == bidder_line bidder) 1 0 ≤ cond (b == bidder) 1 0
@@ -70,16 +82,28 @@ bidder_part Reduction b p bidder =
     let none : (product_line p == bidder_line bidder) ≡ false = ne_eqb (product_line p) (bidder_line bidder) (λ e. omega (arith, e)) in
     rw none (omega arith)
 bidder_part Increase b p bidder = elim (same_or_not b bidder) as (λ _. cond (bidder_line b == bidder_line bidder) 1 0 ≤ cond (b == bidder) 1 0) [
-  | inl same ↦ (let one : (b == bidder) ≡ true = eq-eqb b bidder same in let both : (bidder_line b == bidder_line bidder) ≡ true = eq-eqb (bidder_line b) (bidder_line bidder) (ap bidder_line same) in rw (one, both) (omega arith))
-  | inr differ ↦ (let none : (bidder_line b == bidder_line bidder) ≡ false = ne_eqb (bidder_line b) (bidder_line bidder) (λ e. differ (omega (arith, e))) in rw none (omega arith))
+  | inl same ↦ (let one : (b == bidder) ≡ true = eq-eqb b bidder same in let both : (bidder_line b == bidder_line bidder) ≡ true = eq-eqb
+      (bidder_line b) (bidder_line bidder) (ap bidder_line same) in rw (one, both) (omega arith))
+  | inr differ ↦ (let none : (bidder_line b == bidder_line bidder) ≡ false = ne_eqb (bidder_line b) (bidder_line bidder)
+      (λ e. differ (omega (arith, e))) in rw none (omega arith))
 ]
 
 by_kind : (kind : Kind) (b p : ℕ) (changes : List Change) → count_of_product changes p ≤ most_of_one changes → count_of_bidder changes b ≤ most_of_one changes →
     count_by (λ (change : Change). line_of change == line_by kind b p) changes ≤ most_of_one changes
 by_kind Reduction b p changes product bidder =
-    omega (arith, product, sum_by-le-sum_by (λ (change : Change). cond (line_of change == product_line p) 1 0) (λ (change : Change). cond (change.product == p) 1 0) changes (λ change. product_part change.kind change.bidder change.product p))
+    omega (
+      arith,
+      product,
+      sum_by-le-sum_by (λ (change : Change). cond (line_of change == product_line p) 1 0)
+          (λ (change : Change). cond (change.product == p) 1 0) changes (λ change. product_part change.kind change.bidder change.product p),
+    )
 by_kind Increase b p changes product bidder =
-    omega (arith, bidder, sum_by-le-sum_by (λ (change : Change). cond (line_of change == bidder_line b) 1 0) (λ (change : Change). cond (change.bidder == b) 1 0) changes (λ change. bidder_part change.kind change.bidder change.product b))
+    omega (
+      arith,
+      bidder,
+      sum_by-le-sum_by (λ (change : Change). cond (line_of change == bidder_line b) 1 0)
+          (λ (change : Change). cond (change.bidder == b) 1 0) changes (λ change. bidder_part change.kind change.bidder change.product b),
+    )
 
 -- no line has more requests than there are of one product or of one bidder
 pub line_most : (changes : List Change) (line : ℕ) → count_by (λ (change : Change). line_of change == line) changes ≤ most_of_one changes

@@ -9,8 +9,8 @@ use Rattle.clock_processor.specs.UnderWay.{progress_of}
 use Rattle.clock_processor.proofs.Apply.{settlement_reached}
 use Rattle.clock_processor.proofs.ProperEnd.{proper_end, held_at_end}
 use Rattle.clock_queue.specs.declared.queue.Queue.{Queue}
-use Rattle.clock_queue.specs.Queue.{IsQueue, IsWithinCount, progress}
-use Rattle.clock_queue.specs.Tests.{IsWithinTests}
+use Rattle.clock_queue.specs.Queue.{IsQueue, StaysWithinTests, progress}
+use Rattle.clock_queue.specs.Bound.{IsWithinTests}
 use Rattle.clock_queue.proofs.Steps.{ends}
 
 -- what a settling hands on at its end
@@ -20,14 +20,15 @@ handed_on queue = record { grid = queue.board.grid; left = queue.left; applied =
 -- all that is known of a queue when every request was admitted
 pub record IsDone (board : BoardFields) (changes : List Change) (queue : Queue) : Type 0 where
   pub queue_is : IsQueue changes queue
-  pub counts : IsWithinCount changes queue
+  pub counts : StaysWithinTests changes queue
   pub none : queue.ready ≡ []
   pub admitted : queue.admitted ≡ length changes
   pub products : queue.board.products ≡ board.products
   pub eligibilities : queue.board.eligibilities ≡ board.eligibilities
   pub reached : Reaches board.products board.eligibilities changes (progress_of board 0 (map (λ change. change.amount) changes)) (progress queue)
 
-module _ (board : BoardFields) (changes : List Change) (queue : Queue) (end : SettledFields) (done : IsDone board changes queue) (is : end ≡ handed_on queue) where
+module _ (board : BoardFields) (changes : List Change) (queue : Queue) (end : SettledFields) (done : IsDone board changes queue)
+    (is : end ≡ handed_on queue) where
   has_ended : HasEnded board.products board.eligibilities changes (progress queue)
   has_ended =
       subst (λ products. HasEnded products board.eligibilities changes (progress queue)) done.products

@@ -28,9 +28,18 @@ queue_at_start board changes n can lines = record {
 }
 
 -- the same, of lists that were made
-pub started : (board : BoardFields) (changes : List Change) (n : ℕ) (left ready : List ℕ) (lines : List (List ℕ)) → CanSettle board changes → All (HasLines n) changes →
-    left ≡ map (λ change. change.amount) changes → ready ≡ [] → lines ≡ replicate n [] → IsQueue changes (record { board = board; left = left; admitted = 0; ready = ready; lines = lines })
+pub started : (board : BoardFields) (changes : List Change) (n : ℕ) (left ready : List ℕ) (lines : List (List ℕ)) → CanSettle board changes →
+    All (HasLines n) changes →
+    left ≡ map (λ change. change.amount) changes → ready ≡ [] → lines ≡ replicate n [] →
+    IsQueue changes (record { board = board; left = left; admitted = 0; ready = ready; lines = lines })
 started board changes n left ready lines can enough left_is ready_is lines_are =
-    let same : ◌≡◌ {A = Queue} (record { board = board; left = map (λ change. change.amount) changes; admitted = 0; ready = []; lines = replicate n [] }) (record { board = board; left = left; admitted = 0; ready = ready; lines = lines }) =
+    let same : ◌≡◌ {A = Queue} (record {
+      board = board;
+      left = map (λ change. change.amount) changes;
+      admitted = 0;
+      ready = [];
+      lines =
+          replicate n [];
+    }) (record { board = board; left = left; admitted = 0; ready = ready; lines = lines }) =
     λ k. record { board = board; left = sym left_is k; admitted = 0; ready = sym ready_is k; lines = sym lines_are k } in
     subst (IsQueue changes) same (queue_at_start board changes n can enough)

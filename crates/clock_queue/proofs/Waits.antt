@@ -35,7 +35,8 @@ module _ (changes : List Change) where
   }
 
   -- one more request is admitted, and is ready
-  pub admitted_next : (queue : Queue) (ready : List ℕ) → IsQueue changes queue → queue.ready ≡ [] → queue.admitted < length changes → IsPermutation (queue.admitted ∷ queue.ready) ready →
+  pub admitted_next : (queue : Queue) (ready : List ℕ) → IsQueue changes queue → queue.ready ≡ [] → queue.admitted < length changes → IsPermutation
+      (queue.admitted ∷ queue.ready) ready →
       IsQueue changes (record queue { admitted = queue.admitted + 1; ready = ready })
   admitted_next queue ready is none more moved =
       let new : Queue = record queue { admitted = queue.admitted + 1; ready = ready } in
@@ -49,8 +50,10 @@ module _ (changes : List Change) where
         };
         lines = is.lines;
         ready = All-permutation (λ place. place < queue.admitted + 1) (queue.admitted ∷ queue.ready) ready moved
-            (All-cons (λ place. place < queue.admitted + 1) queue.admitted queue.ready (omega arith) (All-weaker (λ place. place < queue.admitted) (λ place. place < queue.admitted + 1) (λ place lt. omega (arith, lt)) queue.ready is.ready));
-        waiting = λ line. All-weaker (IsInLine changes queue.admitted line) (IsInLine changes (queue.admitted + 1) line) (λ place at. record { admitted_before = omega (arith, at.admitted_before); own_line = at.own_line }) (get_or queue.lines line []) (is.waiting line);
+            (All-cons (λ place. place < queue.admitted + 1) queue.admitted queue.ready (omega arith)
+            (All-weaker (λ place. place < queue.admitted) (λ place. place < queue.admitted + 1) (λ place lt. omega (arith, lt)) queue.ready is.ready));
+        waiting = λ line. All-weaker (IsInLine changes queue.admitted line) (IsInLine changes (queue.admitted + 1) line)
+            (λ place at. record { admitted_before = omega (arith, at.admitted_before); own_line = at.own_line }) (get_or queue.lines line []) (is.waiting line);
         tracked = λ place lt. elim (cases_lt place queue.admitted) as (λ _. IsTracked changes new place) [
           | inl before ↦ elim (is.tracked place before) as (λ _. IsTracked changes new place) [
             | inl here ↦ absurd (none_in_nil place (subst (λ (list : List ℕ). Contains list place) none here))
@@ -74,10 +77,11 @@ module _ (changes : List Change) where
       (first ≡ place → IsTracked changes (record queue { lines = lines }) place) →
       (Contains (get_or queue.lines (line_at changes place) []) place → Contains (get_or lines (line_at changes place) []) place) →
       IsTracked changes (record queue { lines = lines }) place
-  tracked_rest queue lines first place (inl here) of_first kept = elim (Contains-cons_cases first queue.ready place here) as (λ _. IsTracked changes (record queue { lines = lines }) place) [
-    | inl same ↦ of_first same
-    | inr rest ↦ inl rest
-  ]
+  tracked_rest queue lines first place (inl here) of_first kept = elim (Contains-cons_cases first queue.ready place here) as
+      (λ _. IsTracked changes (record queue { lines = lines }) place) [
+        | inl same ↦ of_first same
+        | inr rest ↦ inl rest
+      ]
   tracked_rest queue lines first place (inr (inl nothing)) of_first kept = inr (inl nothing)
   tracked_rest queue lines first place (inr (inr waiting)) of_first kept = inr (inr (record { in_line = kept waiting.in_line; no_room = waiting.no_room }))
 
@@ -88,7 +92,8 @@ module _ (changes : List Change) where
     lines = is.lines;
     ready = All-tail (λ place. place < queue.admitted) first queue.ready is.ready;
     waiting = is.waiting;
-    tracked = λ place lt. tracked_rest queue queue.lines first place (is.tracked place lt) (λ same. inr (inl (ap (λ k. get_or queue.left k 0) (sym same) ∙ nothing))) (λ here. here);
+    tracked = λ place lt. tracked_rest queue queue.lines first place (is.tracked place lt)
+        (λ same. inr (inl (ap (λ k. get_or queue.left k 0) (sym same) ∙ nothing))) (λ here. here);
     counted = λ line. omega (arith, is.counted line, sum_by-cons (λ place. cond (line_at changes place == line) 1 0) first queue.ready);
   }
 
@@ -106,34 +111,49 @@ module _ (changes : List Change) where
     waiting_added line = elim (same_or_not line (line_at changes first)) as (λ _. All (IsInLine changes queue.admitted line) (get_or added line [])) [
       | inl same ↦ subst (λ l. All (IsInLine changes queue.admitted l) (get_or added l [])) (sym same)
           (subst (λ (list : List ℕ). All (IsInLine changes queue.admitted (line_at changes first)) list) (sym at_own)
-          (All-push (IsInLine changes queue.admitted (line_at changes first)) (get_or queue.lines (line_at changes first) []) first (is.waiting (line_at changes first))
+          (All-push (IsInLine changes queue.admitted (line_at changes first)) (get_or queue.lines (line_at changes first) []) first
+          (is.waiting (line_at changes first))
           (record { admitted_before = is.ready 0 0 (omega arith); own_line = refl })))
       | inr differ ↦ subst (λ (list : List ℕ). All (IsInLine changes queue.admitted line) list) (sym (at_other line differ)) (is.waiting line)
     ]
 
     kept_added : (place : ℕ) → Contains (get_or queue.lines (line_at changes place) []) place → Contains (get_or added (line_at changes place) []) place
-    kept_added place here = elim (same_or_not (line_at changes place) (line_at changes first)) as (λ _. Contains (get_or added (line_at changes place) []) place) [
-      | inl same ↦ subst (λ l. Contains (get_or added l []) place) (sym same)
-          (subst (λ (list : List ℕ). Contains list place) (sym at_own)
-          (Contains-append_left (get_or queue.lines (line_at changes first) []) (first ∷ []) place (subst (λ l. Contains (get_or queue.lines l []) place) same here)))
-      | inr differ ↦ subst (λ (list : List ℕ). Contains list place) (sym (at_other (line_at changes place) differ)) here
-    ]
+    kept_added place here = elim (same_or_not (line_at changes place) (line_at changes first)) as
+        (λ _. Contains (get_or added (line_at changes place) []) place) [
+          | inl same ↦ subst (λ l. Contains (get_or added l []) place) (sym same)
+              (subst (λ (list : List ℕ). Contains list place) (sym at_own)
+              (Contains-append_left (get_or queue.lines (line_at changes first) []) (first ∷ []) place
+              (subst (λ l. Contains (get_or queue.lines l []) place) same here)))
+          | inr differ ↦ subst (λ (list : List ℕ). Contains list place) (sym (at_other (line_at changes place) differ)) here
+        ]
 
-    counted_added : (line : ℕ) → count_in changes line queue.ready + length (get_or added line []) ≤ count_by (λ (change : Change). line_of change == line) (take queue.admitted changes)
-    counted_added line = elim (same_or_not line (line_at changes first)) as (λ _. count_in changes line queue.ready + length (get_or added line []) ≤ count_by (λ (change : Change). line_of change == line) (take queue.admitted changes)) [
-      | inl same ↦
-          let one : ◌≡◌ {A = ℕ} (cond (line_at changes first == line) 1 0) 1 = ap (λ (b : Bool). cond {A = ℕ} b 1 0) (eq-eqb (line_at changes first) line (sym same)) in
-          let longer : length (get_or added line []) ≡ length (get_or queue.lines line []) + 1 =
-          ap (λ l. length (get_or added l [])) same ∙ ap length at_own ∙ length_push (get_or queue.lines (line_at changes first) []) first ∙ ap (λ l. length (get_or queue.lines l []) + 1) (sym same) in
-          omega (arith, is.counted line, sum_by-cons (λ place. cond (line_at changes place == line) 1 0) first queue.ready, one, longer)
-      | inr differ ↦ omega (arith, is.counted line, sum_by-cons (λ place. cond (line_at changes place == line) 1 0) first queue.ready, ap length (at_other line differ))
-    ]
+    counted_added : (line : ℕ) → count_in changes line queue.ready + length (get_or added line []) ≤ count_by
+        (λ (change : Change). line_of change == line) (take queue.admitted changes)
+    counted_added line = elim (same_or_not line (line_at changes first)) as
+        (λ _. count_in changes line queue.ready + length (get_or added line []) ≤ count_by (λ (change : Change). line_of change == line)
+        (take queue.admitted changes)) [
+          | inl same ↦
+              let one : ◌≡◌ {A = ℕ} (cond (line_at changes first == line) 1 0) 1 = ap (λ (b : Bool). cond {A = ℕ} b 1 0)
+              (eq-eqb (line_at changes first) line (sym same)) in
+              let longer : length (get_or added line []) ≡ length (get_or queue.lines line []) + 1 =
+              ap (λ l. length (get_or added l [])) same ∙ ap length at_own ∙ length_push (get_or queue.lines (line_at changes first) []) first
+              ∙ ap (λ l. length (get_or queue.lines l []) + 1) (sym same) in
+              omega (arith, is.counted line, sum_by-cons (λ place. cond (line_at changes place == line) 1 0) first queue.ready, one, longer)
+          | inr differ ↦ omega (
+            arith,
+            is.counted line,
+            sum_by-cons (λ place. cond (line_at changes place == line) 1 0) first queue.ready,
+            ap length
+                (at_other line differ),
+          )
+        ]
 
     -- a request without room waits in its line
     pub rest_waits : room_in changes queue first ≡ 0 → IsQueue changes (record queue { lines = added })
     rest_waits none = record {
       under_way = is.under_way;
-      lines = subst (λ n. All (HasLines n) changes) (sym (length-set queue.lines (line_at changes first) (get_or queue.lines (line_at changes first) [] ++ first ∷ []))) is.lines;
+      lines = subst (λ n. All (HasLines n) changes) (sym (length-set queue.lines (line_at changes first)
+          (get_or queue.lines (line_at changes first) [] ++ first ∷ []))) is.lines;
       ready = All-tail (λ place. place < queue.admitted) first queue.ready is.ready;
       waiting = waiting_added;
       tracked = λ place lt. tracked_rest queue added first place (is.tracked place lt)

@@ -1,3 +1,3 @@
 pub mod Lines
-pub mod Tests
+pub mod Bound
 pub mod Queue

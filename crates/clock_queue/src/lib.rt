@@ -5,6 +5,8 @@
 mod lines;
 mod queue;
 mod ready;
+#[cfg(test)]
+mod tests;
 mod woken;
 
 pub use woken::Woken;

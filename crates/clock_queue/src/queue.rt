@@ -1,9 +1,9 @@
-ghost use Rattle.std.specs.Prelude.{◌≡◌, ℕ, ◌+◌, ◌-◌, ◌*◌, ◌<◌, ◌≤◌, [], ◌∷◌, ◌++◌, length, map, IfOk, OnOk, All};
+ghost use Rattle.std.specs.Prelude.{◌≡◌, ◌+◌, ◌<◌, ◌≤◌, [], ◌++◌, length, map, slice_index_or, slice_set, IfOk, OnOk, All};
+ghost use Rattle.std.specs.List.Sorted.{IsPermutation};
 ghost use Rattle.clock_processor.specs.Board.{IsBoard};
 ghost use Rattle.clock_processor.specs.Requests.{CanSettle};
-ghost use Rattle.clock_processor.specs.Settling as settling;
 ghost use Rattle.clock_queue.specs.Queue as states;
-ghost use Rattle.clock_queue.specs.Queue.{IsQueue, IsWithinCount, SameTerms, progress, room_in, with_first, work};
+ghost use Rattle.clock_queue.specs.Queue.{IsQueue, LeadsTo, SameTerms, StaysWithinTests, progress, progress_with, room_in, with_first, work};
 
 use crate::lines::{Lines, line_of, lines_for, woken_line};
 use crate::ready::Ready;
@@ -28,7 +28,7 @@ impl Queue {
     pub(crate) fn new(alloc: Global, board: Board, changes: &[Change]) -> Result<Queue, NoMemory>
         requires { CanSettle board changes.now }
         ensures queue { IfOk result (IsQueue changes.now) }
-        ensures counts { IfOk result (IsWithinCount changes.now) }
+        ensures counts { IfOk result (StaysWithinTests changes.now) }
         ensures board { IfOk result (λ queue. queue.board ≡ board) }
         ensures left { IfOk result (λ queue. queue.left ≡ map (λ change. change.amount) changes.now) }
         ensures none { IfOk result (λ queue. (queue.ready ≡ []) × (queue.admitted ≡ 0)) }
@@ -45,15 +45,15 @@ impl Queue {
     /// Admits the next request, and tests until none is ready.
     pub(crate) fn settle_next(&mut self, changes: &[Change]) -> Result<(), NoMemory>
         requires queue { IsQueue changes.now self.old }
-        requires counts { IsWithinCount changes.now self.old }
+        requires counts { StaysWithinTests changes.now self.old }
         requires none { self.old.ready ≡ [] }
         requires more { self.old.admitted < length changes.now }
         ensures queue { OnOk result (IsQueue changes.now self.new) }
-        ensures counts { OnOk result (IsWithinCount changes.now self.new) }
+        ensures counts { OnOk result (StaysWithinTests changes.now self.new) }
         ensures none { OnOk result (self.new.ready ≡ []) }
         ensures admitted { OnOk result (self.new.admitted ≡ self.old.admitted + 1) }
         ensures terms { OnOk result (SameTerms self.old self.new) }
-        ensures reached { OnOk result (settling.Reaches self.old.board.products self.old.board.eligibilities changes.now (progress self.old) (progress self.new)) }
+        ensures reached { OnOk result (LeadsTo changes.now self.old self.new) }
     {
         self.ready.push(self.admitted)?;
         self.admitted += 1;
@@ -64,13 +64,13 @@ impl Queue {
     /// Tests the first of the ready requests, until none is ready.
     fn run(&mut self, changes: &[Change]) -> Result<(), NoMemory>
         requires queue { IsQueue changes.now self.old }
-        requires counts { IsWithinCount changes.now self.old }
+        requires counts { StaysWithinTests changes.now self.old }
         ensures queue { OnOk result (IsQueue changes.now self.new) }
-        ensures counts { OnOk result (IsWithinCount changes.now self.new) }
+        ensures counts { OnOk result (StaysWithinTests changes.now self.new) }
         ensures none { OnOk result (self.new.ready ≡ []) }
         ensures admitted { OnOk result (self.new.admitted ≡ self.old.admitted) }
         ensures terms { OnOk result (SameTerms self.old self.new) }
-        ensures reached { OnOk result (settling.Reaches self.old.board.products self.old.board.eligibilities changes.now (progress self.old) (progress self.new)) }
+        ensures reached { OnOk result (LeadsTo changes.now self.old self.new) }
     {
         while let Some(place) = self.ready.pop() {
             self.test(changes, place)?;
@@ -82,13 +82,13 @@ impl Queue {
     /// is left of it waits; without room it waits whole.
     fn test(&mut self, changes: &[Change], place: usize) -> Result<(), NoMemory>
         requires queue { IsQueue changes.now (with_first place self.old) }
-        requires counts { IsWithinCount changes.now (with_first place self.old) }
+        requires counts { StaysWithinTests changes.now (with_first place self.old) }
         requires least { All (λ other. place ≤ other) self.old.ready }
         ensures queue { OnOk result (IsQueue changes.now self.new) }
-        ensures counts { OnOk result (IsWithinCount changes.now self.new) }
+        ensures counts { OnOk result (StaysWithinTests changes.now self.new) }
         ensures admitted { OnOk result (self.new.admitted ≡ self.old.admitted) }
         ensures terms { OnOk result (SameTerms self.old self.new) }
-        ensures reached { OnOk result (settling.Reaches self.old.board.products self.old.board.eligibilities changes.now (progress self.old) (progress self.new)) }
+        ensures reached { OnOk result (LeadsTo changes.now self.old self.new) }
         ensures less { OnOk result (work changes.now self.new < work changes.now (with_first place self.old)) }
     {
         let room = self.room(changes, place);
@@ -114,13 +114,13 @@ impl Queue {
     /// Applies a request by its whole room, and makes ready those that this may have made room for.
     fn apply(&mut self, changes: &[Change], place: usize, room: u64) -> Result<(), NoMemory>
         requires queue { IsQueue changes.now (with_first place self.old) }
-        requires counts { IsWithinCount changes.now self.old }
+        requires counts { StaysWithinTests changes.now self.old }
         requires is_board { IsBoard self.old.board.products self.old.board.eligibilities self.old.board.grid }
         requires room { room ≡ room_in changes.now self.old place }
         requires some { 0 < room }
         ensures queue { OnOk result (IsQueue changes.now (with_first place self.new)) }
-        ensures counts { OnOk result (IsWithinCount changes.now self.new) }
-        ensures applied { OnOk result (progress self.new ≡ settling.with_application self.old.board.products self.old.board.eligibilities changes.now (progress self.old) place) }
+        ensures counts { OnOk result (StaysWithinTests changes.now self.new) }
+        ensures applied { OnOk result (progress self.new ≡ progress_with changes.now self.old place) }
         ensures terms { OnOk result (SameTerms self.old self.new) }
         ensures no_room { OnOk result (room_in changes.now self.new place ≡ 0) }
         ensures less { OnOk result (work changes.now self.new < work changes.now self.old) }
@@ -128,7 +128,18 @@ impl Queue {
         let left = self.left.as_slice()[place];
         self.board.apply(&changes[place], room);
         self.left.set(place, left - room);
-        let woken = self.lines.take(woken_line(&changes[place]));
+        self.wake(woken_line(&changes[place]))?;
+        Ok(())
+    }
+
+    /// Makes all requests ready that wait in a line.
+    fn wake(&mut self, line: usize) -> Result<(), NoMemory>
+        requires { line < length self.old.lines }
+        ensures woken { OnOk result (IsPermutation (self.old.ready ++ slice_index_or self.old.lines line []) self.new.ready) }
+        ensures rest { OnOk result
+            (self.new ≡ record self.old { ready = self.new.ready; lines = slice_set self.old.lines line [] }) }
+    {
+        let woken = self.lines.take(line);
         self.ready.extend(woken.as_slice())?;
         Ok(())
     }
@@ -148,7 +159,8 @@ impl Queue {
 
     /// Ends the settling.
     pub(crate) fn end(self) -> Settled
-        ensures settled { result ≡ record { grid = self.board.grid; left = self.left; applied = self.board.applied; tests = self.board.tests } }
+        ensures settled { result
+            ≡ record { grid = self.board.grid; left = self.left; applied = self.board.applied; tests = self.board.tests } }
         ensures kept { IsBoard self.board.products self.board.eligibilities self.board.grid }
     {
         let Queue {

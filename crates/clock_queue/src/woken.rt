@@ -1,7 +1,7 @@
 ghost use Rattle.std.specs.Prelude.{IfOk};
 ghost use Rattle.clock_processor.specs.Requests.{CanSettle};
 ghost use Rattle.clock_processor.specs.Settlement.{IsSettlement, IsProperEnd};
-ghost use Rattle.clock_queue.specs.Tests.{IsWithinTests};
+ghost use Rattle.clock_queue.specs.Bound.{IsWithinTests};
 
 use crate::queue::Queue;
 use clock_bids::Changes;
@@ -25,10 +25,10 @@ impl Processor for Woken {
         ensures proper { IfOk result (λ settled. IsProperEnd board changes.now settled) }
         ensures tests { IfOk result (λ settled. IsWithinTests changes.now settled) }
     {
-        let changes = changes.as_slice();
-        let mut queue = Queue::new(alloc, board, changes)?;
-        for _place in 0..changes.len() {
-            queue.settle_next(changes)?;
+        let requests = changes.as_slice();
+        let mut queue = Queue::new(alloc, board, requests)?;
+        for _place in 0..requests.len() {
+            queue.settle_next(requests)?;
         }
         Ok(queue.end())
     }

@@ -12,15 +12,19 @@ use Rattle.clock_queue.proofs.Applies.{IsApplied, HoldsAfter, holds_after, in_ch
 use Rattle.clock_queue.proofs.queue.Queue.apply.Goals as goal
 
 -- what the calls say of the fields, as one application of the request at a place
-joined : (changes : List Change) (first room : ℕ) (old new : Queue) (one other : Change) (left_read : List ℕ) (line : ℕ) (taken : List ℕ) → first < length changes → room ≡ room_in changes old first →
-    one ≡ get_or changes first one → other ≡ get_or changes first other → new.board ≡ applied_to old.board one room → left_read ≡ old.left → new.left ≡ set old.left first (get_or left_read first 0 - room) → new.admitted ≡ old.admitted →
-    line ≡ woken_line other → new.lines ≡ set old.lines line [] → taken ≡ get_or old.lines line [] → IsPermutation (old.ready ++ taken) new.ready → IsApplied changes first old new
+joined : (changes : List Change) (first room : ℕ) (old new : Queue) (one other : Change) (left_read : List ℕ) (line : ℕ) (taken : List ℕ) →
+    first < length changes → room ≡ room_in changes old first →
+    one ≡ get_or changes first one → other ≡ get_or changes first other → new.board ≡ applied_to old.board one room → left_read ≡ old.left →
+    new.left ≡ set old.left first (get_or left_read first 0 - room) → new.admitted ≡ old.admitted →
+    line ≡ woken_line other → new.lines ≡ set old.lines line [] → taken ≡ get_or old.lines line [] → IsPermutation (old.ready ++ taken) new.ready →
+    IsApplied changes first old new
 joined changes first room old new one other left_read line taken lt room_is one_is other_is board read left admitted line_is lines taken_is moved =
     let change : one ≡ get_or changes first no_change = get_or_read changes first one lt one_is no_change in
     let of_line : line ≡ woken_line (get_or changes first no_change) = line_is ∙ ap woken_line (get_or_read changes first other lt other_is no_change) in
     record {
       board = board ∙ ap (λ c. applied_to old.board c room) change ∙ ap (λ n. applied_to old.board (get_or changes first no_change) n) room_is;
-      left = left ∙ ap (λ (list : List ℕ). set old.left first (get_or list first 0 - room)) read ∙ ap (λ n. set old.left first (get_or old.left first 0 - n)) room_is;
+      left = left ∙ ap (λ (list : List ℕ). set old.left first (get_or list first 0 - room)) read
+          ∙ ap (λ n. set old.left first (get_or old.left first 0 - n)) room_is;
       admitted = admitted;
       lines = lines ∙ ap (λ l. set old.lines l []) of_line;
       ready = subst (λ (list : List ℕ). IsPermutation (old.ready ++ list) new.ready) (taken_is ∙ ap (λ l. get_or old.lines l []) of_line) moved;
@@ -32,28 +36,39 @@ some_room room r same some = subst (λ n. 0 < n) same some
 pub apply-requires : goal.apply-requires
 apply-requires c =
     let some : 0 < room_in c.args.changes.now c.args.self.now c.args.place = some_room _ _ c.requires.room c.requires.some in
-    let lt : c.args.place < length c.args.changes.now = in_changes c.args.changes.now c.args.self.now c.args.place c.requires.queue c.requires.is_board some in
+    let lt : c.args.place < length c.args.changes.now =
+    in_changes c.args.changes.now c.args.self.now c.args.place c.requires.queue c.requires.is_board some in
     subst (λ (n : ℕ). MayApply c.args.self.now.board c.index-changes-place.result n) (sym c.requires.room)
-    (subst (λ (one : Change). MayApply c.args.self.now.board one (room_in c.args.changes.now c.args.self.now c.args.place)) (sym (get_or_read c.args.changes.now c.args.place c.index-changes-place.result lt c.index-changes-place.is no_change))
+    (subst (λ (one : Change). MayApply c.args.self.now.board one (room_in c.args.changes.now c.args.self.now c.args.place))
+    (sym (get_or_read c.args.changes.now c.args.place c.index-changes-place.result lt c.index-changes-place.is no_change))
     (may_apply_first c.args.changes.now c.args.self.now c.args.place c.requires.queue c.requires.is_board some))
 
-pub take-woken-requires : goal.take-woken-requires
-take-woken-requires c =
+pub wake-requires : goal.wake-requires
+wake-requires c =
     let some : 0 < room_in c.args.changes.now c.args.self.now c.args.place = some_room _ _ c.requires.room c.requires.some in
-    let lt : c.args.place < length c.args.changes.now = in_changes c.args.changes.now c.args.self.now c.args.place c.requires.queue c.requires.is_board some in
-    subst (λ (line : ℕ). line < length c.args.self.now.lines) (sym (c.woken_line.ensures ∙ ap woken_line (get_or_read c.args.changes.now c.args.place c.index-changes-place-2.result lt c.index-changes-place-2.is no_change)))
+    let lt : c.args.place < length c.args.changes.now =
+    in_changes c.args.changes.now c.args.self.now c.args.place c.requires.queue c.requires.is_board some in
+    let read = get_or_read c.args.changes.now c.args.place c.index-changes-place-2.result lt c.index-changes-place-2.is no_change in
+    subst (λ (line : ℕ). line < length c.args.self.now.lines) (sym (c.woken_line.ensures ∙ ap woken_line read))
     (woken_in c.args.changes.now c.args.self.now c.args.place c.requires.queue c.requires.is_board some)
 
 pub returns : goal.returns
 returns c =
     let some : 0 < room_in c.args.changes.now c.args.self.now c.args.place = some_room _ _ c.requires.room c.requires.some in
-    let lt : c.args.place < length c.args.changes.now = in_changes c.args.changes.now c.args.self.now c.args.place c.requires.queue c.requires.is_board some in
-    let new : Queue = record { board = c.apply.new.self; left = c.set.new.self; admitted = c.args.self.now.admitted; ready = c.extend.new.self; lines = c.take-woken.new.self } in
+    let lt : c.args.place < length c.args.changes.now =
+    in_changes c.args.changes.now c.args.self.now c.args.place c.requires.queue c.requires.is_board some in
+    let new : Queue = c.wake.new.self in
+    let applied : IsApplied c.args.changes.now c.args.place c.args.self.now new =
+    joined c.args.changes.now c.args.place c.args.room c.args.self.now new c.index-changes-place.result
+    c.index-changes-place-2.result c.as_slice.result.now c.woken_line.result
+    (get_or c.args.self.now.lines c.woken_line.result [])
+    lt c.requires.room c.index-changes-place.is c.index-changes-place-2.is
+    (ap (λ (queue : Queue). queue.board) c.in_ok-wake.ensures.rest ∙ c.apply.ensures.applied) c.as_slice.ensures
+    (ap (λ (queue : Queue). queue.left) c.in_ok-wake.ensures.rest ∙ c.set.ensures)
+    (ap (λ (queue : Queue). queue.admitted) c.in_ok-wake.ensures.rest)
+    c.woken_line.ensures (ap (λ (queue : Queue). queue.lines) c.in_ok-wake.ensures.rest) refl c.in_ok-wake.ensures.woken in
     let holds : HoldsAfter c.args.changes.now c.args.place c.args.self.now new =
-    holds_after c.args.changes.now c.args.place c.args.self.now new c.requires.queue c.requires.is_board some
-    (joined c.args.changes.now c.args.place c.args.room c.args.self.now new c.index-changes-place.result c.index-changes-place-2.result c.as_slice.result.now c.woken_line.result c.as_slice-2.result.now
-    lt c.requires.room c.index-changes-place.is c.index-changes-place-2.is c.apply.ensures.applied c.as_slice.ensures c.set.ensures refl
-    c.woken_line.ensures c.take-woken.ensures.rest (c.as_slice-2.ensures ∙ c.take-woken.ensures.taken) c.in_ok-extend.ensures) in
+    holds_after c.args.changes.now c.args.place c.args.self.now new c.requires.queue c.requires.is_board some applied in
     record {
       queue = holds.queue;
       counts = holds.counts c.requires.counts;

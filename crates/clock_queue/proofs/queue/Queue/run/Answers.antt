@@ -6,7 +6,8 @@ use Rattle.clock_queue.proofs.Steps.{reaches_on}
 use Rattle.clock_queue.proofs.queue.Queue.run.Goals as goal
 
 pub test-requires-clause-queue : goal.test-requires-clause-queue
-test-requires-clause-queue c = reordered c.args.changes.now c.loop-place.self (c.in-Some.place ∷ c.pop.new.self) c.loop-place.invariant.queue c.in-Some.ensures.taken
+test-requires-clause-queue c = reordered c.args.changes.now c.loop-place.self (c.in-Some.place ∷ c.pop.new.self) c.loop-place.invariant.queue
+    c.in-Some.ensures.taken
 
 pub test-requires-clause-counts : goal.test-requires-clause-counts
 test-requires-clause-counts c =
@@ -25,5 +26,6 @@ loop-place-preserved c = record {
     products = c.in_ok-test.ensures.terms.products ∙ c.loop-place.invariant.terms.products;
     eligibilities = c.in_ok-test.ensures.terms.eligibilities ∙ c.loop-place.invariant.terms.eligibilities;
   };
-  reached = reaches_on c.args.changes.now c.args.self.now c.loop-place.self c.test.new.self c.loop-place.invariant.terms c.loop-place.invariant.reached c.in_ok-test.ensures.reached;
+  reached = reaches_on c.args.changes.now c.args.self.now c.loop-place.self c.test.new.self c.loop-place.invariant.terms
+      c.loop-place.invariant.reached c.in_ok-test.ensures.reached;
 }

@@ -10,6 +10,8 @@ loop-place-preserved c =
     let i : ℕ = c.loop-place.place-index in
     let places : List ℕ = c.args.places.now in
     let more : (c.args.self.now ++ take i places) ++ get_or places i 0 ∷ [] ≡ c.args.self.now ++ take (i + 1) places =
-    append_assoc c.args.self.now (take i places) (get_or places i 0 ∷ []) ∙ ap (λ list. c.args.self.now ++ list) (sym (take_more places i 0 c.loop-place-test.true)) in
+    append_assoc c.args.self.now (take i places) (get_or places i 0 ∷ []) ∙ ap (λ list. c.args.self.now ++ list)
+    (sym (take_more places i 0 c.loop-place-test.true)) in
     subst (λ (list : List ℕ). IsPermutation list c.push.new.self) more
-    (IsPermutation-push_more (c.args.self.now ++ take i places) c.loop-place.self c.push.new.self (get_or places i 0) c.loop-place.invariant c.in_ok-push.ensures)
+    (IsPermutation-push_more (c.args.self.now ++ take i places) c.loop-place.self c.push.new.self (get_or places i 0) c.loop-place.invariant
+    c.in_ok-push.ensures)

@@ -19,5 +19,7 @@ not_less a b h = All-head (λ y. y ≤ a) b [] (le_from_greatest a (b ∷ []) (h
 pub returns-clause-least : goal.returns-clause-least
 returns-clause-least c =
     All-map (λ other. c.in_ok-place.field-0.0 ≤ other) (λ (item : Reverse ℕ). item.0) (heap_items c.pop.new.self)
-    (All-weaker (λ (item : Reverse ℕ). is_lt (nat_cmp item.0 c.in_ok-place.field-0.0) ≡ false) (λ (item : Reverse ℕ). c.in_ok-place.field-0.0 ≤ item.0) (λ item. not_less item.0 c.in_ok-place.field-0.0) (heap_items c.pop.new.self)
-    (All-from_recursion (λ (item : Reverse ℕ). is_lt (nat_cmp item.0 c.in_ok-place.field-0.0) ≡ false) (heap_items c.pop.new.self) (c.in_ok-place.ensures.below_top c.self.invariant)))
+    (All-weaker (λ (item : Reverse ℕ). is_lt (nat_cmp item.0 c.in_ok-place.field-0.0) ≡ false)
+    (λ (item : Reverse ℕ). c.in_ok-place.field-0.0 ≤ item.0) (λ item. not_less item.0 c.in_ok-place.field-0.0) (heap_items c.pop.new.self)
+    (All-from_recursion (λ (item : Reverse ℕ). is_lt (nat_cmp item.0 c.in_ok-place.field-0.0) ≡ false) (heap_items c.pop.new.self)
+    (c.in_ok-place.ensures.below_top c.self.invariant)))

@@ -3,7 +3,7 @@ use Rattle.std.proofs.Common.{List, sym, subst, ◌∙◌, arith}
 use Rattle.clock_bids.specs.declared.change.Change.{Change}
 use Rattle.clock_processor.specs.Requests.{CanSettle}
 use Rattle.clock_processor.specs.Settlement.{IsSettlement, IsProperEnd}
-use Rattle.clock_queue.specs.Tests.{IsWithinTests}
+use Rattle.clock_queue.specs.Bound.{IsWithinTests}
 use Rattle.clock_queue.proofs.Steps.{reaches_from}
 use Rattle.clock_queue.proofs.Ended.{IsDone, is_settlement, is_proper, is_within}
 use Rattle.clock_queue.proofs.woken.WokenProcessor.settle.Goals as goal
@@ -16,13 +16,13 @@ loop-place-preserved c = record {
   admitted = omega (arith, c.in_ok-settle_next.ensures.admitted, c.loop-place.invariant.admitted);
   products = c.in_ok-settle_next.ensures.terms.products ∙ c.loop-place.invariant.products;
   eligibilities = c.in_ok-settle_next.ensures.terms.eligibilities ∙ c.loop-place.invariant.eligibilities;
-  reached = reaches_from c.as_slice-changes.result.now c.args.board.products c.args.board.eligibilities _ c.loop-place.queue c.settle_next.new.self
+  reached = reaches_from c.as_slice-requests.result.now c.args.board.products c.args.board.eligibilities _ c.loop-place.queue c.settle_next.new.self
       c.loop-place.invariant.products c.loop-place.invariant.eligibilities c.loop-place.invariant.reached c.in_ok-settle_next.ensures.reached;
 }
 
 pub returns : goal.returns
 returns c =
-    let changes : List Change = c.as_slice-changes.result.now in
+    let changes : List Change = c.as_slice-requests.result.now in
     let done : IsDone c.args.board changes c.loop-place.queue = record {
       queue_is = c.loop-place.invariant.queue;
       counts = c.loop-place.invariant.counts;
@@ -32,9 +32,12 @@ returns c =
       eligibilities = c.loop-place.invariant.eligibilities;
       reached = c.loop-place.invariant.reached;
     } in
-    let can : CanSettle c.args.board changes = subst (λ (list : List Change). CanSettle c.args.board list) (sym c.as_slice-changes.ensures) c.requires in
+    let can : CanSettle c.args.board changes = subst (λ (list : List Change). CanSettle c.args.board list) (sym c.as_slice-requests.ensures) c.requires in
     record {
-      settlement = subst (λ (list : List Change). IsSettlement c.args.board list c.end.result) c.as_slice-changes.ensures (is_settlement c.args.board changes c.loop-place.queue c.end.result done c.end.ensures.settled can);
-      proper = subst (λ (list : List Change). IsProperEnd c.args.board list c.end.result) c.as_slice-changes.ensures (is_proper c.args.board changes c.loop-place.queue c.end.result done c.end.ensures.settled can c.end.ensures.kept);
-      tests = subst (λ (list : List Change). IsWithinTests list c.end.result) c.as_slice-changes.ensures (is_within c.args.board changes c.loop-place.queue c.end.result done c.end.ensures.settled);
+      settlement = subst (λ (list : List Change). IsSettlement c.args.board list c.end.result) c.as_slice-requests.ensures
+          (is_settlement c.args.board changes c.loop-place.queue c.end.result done c.end.ensures.settled can);
+      proper = subst (λ (list : List Change). IsProperEnd c.args.board list c.end.result) c.as_slice-requests.ensures
+          (is_proper c.args.board changes c.loop-place.queue c.end.result done c.end.ensures.settled can c.end.ensures.kept);
+      tests = subst (λ (list : List Change). IsWithinTests list c.end.result) c.as_slice-requests.ensures
+          (is_within c.args.board changes c.loop-place.queue c.end.result done c.end.ensures.settled);
     }

@@ -2,17 +2,18 @@ use Rattle.std.proofs.Common.{◌≡◌, [], map}
 use Rattle.clock_bids.specs.declared.change.Change.{Change}
 use Rattle.clock_processor.specs.Settling.{Reaches}
 use Rattle.clock_processor.specs.UnderWay.{progress_of}
-use Rattle.clock_queue.specs.Queue.{IsQueue, IsWithinCount, progress}
+use Rattle.clock_queue.specs.Queue.{IsQueue, StaysWithinTests, progress}
 use Rattle.clock_queue.proofs.woken.WokenProcessor.settle.Given as goal
 
 -- the requests so far are admitted, and none is ready
 abbrev pub invariant-loop-place : goal.invariant-loop-place
 invariant-loop-place l = record {
-  queue : IsQueue l.changes l.queue;
-  counts : IsWithinCount l.changes l.queue;
+  queue : IsQueue l.requests l.queue;
+  counts : StaysWithinTests l.requests l.queue;
   none : l.queue.ready ≡ [];
   admitted : l.queue.admitted ≡ l._place;
   products : l.queue.board.products ≡ l.fn.board.products;
   eligibilities : l.queue.board.eligibilities ≡ l.fn.board.eligibilities;
-  reached : Reaches l.fn.board.products l.fn.board.eligibilities l.changes (progress_of l.fn.board 0 (map (λ (change : Change). change.amount) l.changes)) (progress l.queue);
+  reached : Reaches l.fn.board.products l.fn.board.eligibilities l.requests
+      (progress_of l.fn.board 0 (map (λ (change : Change). change.amount) l.requests)) (progress l.queue);
 }
