@@ -5,7 +5,7 @@
 use clock_bids::Bid;
 use clock_house::House;
 use clock_processor::Plain;
-use clock_setup::read_setup;
+use clock_setup::{Increments, read_setup};
 use std::alloc::Global;
 use std::io::Read;
 use std::time::Instant;
@@ -35,7 +35,7 @@ fn main(rt: HostRuntime) -> anyhow::Result<()> {
         }
         println!(rt; "round {round}: {bidders} sheets of {products} bids in {} ms", begin.elapsed(&rt)?.as_millis())?;
         let begin = Instant::now(&rt)?;
-        house.close(round, 10, &[])?;
+        house.close(round, &Increments::Single(10), &[])?;
         println!(rt; "round {round}: closed in {} ms", begin.elapsed(&rt)?.as_millis())?;
     }
     Ok(())

@@ -1,95 +1,182 @@
-//! An auction under test: its steps as data, and what is seen of it afterwards.
+//! An auction as data: what is done to it and what is seen of it, step by step.
 
 use clock_bids::Bid;
 use clock_house::{CloseFault, House, PutFault};
 use clock_order::Tie;
 use clock_posting::sheet_lines;
-use clock_processor::Plain;
-use clock_setup::read_setup;
-use std::alloc::Global;
+use clock_processor::{Plain, Processor};
+use clock_queue::Woken;
+use clock_setup::{Amounts, Increments, read_setup};
+use std::alloc::{AllocError, Global};
 use std::process::Abort;
 use std::test::Fail;
 
-/// A step of the current round.
+/// A bid: the product's number, the quantity and the price.
+pub type Offer = (u64, u64, u64);
+
+/// A tie number: the bidder's number, the product's and the tie number.
+pub type Draw = (u64, u64, u64);
+
+/// What is done to an auction, or seen of it.
 #[derive(Clone, Copy)]
 pub enum Step<'a> {
-    /// A bidder puts a sheet of bids: product, quantity and price.
-    Sheet(u32, &'a [(u64, u64, u64)]),
-    /// The round is closed with an increment of 10 and tie numbers: bidder, product and number.
-    Closing(&'a [(u64, u64, u64)]),
+    /// A bidder puts a sheet for the current round.
+    Put(u32, &'a [Offer]),
+    /// A bidder's sheet for a round is refused.
+    RefusedPut(u32, u64, &'a [Offer], PutFault),
+    /// The current round is closed with one increment for all products.
+    Close(u64, &'a [Draw]),
+    /// The current round is closed with an increment for each product.
+    CloseEach(&'a [u64]),
+    /// A closing of a round is refused.
+    RefusedClose(u64, u64, &'a [Draw], CloseFault),
+    /// A closing of the current round with an increment for each product is refused.
+    RefusedCloseEach(&'a [u64], CloseFault),
+    /// A closed round has these lines.
+    Lines(u64, &'a [u8]),
+    /// A bidder holds this eligibility and these demands.
+    Holds(u32, u64, &'a [u64]),
+    /// A bidder has these bids in force, or none.
+    InForce(u32, Option<&'a [Offer]>),
+    /// A bidder's slip of a round: activity, eligibility and demands.
+    Slip(u32, u64, u64, u64, &'a [u64]),
+    /// The current round, and whether the auction has ended.
+    Stands(u64, bool),
 }
 
-/// A house that rescans, before its first round.
-pub fn opened(alloc: Global, document: &[u8]) -> Result<House<Plain>, Fail> {
-    let setup = read_setup(alloc, document)?;
-    Ok(House::new(alloc, setup, Plain)?)
+/// Takes the steps one after the other, on an auction of this set-up: once with the rescanned list
+/// and once with the event queue.
+pub fn play(rt: &impl Abort, alloc: Global, document: &[u8], steps: &[Step]) -> Result<(), Fail> {
+    play_with(rt, alloc, document, Plain, steps)?;
+    play_with(rt, alloc, document, Woken, steps)
 }
 
-/// Puts a sheet for a round, of a bidder of the set-up.
-pub fn put(
+/// Takes the steps one after the other, on an auction of this set-up with this processor.
+fn play_with<P: Processor + Drop>(
     rt: &impl Abort,
     alloc: Global,
-    house: &mut House<Plain>,
-    bidder: u32,
-    round: u64,
-    offers: &[(u64, u64, u64)],
-) -> Result<(), PutFault> {
-    let mut bids = Vec::new(alloc);
-    for &(product, quantity, price) in offers {
-        let bid = Bid {
-            product,
-            quantity,
-            price,
-        };
-        assert!(rt; bids.push(bid).is_ok());
-    }
-    assert!(rt; (bidder as usize) < house.setup().bidders.as_slice().len());
-    house.put_sheet(bidder, round, bids.as_slice())
-}
-
-/// Closes a round.
-pub fn close(
-    rt: &impl Abort,
-    alloc: Global,
-    house: &mut House<Plain>,
-    round: u64,
-    increment: u64,
-    listed: &[(u64, u64, u64)],
-) -> Result<(), CloseFault> {
-    let mut ties = Vec::new(alloc);
-    for &(bidder, product, number) in listed {
-        let tie = Tie {
-            bidder,
-            product,
-            number,
-        };
-        assert!(rt; ties.push(tie).is_ok());
-    }
-    house.close(round, increment, ties.as_slice())
-}
-
-/// Takes steps that are all accepted.
-pub fn play(
-    rt: &impl Abort,
-    alloc: Global,
-    house: &mut House<Plain>,
+    document: &[u8],
+    processor: P,
     steps: &[Step],
 ) -> Result<(), Fail> {
+    let setup = read_setup(alloc, document)?;
+    let mut house = House::new(alloc, setup, processor)?;
     for step in steps {
-        let round = house.round();
-        match *step {
-            Step::Sheet(bidder, offers) => put(rt, alloc, house, bidder, round, offers)?,
-            Step::Closing(ties) => close(rt, alloc, house, round, 10, ties)?,
-        }
+        take(rt, alloc, &mut house, step)?;
     }
     Ok(())
 }
 
-/// Asserts the lines of a closed round.
-pub fn assert_lines(
+/// Takes one step.
+fn take<P: Processor>(
     rt: &impl Abort,
     alloc: Global,
-    house: &House<Plain>,
+    house: &mut House<P>,
+    step: &Step,
+) -> Result<(), Fail> {
+    let round = house.round();
+    match *step {
+        Step::Put(bidder, offers) => put(rt, alloc, house, bidder, round, offers, Ok(())),
+        Step::RefusedPut(bidder, round, offers, fault) => {
+            put(rt, alloc, house, bidder, round, offers, Err(fault))
+        }
+        Step::Close(increment, draws) => close(rt, alloc, house, round, increment, draws, Ok(())),
+        Step::CloseEach(increments) => close_each(rt, alloc, house, round, increments, Ok(())),
+        Step::RefusedClose(round, increment, draws, fault) => {
+            close(rt, alloc, house, round, increment, draws, Err(fault))
+        }
+        Step::RefusedCloseEach(increments, fault) => {
+            close_each(rt, alloc, house, round, increments, Err(fault))
+        }
+        Step::Lines(round, lines) => see_lines(rt, alloc, house, round, lines),
+        Step::Holds(bidder, eligibility, demands) => {
+            see_held(rt, house, bidder, eligibility, demands)
+        }
+        Step::InForce(bidder, offers) => see_in_force(rt, alloc, house, bidder, offers),
+        Step::Slip(bidder, round, activity, eligibility, demands) => {
+            see_slip(rt, house, bidder, round, (activity, eligibility), demands)
+        }
+        Step::Stands(round, ended) => see_round(rt, house, round, ended),
+    }
+}
+
+/// The bids of a sheet.
+fn bids_of(alloc: Global, offers: &[Offer]) -> Result<Vec<Bid>, AllocError> {
+    let mut bids = Vec::new(alloc);
+    for &(product, quantity, price) in offers {
+        bids.push(Bid {
+            product,
+            quantity,
+            price,
+        })?;
+    }
+    Ok(bids)
+}
+
+/// A tie list.
+fn ties_of(alloc: Global, draws: &[Draw]) -> Result<Vec<Tie>, AllocError> {
+    let mut ties = Vec::new(alloc);
+    for &(bidder, product, number) in draws {
+        ties.push(Tie {
+            bidder,
+            product,
+            number,
+        })?;
+    }
+    Ok(ties)
+}
+
+/// Puts a sheet, and asserts the answer.
+fn put<P: Processor>(
+    rt: &impl Abort,
+    alloc: Global,
+    house: &mut House<P>,
+    bidder: u32,
+    round: u64,
+    offers: &[Offer],
+    answer: Result<(), PutFault>,
+) -> Result<(), Fail> {
+    let bids = bids_of(alloc, offers)?;
+    assert!(rt; (bidder as usize) < house.setup().bidders.as_slice().len());
+    assert_eq!(rt; house.put_sheet(bidder, round, bids.as_slice()), answer);
+    Ok(())
+}
+
+/// Closes a round with one increment for all products, and asserts the answer.
+fn close<P: Processor>(
+    rt: &impl Abort,
+    alloc: Global,
+    house: &mut House<P>,
+    round: u64,
+    increment: u64,
+    draws: &[Draw],
+    answer: Result<(), CloseFault>,
+) -> Result<(), Fail> {
+    let ties = ties_of(alloc, draws)?;
+    let increments = Increments::Single(increment);
+    assert_eq!(rt; house.close(round, &increments, ties.as_slice()), answer);
+    Ok(())
+}
+
+/// Closes a round with an increment for each product, and asserts the answer.
+fn close_each<P: Processor>(
+    rt: &impl Abort,
+    alloc: Global,
+    house: &mut House<P>,
+    round: u64,
+    increments: &[u64],
+    answer: Result<(), CloseFault>,
+) -> Result<(), Fail> {
+    let increments = Increments::PerProduct(Amounts::from_slice(alloc, increments)?);
+    assert_eq!(rt; house.close(round, &increments, &[]), answer);
+    Ok(())
+}
+
+/// Asserts the lines of a closed round.
+fn see_lines<P: Processor>(
+    rt: &impl Abort,
+    alloc: Global,
+    house: &House<P>,
     round: u64,
     expected: &[u8],
 ) -> Result<(), Fail> {
@@ -100,27 +187,68 @@ pub fn assert_lines(
     Ok(())
 }
 
-/// Asserts what each bidder holds: its eligibility and its demands.
-pub fn assert_held(rt: &impl Abort, house: &House<Plain>, expected: &[(u64, &[u64])]) {
-    for (bidder, &(eligibility, demands)) in expected.iter().enumerate() {
-        assert!(rt; bidder < house.setup().bidders.as_slice().len() && bidder < 512);
-        let own = house.own(bidder as u32);
-        assert_eq!(rt; own.eligibility, eligibility);
-        assert_eq!(rt; own.demands, demands);
-    }
+/// Asserts what a bidder holds: its eligibility and its demands.
+fn see_held<P: Processor>(
+    rt: &impl Abort,
+    house: &House<P>,
+    bidder: u32,
+    eligibility: u64,
+    demands: &[u64],
+) -> Result<(), Fail> {
+    assert!(rt; (bidder as usize) < house.setup().bidders.as_slice().len());
+    let own = house.own(bidder);
+    assert_eq!(rt; own.eligibility, eligibility);
+    assert_eq!(rt; own.demands, demands);
+    Ok(())
 }
 
 /// Asserts the bids that a bidder has in force.
-pub fn assert_in_force(
+fn see_in_force<P: Processor>(
     rt: &impl Abort,
-    house: &House<Plain>,
+    alloc: Global,
+    house: &House<P>,
     bidder: u32,
-    expected: Option<&[Bid]>,
-) {
+    offers: Option<&[Offer]>,
+) -> Result<(), Fail> {
+    let bids = bids_of(alloc, offers.unwrap_or(&[]))?;
     assert!(rt; (bidder as usize) < house.setup().bidders.as_slice().len());
-    let held = match house.bids(bidder) {
-        Some(sheet) => Some(sheet.bids()),
-        None => None,
-    };
-    assert_eq!(rt; held, expected);
+    match house.bids(bidder) {
+        Some(sheet) => {
+            assert!(rt; offers.is_some());
+            assert_eq!(rt; sheet.bids(), bids.as_slice());
+        }
+        None => assert!(rt; offers.is_none()),
+    }
+    Ok(())
+}
+
+/// Asserts what the slip of a round tells a bidder: activity and eligibility, and demands.
+fn see_slip<P: Processor>(
+    rt: &impl Abort,
+    house: &House<P>,
+    bidder: u32,
+    round: u64,
+    activity_and_eligibility: (u64, u64),
+    demands: &[u64],
+) -> Result<(), Fail> {
+    assert!(rt; (bidder as usize) < house.setup().bidders.as_slice().len());
+    let slip = house.slip(bidder, round).ok_or("no slip")?;
+    assert_eq!(rt; slip.round, round);
+    assert_eq!(rt; (slip.activity, slip.eligibility), activity_and_eligibility);
+    assert_eq!(rt; slip.demands.as_slice(), demands);
+    Ok(())
+}
+
+/// Asserts the current round and whether the auction has ended, and that no later round is closed.
+fn see_round<P: Processor>(
+    rt: &impl Abort,
+    house: &House<P>,
+    round: u64,
+    ended: bool,
+) -> Result<(), Fail> {
+    assert_eq!(rt; house.round(), round);
+    assert_eq!(rt; house.ended(), ended);
+    assert_eq!(rt; house.sheet(round).is_some(), ended);
+    assert!(rt; house.sheet(0).is_none());
+    Ok(())
 }

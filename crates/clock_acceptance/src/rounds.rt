@@ -1,8 +1,14 @@
 //! Whole rounds: what is applied, what is posted, and what each bidder is left with.
 
-use crate::auction::Step::{Closing, Sheet};
-use crate::auction::{Step, assert_held, assert_lines, opened, play};
-use crate::documents::{ONE_PRODUCT, TWO_PRODUCTS};
+use crate::auction::Step::{
+    Close, CloseEach, Holds, Lines, Put, RefusedCloseEach, RefusedPut, Slip, Stands,
+};
+use crate::auction::{Step, play};
+use crate::documents::{
+    ACTIVITY_LIMIT, GRANULES_AND_INCREMENTS, NO_MORE_THAN_ELIGIBILITY, ONE_PRODUCT, TWO_PRODUCTS,
+};
+use clock_bids::BidFault;
+use clock_house::{CloseFault, PutFault};
 use std::alloc::Global;
 use std::process::Abort;
 use std::test::Fail;
@@ -13,157 +19,183 @@ const Y: u32 = 1;
 
 const Z: u32 = 2;
 
-/// The second round of an auction of one product, after X asked for 2 blocks and Y for 1 of a
-/// supply of 2: what it posts, and what X and Y are left with.
-fn second_round(
-    rt: &impl Abort,
-    alloc: Global,
-    steps: &[Step],
-    posted: &[u8],
-    held: &[(u64, &[u64])],
-) -> Result<(), Fail> {
-    let mut house = opened(alloc, ONE_PRODUCT)?;
-    let first = [
-        Sheet(X, &[(0, 2, 100)]),
-        Sheet(Y, &[(0, 1, 100)]),
-        Closing(&[]),
-    ];
-    play(rt, alloc, &mut house, &first)?;
-    assert_lines(rt, alloc, &house, 1, b"round 1\nA 100 100 100 3 110\n")?;
-    play(rt, alloc, &mut house, steps)?;
-    assert_lines(rt, alloc, &house, 2, posted)?;
-    assert_held(rt, &house, held);
-    assert!(rt; house.ended());
-    Ok(())
+/// The bidder Z, where there is no Y.
+const SECOND: u32 = 1;
+
+/// A sheet asks for more activity than it may.
+const OVER: PutFault = PutFault::Bid(BidFault::OverActivity);
+
+/// The first round of an auction of one product: X asks for 2 blocks and Y for 1 of a supply of 2.
+const FIRST_ROUND: [Step; 4] = [
+    Put(X, &[(0, 2, 100)]),
+    Put(Y, &[(0, 1, 100)]),
+    Close(10, &[]),
+    Lines(1, b"round 1\nA 100 100 100 3 110\n"),
+];
+
+/// A second round behind that first one. The auction ends with it.
+fn second_round(rt: &impl Abort, alloc: Global, steps: &[Step]) -> Result<(), Fail> {
+    let mut all = Vec::new(alloc);
+    all.extend_from_slice(FIRST_ROUND.as_slice())?;
+    all.extend_from_slice(steps)?;
+    all.push(Stands(2, true))?;
+    play(rt, alloc, ONE_PRODUCT, all.as_slice())
 }
 
 #[test]
 fn drop_without_room_keeps_demand(rt: HostRuntime) -> Result<(), Fail> {
-    let steps = [Sheet(X, &[(0, 0, 103)]), Closing(&[])];
-    let posted = b"round 2\nA 100 110 100 - -\n";
-    second_round(&rt, rt.alloc(), &steps, posted, &[(3, &[2]), (0, &[0])])
+    let steps = [
+        Put(X, &[(0, 0, 103)]),
+        Close(10, &[]),
+        Lines(2, b"round 2\nA 100 110 100 - -\n"),
+        Holds(X, 3, &[2]),
+        Holds(Y, 0, &[0]),
+    ];
+    second_round(&rt, rt.alloc(), &steps)
 }
 
 #[test]
 fn drop_is_applied_as_far_as_there_is_excess(rt: HostRuntime) -> Result<(), Fail> {
     let steps = [
-        Sheet(X, &[(0, 0, 103)]),
-        Sheet(Y, &[(0, 1, 110)]),
-        Closing(&[]),
+        Put(X, &[(0, 0, 103)]),
+        Put(Y, &[(0, 1, 110)]),
+        Close(10, &[]),
+        Lines(2, b"round 2\nA 100 110 103 - -\n"),
+        Holds(X, 2, &[1]),
+        Holds(Y, 2, &[1]),
     ];
-    let posted = b"round 2\nA 100 110 103 - -\n";
-    second_round(&rt, rt.alloc(), &steps, posted, &[(2, &[1]), (2, &[1])])
+    second_round(&rt, rt.alloc(), &steps)
 }
 
 #[test]
 fn lower_tie_number_goes_first_at_equal_points(rt: HostRuntime) -> Result<(), Fail> {
     let steps = [
-        Sheet(X, &[(0, 1, 104)]),
-        Sheet(Y, &[(0, 0, 104)]),
-        Closing(&[(0, 0, 9), (1, 0, 3)]),
+        Put(X, &[(0, 1, 104)]),
+        Put(Y, &[(0, 0, 104)]),
+        Close(10, &[(0, 0, 9), (1, 0, 3)]),
+        Lines(2, b"round 2\nA 100 110 104 - -\n"),
+        Holds(X, 3, &[2]),
+        Holds(Y, 0, &[0]),
     ];
-    let posted = b"round 2\nA 100 110 104 - -\n";
-    second_round(&rt, rt.alloc(), &steps, posted, &[(3, &[2]), (0, &[0])])
+    second_round(&rt, rt.alloc(), &steps)
 }
 
 #[test]
 fn lower_bidder_goes_first_without_tie_numbers(rt: HostRuntime) -> Result<(), Fail> {
     let steps = [
-        Sheet(X, &[(0, 1, 104)]),
-        Sheet(Y, &[(0, 0, 104)]),
-        Closing(&[]),
+        Put(X, &[(0, 1, 104)]),
+        Put(Y, &[(0, 0, 104)]),
+        Close(10, &[]),
+        Lines(2, b"round 2\nA 100 110 104 - -\n"),
+        Holds(X, 2, &[1]),
+        Holds(Y, 2, &[1]),
     ];
-    let posted = b"round 2\nA 100 110 104 - -\n";
-    second_round(&rt, rt.alloc(), &steps, posted, &[(2, &[1]), (2, &[1])])
+    second_round(&rt, rt.alloc(), &steps)
 }
 
 #[test]
 fn missing_sheets_drop_at_the_start_price(rt: HostRuntime) -> Result<(), Fail> {
-    let posted = b"round 2\nA 100 110 100 - -\n";
-    second_round(
-        &rt,
-        rt.alloc(),
-        &[Closing(&[])],
-        posted,
-        &[(2, &[1]), (2, &[1])],
-    )
+    let steps = [
+        Close(10, &[]),
+        Lines(2, b"round 2\nA 100 110 100 - -\n"),
+        Holds(X, 2, &[1]),
+        Holds(Y, 2, &[1]),
+    ];
+    second_round(&rt, rt.alloc(), &steps)
 }
 
 #[test]
 fn freed_request_is_taken_up_again(rt: HostRuntime) -> Result<(), Fail> {
-    let mut house = opened(rt.alloc(), TWO_PRODUCTS)?;
-    let first = [
-        Sheet(X, &[(1, 2, 100)]),
-        Sheet(Y, &[(0, 2, 100)]),
-        Sheet(Z, &[(1, 1, 100)]),
-        Closing(&[]),
+    let steps = [
+        Put(X, &[(1, 2, 100)]),
+        Put(Y, &[(0, 2, 100)]),
+        Put(Z, &[(1, 1, 100)]),
+        Close(10, &[]),
+        Lines(1, b"round 1\nA 100 100 100 - 110\nB 100 100 100 3 110\n"),
+        Put(Y, &[(0, 1, 102)]),
+        Put(X, &[(0, 1, 104), (1, 1, 106)]),
+        Put(Z, &[(1, 1, 110)]),
+        Close(10, &[]),
+        Lines(2, b"round 2\nA 100 110 102 - -\nB 100 110 106 - -\n"),
+        Holds(X, 2, &[1, 1]),
+        Holds(Y, 1, &[1, 0]),
+        Holds(Z, 1, &[0, 1]),
+        Stands(2, true),
     ];
-    play(&rt, rt.alloc(), &mut house, &first)?;
-    assert_lines(
-        &rt,
-        rt.alloc(),
-        &house,
-        1,
-        b"round 1\nA 100 100 100 - 110\nB 100 100 100 3 110\n",
-    )?;
-    let second = [
-        Sheet(Y, &[(0, 1, 102)]),
-        Sheet(X, &[(0, 1, 104), (1, 1, 106)]),
-        Sheet(Z, &[(1, 1, 110)]),
-        Closing(&[]),
-    ];
-    play(&rt, rt.alloc(), &mut house, &second)?;
-    assert_lines(
-        &rt,
-        rt.alloc(),
-        &house,
-        2,
-        b"round 2\nA 100 110 102 - -\nB 100 110 106 - -\n",
-    )?;
-    assert_held(&rt, &house, &[(2, &[1, 1]), (1, &[1, 0]), (1, &[0, 1])]);
-    assert!(rt; house.ended());
-    Ok(())
+    play(&rt, rt.alloc(), TWO_PRODUCTS, &steps)
 }
 
 #[test]
 fn product_without_excess_is_raised_too(rt: HostRuntime) -> Result<(), Fail> {
-    let mut house = opened(rt.alloc(), TWO_PRODUCTS)?;
     let steps = [
-        Sheet(X, &[(1, 2, 100)]),
-        Sheet(Y, &[(0, 1, 100)]),
-        Sheet(Z, &[(1, 1, 100)]),
-        Closing(&[]),
-        Sheet(X, &[(1, 2, 110)]),
-        Sheet(Z, &[(1, 1, 110)]),
-        Closing(&[]),
+        Put(X, &[(1, 2, 100)]),
+        Put(Y, &[(0, 1, 100)]),
+        Put(Z, &[(1, 1, 100)]),
+        Close(10, &[]),
+        Put(X, &[(1, 2, 110)]),
+        Put(Z, &[(1, 1, 110)]),
+        Close(10, &[]),
+        Lines(2, b"round 2\nA 100 110 100 - 110\nB 100 110 110 3 121\n"),
+        Holds(X, 2, &[0, 2]),
+        Holds(Y, 1, &[1, 0]),
+        Holds(Z, 1, &[0, 1]),
+        Stands(3, false),
     ];
-    play(&rt, rt.alloc(), &mut house, &steps)?;
-    assert_lines(
-        &rt,
-        rt.alloc(),
-        &house,
-        2,
-        b"round 2\nA 100 110 100 - 110\nB 100 110 110 3 121\n",
-    )?;
-    assert_held(&rt, &house, &[(2, &[0, 2]), (1, &[1, 0]), (1, &[0, 1])]);
-    assert!(rt; !house.ended());
-    assert_eq!(rt; house.round(), 3);
-    Ok(())
+    play(&rt, rt.alloc(), TWO_PRODUCTS, &steps)
 }
 
 #[test]
 fn a_slip_tells_a_bidder_its_own_results(rt: HostRuntime) -> Result<(), Fail> {
-    let mut house = opened(rt.alloc(), ONE_PRODUCT)?;
-    play(
-        &rt,
-        rt.alloc(),
-        &mut house,
-        &[Sheet(X, &[(0, 2, 100)]), Closing(&[])],
-    )?;
-    assert!(rt; house.setup().bidders.as_slice().len() == 2);
-    let slip = house.slip(X, 1).ok_or("no slip")?;
-    assert_eq!(rt; (slip.round, slip.activity, slip.eligibility), (1, 2, 3));
-    assert_eq!(rt; slip.demands.as_slice(), [2].as_slice());
-    assert!(rt; house.slip(X, 2).is_none() && house.sheet(2).is_none() && house.sheet(0).is_none());
-    Ok(())
+    let steps = [
+        Put(X, &[(0, 2, 100)]),
+        Close(10, &[]),
+        Slip(X, 1, 2, 3, &[2]),
+        Slip(Y, 1, 0, 0, &[0]),
+        Stands(1, true),
+    ];
+    play(&rt, rt.alloc(), ONE_PRODUCT, &steps)
+}
+
+#[test]
+fn each_product_rises_by_its_increment_to_its_granule(rt: HostRuntime) -> Result<(), Fail> {
+    let steps = [
+        Put(X, &[(1, 2, 100)]),
+        Put(Y, &[(0, 2, 100)]),
+        Put(Z, &[(1, 1, 100)]),
+        RefusedCloseEach(&[10], CloseFault::Increment),
+        RefusedCloseEach(&[10, 51], CloseFault::Increment),
+        CloseEach(&[10, 20]),
+        Lines(1, b"round 1\nA 100 100 100 - 125\nB 100 100 100 3 120\n"),
+        Stands(2, false),
+    ];
+    play(&rt, rt.alloc(), GRANULES_AND_INCREMENTS, &steps)
+}
+
+#[test]
+fn a_sheet_may_ask_for_activity_up_to_the_limit(rt: HostRuntime) -> Result<(), Fail> {
+    let steps = [
+        RefusedPut(X, 1, &[(0, 4, 100), (1, 1, 100)], OVER),
+        Put(X, &[(0, 4, 100)]),
+        Put(SECOND, &[(0, 4, 100)]),
+        CloseEach(&[10, 10]),
+        Lines(1, b"round 1\nA 100 100 100 8 110\nB 100 100 100 - 110\n"),
+        RefusedPut(X, 2, &[(0, 3, 104), (1, 3, 106)], OVER),
+        Put(X, &[(0, 3, 104), (1, 2, 106)]),
+        Put(SECOND, &[(0, 4, 110)]),
+        CloseEach(&[10, 10]),
+        Lines(2, b"round 2\nA 100 110 110 7 121\nB 100 110 100 - 110\n"),
+        Slip(X, 2, 8, 8, &[3, 1]),
+    ];
+    play(&rt, rt.alloc(), ACTIVITY_LIMIT, &steps)
+}
+
+#[test]
+fn without_a_higher_limit_the_eligibility_binds(rt: HostRuntime) -> Result<(), Fail> {
+    let steps = [
+        Put(X, &[(0, 4, 100)]),
+        Put(SECOND, &[(0, 4, 100)]),
+        Close(10, &[]),
+        RefusedPut(X, 2, &[(0, 3, 104), (1, 2, 106)], OVER),
+    ];
+    play(&rt, rt.alloc(), NO_MORE_THAN_ELIGIBILITY, &steps)
 }

@@ -28,12 +28,18 @@ none_taken false v never = refl
 module _ {E : Type 0} (gives : List ℕ → Result ℕ E → Type 0) (parses : (t : List ℕ) (r : Result ℕ E) → gives t r → ParsesUnsigned 64 10 t r) where
   read_at : (t : List ℕ) (r : Option ℕ) → ReadsOne gives t r → within_limits r ≡ increment_from t
   read_at t None given =
-      none_taken (is_unsigned_in 1 50 t) _ (λ e. let accepted = accepts-Accepts false (parser.Unsigned 1 50) t e in parses t (Err given.0) given.1 (accepted.0, accepted.1))
+      none_taken (is_unsigned_in 1 50 t) _ (λ e. let accepted = accepts-Accepts false (parser.Unsigned 1 50) t e in
+      parses t (Err given.0) given.1 (accepted.0, accepted.1))
   read_at t (Some n) given =
       let parsed = parses t (Ok n) given in
       same_choice (nat_le 1 n && nat_le n 50) (is_unsigned_in 1 50 t) n _ parsed.1
       (λ e. let limits = both (nat_le 1 n) (nat_le n 50) e in
-      Accepts-accepts false (parser.Unsigned 1 50) t (parsed.0.0, parsed.0.1, subst (λ (k : ℕ). 1 ≤ k) parsed.1 (leb-true _ _ limits.0), subst (λ (k : ℕ). k ≤ 50) parsed.1 (leb-true _ _ limits.1)))
+      Accepts-accepts false (parser.Unsigned 1 50) t (
+        parsed.0.0,
+        parsed.0.1,
+        subst (λ (k : ℕ). 1 ≤ k) parsed.1 (leb-true _ _ limits.0),
+        subst (λ (k : ℕ). k ≤ 50) parsed.1 (leb-true _ _ limits.1),
+      ))
       (λ e. let accepted = accepts-Accepts false (parser.Unsigned 1 50) t e in
       rw (le-leb 1 n (subst (λ (k : ℕ). 1 ≤ k) (sym parsed.1) accepted.2), le-leb n 50 (subst (λ (k : ℕ). k ≤ 50) (sym parsed.1) accepted.3)) refl)
 

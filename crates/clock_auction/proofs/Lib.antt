@@ -2,3 +2,4 @@ mod IncrementText
 mod Grammar
 mod Reading
 mod Outcomes
+mod Limited

@@ -6,6 +6,7 @@ use Rattle.clock_setup.specs.Prices.{opening_prices}
 use Rattle.clock_setup.specs.SetupDocument.{document_setup}
 use Rattle.clock_setup.specs.OpeningDocument.{document_opening}
 use Rattle.clock_setup.specs.declared.fault.SetupFault.{SetupFault}
+use Rattle.clock_setup.specs.declared.increments.Increments.TheVariants.{Single}
 use Rattle.clock_setup.specs.declared.opening.Opening.{Opening}
 use Rattle.clock_setup.specs.declared.opening.OpeningFault.{OpeningFault}
 use Rattle.clock_posting.specs.Posting.{opening_posted, price_limit_fault, round_sheet}
@@ -26,13 +27,14 @@ abbrev pub unless_limited : Option ℕ → List ℕ → Result (List ℕ) Fault
 unless_limited None text = Ok text
 unless_limited (Some product) text = Err (fault.PriceLimit product)
 
--- the lines of the sheet of round 1, where the opening prices are posted
+-- the lines of the sheet of round 1, where the opening prices are posted and one increment stands for all products
 abbrev pub first_round : Opening → Result (List ℕ) Fault
 first_round opening =
     let products = opening.setup.products in
     let posted = opening_posted products in
-    unless_limited (price_limit_fault products opening.grid posted opening.increment)
-    (sheet_text products (round_sheet 1 products (opening_prices products) opening.grid posted opening.increment))
+    let increments = Single opening.increment in
+    unless_limited (price_limit_fault products opening.grid posted increments)
+    (sheet_text products (round_sheet 1 products (opening_prices products) opening.grid posted increments))
 
 -- the lines of round 1 of the opening that was read
 abbrev pub opening_lines_of : Result Opening OpeningFault → Result (List ℕ) Fault

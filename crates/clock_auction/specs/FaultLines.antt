@@ -13,6 +13,7 @@ use Rattle.clock_auction.specs.declared.fault.Fault.TheVariants as fault
 -- where in a set-up the value stands
 abbrev pub place_words : Place → List ℕ
 place_words place.Requirement = codes "requirement"
+place_words place.Limit = codes "limit"
 place_words place.Operator = codes "operator"
 place_words place.Products = codes "products"
 place_words (place.Name i) = codes "name " ++ decimal i
@@ -20,6 +21,7 @@ place_words (place.Units i) = codes "units " ++ decimal i
 place_words (place.Supply i) = codes "supply " ++ decimal i
 place_words (place.Cap i) = codes "cap " ++ decimal i
 place_words (place.Opening i) = codes "opening " ++ decimal i
+place_words (place.Granule i) = codes "granule " ++ decimal i
 place_words place.Bidders = codes "bidders"
 place_words (place.BidderName i) = codes "bidder_name " ++ decimal i
 place_words (place.Token i) = codes "token " ++ decimal i

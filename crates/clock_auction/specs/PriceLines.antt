@@ -6,10 +6,11 @@ use Rattle.clock_device.specs.Decimal.{number_or_dash}
 use Rattle.clock_money.specs.Price.{raise}
 use Rattle.clock_setup.specs.declared.setup.Product.{Product}
 
--- NAME OPENING CLOCK, parted by one space, where the clock price is the opening price raised by so many percent
+-- NAME OPENING CLOCK, parted by one space, where the clock price is the opening price raised by so many percent to a whole
+-- multiple of the product's granule
 abbrev pub price_line : ℕ → Product → List ℕ
 price_line increment product =
-    product.name ++ codes " " ++ decimal product.opening ++ codes " " ++ number_or_dash (raise product.opening increment) ++ codes "\n"
+    product.name ++ codes " " ++ decimal product.opening ++ codes " " ++ number_or_dash (raise product.opening increment product.granule) ++ codes "\n"
 
 -- a line for each product
 abbrev pub price_lines : ℕ → List Product → List ℕ

@@ -7,7 +7,7 @@ use crate::prices::prices_text;
 use crate::words::Job;
 use clock_device::Text;
 use clock_posting::{PostFault, post_first, sheet_lines};
-use clock_setup::{OpeningFault, SetupFault, read_opening, read_setup};
+use clock_setup::{Increments, OpeningFault, SetupFault, read_opening, read_setup};
 use std::alloc::Global;
 
 /// What the job prints of the document, or the document's fault.
@@ -46,7 +46,8 @@ fn opening_answer(alloc: Global, document: &[u8]) -> Result<Text, Fault>
         Err(OpeningFault::NoMemory) => return Err(Fault::Memory),
         Err(fault) => return Err(Fault::Opening(fault)),
     };
-    let posting = match post_first(alloc, &opening.setup, &opening.grid, opening.increment) {
+    let increments = Increments::Single(opening.increment);
+    let posting = match post_first(alloc, &opening.setup, &opening.grid, &increments) {
         Ok(posting) => posting,
         Err(PostFault::PriceLimit(product)) => return Err(Fault::PriceLimit(product)),
         Err(PostFault::NoMemory) => return Err(Fault::Memory),

@@ -37,7 +37,13 @@ pub fn command<R: Source, W: Sink, F: Sink>(
     requires unwritten { IsUnused (W.calls writer.old) (W.has_failed writer.old) }
     requires unshown { IsUnused (F.calls faults.old) (F.has_failed faults.old) }
     ensures outcome { ComesTo (job_of (map (λ word. word.now) words.entry.now))
-        (record { before = R.bytes_left reader.old; after = R.bytes_left reader.new; calls = R.calls reader.new; interruptions = R.interruptions reader.new; has_failed = R.has_failed reader.new })
+        (record {
+          before = R.bytes_left reader.old;
+          after = R.bytes_left reader.new;
+          calls = R.calls reader.new;
+          interruptions = R.interruptions reader.new;
+          has_failed = R.has_failed reader.new;
+        })
         (record { before = W.bytes_taken writer.old; after = W.bytes_taken writer.new; calls = W.calls writer.new; has_failed = W.has_failed writer.new })
         (record { before = F.bytes_taken faults.old; after = F.bytes_taken faults.new; calls = F.calls faults.new; has_failed = F.has_failed faults.new })
         result }
@@ -74,7 +80,13 @@ fn run<R: Source, W: Sink>(
     requires unread { IsUnread (R.calls reader.old) (R.interruptions reader.old) (R.has_failed reader.old) }
     requires unwritten { IsUnused (W.calls writer.old) (W.has_failed writer.old) }
     ensures run { IsRunOf job
-        (record { before = R.bytes_left reader.old; after = R.bytes_left reader.new; calls = R.calls reader.new; interruptions = R.interruptions reader.new; has_failed = R.has_failed reader.new })
+        (record {
+          before = R.bytes_left reader.old;
+          after = R.bytes_left reader.new;
+          calls = R.calls reader.new;
+          interruptions = R.interruptions reader.new;
+          has_failed = R.has_failed reader.new;
+        })
         (record { before = W.bytes_taken writer.old; after = W.bytes_taken writer.new; calls = W.calls writer.new; has_failed = W.has_failed writer.new })
         result }
     ensures reads { R.calls reader.new ≤ most_reads }
@@ -90,7 +102,9 @@ fn run<R: Source, W: Sink>(
 /// Shows the line of a fault, or a front of it where it cannot all be shown.
 fn show_fault<F: Sink>(fault: Fault, faults: &mut F)
     requires { IsUnused (F.calls faults.old) (F.has_failed faults.old) }
-    ensures { Shows (record { before = F.bytes_taken faults.old; after = F.bytes_taken faults.new; calls = F.calls faults.new; has_failed = F.has_failed faults.new }) (fault_line fault) }
+    ensures { Shows
+        (record { before = F.bytes_taken faults.old; after = F.bytes_taken faults.new; calls = F.calls faults.new; has_failed = F.has_failed faults.new })
+        (fault_line fault) }
 {
     let _ = write_fault(faults, fault);
 }

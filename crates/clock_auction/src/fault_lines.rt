@@ -73,6 +73,7 @@ fn write_place<W: Sink>(sink: &mut W, place: Place) -> Result<(), Failed>
 {
     match place {
         Place::Requirement => write_all(sink, b"requirement"),
+        Place::Limit => write_all(sink, b"limit"),
         Place::Operator => write_all(sink, b"operator"),
         Place::Products => write_all(sink, b"products"),
         Place::Name(i) => write_numbered(sink, "name ", i),
@@ -80,6 +81,7 @@ fn write_place<W: Sink>(sink: &mut W, place: Place) -> Result<(), Failed>
         Place::Supply(i) => write_numbered(sink, "supply ", i),
         Place::Cap(i) => write_numbered(sink, "cap ", i),
         Place::Opening(i) => write_numbered(sink, "opening ", i),
+        Place::Granule(i) => write_numbered(sink, "granule ", i),
         Place::Bidders => write_all(sink, b"bidders"),
         Place::BidderName(i) => write_numbered(sink, "bidder_name ", i),
         Place::Token(i) => write_numbered(sink, "token ", i),

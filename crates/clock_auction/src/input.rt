@@ -18,7 +18,15 @@ const PIECE: usize = 65_536;
 /// All bytes of the input. An interrupted read is tried again.
 pub fn read_all<R: Source>(alloc: Global, reader: &mut R) -> Result<Text, Fault>
     requires { IsUnread (R.calls reader.old) (R.interruptions reader.old) (R.has_failed reader.old) }
-    ensures reading { IsReadingOf (record { before = R.bytes_left reader.old; after = R.bytes_left reader.new; calls = R.calls reader.new; interruptions = R.interruptions reader.new; has_failed = R.has_failed reader.new }) result }
+    ensures reading { IsReadingOf
+        (record {
+          before = R.bytes_left reader.old;
+          after = R.bytes_left reader.new;
+          calls = R.calls reader.new;
+          interruptions = R.interruptions reader.new;
+          has_failed = R.has_failed reader.new;
+        })
+        result }
     ensures calls { R.calls reader.new ≤ most_reads }
 {
     let mut piece = empty_piece(alloc, PIECE)?;

@@ -10,4 +10,5 @@ returns-then-eq-clause-outcome g c =
 
 pub returns-in-Err-run-clause-outcome : goal.returns-in-Err-run-clause-outcome
 returns-in-Err-run-clause-outcome g c =
-    stopped_run _ c.in-Ok-Some.job (sym c.in-Ok-Some.ensures.ok ∙ c.in-Ok-Some.field-0-is) _ _ _ c.in-Err-run.fault c.in-Err-run.ensures.run c.show_fault.ensures
+    stopped_run _ c.in-Ok-Some.job (sym c.in-Ok-Some.ensures.ok ∙ c.in-Ok-Some.field-0-is) _ _ _
+    c.in-Err-run.fault c.in-Err-run.ensures.run c.show_fault.ensures

@@ -17,4 +17,5 @@ returns-in_err-write_words-clause-bytes g c =
 pub returns-clause-bytes : goal.returns-clause-bytes
 returns-clause-bytes g c =
     both_written _ _ _ (codes "fault: " ++ fault_words c.args.fault) (codes "\n") _
-    (written_twice _ _ _ (codes "fault: ") (fault_words c.args.fault) c.in_ok-write_all.ensures.bytes c.in_ok-write_words.ensures.bytes) c.write_all-2.ensures.bytes
+    (written_twice _ _ _ (codes "fault: ") (fault_words c.args.fault) c.in_ok-write_all.ensures.bytes
+    c.in_ok-write_words.ensures.bytes) c.write_all-2.ensures.bytes

@@ -14,11 +14,13 @@ returns-in-Version-clause-bytes g c = rw c.in-Version.is c.write_all-in-Version.
 
 pub returns-in_err-write_all-in-Range-clause-bytes : goal.returns-in_err-write_all-in-Range-clause-bytes
 returns-in_err-write_all-in-Range-clause-bytes g c =
-    rw c.in-Range.is (first_failed _ _ _ (codes "setup_range ") (place_words c.in-Range.place) _ c.from_residual.ensures.1 c.in_err-write_all-in-Range.ensures.bytes)
+    rw c.in-Range.is (first_failed _ _ _ (codes "setup_range ") (place_words c.in-Range.place) _ c.from_residual.ensures.1
+    c.in_err-write_all-in-Range.ensures.bytes)
 
 pub returns-in_ok-write_all-in-Range-clause-bytes : goal.returns-in_ok-write_all-in-Range-clause-bytes
 returns-in_ok-write_all-in-Range-clause-bytes g c =
-    rw c.in-Range.is (both_written _ _ _ (codes "setup_range ") (place_words c.in-Range.place) _ c.in_ok-write_all-in-Range.ensures.bytes c.write_place.ensures.bytes)
+    rw c.in-Range.is (both_written _ _ _ (codes "setup_range ") (place_words c.in-Range.place) _
+    c.in_ok-write_all-in-Range.ensures.bytes c.write_place.ensures.bytes)
 
 pub returns-in-DuplicateName-clause-bytes : goal.returns-in-DuplicateName-clause-bytes
 returns-in-DuplicateName-clause-bytes g c = rw c.in-DuplicateName.is c.write_all-in-DuplicateName.ensures.bytes

@@ -7,12 +7,12 @@ use Rattle.clock_auction.proofs.words.increment_in.Goals as goal
 
 pub returns-in_err-increment-clause-value : goal.returns-in_err-increment-clause-value
 returns-in_err-increment-clause-value c =
-    let read = increment_read (λ bs r. ParsesUnsigned 64 10 bs r × ExplainsUnsignedError 10 bs r × HasUnsignedDigitsIfOk bs r) (λ t r g. g.0) (one_text (found_of c.args.options.now) (codes "increment")) c.get_one.result
-    c.get_one.ensures.none c.get_one.ensures.value in
+    let read = increment_read (λ bs r. ParsesUnsigned 64 10 bs r × ExplainsUnsignedError 10 bs r × HasUnsignedDigitsIfOk bs r) (λ t r g. g.0)
+    (one_text (found_of c.args.options.now) (codes "increment")) c.get_one.result c.get_one.ensures.none c.get_one.ensures.value in
     rw (← one_text-rows) (c.from_residual.ensures ∙ ap within_limits (sym c.in_err-increment.was) ∙ read)
 
 pub returns-clause-value : goal.returns-clause-value
 returns-clause-value c =
-    let read = increment_read (λ bs r. ParsesUnsigned 64 10 bs r × ExplainsUnsignedError 10 bs r × HasUnsignedDigitsIfOk bs r) (λ t r g. g.0) (one_text (found_of c.args.options.now) (codes "increment")) c.get_one.result
-    c.get_one.ensures.none c.get_one.ensures.value in
+    let read = increment_read (λ bs r. ParsesUnsigned 64 10 bs r × ExplainsUnsignedError 10 bs r × HasUnsignedDigitsIfOk bs r) (λ t r g. g.0)
+    (one_text (found_of c.args.options.now) (codes "increment")) c.get_one.result c.get_one.ensures.none c.get_one.ensures.value in
     rw (← one_text-rows) (c.within_limits.ensures.value ∙ ap within_limits (sym c.in_ok-increment.was) ∙ read)

@@ -7,7 +7,8 @@ use Rattle.clock_auction.proofs.words.program.Goals as goal
 pub returns-clause-shape : goal.returns-clause-shape
 returns-clause-shape c =
     let with_prices : app_of c.in_ok-subcommand.field-0 ≡ with_subcommand (on_top asks_for_a_command (new_app (codes "clock_auction"))) prices_grammar.top =
-    c.in_ok-subcommand.ensures.shape (search rules) ∙ ap₂ with_subcommand c.in_ok-program_alone.ensures.shape (ap (λ (a : App). a.top) c.in_ok-prices.ensures.shape) in
+    c.in_ok-subcommand.ensures.shape (search rules)
+    ∙ ap₂ with_subcommand c.in_ok-program_alone.ensures.shape (ap (λ (a : App). a.top) c.in_ok-prices.ensures.shape) in
     let opened : app_of c.about-opening.result ≡ new_app (codes "opening") = search rules in
     c.in_ok-subcommand-2.ensures.shape (search rules)
     ∙ ap₂ with_subcommand with_prices (ap (λ (a : App). a.top) opened)
