@@ -20,7 +20,7 @@ use Rattle.clock_house.proofs.Kept.{stands_open}
 module _ (house : HouseFields) (limits : IsSetup house.setup) (round : ℕ) (increments : Increments) (ties : List Tie) (commands : List Command)
     (stands : StandsFor commands house) where
   -- the closing by the commands is that by the house
-  closing_same : closing_of house.setup (history house.setup commands) round increments ties ≡ closing_in house round increments ties
+  pub closing_same : closing_of house.setup (history house.setup commands) round increments ties ≡ closing_in house round increments ties
   closing_same = ap (λ (now : OpenRound). closing (public_setup house.setup) now round increments ties) (sym (stands_open house limits commands stands))
 
   abbrev closed_with : Result ClosedRound CloseFault → List ClosedRound

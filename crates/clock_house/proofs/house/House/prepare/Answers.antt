@@ -3,7 +3,7 @@ use Rattle.std.specs.Prelude.{reverse}
 use Rattle.std.proofs.lemmas.Result.{err_from_is_err_and}
 use Rattle.clock_house.specs.History.{ClosedRound}
 use Rattle.clock_house.specs.House.{closing_in}
-use Rattle.clock_house.proofs.Closes.{close-followed, close-kept}
+use Rattle.clock_house.proofs.Closes.{closing_same, close-followed, close-kept}
 use Rattle.clock_house.proofs.house.House.prepare.Goals as goal
 
 pub returns-in_err-ties-clause-followed : goal.returns-in_err-ties-clause-followed
@@ -40,3 +40,24 @@ returns-clause-fits g c =
     closing_in (record { setup = c.self.inside.setup; closed = reverse items; sheets = c.self.inside.sheets; spare = 0 }) c.args.round
     c.in_ok-increments.increments c.in_ok-ties.ties in
     ap by c.in_ok-reserve.ensures.items ∙ whole
+
+pub returns-in_err-ties-clause-history : goal.returns-in_err-ties-clause-history
+returns-in_err-ties-clause-history g c =
+    let told = err_from_is_err_and c.from_residual.result c.from_residual.ensures.1 in
+    rw (told.1, told.2)
+    (λ commands stands other.
+    closing_same c.args.self.now c.keeps.ensures.limits c.args.round c.args.increments.now c.args.ties.now commands stands ∙ c.in_err-ties.ensures.err other)
+
+pub returns-in_err-results-clause-history : goal.returns-in_err-results-clause-history
+returns-in_err-results-clause-history g c =
+    let told = err_from_is_err_and c.from_residual-in_err-results.result c.from_residual-in_err-results.ensures.1 in
+    let refused = rw c.in_ok-ties.ensures.listed at c.in_err-results.ensures.err in
+    rw (told.1, told.2)
+    (λ commands stands other.
+    closing_same c.args.self.now c.keeps.ensures.limits c.args.round c.args.increments.now c.args.ties.now commands stands ∙ c.in_ok-ties.ensures.ok ∙ refused other)
+
+pub returns-clause-history : goal.returns-clause-history
+returns-clause-history g c =
+    let closes = rw c.in_ok-ties.ensures.listed at c.in_ok-results.ensures.ok.closes in
+    λ commands stands.
+    closing_same c.args.self.now c.keeps.ensures.limits c.args.round c.args.increments.now c.args.ties.now commands stands ∙ c.in_ok-ties.ensures.ok ∙ closes
