@@ -8,3 +8,6 @@ mod RouteLaws
 mod MemberLaws
 mod ReplyLaws
 mod TokenLaws
+mod OutcomeLaws
+mod FrontLaws
+mod ChangeLaws

@@ -1,5 +1,5 @@
 -- Tables of tokens.
-use Rattle.std.proofs.Common.{◌≡◌, ℕ, ◌+◌, ◌<◌, suc, Bool, true, false, cond, List, [], ◌∷◌, length, get_or, drop, map, Vec, Option, Some, None, refl, sym, ◌∙◌, ap, add-one}
+use Rattle.std.proofs.Common.{◌≡◌, ℕ, ◌+◌, ◌<◌, ◌≤◌, suc, Bool, true, false, cond, List, [], ◌∷◌, length, get_or, drop, map, Vec, Option, Some, None, refl, sym, ◌∙◌, ap, arith, add-one}
 use Rattle.std.specs.Prelude.{nat_eq, unwrap_or}
 use Rattle.std.specs.declared.alloc.Global.{Global}
 use Rattle.std.specs.Cmp.Lexicographic.{pointwise, bytes_decides}
@@ -7,11 +7,12 @@ use Rattle.std.specs.Map.{lookup}
 use Rattle.std.proofs.lemmas.List.{drop_more}
 use Rattle.indexmap.specs.IndexMap.{insert_entry}
 use Rattle.clock_setup.specs.declared.setup.Bidder.{Bidder as BidderRow}
+use Rattle.clock_setup.specs.Limits.{SetupFields}
 use Rattle.clock_front.specs.Heads.{same_bytes}
-use Rattle.clock_front.specs.Askers.{holder, bidder_tokens}
+use Rattle.clock_front.specs.Askers.{holder, bidder_tokens, asker, asker_by, tokens_of, IsKnown}
 use Rattle.clock_front.specs.HeldTokens.{listed, found}
 use Rattle.clock_front.specs.declared.tokens.Asker.{Asker}
-use Rattle.clock_front.specs.declared.tokens.Asker.TheVariants.{Nobody, Bidder}
+use Rattle.clock_front.specs.declared.tokens.Asker.TheVariants.{Nobody, Operator, Bidder}
 
 abbrev pub Entries : Type 0
 Entries = List (Vec ℕ Global × Asker)
@@ -69,3 +70,31 @@ pub one_more_bidder : (bidders : List BidderRow) (n : ℕ) (d : BidderRow) (toke
 one_more_bidder bidders n d token lt =
     ap (λ rows. holder (bidder_tokens n rows) token) (drop_more bidders n d lt)
     ∙ ap (λ k. cond (same_bytes token (get_or bidders n d).token) (Bidder n) (holder (bidder_tokens k (drop (n + 1) bidders)) token)) (sym (add-one n))
+
+-- ---- a bidder that asks is one of the set-up's
+
+fewer : (n m : ℕ) (asker : Asker) → n ≤ m → IsKnown n asker → IsKnown m asker
+fewer n m Nobody le is = tt
+fewer n m Operator le is = tt
+fewer n m (Bidder b) le is = omega arith
+
+picked : (n : ℕ) (t : Bool) (a b : Asker) → IsKnown n a → IsKnown n b → IsKnown n (cond t a b)
+picked n true a b p q = p
+picked n false a b p q = q
+
+bidder_known : (i : ℕ) (bidders : List BidderRow) (token : List ℕ) → IsKnown (i + length bidders) (holder (bidder_tokens i bidders) token)
+bidder_known i [] token = tt
+bidder_known i (bidder ∷ bidders) token =
+    picked (i + length (bidder ∷ bidders)) (same_bytes token bidder.token) (Bidder i) (holder (bidder_tokens (suc i) bidders) token)
+    (omega arith) (fewer (suc i + length bidders) (i + length (bidder ∷ bidders)) (holder (bidder_tokens (suc i) bidders) token) (omega arith) (bidder_known (suc i) bidders token))
+
+pub asker_known : (setup : SetupFields) (token : Option (List ℕ)) → IsKnown (length setup.bidders) (asker setup token)
+asker_known setup None = tt
+asker_known setup (Some token) =
+    picked (length setup.bidders) (same_bytes token setup.operator) Operator (holder (bidder_tokens 0 setup.bidders) token) tt
+    (fewer (0 + length setup.bidders) (length setup.bidders) (holder (bidder_tokens 0 setup.bidders) token) (omega arith) (bidder_known 0 setup.bidders token))
+
+-- who asks is told by whatever tells of each token whose it is
+pub asker_same : (f g : List ℕ → Asker) → ((token : List ℕ) → f token ≡ g token) → (token : Option (List ℕ)) → asker_by f token ≡ asker_by g token
+asker_same f g same None = refl
+asker_same f g same (Some token) = same token

@@ -12,3 +12,7 @@ pub mod CloseBodies
 pub mod Askers
 pub mod HeldTokens
 pub mod TokenTable
+pub mod Requests
+pub mod Outcomes
+pub mod ShownAsked
+pub mod Fronts

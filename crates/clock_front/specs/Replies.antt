@@ -8,7 +8,9 @@ use Rattle.std.specs.Option.{unwrap_or}
 use Rattle.http.specs.StatusCode.{reason_phrase}
 use Rattle.clock_views.specs.declared.code.Code.{Code}
 use Rattle.clock_views.specs.declared.code.Code.TheVariants.{BadHead, BadLength, Token, LongBody, LongHead, Coding, Memory}
-use Rattle.clock_views.specs.Codes.{status_of, text_of}
+use Rattle.clock_views.specs.Codes.{status_of}
+use Rattle.clock_views.specs.Refusals.{alone}
+use Rattle.clock_views.specs.RefusalPage.{refusal_bytes as page_bytes}
 use Rattle.clock_front.specs.declared.routes.Page.{Page}
 use Rattle.clock_front.specs.Routes.{methods, methods_line}
 
@@ -56,10 +58,6 @@ is_constant LongBody = true
 is_constant Memory = true
 is_constant _ = false
 
--- the page of a refusal by a code alone
-abbrev pub refusal_text : Code → List ℕ
-refusal_text code = codes "{\"code\":\"" ++ text_of code ++ codes "\",\"status\":" ++ decimal (status_of code) ++ codes "}"
-
--- the reply of such a refusal
+-- the reply that refuses a request by a code alone
 abbrev pub refusal_bytes : Code → List ℕ
-refusal_bytes code = reply_bytes code None (refusal_text code)
+refusal_bytes code = reply_bytes code None (page_bytes (alone code))

@@ -6,24 +6,30 @@
 
 ghost use Rattle.clock_front.specs.FramingLaws as laws;
 
+mod asked;
 mod body_fault;
+mod changes;
 mod close_body;
+mod front;
 mod head;
 mod head_room;
 mod headers;
 mod members;
+mod pages;
 mod progress;
 mod put_body;
 mod reply;
 mod request_text;
 mod routes;
 mod scan;
+mod telling;
 #[cfg(test)]
 mod tests;
 mod tokens;
 
 pub use body_fault::BodyFault;
 pub use close_body::{CloseBody, read_close};
+pub use front::Front;
 pub use head::EndedHead;
 pub use progress::Progress;
 pub use put_body::{PutBody, read_put};

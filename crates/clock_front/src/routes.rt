@@ -56,7 +56,8 @@ fn router(alloc: Global) -> Result<Router<Page>, InsertError>
     Ok(router)
 }
 
-fn is_method(method: &[u8], wanted: Method) -> bool
+/// Whether a method is this one, its letters compared with regard to case.
+pub(crate) fn is_method(method: &[u8], wanted: Method) -> bool
     ensures { result ≡ same_bytes wanted method.now }
 {
     method == wanted.as_str().as_bytes()

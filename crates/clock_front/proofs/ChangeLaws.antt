@@ -1,0 +1,63 @@
+-- A closing that was prepared is the closing that was asked for.
+use Rattle.std.proofs.Common.{◌≡◌, ◌≢◌, ℕ, List, ◌∷◌, Option, Result, Ok, Err, refl, sym, ◌∙◌, ap, subst}
+use Rattle.clock_setup.specs.Limits.{SetupFields}
+use Rattle.clock_setup.specs.declared.increments.Increments.{Increments}
+use Rattle.clock_bids.specs.declared.sheet.Bid.{Bid}
+use Rattle.clock_order.specs.declared.ties.Tie.{Tie}
+use Rattle.clock_house.specs.Command.{Command, close}
+use Rattle.clock_house.specs.declared.closed_round.ClosedRound.{ClosedRound}
+use Rattle.clock_house.specs.declared.fault.CloseFault.{CloseFault}
+use Rattle.clock_house.specs.House.{HouseFields, IsUnchanged, IsFollowedBy, StandsStill, closing_in}
+use Rattle.clock_house.specs.Prepared.{PreparedClosing, FitsClosing}
+use Rattle.std.specs.Prelude.{IfOk, OnOk}
+use Rattle.clock_house.specs.declared.fault.CloseFault.TheVariants.{NoMemory}
+use Rattle.clock_views.specs.Refusals.{shown_close}
+use Rattle.clock_front.specs.Replies.{Answer}
+use Rattle.clock_front.specs.Outcomes.{Outcome, close_outcome, done, refused, answer_of}
+use Rattle.clock_views.specs.OperatorPages.{closed_value}
+
+abbrev closing_by : ℕ → Increments → List Tie → SetupFields → List ClosedRound → List (Option (List Bid)) → Result ClosedRound CloseFault
+closing_by round increments ties setup closed sheets = closing_in (record { setup = setup; closed = closed; sheets = sheets; spare = 0 }) round increments ties
+
+-- room for further rounds changes no closing
+same_closing : (old mid : HouseFields) (round : ℕ) (increments : Increments) (ties : List Tie) → IsUnchanged old mid
+    → closing_in mid round increments ties ≡ closing_in old round increments ties
+same_closing old mid round increments ties same =
+    ap (λ setup. closing_by round increments ties setup mid.closed mid.sheets) same.setup
+    ∙ ap (λ closed. closing_by round increments ties old.setup closed mid.sheets) same.closed
+    ∙ ap (closing_by round increments ties old.setup old.closed) same.sheets
+
+-- a prepared closing tells what the closing that was asked for tells
+pub closed_outcome : (prepared : PreparedClosing) (old mid : HouseFields) (round : ℕ) (increments : Increments) (ties : List Tie)
+    → prepared.round ≡ round → prepared.increments ≡ increments → prepared.ties ≡ ties → FitsClosing prepared mid → IsUnchanged old mid
+    → done (closed_value round prepared.closed.sheet.ended) ≡ close_outcome round (closing_in old round increments ties)
+closed_outcome prepared old mid round increments ties r i t fits same =
+    ap (close_outcome round)
+    (sym fits ∙ ap (λ n. closing_in mid n prepared.increments prepared.ties) r ∙ ap (λ list. closing_in mid round list prepared.ties) i
+    ∙ ap (closing_in mid round increments) t ∙ same_closing old mid round increments ties same)
+
+abbrev followed_by : HouseFields → HouseFields → ℕ → Increments → List Tie → Type 0
+followed_by old new round increments ties = IsFollowedBy (close round increments ties) old new
+
+-- what stands still and is then followed by a command is followed by it
+still_then : (command : Command) (old mid new : HouseFields) → StandsStill old mid → IsFollowedBy command mid new → IsFollowedBy command old new
+still_then command old mid new still followed = record {
+  setup = followed.setup ∙ still.setup;
+  stands = λ commands stood. followed.stands commands (still.stands commands stood);
+}
+
+-- the closing that was made is the one that was asked for
+pub closing_followed : (prepared : PreparedClosing) (old mid new : HouseFields) (round : ℕ) (increments : Increments) (ties : List Tie)
+    → prepared.round ≡ round → prepared.increments ≡ increments → prepared.ties ≡ ties → StandsStill old mid
+    → IsFollowedBy (close prepared.round prepared.increments prepared.ties) mid new → IsFollowedBy (close round increments ties) old new
+closing_followed prepared old mid new round increments ties r i t still followed =
+    still_then (close round increments ties) old mid new still
+    (subst (followed_by mid new round increments) t
+    (subst (λ list. followed_by mid new round list prepared.ties) i (subst (λ n. followed_by mid new n prepared.increments prepared.ties) r followed)))
+
+-- a refusal that is told is the first fault of the closing
+pub refusal_told : {N : Type 0} (told : Result Answer N) (fault : CloseFault) (round : ℕ) (closing : Result ClosedRound CloseFault)
+    → IfOk told (λ reply. reply ≡ answer_of (refused (shown_close fault))) → OnOk told (fault ≢ NoMemory) → (fault ≢ NoMemory → closing ≡ Err fault)
+    → IfOk told (λ reply. reply ≡ answer_of (close_outcome round closing))
+refusal_told (Ok reply) fault round closing is known answer = is ∙ ap (λ c. answer_of (close_outcome round c)) (sym (answer known))
+refusal_told (Err e) fault round closing is known answer = tt

@@ -1,0 +1,29 @@
+use Rattle.std.proofs.Common.{Bool, ap, sym, ◌∙◌}
+use Rattle.clock_house.specs.House.{closing_in}
+use Rattle.clock_views.specs.OperatorPages.{closed_value}
+use Rattle.clock_front.specs.Outcomes.{answer_of, done}
+use Rattle.clock_front.proofs.ChangeLaws.{closed_outcome, closing_followed, refusal_told}
+use Rattle.clock_front.proofs.changes.close_round.Goals as goal
+
+pub returns-in_ok-reply-in-Ok-clause-reply : goal.returns-in_ok-reply-in-Ok-clause-reply
+returns-in_ok-reply-in-Ok-clause-reply g c =
+    let closing = c.args.closing.now in
+    let asked = c.in-Ok.ensures.asked in
+    c.in_ok-reply-in-Ok.ensures
+    ∙ ap (λ (ended : Bool). answer_of (done (closed_value closing.round ended))) c.ended.ensures
+    ∙ ap answer_of (closed_outcome c.in-Ok.prepared c.args.house.now c.prepare.new.self closing.round closing.increments closing.ties
+    asked.0 asked.1 (asked.2 ∙ c.as_slice.ensures) c.in-Ok.ensures.fits c.in-Ok.ensures.same)
+
+pub returns-in_ok-reply-in-Ok-clause-followed : goal.returns-in_ok-reply-in-Ok-clause-followed
+returns-in_ok-reply-in-Ok-clause-followed g c =
+    let closing = c.args.closing.now in
+    let asked = c.in-Ok.ensures.asked in
+    closing_followed c.in-Ok.prepared c.args.house.now c.prepare.new.self c.commit.new.self closing.round closing.increments closing.ties
+    asked.0 asked.1 (asked.2 ∙ c.as_slice.ensures) c.in-Ok.ensures.stands c.commit.ensures.followed
+
+pub returns-in-Err-clause-reply : goal.returns-in-Err-clause-reply
+returns-in-Err-clause-reply g c =
+    let closing = c.args.closing.now in
+    refusal_told c.close_refusal.result c.in-Err.fault closing.round (closing_in c.args.house.now closing.round closing.increments closing.ties)
+    c.close_refusal.ensures.reply c.close_refusal.ensures.known
+    (λ known. sym (ap (closing_in c.args.house.now closing.round closing.increments) c.as_slice.ensures) ∙ c.in-Err.ensures.answer known)

@@ -1,0 +1,12 @@
+use Rattle.std.proofs.Common.{ap, ◌∙◌}
+use Rattle.clock_front.specs.Askers.{asker}
+use Rattle.clock_front.specs.Replies.{Answer}
+use Rattle.clock_front.specs.Requests.{request_of}
+use Rattle.clock_front.proofs.FrontLaws.{refused_code}
+use Rattle.clock_front.proofs.front.Front.answer.Goals as goal
+
+pub returns-in-Ok-clause-refused : goal.returns-in-Ok-clause-refused
+returns-in-Ok-clause-refused g c =
+    let house = c.args.self.now in
+    let text = c.args.text.now in
+    λ code is. ap (λ (reply : Answer). reply.code) c.in-Ok.ensures.reply ∙ refused_code house (asker house.setup (request_of text).token) text code is

@@ -1,0 +1,82 @@
+use Rattle.std.proofs.Common.{ap, sym, subst, ◌∙◌}
+use Rattle.clock_house.specs.Command.{Command, other}
+use Rattle.clock_house.specs.House.{HouseFields, IsFollowedBy}
+use Rattle.clock_views.specs.Refusals.{Shown}
+use Rattle.clock_views.specs.declared.code.Code.TheVariants.{CutShort}
+use Rattle.clock_front.specs.Askers.{asker}
+use Rattle.clock_front.specs.Framing.{needs_more, refusal}
+use Rattle.clock_front.specs.Outcomes.{answer_of, outcome, command_of, refused}
+use Rattle.clock_front.specs.Requests.{Ask, Request, ask_by_route, request_of}
+use Rattle.clock_front.specs.Routes.{page_of}
+use Rattle.clock_front.specs.Shown.{shown_head}
+use Rattle.clock_front.specs.TokenTable.{IsTableOf}
+use Rattle.clock_front.specs.declared.tokens.Asker.{Asker}
+use Rattle.clock_front.proofs.OutcomeLaws.{away_other}
+use Rattle.clock_front.proofs.FrontLaws.{refused_constant, told_as, done_as, if_done, ask_by, whole_request, constant_answer}
+use Rattle.clock_front.proofs.front.Front.answer_text.Goals as goal
+
+pub constant-requires : goal.constant-requires
+constant-requires g c = refused_constant c.args.text.now c.in-Refused.code (sym c.in-Refused.ensures)
+
+pub returns-in-NeedMore-clause-reply : goal.returns-in-NeedMore-clause-reply
+returns-in-NeedMore-clause-reply g c =
+    let house = c.args.self.now in
+    let text = c.args.text.now in
+    told_as c.refusal.result _ _
+    (ap (λ (shown : Shown). answer_of (refused shown)) c.alone.ensures
+    ∙ ap (λ (ask : Ask). answer_of (outcome house (asker house.setup (request_of text).token) ask)) (ask_by text needs_more c.in-NeedMore.ensures))
+    c.refusal.ensures
+
+pub returns-in-NeedMore-clause-followed : goal.returns-in-NeedMore-clause-followed
+returns-in-NeedMore-clause-followed g c =
+    let house = c.args.self.now in
+    let text = c.args.text.now in
+    let who = asker house.setup (request_of text).token in
+    let others = subst (λ (h : HouseFields). IsFollowedBy other h h) c.self.view_is c.keeps.ensures.others in
+    let same = sym (away_other house.setup who CutShort) ∙ ap (command_of house.setup who) (ask_by text needs_more c.in-NeedMore.ensures) in
+    if_done c.refusal.result (subst (λ (command : Command). IsFollowedBy command house house) same others)
+
+pub returns-in-Refused-clause-reply : goal.returns-in-Refused-clause-reply
+returns-in-Refused-clause-reply g c =
+    let house = c.args.self.now in
+    let text = c.args.text.now in
+    let code = c.in-Refused.code in
+    c.constant.ensures ∙ constant_answer code
+    ∙ ap (λ (ask : Ask). answer_of (outcome house (asker house.setup (request_of text).token) ask)) (ask_by text (refusal code) c.in-Refused.ensures)
+
+pub returns-in-Refused-clause-followed : goal.returns-in-Refused-clause-followed
+returns-in-Refused-clause-followed g c =
+    let house = c.args.self.now in
+    let text = c.args.text.now in
+    let who = asker house.setup (request_of text).token in
+    let others = subst (λ (h : HouseFields). IsFollowedBy other h h) c.self.view_is c.keeps.ensures.others in
+    let same = sym (away_other house.setup who c.in-Refused.code) ∙ ap (command_of house.setup who) (ask_by text (refusal c.in-Refused.code) c.in-Refused.ensures) in
+    subst (λ (command : Command). IsFollowedBy command house house) same others
+
+pub returns-in-Whole-clause-reply : goal.returns-in-Whole-clause-reply
+returns-in-Whole-clause-reply g c =
+    let house = c.args.self.now in
+    let text = c.args.text.now in
+    let head = shown_head c.in-Whole.head in
+    let ask = ask_by_route (page_of head.path) head c.in-Whole.body.now in
+    let table = subst (λ (h : HouseFields). IsTableOf h.setup c.self.inside.tokens) c.self.view_is c.self.invariant in
+    told_as c.answer_head.result _ _
+    (ap (λ (h : HouseFields). answer_of (outcome h c.asker-asker.result ask)) c.self.view_is
+    ∙ ap (λ (who : Asker). answer_of (outcome house who ask)) (c.asker-asker.ensures.shown house.setup table)
+    ∙ ap (λ (request : Request). answer_of (outcome house (asker house.setup request.token) request.ask)) (whole_request text head c.in-Whole.body.now c.in-Whole.ensures))
+    c.answer_head.ensures.reply
+
+pub returns-in-Whole-clause-followed : goal.returns-in-Whole-clause-followed
+returns-in-Whole-clause-followed g c =
+    let house = c.args.self.now in
+    let text = c.args.text.now in
+    let head = shown_head c.in-Whole.head in
+    let ask = ask_by_route (page_of head.path) head c.in-Whole.body.now in
+    let new = c.answer_head.new.house in
+    let table = subst (λ (h : HouseFields). IsTableOf h.setup c.self.inside.tokens) c.self.view_is c.self.invariant in
+    let same = ap (λ (who : Asker). command_of house.setup who ask) (c.asker-asker.ensures.shown house.setup table)
+    ∙ ap (λ (request : Request). command_of house.setup (asker house.setup request.token) request.ask) (whole_request text head c.in-Whole.body.now c.in-Whole.ensures) in
+    done_as c.answer_head.result
+    (λ followed. subst (λ (command : Command). IsFollowedBy command house new) same
+    (subst (λ (h : HouseFields). IsFollowedBy (command_of h.setup c.asker-asker.result ask) h new) c.self.view_is followed))
+    c.answer_head.ensures.followed

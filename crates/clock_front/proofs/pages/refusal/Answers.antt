@@ -1,0 +1,11 @@
+use Rattle.std.proofs.Common.{sym, ap, ◌∙◌, ℕ, Bool, List, Option, length, None, Some}
+use Rattle.clock_views.specs.Refusals.{Shown}
+use Rattle.clock_views.specs.RefusalPage.{refusal_value}
+use Rattle.clock_front.specs.Outcomes.{with_page}
+use Rattle.clock_front.proofs.ReplyLaws.{written_page}
+use Rattle.clock_front.proofs.pages.refusal.Goals as goal
+
+pub returns : goal.returns
+returns c =
+    written_page _ _ _ _ _ _ c.written.ensures c.in_ok-text.ensures c.in_ok-push_refusal_page.ensures
+    ∙ ap (λ (shown : Shown). with_page shown.code None (refusal_value c.args.refusal)) c.refusal.view_is

@@ -1,0 +1,52 @@
+-- What a front stands for, and what it answers. The newest text stands first.
+--     commands_of setup texts      the commands that texts are
+--     house_after setup commands      the auction that commands have made, as a house shows it
+--     reply setup texts text      the answer to a text after others
+--     StandsForTexts texts house      the house stands for the commands of the texts
+--     AnswersText text reply old new      a text is answered by what is right, or there was no memory and it did nothing
+use Rattle.std.specs.Prelude.{◌≡◌, ◌⊎◌, ℕ, List, ◌∷◌, map}
+use Rattle.clock_setup.specs.Limits.{SetupFields}
+use Rattle.clock_house.specs.Command.{Command}
+use Rattle.clock_house.specs.History.{history, sheet_in_force, for_each_bidder}
+use Rattle.clock_house.specs.House.{HouseFields, StandsFor}
+use Rattle.clock_views.specs.declared.code.Code.TheVariants.{Memory}
+use Rattle.clock_front.specs.Replies.{Answer, refusal_bytes}
+use Rattle.clock_front.specs.Requests.{request_of}
+use Rattle.clock_front.specs.Askers.{asker}
+use Rattle.clock_front.specs.Outcomes.{answer_of, outcome, command_of}
+
+-- the command that a text is
+abbrev pub text_command : SetupFields → List ℕ → Command
+text_command setup text = command_of setup (asker setup (request_of text).token) (request_of text).ask
+
+abbrev pub commands_of : SetupFields → List (List ℕ) → List Command
+commands_of setup texts = map (text_command setup) texts
+
+-- the closed rounds and the sheets in force that commands have made
+abbrev pub house_after : SetupFields → List Command → HouseFields
+house_after setup commands = record {
+  setup = setup;
+  closed = (history setup commands).closed;
+  sheets = for_each_bidder setup (sheet_in_force setup (history setup commands));
+  spare = 0;
+}
+
+-- the answer to a text after others
+abbrev pub reply : SetupFields → List (List ℕ) → List ℕ → Answer
+reply setup texts text =
+    answer_of (outcome (house_after setup (commands_of setup texts)) (asker setup (request_of text).token) (request_of text).ask)
+
+-- the house stands for the commands of the texts
+abbrev pub StandsForTexts : List (List ℕ) → HouseFields → Type 0
+StandsForTexts texts house = StandsFor (commands_of house.setup texts) house
+
+-- the reply where there was no memory
+abbrev pub no_memory : Answer
+no_memory = record { code = Memory; bytes = refusal_bytes Memory }
+
+-- the right reply, after which the front stands for the texts and this one; or the reply of want of memory, and it stands
+-- for the texts
+abbrev pub AnswersText : List ℕ → Answer → HouseFields → HouseFields → Type 0
+AnswersText text answer old new = (texts : List (List ℕ)) → StandsForTexts texts old
+    → ((answer ≡ reply old.setup texts text) × StandsForTexts (text ∷ texts) new)
+    ⊎ ((answer ≡ no_memory) × StandsForTexts texts new)

@@ -1,0 +1,186 @@
+-- What an asker is told, as the auction stands, and which command its request is.
+--     Outcome      a page, a refusal, or that the page is for other methods
+--     answer_of outcome      its code and its bytes
+--     turned_away_by role asker      why the asker may not see pages of the role
+--     outcome house asker ask      what the asker is told
+--     command_of setup asker ask      the command that the request is
+use Rattle.std.specs.Prelude.{ℕ, ◌==◌, not, Bool, List, length, if◌then◌else◌, Option, Some, None, option_map, option_and_then, Result, Ok, Err, slice_index_or}
+use Rattle.serde_json.specs.Data.{Data}
+use Rattle.serde_json.specs.Written.{compact_text}
+use Rattle.clock_setup.specs.Limits.{SetupFields, public_setup}
+use Rattle.clock_setup.specs.declared.increments.Increments.{Increments}
+use Rattle.clock_setup.specs.declared.increments.Increments.TheVariants.{Single, PerProduct}
+use Rattle.clock_house.specs.Command.{Command}
+use Rattle.clock_house.specs.Command as command
+use Rattle.clock_house.specs.History.{bidder_at, slip_of, round_at}
+use Rattle.clock_house.specs.declared.closed_round.ClosedRound.{ClosedRound}
+use Rattle.clock_house.specs.House.{HouseFields, standing_in, holding_in, put_fault_in, closing_in}
+use Rattle.clock_house.specs.declared.fault.PutFault.{PutFault}
+use Rattle.clock_house.specs.declared.fault.CloseFault.{CloseFault}
+use Rattle.clock_views.specs.declared.code.Code.{Code}
+use Rattle.clock_views.specs.declared.code.Code.TheVariants as code
+use Rattle.clock_views.specs.Refusals.{Shown, alone, shown_put, shown_close}
+use Rattle.clock_views.specs.RefusalPage.{refusal_value}
+use Rattle.clock_views.specs.PublicPages.{status_value, products_value, sheet_value}
+use Rattle.clock_views.specs.BidderPages.{account_value, bids_value, accepted_value, slip_value}
+use Rattle.clock_views.specs.OperatorPages.{closed_value, results_value}
+use Rattle.clock_front.specs.declared.routes.Page.{Page}
+use Rattle.clock_front.specs.declared.routes.Role.{Role}
+use Rattle.clock_front.specs.declared.routes.Role.TheVariants as role
+use Rattle.clock_front.specs.declared.tokens.Asker.{Asker}
+use Rattle.clock_front.specs.declared.tokens.Asker.TheVariants.{Nobody, Operator, Bidder}
+use Rattle.clock_front.specs.declared.put_body.PutBody.{PutBody}
+use Rattle.clock_front.specs.declared.close_body.CloseBody.{CloseBody}
+use Rattle.clock_front.specs.declared.body_fault.BodyFault.{BodyFault}
+use Rattle.clock_front.specs.declared.body_fault.BodyFault.TheVariants.{NotJson, Shape, NoMemory}
+use Rattle.clock_front.specs.Routes.{round_named}
+use Rattle.clock_front.specs.Replies.{Answer, reply_bytes}
+use Rattle.clock_front.specs.Requests.{Ask}
+use Rattle.clock_front.specs.Requests as asked
+
+-- a page, a refusal, or that a page is for other methods
+pub data Outcome : Type 0 where
+  done : Data → Outcome
+  refused : Shown → Outcome
+  not_allowed : Page → Outcome
+
+-- an answer with a page
+abbrev pub with_page : Code → Option Page → Data → Answer
+with_page code allowed value = record { code = code; bytes = reply_bytes code allowed (compact_text value) }
+
+-- its code and bytes
+abbrev pub answer_of : Outcome → Answer
+answer_of (done value) = with_page code.Done None value
+answer_of (refused shown) = with_page shown.code None (refusal_value shown)
+answer_of (not_allowed page) = with_page code.Method (Some page) (refusal_value (alone code.Method))
+
+-- the token of a page's role is missing, or it is another's
+abbrev pub turned_away_by : Role → Asker → Option Code
+turned_away_by role.Anyone asker = None
+turned_away_by role.Bidder Nobody = Some code.Token
+turned_away_by role.Bidder Operator = Some code.Role
+turned_away_by role.Bidder (Bidder b) = None
+turned_away_by role.Operator Nobody = Some code.Token
+turned_away_by role.Operator Operator = None
+turned_away_by role.Operator (Bidder b) = Some code.Role
+
+-- a fault of a body
+abbrev pub body_code : BodyFault → Code
+body_code NotJson = code.BadJson
+body_code Shape = code.Shape
+body_code NoMemory = code.Memory
+
+-- ---- pages of one round
+
+-- the closed round that a segment of a path names
+abbrev pub round_in : HouseFields → List ℕ → Option ClosedRound
+round_in house segment = option_and_then (λ n. round_at n house.closed) (round_named segment)
+
+abbrev pub page_or_no_round : Option Data → Outcome
+page_or_no_round None = refused (alone code.NoRound)
+page_or_no_round (Some value) = done value
+
+-- ---- what is told of a change
+
+-- a sheet is accepted, or its first fault is told
+abbrev pub put_outcome : PutBody → Option PutFault → Outcome
+put_outcome body None = done (accepted_value body.round (length body.bids))
+put_outcome body (Some fault) = refused (shown_put fault)
+
+-- a round is closed, or the first fault is told
+abbrev pub close_outcome : ℕ → Result ClosedRound CloseFault → Outcome
+close_outcome round (Ok closed) = done (closed_value round closed.sheet.ended)
+close_outcome round (Err fault) = refused (shown_close fault)
+
+-- a set-up of the first version has one increment for all products, a later one has one for each
+abbrev pub is_of_version : ℕ → Increments → Bool
+is_of_version version (Single increment) = version == 1
+is_of_version version (PerProduct increments) = not (version == 1)
+
+-- a closing in the form of the set-up's version
+abbrev pub in_version : ℕ → Result CloseBody BodyFault → Result CloseBody BodyFault
+in_version version (Err fault) = Err fault
+in_version version (Ok body) = if is_of_version version body.increments then Ok body else Err Shape
+
+abbrev pub put_to : HouseFields → ℕ → Result PutBody BodyFault → Outcome
+put_to house bidder (Err fault) = refused (alone (body_code fault))
+put_to house bidder (Ok body) = put_outcome body (put_fault_in house bidder body.round body.bids)
+
+abbrev pub close_to : HouseFields → Result CloseBody BodyFault → Outcome
+close_to house (Err fault) = refused (alone (body_code fault))
+close_to house (Ok body) = close_outcome body.round (closing_in house body.round body.increments body.ties)
+
+-- ---- what an asker is told
+
+-- whose token is asked for
+abbrev pub role_of : Ask → Role
+role_of asked.account = role.Bidder
+role_of asked.bids = role.Bidder
+role_of (asked.put body) = role.Bidder
+role_of (asked.slip segment) = role.Bidder
+role_of (asked.close body) = role.Operator
+role_of asked.results = role.Operator
+role_of _ = role.Anyone
+
+-- a bidder is told of itself
+abbrev pub told_bidder : HouseFields → ℕ → Ask → Outcome
+told_bidder house bidder asked.account =
+    done (account_value house.setup.products (bidder_at house.setup bidder).name (standing_in house).round (holding_in house bidder) (standing_in house).ended)
+told_bidder house bidder (asked.put body) = put_to house bidder body
+told_bidder house bidder (asked.slip segment) = page_or_no_round (option_map (λ closed. slip_value (slip_of bidder closed)) (round_in house segment))
+told_bidder house bidder _ = done (bids_value (standing_in house).round (slice_index_or house.sheets bidder None))
+
+-- the operator is told of all
+abbrev pub told_operator : HouseFields → Ask → Outcome
+told_operator house (asked.close body) = close_to house (in_version house.setup.version body)
+told_operator house _ = done (results_value house)
+
+-- anyone is told what is public
+abbrev pub told_anyone : HouseFields → Ask → Outcome
+told_anyone house (asked.turned_away code) = refused (alone code)
+told_anyone house (asked.no_method page) = not_allowed page
+told_anyone house asked.products = done (products_value (public_setup house.setup))
+told_anyone house (asked.sheet segment) =
+    page_or_no_round (option_map (λ closed. sheet_value (public_setup house.setup) closed.sheet) (round_in house segment))
+told_anyone house _ = done (status_value (public_setup house.setup) (standing_in house).round (standing_in house).ended)
+
+-- an asker whose token the page asks for
+abbrev pub told_asker : HouseFields → Asker → Ask → Outcome
+told_asker house Nobody ask = told_anyone house ask
+told_asker house Operator ask = told_operator house ask
+told_asker house (Bidder bidder) ask = told_bidder house bidder ask
+
+-- pages of anyone take no notice of the token
+abbrev pub told_by_role : HouseFields → Role → Asker → Ask → Outcome
+told_by_role house role.Anyone asker ask = told_anyone house ask
+told_by_role house role.Bidder asker ask = told_asker house asker ask
+told_by_role house role.Operator asker ask = told_asker house asker ask
+
+abbrev pub unless_turned_away : Option Code → Outcome → Outcome
+unless_turned_away None outcome = outcome
+unless_turned_away (Some code) outcome = refused (alone code)
+
+-- the same house: room for further rounds shows nowhere
+abbrev pub without_room : HouseFields → HouseFields
+without_room house = record { setup = house.setup; closed = house.closed; sheets = house.sheets; spare = 0 }
+
+-- what an asker is told
+abbrev pub outcome : HouseFields → Asker → Ask → Outcome
+outcome house asker ask =
+    unless_turned_away (turned_away_by (role_of ask) asker) (told_by_role (without_room house) (role_of ask) asker ask)
+
+-- ---- the command that a request is
+
+abbrev pub put_command : ℕ → Result PutBody BodyFault → Command
+put_command bidder (Err fault) = command.other
+put_command bidder (Ok body) = command.put bidder body.round body.bids
+
+abbrev pub close_command : Result CloseBody BodyFault → Command
+close_command (Err fault) = command.other
+close_command (Ok body) = command.close body.round body.increments body.ties
+
+-- a sheet of a bidder or a closing of the operator; every other request changes nothing
+abbrev pub command_of : SetupFields → Asker → Ask → Command
+command_of setup (Bidder bidder) (asked.put body) = put_command bidder body
+command_of setup Operator (asked.close body) = close_command (in_version setup.version body)
+command_of setup _ _ = command.other

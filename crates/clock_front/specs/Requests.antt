@@ -1,0 +1,62 @@
+-- What a text asks for, whoever sent it and whatever stands.
+--     Ask      what is asked for
+--     ask_of framing      what a framed text asks for; one that needs more at its end was cut short
+--     page_asked ask      the page that is asked for, where its path and method are good
+--     request_of text      the token of a text and what it asks for
+use Rattle.std.specs.Prelude.{ℕ, List, if◌then◌else◌, Option, Some, None, option_and_then, Result, codes}
+use Rattle.clock_views.specs.declared.code.Code.{Code}
+use Rattle.clock_views.specs.declared.code.Code.TheVariants.{CutShort, NoPage}
+use Rattle.clock_front.specs.Heads.{same_bytes}
+use Rattle.clock_front.specs.Framing.{Framing, needs_more, refusal, whole, Head, framing, head_in}
+use Rattle.clock_front.specs.Routes.{page_of, last_segment, has_method}
+use Rattle.clock_front.specs.Bodies.{put_body}
+use Rattle.clock_front.specs.CloseBodies.{close_body}
+use Rattle.clock_front.specs.declared.routes.Page.{Page}
+use Rattle.clock_front.specs.declared.routes.Page.TheVariants.{Status, Products, Sheet, Account, Bids, Slip, Close, Results}
+use Rattle.clock_front.specs.declared.put_body.PutBody.{PutBody}
+use Rattle.clock_front.specs.declared.close_body.CloseBody.{CloseBody}
+use Rattle.clock_front.specs.declared.body_fault.BodyFault.{BodyFault}
+
+-- a text that no page answers, or a page by a method that it has not; a page; a sheet or a closing, whose body is looked at
+-- only once the sender may send it
+pub data Ask : Type 0 where
+  turned_away : Code → Ask
+  no_method : Page → Ask
+  status : Ask
+  products : Ask
+  sheet : List ℕ → Ask
+  account : Ask
+  bids : Ask
+  put : Result PutBody BodyFault → Ask
+  slip : List ℕ → Ask
+  close : Result CloseBody BodyFault → Ask
+  results : Ask
+
+pub record Request : Type 0 where
+  pub token : Option (List ℕ)
+  pub ask : Ask
+
+-- what is asked of a page by one of its methods
+abbrev pub ask_of_page : Page → Head → List ℕ → Ask
+ask_of_page Status head body = status
+ask_of_page Products head body = products
+ask_of_page Sheet head body = sheet (last_segment head.path)
+ask_of_page Account head body = account
+ask_of_page Bids head body = if same_bytes (codes "PUT") head.method then put (put_body body) else bids
+ask_of_page Slip head body = slip (last_segment head.path)
+ask_of_page Close head body = close (close_body body)
+ask_of_page Results head body = results
+
+abbrev pub ask_by_route : Option Page → Head → List ℕ → Ask
+ask_by_route None head body = turned_away NoPage
+ask_by_route (Some page) head body = if has_method page head.method then ask_of_page page head body else no_method page
+
+-- what a text asks for; one that still needs more at its end was cut short
+abbrev pub ask_of : Framing → Ask
+ask_of needs_more = turned_away CutShort
+ask_of (refusal code) = turned_away code
+ask_of (whole head body) = ask_by_route (page_of head.path) head body
+
+-- the token stands in the head, also where the body was refused or cut short
+unfoldable pub request_of : List ℕ → Request
+request_of text = record { token = option_and_then (λ head. head.token) (head_in text); ask = ask_of (framing text) }

@@ -1,0 +1,54 @@
+//! What a request asks for, once its path and method are known.
+
+ghost use Rattle.std.specs.Prelude.{◌≡◌, IsTrue, codes};
+ghost use Rattle.clock_front.specs.Heads.{same_bytes};
+ghost use Rattle.clock_front.specs.Requests as spec;
+ghost use Rattle.clock_front.specs.Routes.{has_method};
+ghost use Rattle.clock_front.specs.Shown.{shown_head};
+ghost use Rattle.clock_front.specs.ShownAsked.{shown_asked};
+
+use crate::request_text::Head;
+use crate::routes::{Page, is_method, last_segment};
+use http::Method;
+
+/// What is asked to be told. It changes nothing.
+#[derive(Clone, Copy, Debug)]
+pub(crate) enum Reading<'a> {
+    Status,
+    Products,
+    Sheet(&'a [u8]),
+    Account,
+    Bids,
+    Slip(&'a [u8]),
+    Results,
+}
+
+/// What is asked for: to be told, or a change by a body that is not read yet.
+#[derive(Clone, Copy, Debug)]
+pub(crate) enum Asked<'a> {
+    Read(Reading<'a>),
+    Put(&'a [u8]),
+    Close(&'a [u8]),
+}
+
+/// What is asked of a page by one of its methods.
+pub(crate) fn asked_of<'a>(page: Page, head: &Head<'a>, body: &'a [u8]) -> Asked<'a>
+    ensures { shown_asked result ≡ spec.ask_of_page page (shown_head head.now) body.now }
+{
+    match page {
+        Page::Status => Asked::Read(Reading::Status),
+        Page::Products => Asked::Read(Reading::Products),
+        Page::Sheet => Asked::Read(Reading::Sheet(last_segment(head.path))),
+        Page::Account => Asked::Read(Reading::Account),
+        Page::Bids => {
+            if is_method(head.method, Method::PUT) {
+                Asked::Put(body)
+            } else {
+                Asked::Read(Reading::Bids)
+            }
+        }
+        Page::Slip => Asked::Read(Reading::Slip(last_segment(head.path))),
+        Page::Close => Asked::Close(body),
+        Page::Results => Asked::Read(Reading::Results),
+    }
+}

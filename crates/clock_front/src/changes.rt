@@ -1,0 +1,177 @@
+//! Replies to requests that change the auction. A reply is built before its change is made.
+
+ghost use Rattle.std.specs.Prelude.{◌≡◌, ◌≢◌, ◌<◌, None, length, IfOk, OnOk, OnErr};
+ghost use Rattle.clock_house.specs.House.{put_fault_in, closing_in, IsFollowedBy, StandsStill};
+ghost use Rattle.clock_house.specs.Command as command;
+ghost use Rattle.clock_views.specs.Refusals.{shown_put, shown_close};
+ghost use Rattle.clock_front.specs.Bodies.{put_body};
+ghost use Rattle.clock_front.specs.CloseBodies.{close_body};
+ghost use Rattle.clock_front.specs.Outcomes as told;
+ghost use Rattle.clock_front.specs.Outcomes.{answer_of};
+ghost use Rattle.clock_views.specs.OperatorPages.{closed_value};
+
+use crate::body_fault::BodyFault;
+use crate::close_body::{CloseBody, read_close};
+use crate::head_room::text_with_room;
+use crate::pages::refusal;
+use crate::put_body::{PutBody, read_put};
+use crate::reply::Reply;
+use clock_device::NoMemory;
+use clock_house::{CloseFault, House, PutFault};
+use clock_processor::Processor;
+use clock_setup::Increments;
+use clock_views::{Code, Refusal, push_accepted_page, push_closed_page};
+use std::alloc::Global;
+
+/// That a sheet was accepted.
+fn accepted(alloc: Global, sheet: &PutBody) -> Result<Reply, NoMemory>
+    ensures { IfOk result (λ reply. reply ≡ answer_of (told.put_outcome sheet.now None)) }
+{
+    let mut text = text_with_room(alloc)?;
+    push_accepted_page(&mut text, sheet.round, sheet.bids.as_slice().len() as u64)?;
+    Ok(Reply::written(Code::Done, None, text))
+}
+
+/// Why a sheet is not put in force.
+fn put_refusal(alloc: Global, fault: PutFault) -> Result<Reply, NoMemory>
+    ensures reply { IfOk result (λ reply. reply ≡ answer_of (told.refused (shown_put fault))) }
+    ensures known { OnOk result (fault ≢ PutFault.NoMemory) }
+{
+    match fault {
+        PutFault::NoMemory => Err(NoMemory),
+        PutFault::Ended => refusal(alloc, Refusal::from(PutFault::Ended)),
+        PutFault::WrongRound(round) => refusal(alloc, Refusal::from(PutFault::WrongRound(round))),
+        PutFault::Bid(fault) => refusal(alloc, Refusal::from(PutFault::Bid(fault))),
+    }
+}
+
+/// Puts a sheet in force, or tells its first fault.
+fn put_sheet<P: Processor>(
+    alloc: Global,
+    house: &mut House<P>,
+    bidder: u32,
+    sheet: PutBody,
+) -> Result<Reply, NoMemory>
+    requires { bidder < length house.old.setup.bidders }
+    ensures reply { IfOk result (λ reply. reply
+        ≡ answer_of (told.put_outcome sheet (put_fault_in house.old bidder sheet.round sheet.bids))) }
+    ensures followed { OnOk result (IsFollowedBy (command.put bidder sheet.round sheet.bids) house.old house.new) }
+    ensures still { OnErr result (StandsStill house.old house.new) }
+{
+    match house.prepare_put(bidder, sheet.round, sheet.bids.as_slice()) {
+        Ok(prepared) => {
+            let reply = accepted(alloc, &sheet)?;
+            house.commit_put(prepared);
+            Ok(reply)
+        }
+        Err(fault) => put_refusal(alloc, fault),
+    }
+}
+
+/// The reply to a body that a bidder puts as its sheet.
+pub(crate) fn put<P: Processor>(
+    alloc: Global,
+    house: &mut House<P>,
+    bidder: u32,
+    body: &[u8],
+) -> Result<Reply, NoMemory>
+    requires { bidder < length house.old.setup.bidders }
+    ensures reply { IfOk result (λ reply. reply ≡ answer_of (told.put_to house.old bidder (put_body body.now))) }
+    ensures followed { OnOk result (IsFollowedBy (told.put_command bidder (put_body body.now)) house.old house.new) }
+    ensures still { OnErr result (StandsStill house.old house.new) }
+{
+    house.keeps();
+    match read_put(alloc, body) {
+        Ok(sheet) => put_sheet(alloc, house, bidder, sheet),
+        Err(BodyFault::NotJson) => refusal(alloc, Refusal::alone(Code::BadJson)),
+        Err(BodyFault::Shape) => refusal(alloc, Refusal::alone(Code::Shape)),
+        Err(BodyFault::NoMemory) => Err(NoMemory),
+    }
+}
+
+/// Whether increments have the form of a set-up's version.
+fn is_of_version(version: u64, increments: &Increments) -> bool
+    ensures { result ≡ told.is_of_version version increments.now }
+{
+    match increments {
+        Increments::Single(_) => version == 1,
+        Increments::PerProduct(_) => version != 1,
+    }
+}
+
+/// That a round was closed.
+fn closed(alloc: Global, round: u64, ended: bool) -> Result<Reply, NoMemory>
+    ensures { IfOk result (λ reply. reply ≡ answer_of (told.done (closed_value round ended))) }
+{
+    let mut text = text_with_room(alloc)?;
+    push_closed_page(&mut text, round, ended)?;
+    Ok(Reply::written(Code::Done, None, text))
+}
+
+/// Why a round is not closed.
+fn close_refusal(alloc: Global, fault: CloseFault) -> Result<Reply, NoMemory>
+    ensures reply { IfOk result (λ reply. reply ≡ answer_of (told.refused (shown_close fault))) }
+    ensures known { OnOk result (fault ≢ CloseFault.NoMemory) }
+{
+    match fault {
+        CloseFault::NoMemory => Err(NoMemory),
+        CloseFault::Ended => refusal(alloc, Refusal::from(CloseFault::Ended)),
+        CloseFault::WrongRound(round) => refusal(
+            alloc,
+            Refusal::from(CloseFault::WrongRound(round)),
+        ),
+        CloseFault::Increment => refusal(alloc, Refusal::from(CloseFault::Increment)),
+        CloseFault::Tie(fault) => refusal(alloc, Refusal::from(CloseFault::Tie(fault))),
+        CloseFault::PriceLimit(product) => refusal(
+            alloc,
+            Refusal::from(CloseFault::PriceLimit(product)),
+        ),
+    }
+}
+
+/// Closes the round, or tells the first fault.
+fn close_round<P: Processor>(
+    alloc: Global,
+    house: &mut House<P>,
+    closing: &CloseBody,
+) -> Result<Reply, NoMemory>
+    ensures reply { IfOk result (λ reply. reply
+        ≡ answer_of (told.close_outcome closing.now.round (closing_in house.old closing.now.round closing.now.increments closing.now.ties))) }
+    ensures followed { OnOk result (IsFollowedBy (command.close closing.now.round closing.now.increments closing.now.ties) house.old house.new) }
+    ensures still { OnErr result (StandsStill house.old house.new) }
+{
+    match house.prepare(closing.round, &closing.increments, closing.ties.as_slice()) {
+        Ok(prepared) => {
+            let reply = closed(alloc, closing.round, prepared.ended())?;
+            house.commit(prepared);
+            Ok(reply)
+        }
+        Err(fault) => close_refusal(alloc, fault),
+    }
+}
+
+/// The reply to a body by which the operator closes a round.
+pub(crate) fn close<P: Processor>(
+    alloc: Global,
+    house: &mut House<P>,
+    body: &[u8],
+) -> Result<Reply, NoMemory>
+    ensures reply { IfOk result (λ reply. reply
+        ≡ answer_of (told.close_to house.old (told.in_version house.old.setup.version (close_body body.now)))) }
+    ensures followed { OnOk result (IsFollowedBy (told.close_command (told.in_version house.old.setup.version (close_body body.now))) house.old house.new) }
+    ensures still { OnErr result (StandsStill house.old house.new) }
+{
+    house.keeps();
+    match read_close(alloc, body) {
+        Ok(closing) => {
+            if is_of_version(house.setup().version, &closing.increments) {
+                close_round(alloc, house, &closing)
+            } else {
+                refusal(alloc, Refusal::alone(Code::Shape))
+            }
+        }
+        Err(BodyFault::NotJson) => refusal(alloc, Refusal::alone(Code::BadJson)),
+        Err(BodyFault::Shape) => refusal(alloc, Refusal::alone(Code::Shape)),
+        Err(BodyFault::NoMemory) => Err(NoMemory),
+    }
+}

@@ -1,0 +1,170 @@
+ghost use Rattle.std.specs.Prelude.{◌≡◌, [], length, IfOk, IsOk, OnOk, OnErr};
+ghost use Rattle.clock_house.specs.House.{IsFollowedBy, StandsStill};
+ghost use Rattle.clock_views.specs.declared.code.Code.{Code as ReplyCode};
+ghost use Rattle.clock_front.specs.Askers.{IsKnown, asker as asker_with};
+ghost use Rattle.clock_front.specs.Framing.{framing as framing_of, refusal as refusal_of};
+ghost use Rattle.clock_front.specs.Fronts.{AnswersText, StandsForTexts};
+ghost use Rattle.clock_front.specs.Outcomes.{answer_of, outcome, command_of};
+ghost use Rattle.clock_front.specs.Replies.{refusal_bytes};
+ghost use Rattle.clock_front.specs.Requests.{ask_by_route, request_of};
+ghost use Rattle.clock_front.specs.Routes.{page_of};
+ghost use Rattle.clock_front.specs.Shown.{shown_head, shown_bytes};
+ghost use Rattle.clock_front.specs.ShownAsked.{shown_asked};
+
+use crate::asked::{Asked, asked_of};
+use crate::changes::{close, put};
+use crate::pages::{not_allowed, refusal};
+use crate::reply::Reply;
+use crate::request_text::{Framing, Head, frame};
+use crate::routes::Routes;
+use crate::telling::{bidder_of, operator_of, tell};
+use crate::tokens::{Asker, Tokens};
+use clock_device::NoMemory;
+use clock_house::House;
+use clock_processor::Processor;
+use clock_setup::Setup;
+use clock_views::{Code, Refusal};
+use std::alloc::Global;
+use std::marker::Model;
+
+/// An auction house that is asked by texts of HTTP.
+///
+/// Contracts see its house. A front *stands for* the list of texts that it has answered, but for those that found no
+/// memory: its house stands for the commands that they are.
+#[derive(Drop)]
+pub struct Front<P> {
+    alloc: Global,
+    house: House<P>,
+    routes: Routes,
+    tokens: Tokens,
+}
+
+impl<P> Model for Front<P> {
+    ghost use Rattle.clock_house.specs.House.{HouseFields};
+    ghost use Rattle.clock_front.specs.TokenTable.{IsTableOf};
+
+    ghost Value = { HouseFields };
+
+    ghost view = { λ f. f.house };
+
+    ghost invariant = { λ f. IsTableOf f.house.setup f.tokens };
+}
+
+/// What an asker asks for is told or done, or it is told why not.
+fn answer_asked<P: Processor>(
+    alloc: Global,
+    house: &mut House<P>,
+    asker: Asker,
+    what: Asked<'_>,
+) -> Result<Reply, NoMemory>
+    requires { IsKnown (length house.old.setup.bidders) asker }
+    ensures reply { IfOk result (λ reply. reply ≡ answer_of (outcome house.old asker (shown_asked what.entry))) }
+    ensures followed { OnOk result (IsFollowedBy (command_of house.old.setup asker (shown_asked what.entry)) house.old house.new) }
+    ensures still { OnErr result (StandsStill house.old house.new) }
+{
+    house.keeps();
+    match what {
+        Asked::Read(what) => tell(alloc, house, asker, what),
+        Asked::Put(body) => match bidder_of(asker) {
+            Ok(bidder) => put(alloc, house, bidder, body),
+            Err(away) => refusal(alloc, away),
+        },
+        Asked::Close(body) => match operator_of(asker) {
+            Ok(()) => close(alloc, house, body),
+            Err(away) => refusal(alloc, away),
+        },
+    }
+}
+
+/// What a request asks for, by its path and method.
+fn answer_head<P: Processor>(
+    alloc: Global,
+    house: &mut House<P>,
+    routes: &Routes,
+    asker: Asker,
+    head: &Head<'_>,
+    body: &[u8],
+) -> Result<Reply, NoMemory>
+    requires { IsKnown (length house.old.setup.bidders) asker }
+    ensures reply { IfOk result (λ reply. reply
+        ≡ answer_of (outcome house.old asker (ask_by_route (page_of head.now.path.now) (shown_head head.now) body.now))) }
+    ensures followed { OnOk result (IsFollowedBy
+        (command_of house.old.setup asker (ask_by_route (page_of head.now.path.now) (shown_head head.now) body.now)) house.old house.new) }
+    ensures still { OnErr result (StandsStill house.old house.new) }
+{
+    house.keeps();
+    let Some(page) = routes.page_of(head.path) else {
+        return refusal(alloc, Refusal::alone(Code::NoPage));
+    };
+    if !page.has_method(head.method) {
+        return not_allowed(alloc, page);
+    }
+    answer_asked(alloc, house, asker, asked_of(page, head, body))
+}
+
+impl<P: Processor> Front<P> {
+    /// A front before its first text: it stands for the empty list.
+    pub fn new(alloc: Global, setup: Setup, processor: P) -> Result<Front<P>, NoMemory>
+        ensures setup { IfOk result (λ front. front.setup ≡ setup) }
+        ensures stands { IfOk result (StandsForTexts []) }
+    {
+        let tokens = Tokens::new(alloc, &setup)?;
+        let routes = Routes::new(alloc)?;
+        let house = House::new(alloc, setup, processor)?;
+        Ok(Front {
+            alloc,
+            house,
+            routes,
+            tokens,
+        })
+    }
+
+    /// The reply to a text, where there is memory for it.
+    fn answer_text(&mut self, text: &[u8]) -> Result<Reply, NoMemory>
+        ensures reply { IfOk result (λ reply. reply
+            ≡ answer_of (outcome self.old (asker_with self.old.setup (request_of text.now).token) (request_of text.now).ask)) }
+        ensures followed { OnOk result (IsFollowedBy
+            (command_of self.old.setup (asker_with self.old.setup (request_of text.now).token) (request_of text.now).ask) self.old self.new) }
+        ensures still { OnErr result (StandsStill self.old self.new) }
+        ensures refused { (code : ReplyCode) → framing_of text.now ≡ refusal_of code → IsOk result }
+    {
+        self.house.keeps();
+        match frame(text) {
+            Framing::NeedMore => refusal(self.alloc, Refusal::alone(Code::CutShort)),
+            Framing::Refused(code) => Ok(Reply::constant(code)),
+            Framing::Whole { head, body } => {
+                let asker = self.tokens.asker(head.token);
+                answer_head(
+                    self.alloc,
+                    &mut self.house,
+                    &self.routes,
+                    asker,
+                    &head,
+                    body,
+                )
+            }
+        }
+    }
+
+    /// The reply to a text, after which the input has ended: a request, less than one, or none at all.
+    ///
+    /// Where there is no memory the reply is that of [`Code::Memory`], and nothing has changed; a text that is refused at its
+    /// head needs none. The page of a change is built before the change is made.
+    pub fn answer(&mut self, text: &[u8]) -> Reply
+        ensures answered { AnswersText text.now result self.old self.new }
+        ensures setup { self.new.setup ≡ self.old.setup }
+        ensures refused { (code : ReplyCode) → framing_of text.now ≡ refusal_of code → result.code ≡ code }
+    {
+        match self.answer_text(text) {
+            Ok(reply) => reply,
+            Err(_) => Reply::constant(Code::Memory),
+        }
+    }
+
+    /// The house that is asked.
+    pub fn house(&self) -> &House<P>
+        ensures { result.now ≡ self.now }
+    {
+        &self.house
+    }
+}

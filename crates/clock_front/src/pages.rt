@@ -1,0 +1,124 @@
+//! Replies that tell of the auction and change nothing.
+
+ghost use Rattle.std.specs.Prelude.{◌≡◌, ◌<◌, length, Some, None, IfOk};
+ghost use Rattle.clock_front.specs.Outcomes as told;
+ghost use Rattle.clock_front.specs.Outcomes.{answer_of};
+ghost use Rattle.clock_front.specs.Requests as asked;
+
+use crate::head_room::text_with_room;
+use crate::reply::Reply;
+use crate::routes::{Page, round_named};
+use clock_device::NoMemory;
+use clock_house::House;
+use clock_views::{
+    Code, Refusal, push_account_page, push_bids_page, push_products_page, push_refusal_page,
+    push_results_page, push_sheet_page, push_slip_page, push_status_page,
+};
+use std::alloc::Global;
+
+/// A refusal.
+pub(crate) fn refusal(alloc: Global, refusal: Refusal) -> Result<Reply, NoMemory>
+    ensures { IfOk result (λ reply. reply ≡ answer_of (told.refused refusal)) }
+{
+    let mut text = text_with_room(alloc)?;
+    push_refusal_page(&mut text, refusal)?;
+    Ok(Reply::written(refusal.code, None, text))
+}
+
+/// A refusal of a method that the page has not.
+pub(crate) fn not_allowed(alloc: Global, page: Page) -> Result<Reply, NoMemory>
+    ensures { IfOk result (λ reply. reply ≡ answer_of (told.not_allowed page)) }
+{
+    let mut text = text_with_room(alloc)?;
+    push_refusal_page(&mut text, Refusal::alone(Code::Method))?;
+    Ok(Reply::written(Code::Method, Some(page), text))
+}
+
+/// Where the auction stands.
+pub(crate) fn status<P>(alloc: Global, house: &House<P>) -> Result<Reply, NoMemory>
+    ensures { IfOk result (λ reply. reply ≡ answer_of (told.told_anyone house.now asked.status)) }
+{
+    let mut text = text_with_room(alloc)?;
+    push_status_page(&mut text, house.setup(), house.round(), house.ended())?;
+    Ok(Reply::written(Code::Done, None, text))
+}
+
+/// What is auctioned.
+pub(crate) fn products<P>(alloc: Global, house: &House<P>) -> Result<Reply, NoMemory>
+    ensures { IfOk result (λ reply. reply ≡ answer_of (told.told_anyone house.now asked.products)) }
+{
+    let mut text = text_with_room(alloc)?;
+    push_products_page(&mut text, house.setup())?;
+    Ok(Reply::written(Code::Done, None, text))
+}
+
+/// The sheet of the round that a segment names.
+pub(crate) fn sheet<P>(alloc: Global, house: &House<P>, segment: &[u8]) -> Result<Reply, NoMemory>
+    ensures { IfOk result (λ reply. reply ≡ answer_of (told.told_anyone house.now (asked.sheet segment.now))) }
+{
+    let Some(round) = round_named(segment) else {
+        return refusal(alloc, Refusal::alone(Code::NoRound));
+    };
+    let Some(sheet) = house.sheet(round) else {
+        return refusal(alloc, Refusal::alone(Code::NoRound));
+    };
+    let mut text = text_with_room(alloc)?;
+    push_sheet_page(&mut text, house.setup(), sheet)?;
+    Ok(Reply::written(Code::Done, None, text))
+}
+
+/// What a bidder holds.
+pub(crate) fn account<P>(alloc: Global, house: &House<P>, bidder: u32) -> Result<Reply, NoMemory>
+    requires { bidder < length house.now.setup.bidders }
+    ensures { IfOk result (λ reply. reply ≡ answer_of (told.told_bidder house.now bidder asked.account)) }
+{
+    let mut text = text_with_room(alloc)?;
+    push_account_page(
+        &mut text,
+        house.setup(),
+        bidder,
+        house.own(bidder),
+        house.ended(),
+    )?;
+    Ok(Reply::written(Code::Done, None, text))
+}
+
+/// A bidder's sheet of bids in force.
+pub(crate) fn bids<P>(alloc: Global, house: &House<P>, bidder: u32) -> Result<Reply, NoMemory>
+    requires { bidder < length house.now.setup.bidders }
+    ensures { IfOk result (λ reply. reply ≡ answer_of (told.told_bidder house.now bidder asked.bids)) }
+{
+    let mut text = text_with_room(alloc)?;
+    push_bids_page(&mut text, house.round(), house.bids(bidder))?;
+    Ok(Reply::written(Code::Done, None, text))
+}
+
+/// A bidder's results of the round that a segment names.
+pub(crate) fn slip<P>(
+    alloc: Global,
+    house: &House<P>,
+    bidder: u32,
+    segment: &[u8],
+) -> Result<Reply, NoMemory>
+    requires { bidder < length house.now.setup.bidders }
+    ensures { IfOk result (λ reply. reply ≡ answer_of (told.told_bidder house.now bidder (asked.slip segment.now))) }
+{
+    let Some(round) = round_named(segment) else {
+        return refusal(alloc, Refusal::alone(Code::NoRound));
+    };
+    let Some(slip) = house.slip(bidder, round) else {
+        return refusal(alloc, Refusal::alone(Code::NoRound));
+    };
+    let mut text = text_with_room(alloc)?;
+    push_slip_page(&mut text, slip)?;
+    Ok(Reply::written(Code::Done, None, text))
+}
+
+/// What all bidders hold.
+pub(crate) fn results<P>(alloc: Global, house: &House<P>) -> Result<Reply, NoMemory>
+    ensures { IfOk result (λ reply. reply ≡ answer_of (told.told_operator (told.without_room house.now) asked.results)) }
+{
+    let mut text = text_with_room(alloc)?;
+    push_results_page(&mut text, house)?;
+    Ok(Reply::written(Code::Done, None, text))
+}

@@ -1,0 +1,75 @@
+//! Which page an asker is told.
+
+ghost use Rattle.std.specs.Prelude.{◌≡◌, ◌<◌, length, Some, IfOk, IfErr, OnOk};
+ghost use Rattle.clock_views.specs.Refusals.{alone};
+ghost use Rattle.clock_front.specs.Askers.{IsKnown};
+ghost use Rattle.clock_front.specs.Outcomes as told;
+ghost use Rattle.clock_front.specs.Outcomes.{answer_of, outcome, turned_away_by};
+ghost use Rattle.clock_front.specs.ShownAsked.{shown_reading};
+
+use crate::asked::Reading;
+use crate::pages::{account, bids, products, refusal, results, sheet, slip, status};
+use crate::reply::Reply;
+use crate::routes::Role;
+use crate::tokens::Asker;
+use clock_device::NoMemory;
+use clock_house::House;
+use clock_views::{Code, Refusal};
+use std::alloc::Global;
+
+/// The bidder that asks, or why pages of bidders are not for this asker.
+pub(crate) fn bidder_of(asker: Asker) -> Result<u32, Refusal>
+    ensures ok { IfOk result (λ bidder. asker ≡ Asker.Bidder bidder) }
+    ensures err { IfErr result (λ away. (turned_away_by Role.Bidder asker ≡ Some away.code) × (away ≡ alone away.code)) }
+{
+    match asker {
+        Asker::Bidder(bidder) => Ok(bidder),
+        Asker::Nobody => Err(Refusal::alone(Code::Token)),
+        Asker::Operator => Err(Refusal::alone(Code::Role)),
+    }
+}
+
+/// Why pages of the operator are not for this asker, if they are not.
+pub(crate) fn operator_of(asker: Asker) -> Result<(), Refusal>
+    ensures ok { OnOk result (asker ≡ Asker.Operator) }
+    ensures err { IfErr result (λ away. (turned_away_by Role.Operator asker ≡ Some away.code) × (away ≡ alone away.code)) }
+{
+    match asker {
+        Asker::Operator => Ok(()),
+        Asker::Nobody => Err(Refusal::alone(Code::Token)),
+        Asker::Bidder(_) => Err(Refusal::alone(Code::Role)),
+    }
+}
+
+/// The reply to what an asker asks to be told.
+pub(crate) fn tell<P>(
+    alloc: Global,
+    house: &House<P>,
+    asker: Asker,
+    what: Reading<'_>,
+) -> Result<Reply, NoMemory>
+    requires { IsKnown (length house.now.setup.bidders) asker }
+    ensures { IfOk result (λ reply. reply ≡ answer_of (outcome house.now asker (shown_reading what.entry))) }
+{
+    match what {
+        Reading::Status => status(alloc, house),
+        Reading::Products => products(alloc, house),
+        Reading::Sheet(segment) => sheet(alloc, house, segment),
+        Reading::Account => match bidder_of(asker) {
+            Ok(bidder) => account(alloc, house, bidder),
+            Err(away) => refusal(alloc, away),
+        },
+        Reading::Bids => match bidder_of(asker) {
+            Ok(bidder) => bids(alloc, house, bidder),
+            Err(away) => refusal(alloc, away),
+        },
+        Reading::Slip(segment) => match bidder_of(asker) {
+            Ok(bidder) => slip(alloc, house, bidder, segment),
+            Err(away) => refusal(alloc, away),
+        },
+        Reading::Results => match operator_of(asker) {
+            Ok(()) => results(alloc, house),
+            Err(away) => refusal(alloc, away),
+        },
+    }
+}
