@@ -41,13 +41,16 @@ some_price P price false is = tt
 
 pub raise_some : (start percent granule : ℕ) → 1 ≤ granule → IfSome (raise start percent granule) (IsRaised start percent granule)
 raise_some start percent granule unit =
-    some_price (IsRaised start percent granule) (raised start percent granule) (nat_le (raised start percent granule) highest_price) (raised_is_raised start percent granule unit)
+    some_price (IsRaised start percent granule) (raised start percent granule) (nat_le (raised start percent granule) highest_price)
+    (raised_is_raised start percent granule unit)
 
 no_price : (price : ℕ) (P : Type 0) (b : Bool) → nat_le price highest_price ≡ b → (highest_price < price → P) → IfNone (if b then Some price else None) P
 no_price price P true is holds = tt
 no_price price P false is holds = holds (leb-false price highest_price is)
 
-pub raise_none : (start percent granule : ℕ) → 1 ≤ granule → IfNone (raise start percent granule) ((price : ℕ) → IsRaised start percent granule price → highest_price < price)
+pub raise_none : (start percent granule : ℕ) → 1 ≤ granule
+    → IfNone (raise start percent granule) ((price : ℕ) → IsRaised start percent granule price → highest_price < price)
 raise_none start percent granule unit =
-    no_price (raised start percent granule) ((price : ℕ) → IsRaised start percent granule price → highest_price < price) (nat_le (raised start percent granule) highest_price) refl
+    no_price (raised start percent granule) ((price : ℕ) → IsRaised start percent granule price → highest_price < price)
+    (nat_le (raised start percent granule) highest_price) refl
     (λ high price is. omega (arith, high, lowest start percent granule price unit is.0))

@@ -27,7 +27,9 @@ div_ceil_rounds_up n r h =
     let low : rounded_up n r ≤ div_ceil n r = least.1 (div_ceil n r) (omega (arith, bounds.0)) in
     let high : div_ceil n r ≤ rounded_up n r =
     ⊎_elim
-    (λ (above : rounded_up n r < div_ceil n r). let step : r * (rounded_up n r + 1) ≤ r * div_ceil n r = mul-le-mul_left r (omega (arith, above)) in absurd (omega (arith, step, least.0, bounds.1)))
+    (λ (above : rounded_up n r < div_ceil n r).
+    let step : r * (rounded_up n r + 1) ≤ r * div_ceil n r = mul-le-mul_left r (omega (arith, above)) in
+    absurd (omega (arith, step, least.0, bounds.1)))
     (λ below. below)
     (cases_lt (rounded_up n r) (div_ceil n r)) in
     omega (arith, low, high)

@@ -22,7 +22,8 @@ pub demand-le-total : (grid : List (List ℕ)) (b p : ℕ) → b < length grid �
 demand-le-total grid b p h = get_or-le-sum_by (λ row. get_or row p 0) grid b [] h
 
 -- changing a demand changes its product's total by the difference
-pub total-with_demand_same : (grid : List (List ℕ)) (b p v : ℕ) → b < length grid → p < length (row_of grid b) → total_of (with_demand grid b p v) p + demand_at grid b p ≡ total_of grid p + v
+pub total-with_demand_same : (grid : List (List ℕ)) (b p v : ℕ) → b < length grid → p < length (row_of grid b)
+    → total_of (with_demand grid b p v) p + demand_at grid b p ≡ total_of grid p + v
 total-with_demand_same grid b p v h k =
     sum_by-set (λ row. get_or row p 0) grid b (set (row_of grid b) p v) [] h ∙ ap (λ n. total_of grid p + n) (get_or-set_same (row_of grid b) p v 0 k)
 
@@ -41,12 +42,14 @@ kept_with_demand grid totals b p v n kept h k low is =
     let same : total_of (with_demand grid b p v) p + demand_at grid b p ≡ total_of grid p + v = total-with_demand_same grid b p v h (omega arith) in
     record {
       small = record {
-        few_products = rw (length-set totals p n) kept.small.few_products;
-        few_bidders = rw (length-set grid b (set (row_of grid b) p v)) kept.small.few_bidders;
-        same_length = rw (length-set totals p n) (All-set (λ row. length row ≡ length totals) grid b (set (row_of grid b) p v) (length-set (row_of grid b) p v ∙ row_length) kept.small.same_length);
-        small = All-set (λ row. All (λ demand. demand ≤ most_supply) row) grid b (set (row_of grid b) p v) (All-set (λ demand. demand ≤ most_supply) (row_of grid b) p v low (kept.small.small b [] h)) kept.small.small;
+        product_count = rw (length-set totals p n) kept.small.product_count;
+        bidder_count = rw (length-set grid b (set (row_of grid b) p v)) kept.small.bidder_count;
+        same_length = rw (length-set totals p n) (All-set (λ row. length row ≡ length totals) grid b (set (row_of grid b) p v)
+        (length-set (row_of grid b) p v ∙ row_length) kept.small.same_length);
+        small = All-set (λ row. All (λ demand. demand ≤ most_supply) row) grid b (set (row_of grid b) p v)
+        (All-set (λ demand. demand ≤ most_supply) (row_of grid b) p v low (kept.small.small b [] h)) kept.small.small;
       };
-      some_bidder = rw (length-set grid b (set (row_of grid b) p v)) kept.some_bidder;
+      has_bidder = rw (length-set grid b (set (row_of grid b) p v)) kept.has_bidder;
       kept = λ q j.
           let within : q < length totals = omega (arith, length-set totals p n) in
           ⊎_elim
@@ -58,8 +61,8 @@ kept_with_demand grid totals b p v n kept h k low is =
 -- a product of each row has a total
 pub in_totals : (grid : List (List ℕ)) (totals : List ℕ) (p : ℕ) → IsKeptGrid grid totals → All (λ row. p < length row) grid → p < length totals
 in_totals grid totals p kept wide =
-    let first : p < length (get_or grid 0 []) = wide 0 [] kept.some_bidder in
-    let same : length (get_or grid 0 []) ≡ length totals = kept.small.same_length 0 [] kept.some_bidder in
+    let first : p < length (get_or grid 0 []) = wide 0 [] kept.has_bidder in
+    let same : length (get_or grid 0 []) ≡ length totals = kept.small.same_length 0 [] kept.has_bidder in
     omega arith
 
 -- a total, less one demand and with another in its place
@@ -68,7 +71,7 @@ pub total_after : (grid : List (List ℕ)) (totals : List ℕ) (b p v : ℕ) →
 total_after grid totals b p v kept h low =
     let most : total_of grid p ≤ length grid * most_supply = total_small grid p kept.small.small in
     let part : demand_at grid b p ≤ total_of grid p = demand-le-total grid b p h in
-    let few : length grid ≤ most_bidders = kept.small.few_bidders in
+    let few : length grid ≤ most_bidders = kept.small.bidder_count in
     (omega arith, omega arith)
 
 -- one more item of a list takes the place of another list's
@@ -83,7 +86,8 @@ replaced_more new old i d x h same at =
 
 -- one more demand of a new row
 pub row_more : (grid : List (List ℕ)) (b : ℕ) (demands : List ℕ) (i : ℕ) → b < length grid → i < length demands → length demands ≡ length (row_of grid b)
-    → with_demand (set grid b (take i demands ++ drop i (row_of grid b))) b i (get_or demands i 0) ≡ set grid b (take (i + 1) demands ++ drop (i + 1) (row_of grid b))
+    → with_demand (set grid b (take i demands ++ drop i (row_of grid b))) b i (get_or demands i 0)
+    ≡ set grid b (take (i + 1) demands ++ drop (i + 1) (row_of grid b))
 row_more grid b demands i h k same =
     let row : List ℕ = row_of grid b in
     let so_far : List ℕ = take i demands ++ drop i row in
@@ -92,14 +96,16 @@ row_more grid b demands i h k same =
     ∙ ap (set grid b) (replaced_more demands row i 0 (get_or demands i 0) k same (get_or_default demands i 0 (get_or demands i 0) k))
 
 -- a grid of the same shape, after a change of one row
-pub grid-set : (bidders products : ℕ) (grid : List (List ℕ)) (b : ℕ) (row : List ℕ) → IsGrid bidders products grid → length row ≡ products → IsGrid bidders products (set grid b row)
+pub grid-set : (bidders products : ℕ) (grid : List (List ℕ)) (b : ℕ) (row : List ℕ) → IsGrid bidders products grid → length row ≡ products
+    → IsGrid bidders products (set grid b row)
 grid-set bidders products grid b row is same =
     (length-set grid b row ∙ is.0, All-set (λ r. length r ≡ products) grid b row same is.1)
 
 -- nobody's demands are a grid
 pub no_demands_grid : (bidders products : ℕ) → IsGrid bidders products (no_demands bidders products)
 no_demands_grid bidders products =
-    (length-replicate {A = List ℕ} bidders (replicate products 0), All-replicate (λ row. length row ≡ products) bidders (replicate products 0) (length-replicate {A = ℕ} products 0))
+    (length-replicate {A = List ℕ} bidders (replicate products 0), All-replicate (λ row. length row ≡ products) bidders (replicate products 0)
+    (length-replicate {A = ℕ} products 0))
 
 -- who demands nothing has no activity
 pub activity_zeros : (products : List Product) (n : ℕ) → activity products (replicate n 0) ≡ 0

@@ -22,7 +22,8 @@ both_pass ((fault, true) ∷ checks) rest h = both_pass checks rest h
 both_pass ((fault, false) ∷ checks) rest h = cc
 
 -- the next item, x, passes
-pub turn_passed : {X F : Type 0} (checks : ℕ → X → List (F × Bool)) (items : List X) (i : ℕ) (x : X) → i < length items → x ≡ get_or items i x → first_fault (checks i x) ≡ None
+pub turn_passed : {X F : Type 0} (checks : ℕ → X → List (F × Bool)) (items : List X) (i : ℕ) (x : X) → i < length items → x ≡ get_or items i x
+    → first_fault (checks i x) ≡ None
     → first_fault (in_turn checks i (drop i items)) ≡ first_fault (in_turn checks (i + 1) (drop (i + 1) items))
 turn_passed checks items i x h at is =
     ap (λ rest. first_fault (in_turn checks i rest)) (drop_more items i x h)
@@ -30,7 +31,8 @@ turn_passed checks items i x h at is =
     ∙ passed (checks i x) _ is
 
 -- the next item, x, fails
-pub turn_failed : {X F : Type 0} (checks : ℕ → X → List (F × Bool)) (items : List X) (i : ℕ) (x : X) (fault : F) → i < length items → x ≡ get_or items i x → first_fault (checks i x) ≡ Some fault
+pub turn_failed : {X F : Type 0} (checks : ℕ → X → List (F × Bool)) (items : List X) (i : ℕ) (x : X) (fault : F) → i < length items
+    → x ≡ get_or items i x → first_fault (checks i x) ≡ Some fault
     → first_fault (in_turn checks i (drop i items)) ≡ Some fault
 turn_failed checks items i x fault h at is =
     ap (λ rest. first_fault (in_turn checks i rest)) (drop_more items i x h)
@@ -38,7 +40,8 @@ turn_failed checks items i x fault h at is =
     ∙ failed (checks i x) _ fault is
 
 -- no item is left
-pub turn_none : {X F : Type 0} (checks : ℕ → X → List (F × Bool)) (items : List X) (i : ℕ) → length items ≤ i → first_fault (in_turn checks i (drop i items)) ≡ None
+pub turn_none : {X F : Type 0} (checks : ℕ → X → List (F × Bool)) (items : List X) (i : ℕ) → length items ≤ i
+    → first_fault (in_turn checks i (drop i items)) ≡ None
 turn_none checks items i h = ap (λ rest. first_fault (in_turn checks i rest)) (drop_all i items h)
 
 pub ruleset fault_steps = (turn_passed, turn_failed, turn_none)

@@ -126,7 +126,8 @@ setup_within setup version first_version requirement limit operator product_coun
 -- the first fault of a set-up, where it is a product's
 pub product_fault_first : (setup : SetupFields) (fault : SetupFault) → is_within least_requirement most_requirement setup.requirement ≡ true
     → is_within least_limit most_limit setup.limit ≡ true → is_token setup.operator ≡ true
-    → is_within 1 most_products (length setup.products) ≡ true → first_fault (in_turn product_checks 0 setup.products) ≡ Some fault → first_fault (setup_checks setup) ≡ Some fault
+    → is_within 1 most_products (length setup.products) ≡ true → first_fault (in_turn product_checks 0 setup.products) ≡ Some fault
+    → first_fault (setup_checks setup) ≡ Some fault
 unfolding setup_checks
 product_fault_first setup fault requirement limit operator product_count products =
     rw (requirement, limit, operator, product_count) (failed (in_turn product_checks 0 setup.products) _ fault products)
@@ -135,7 +136,8 @@ product_fault_first setup fault requirement limit operator product_count product
 pub bidder_fault_first : (setup : SetupFields) (fault : SetupFault) → is_within least_requirement most_requirement setup.requirement ≡ true
     → is_within least_limit most_limit setup.limit ≡ true → is_token setup.operator ≡ true
     → is_within 1 most_products (length setup.products) ≡ true → first_fault (in_turn product_checks 0 setup.products) ≡ None
-    → is_within 1 most_bidders (length setup.bidders) ≡ true → first_fault (in_turn bidder_checks 0 setup.bidders) ≡ Some fault → first_fault (setup_checks setup) ≡ Some fault
+    → is_within 1 most_bidders (length setup.bidders) ≡ true → first_fault (in_turn bidder_checks 0 setup.bidders) ≡ Some fault
+    → first_fault (setup_checks setup) ≡ Some fault
 unfolding setup_checks
 bidder_fault_first setup fault requirement limit operator product_count products bidder_count bidders =
     rw (requirement, limit, operator, product_count)
@@ -155,11 +157,13 @@ test_of_within low high n h = two_true (nat_le low n) (nat_le n high) (test_of_l
 
 test_of_name : (text : List ℕ) → IsName text → is_name text ≡ true
 test_of_name text h =
-    two_true (is_within 1 32 (length text)) (list_all is_name_character text) (test_of_within 1 32 (length text) h.0) (list_all-from_AllPass is_name_character text h.1)
+    two_true (is_within 1 32 (length text)) (list_all is_name_character text) (test_of_within 1 32 (length text) h.0)
+    (list_all-from_AllPass is_name_character text h.1)
 
 test_of_token : (text : List ℕ) → IsToken text → is_token text ≡ true
 test_of_token text h =
-    two_true (is_within 16 64 (length text)) (list_all is_letter_or_digit text) (test_of_within 16 64 (length text) h.0) (list_all-from_AllPass is_letter_or_digit text h.1)
+    two_true (is_within 16 64 (length text)) (list_all is_letter_or_digit text) (test_of_within 16 64 (length text) h.0)
+    (list_all-from_AllPass is_letter_or_digit text h.1)
 
 no_any : (test : List ℕ → Bool) (texts : List (List ℕ)) → AllByRecursion (λ text. test text ≡ false) texts → not (list_any test texts) ≡ true
 no_any test [] h = refl
@@ -203,14 +207,23 @@ checks_of_setup setup h =
     let products = each_within product_checks IsProduct checks_of_product 0 setup.products (recursion_from_All IsProduct setup.products h.products) in
     let bidders = each_within bidder_checks IsBidder checks_of_bidder 0 setup.bidders (recursion_from_All IsBidder setup.bidders h.bidders) in
     let names : has_distinct_names setup ≡ true =
-    two_true (is_distinct (map (λ product. product.name) setup.products)) (is_distinct (map (λ bidder. bidder.name) setup.bidders)) (test_of_distinct (map (λ product. product.name) setup.products) h.product_names) (test_of_distinct (map (λ bidder. bidder.name) setup.bidders) h.bidder_names) in
+    two_true (is_distinct (map (λ product. product.name) setup.products)) (is_distinct (map (λ bidder. bidder.name) setup.bidders))
+    (test_of_distinct (map (λ product. product.name) setup.products) h.product_names)
+    (test_of_distinct (map (λ bidder. bidder.name) setup.bidders) h.bidder_names) in
     let tokens : has_distinct_tokens setup ≡ true = test_of_distinct (setup.operator ∷ map (λ bidder. bidder.token) setup.bidders) h.tokens in
-    rw (test_of_within least_requirement most_requirement setup.requirement h.requirement, test_of_within least_limit most_limit setup.limit h.limit, test_of_token setup.operator h.operator, test_of_within 1 most_products (length setup.products) h.product_count)
+    rw (
+      test_of_within least_requirement most_requirement setup.requirement h.requirement,
+      test_of_within least_limit most_limit setup.limit h.limit,
+      test_of_token setup.operator h.operator,
+      test_of_within 1 most_products (length setup.products) h.product_count,
+    )
     (passed (in_turn product_checks 0 setup.products) _ products
-    ∙ rw (test_of_within 1 most_bidders (length setup.bidders) h.bidder_count) (passed (in_turn bidder_checks 0 setup.bidders) _ bidders ∙ rw (names, tokens) refl))
+    ∙ rw (test_of_within 1 most_bidders (length setup.bidders) h.bidder_count)
+    (passed (in_turn bidder_checks 0 setup.bidders) _ bidders ∙ rw (names, tokens) refl))
 
 -- a document of the right shape whose set-up is within the limits means that set-up
-pub accepted : (value : Data) (setup : SetupFields) → number_at (codes "version") value ≡ Some setup.version → fields_of value ≡ Some setup → IsSetup setup → setup_of value ≡ Ok setup
+pub accepted : (value : Data) (setup : SetupFields) → number_at (codes "version") value ≡ Some setup.version → fields_of value ≡ Some setup
+    → IsSetup setup → setup_of value ≡ Ok setup
 unfolding setup_of
 accepted value setup version shape within =
     rw (version, test_of_within 1 latest_version setup.version within.version, shape, checks_of_setup setup within) refl

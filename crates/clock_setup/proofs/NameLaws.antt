@@ -28,7 +28,8 @@ length_short a b h = grind (arith, nat_tests)
 -- one more text, which is among the others or not
 count_more : (t : Bor (List ℕ)) (texts : List (Bor (List ℕ))) (b : Bool) → is_member same_text texts t ≡ b
     → nat_eq (distinct_count same_text texts) (length texts) ≡ is_distinct (map (λ u. u.now) texts)
-    → nat_eq (length (cond b (unique_keys same_text texts) (t ∷ unique_keys same_text texts))) (suc (length texts)) ≡ (not b && is_distinct (map (λ u. u.now) texts))
+    → nat_eq (length (cond b (unique_keys same_text texts) (t ∷ unique_keys same_text texts))) (suc (length texts))
+    ≡ (not b && is_distinct (map (λ u. u.now) texts))
 count_more t texts true e rest = length_short _ _ (distinct_count-le same_text texts)
 count_more t texts false e rest = length_more _ _ ∙ rest
 

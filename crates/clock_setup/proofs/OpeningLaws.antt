@@ -35,7 +35,8 @@ line_at : (products : List Product) (row : List ℕ) (i : ℕ) (d : Product) →
     → (get_or products i d, get_or row i 0) ≡ get_or (zip products row) i (get_or products i d, get_or row i 0)
 line_at products row i d same h =
     let within : i < length products = omega arith in
-    zip_at products row i (get_or products i d) (get_or row i 0) within h (get_or_default products i d (get_or products i d) within) (get_or_default row i 0 (get_or row i 0) h)
+    zip_at products row i (get_or products i d) (get_or row i 0) within h (get_or_default products i d (get_or products i d) within)
+    (get_or_default row i 0 (get_or row i 0) h)
 
 line_within : (products : List Product) (row : List ℕ) (i : ℕ) → length row ≡ length products → i < length row → i < length (zip products row)
 line_within products row i same h = omega (arith, length-zip products row)
@@ -46,25 +47,32 @@ unfolding demand_checks
 one_demand number i p demand b is = rw is refl
 
 -- a demand above its cap
-pub demand_failed : (number : ℕ) (products : List Product) (row : List ℕ) (i : ℕ) (d : Product) → length row ≡ length products → i < length row → (get_or products i d).cap < get_or row i 0
+pub demand_failed : (number : ℕ) (products : List Product) (row : List ℕ) (i : ℕ) (d : Product) → length row ≡ length products → i < length row
+    → (get_or products i d).cap < get_or row i 0
     → first_fault (in_turn (demand_checks number) i (drop i (zip products row))) ≡ Some (Demand number i)
 demand_failed number products row i d same h above =
-    turn_failed (demand_checks number) (zip products row) i (get_or products i d, get_or row i 0) (Demand number i) (line_within products row i same h) (line_at products row i d same h)
+    turn_failed (demand_checks number) (zip products row) i (get_or products i d, get_or row i 0) (Demand number i)
+    (line_within products row i same h) (line_at products row i d same h)
     (one_demand number i (get_or products i d) (get_or row i 0) false (le_false (get_or row i 0) (get_or products i d).cap above))
 
 -- a demand within its cap
-pub demand_passed : (number : ℕ) (products : List Product) (row : List ℕ) (i : ℕ) (d : Product) → length row ≡ length products → i < length row → get_or row i 0 ≤ (get_or products i d).cap
-    → first_fault (in_turn (demand_checks number) i (drop i (zip products row))) ≡ first_fault (in_turn (demand_checks number) (i + 1) (drop (i + 1) (zip products row)))
+pub demand_passed : (number : ℕ) (products : List Product) (row : List ℕ) (i : ℕ) (d : Product) → length row ≡ length products → i < length row
+    → get_or row i 0 ≤ (get_or products i d).cap
+    → first_fault (in_turn (demand_checks number) i (drop i (zip products row)))
+    ≡ first_fault (in_turn (demand_checks number) (i + 1) (drop (i + 1) (zip products row)))
 demand_passed number products row i d same h within =
-    turn_passed (demand_checks number) (zip products row) i (get_or products i d, get_or row i 0) (line_within products row i same h) (line_at products row i d same h)
+    turn_passed (demand_checks number) (zip products row) i (get_or products i d, get_or row i 0) (line_within products row i same h)
+    (line_at products row i d same h)
     (one_demand number i (get_or products i d) (get_or row i 0) true (le_true (get_or row i 0) (get_or products i d).cap within))
 
 -- no demand is left
-pub demands_end : (number : ℕ) (products : List Product) (row : List ℕ) (i : ℕ) → length row ≤ i → first_fault (in_turn (demand_checks number) i (drop i (zip products row))) ≡ None
+pub demands_end : (number : ℕ) (products : List Product) (row : List ℕ) (i : ℕ) → length row ≤ i
+    → first_fault (in_turn (demand_checks number) i (drop i (zip products row))) ≡ None
 demands_end number products row i h = turn_none (demand_checks number) (zip products row) i (omega (arith, length-zip products row))
 
 -- the cap of a product that was read
-pub within_cap : (products : List Product) (i : ℕ) (d : Product) (demand : ℕ) → i < length products → demand ≤ (get_or products i d).cap → demand ≤ cap_of products i
+pub within_cap : (products : List Product) (i : ℕ) (d : Product) (demand : ℕ) → i < length products → demand ≤ (get_or products i d).cap
+    → demand ≤ cap_of products i
 within_cap products i d demand h within = subst (λ n. demand ≤ n) (ap (λ (p : Product). p.cap) (get_or_default products i d no_product h)) within
 
 -- ---- the whole document
@@ -73,10 +81,12 @@ same_of_test : (a b : ℕ) → (a == b) ≡ true → a ≡ b
 same_of_test a b h = grind (arith, nat_tests)
 
 -- rows in the right counts are a grid
-pub grid_of_counts : (setup : SetupFields) (demands : List (List ℕ)) → has_counts setup demands ≡ true → IsGrid (length setup.bidders) (length setup.products) demands
+pub grid_of_counts : (setup : SetupFields) (demands : List (List ℕ)) → has_counts setup demands ≡ true
+    → IsGrid (length setup.bidders) (length setup.products) demands
 grid_of_counts setup demands h =
     let both = and_parts (length demands == length setup.bidders) (list_all (λ row. length row == length setup.products) demands) h in
-    let each : AllPass (λ row. length row == length setup.products) demands = AllPass-from_list_all (λ row. length row == length setup.products) demands both.1 in
+    let each : AllPass (λ row. length row == length setup.products) demands = AllPass-from_list_all
+    (λ row. length row == length setup.products) demands both.1 in
     (same_of_test _ _ both.0, λ k d lt. same_of_test _ _ (each k d lt))
 
 -- the opening of a set-up and of the other parts
@@ -99,7 +109,8 @@ unfolding opening_of
 opening_shape value fault h = rw h refl
 
 -- a document whose set-up is refused
-pub opening_setup : (value : Data) (parts : OpeningParts) (fault : OpeningFault) → parts_of value ≡ Some parts → in_opening (setup_of parts.setup) ≡ Err fault → opening_of value ≡ Err fault
+pub opening_setup : (value : Data) (parts : OpeningParts) (fault : OpeningFault) → parts_of value ≡ Some parts
+    → in_opening (setup_of parts.setup) ≡ Err fault → opening_of value ≡ Err fault
 unfolding opening_of
 opening_setup value parts fault read refused = rw (read, refused) refl
 
@@ -110,21 +121,26 @@ unfolding opening_checks
 opening_counts value parts setup read held counts = opening_at value parts setup read held ∙ rw counts refl
 
 -- a document with a fault of its rows
-pub opening_rows : (value : Data) (parts : OpeningParts) (setup : SetupFields) (fault : OpeningFault) → parts_of value ≡ Some parts → setup_of parts.setup ≡ Ok setup
-    → has_counts setup parts.demands ≡ true → first_fault (in_turn (row_checks setup.products) 0 (zip setup.bidders parts.demands)) ≡ Some fault → opening_of value ≡ Err fault
+pub opening_rows : (value : Data) (parts : OpeningParts) (setup : SetupFields) (fault : OpeningFault) → parts_of value ≡ Some parts
+    → setup_of parts.setup ≡ Ok setup
+    → has_counts setup parts.demands ≡ true → first_fault (in_turn (row_checks setup.products) 0 (zip setup.bidders parts.demands)) ≡ Some fault
+    → opening_of value ≡ Err fault
 unfolding opening_checks
 opening_rows value parts setup fault read held counts rows =
     opening_at value parts setup read held
-    ∙ rw counts (ap (λ (o : Option OpeningFault). unless o (whole setup parts)) (failed (in_turn (row_checks setup.products) 0 (zip setup.bidders parts.demands)) _ fault rows))
+    ∙ rw counts (ap (λ (o : Option OpeningFault). unless o (whole setup parts))
+    (failed (in_turn (row_checks setup.products) 0 (zip setup.bidders parts.demands)) _ fault rows))
 
 -- a document with rows within their limits is judged by its increment
 pub opening_increment : (value : Data) (parts : OpeningParts) (setup : SetupFields) (b : Bool) → parts_of value ≡ Some parts → setup_of parts.setup ≡ Ok setup
-    → has_counts setup parts.demands ≡ true → first_fault (in_turn (row_checks setup.products) 0 (zip setup.bidders parts.demands)) ≡ None → is_within least_increment most_increment parts.increment ≡ b
+    → has_counts setup parts.demands ≡ true → first_fault (in_turn (row_checks setup.products) 0 (zip setup.bidders parts.demands)) ≡ None
+    → is_within least_increment most_increment parts.increment ≡ b
     → opening_of value ≡ (if b then Ok (whole setup parts) else Err Increment)
 unfolding opening_checks
 opening_increment value parts setup b read held counts rows increment =
     opening_at value parts setup read held
-    ∙ rw counts (ap (λ (o : Option OpeningFault). unless o (whole setup parts)) (passed (in_turn (row_checks setup.products) 0 (zip setup.bidders parts.demands)) _ rows) ∙ rw increment (by_increment (whole setup parts) b))
+    ∙ rw counts (ap (λ (o : Option OpeningFault). unless o (whole setup parts))
+    (passed (in_turn (row_checks setup.products) 0 (zip setup.bidders parts.demands)) _ rows) ∙ rw increment (by_increment (whole setup parts) b))
 
 -- a row within the caps is within the most that a product's supply may be
 pub row_small : (products : List Product) (row : List ℕ) → All IsProduct products → IsRow products row → All (λ demand. demand ≤ most_supply) row

@@ -15,7 +15,8 @@ increment_there count (Single increment) product are within = tt
 increment_there count (PerProduct increments) product are within = omega (arith, are.0, within)
 
 -- and it is 1 to 50 percent
-pub increment_within : (count : ℕ) (increments : Increments) (product : ℕ) → AreIncrements count increments → product < count → IsIncrement (increment_at increments product)
+pub increment_within : (count : ℕ) (increments : Increments) (product : ℕ) → AreIncrements count increments → product < count
+    → IsIncrement (increment_at increments product)
 increment_within count (Single increment) product are within = are
 increment_within count (PerProduct increments) product are within = are.1 product 0 (omega (arith, are.0, within))
 
@@ -42,10 +43,12 @@ increments_of_test count (PerProduct increments) h =
 pub test_of_increments : (count : ℕ) (increments : Increments) → AreIncrements count increments → are_increments count increments ≡ true
 test_of_increments count (Single increment) are = test_of_increment increment are
 test_of_increments count (PerProduct increments) are =
-    both _ _ (eq-eqb (length increments) count are.0) (list_all-from_AllPass is_increment increments (λ k d within. test_of_increment (slice_index_or increments k d) (are.1 k d within)))
+    both _ _ (eq-eqb (length increments) count are.0) (list_all-from_AllPass is_increment increments
+    (λ k d within. test_of_increment (slice_index_or increments k d) (are.1 k d within)))
 
 -- one increment says of each product what a list of the same increment for each product says
-pub one_for_each : (count increment product : ℕ) → product < count → increment_at (PerProduct (replicate count increment)) product ≡ increment_at (Single increment) product
+pub one_for_each : (count increment product : ℕ) → product < count
+    → increment_at (PerProduct (replicate count increment)) product ≡ increment_at (Single increment) product
 one_for_each count increment product within = get_or-replicate count product increment 0 within
 
 all_the_same : (increment : ℕ) (more : ℕ) → list_all is_increment (replicate (suc more) increment) ≡ is_increment increment
@@ -63,5 +66,6 @@ all_the_same increment (suc more) = ap (λ rest. is_increment increment && rest)
 -- and the one is refused exactly where that list is
 pub one_as_each : (increment more : ℕ) → are_increments (suc more) (PerProduct (replicate (suc more) increment)) ≡ are_increments (suc more) (Single increment)
 one_as_each increment more =
-    ap (λ same. same && list_all is_increment (replicate (suc more) increment)) (eq-eqb (length (replicate (suc more) increment)) (suc more) (length-replicate (suc more) increment))
+    ap (λ same. same && list_all is_increment (replicate (suc more) increment))
+    (eq-eqb (length (replicate (suc more) increment)) (suc more) (length-replicate (suc more) increment))
     ∙ all_the_same increment more

@@ -9,8 +9,11 @@ use Rattle.clock_money.proofs.price.clock_price.Goals as goal
 same : (c : goal.After-new) → c.args.granule * c.div_ceil.result ≡ raised c.args.start c.args.percent c.args.granule
 same c =
     let whole : c.div_ceil-whole.result ≡ rounded_up (c.args.start * (100 + c.args.percent)) 100 =
-    c.div_ceil-whole.ensures ∙ div_ceil_rounds_up (c.get.result * (100 + c.args.percent)) 100 (omega arith) ∙ ap (λ price. rounded_up (price * (100 + c.args.percent)) 100) c.get.ensures.value in
-    ap (λ count. c.args.granule * count) (c.div_ceil.ensures ∙ div_ceil_rounds_up c.div_ceil-whole.result c.args.granule (omega (arith, c.requires.granule_least)) ∙ ap (λ dollars. rounded_up dollars c.args.granule) whole)
+    c.div_ceil-whole.ensures ∙ div_ceil_rounds_up (c.get.result * (100 + c.args.percent)) 100 (omega arith)
+    ∙ ap (λ price. rounded_up (price * (100 + c.args.percent)) 100) c.get.ensures.value in
+    ap (λ count. c.args.granule * count) (c.div_ceil.ensures
+    ∙ div_ceil_rounds_up c.div_ceil-whole.result c.args.granule (omega (arith, c.requires.granule_least))
+    ∙ ap (λ dollars. rounded_up dollars c.args.granule) whole)
 
 pub returns-clause-exact : goal.returns-clause-exact
 returns-clause-exact c =

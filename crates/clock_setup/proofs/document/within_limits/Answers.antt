@@ -14,7 +14,8 @@ returns-in_err-products-clause-err c =
     let operator : is_token c.entries.inside.operator.now ≡ true = search rules in
     let count : is_within 1 most_products (length c.entries.inside.products.items) ≡ true = search rules in
     let e = c.as_slice.ensures.value in
-    rw (p.1, p.2) (λ known. rw (← c.entries.view_is) (product_fault_first _ _ requirement limit operator count (rw (← e) (c.in_err-products.ensures.err known))))
+    rw (p.1, p.2) (λ known. rw (← c.entries.view_is) (product_fault_first _ _ requirement limit operator count
+    (rw (← e) (c.in_err-products.ensures.err known))))
 
 pub returns-in_err-bidders-clause-err : goal.returns-in_err-bidders-clause-err
 returns-in_err-bidders-clause-err c =
@@ -28,7 +29,8 @@ returns-in_err-bidders-clause-err c =
     let f = c.as_slice-2.ensures.value in
     rw (p.1, p.2)
     (λ known. rw (← c.entries.view_is)
-    (bidder_fault_first _ _ requirement limit operator count (rw (← e) c.in_ok-products.ensures.ok) bidder_count (rw (← f) (c.in_err-bidders.ensures.err known))))
+    (bidder_fault_first _ _ requirement limit operator count (rw (← e) c.in_ok-products.ensures.ok) bidder_count
+    (rw (← f) (c.in_err-bidders.ensures.err known))))
 
 pub invariant_of-result : goal.invariant_of-result
 invariant_of-result c =
@@ -45,5 +47,6 @@ invariant_of-result c =
     let bidders : first_fault (in_turn bidder_checks 0 c.entries.inside.bidders.items) ≡ None = rw (← f) c.in_ok-bidders.ensures.ok in
     let view = c.entries.view_is in
     let within : IsSetup c.args.entries.now =
-    setup_within c.args.entries.now c.requires.version c.requires.first_version (rw (← view) requirement) (rw (← view) limit) (rw (← view) operator) (rw (← view) count) (rw (← view) products) (rw (← view) bidder_count) (rw (← view) bidders) names tokens in
+    setup_within c.args.entries.now c.requires.version c.requires.first_version (rw (← view) requirement) (rw (← view) limit) (rw (← view) operator)
+    (rw (← view) count) (rw (← view) products) (rw (← view) bidder_count) (rw (← view) bidders) names tokens in
     rw (c.in_ok-from_slice.ensures, c.as_bytes.ensures.value, c.in_ok-products.ensures.same, e, c.in_ok-bidders.ensures.same, f) (rw view within)

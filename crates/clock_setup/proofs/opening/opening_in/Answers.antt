@@ -35,7 +35,8 @@ returns-in_err-grid-clause-err c =
     let e = c.as_slice.ensures.value in
     let f = c.as_slice-2.ensures.value in
     rw (p.1, p.2)
-    (λ known. opening_rows (view c.args.value.now) _ c.in_ok-setup.setup _ c.in_ok-parts.ensures.ok c.in_ok-setup.ensures.ok (rw (← e) counts) (rw (← f) (c.in_err-grid.ensures.err known)))
+    (λ known. opening_rows (view c.args.value.now) _ c.in_ok-setup.setup _ c.in_ok-parts.ensures.ok c.in_ok-setup.ensures.ok (rw (← e) counts)
+    (rw (← f) (c.in_err-grid.ensures.err known)))
 
 pub returns-then-not-is_within-clause-err : goal.returns-then-not-is_within-clause-err
 returns-then-not-is_within-clause-err c =
@@ -43,7 +44,8 @@ returns-then-not-is_within-clause-err c =
     let increment : is_within least_increment most_increment c.in_ok-parts.parts.increment ≡ false = search rules in
     let e = c.as_slice.ensures.value in
     let f = c.as_slice-2.ensures.value in
-    λ known. opening_increment (view c.args.value.now) _ c.in_ok-setup.setup false c.in_ok-parts.ensures.ok c.in_ok-setup.ensures.ok (rw (← e) counts) (rw (← f) c.in_ok-grid.ensures.ok) increment
+    λ known. opening_increment (view c.args.value.now) _ c.in_ok-setup.setup false c.in_ok-parts.ensures.ok c.in_ok-setup.ensures.ok
+    (rw (← e) counts) (rw (← f) c.in_ok-grid.ensures.ok) increment
 
 pub returns-clause-ok : goal.returns-clause-ok
 returns-clause-ok c =
@@ -52,7 +54,8 @@ returns-clause-ok c =
     let e = c.as_slice.ensures.value in
     let f = c.as_slice-2.ensures.value in
     rw (c.in_ok-grid.ensures.same, f)
-    (opening_increment (view c.args.value.now) _ c.in_ok-setup.setup true c.in_ok-parts.ensures.ok c.in_ok-setup.ensures.ok (rw (← e) counts) (rw (← f) c.in_ok-grid.ensures.ok) increment)
+    (opening_increment (view c.args.value.now) _ c.in_ok-setup.setup true c.in_ok-parts.ensures.ok c.in_ok-setup.ensures.ok (rw (← e) counts)
+    (rw (← f) c.in_ok-grid.ensures.ok) increment)
 
 pub returns-clause-grid : goal.returns-clause-grid
 returns-clause-grid c =

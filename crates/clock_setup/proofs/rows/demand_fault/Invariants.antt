@@ -7,6 +7,7 @@ use Rattle.clock_setup.proofs.rows.demand_fault.Given as goal
 -- the demands so far are within their caps, and those that are left decide the first fault
 abbrev pub invariant-loop-product : goal.invariant-loop-product
 invariant-loop-product l = record {
-  rest : first_fault (in_turn (demand_checks l.number) l.product (drop l.product (zip l.products l.row))) ≡ first_fault (in_turn (demand_checks l.number) 0 (zip l.products l.row));
+  rest : first_fault (in_turn (demand_checks l.number) l.product (drop l.product (zip l.products l.row)))
+      ≡ first_fault (in_turn (demand_checks l.number) 0 (zip l.products l.row));
   capped : (k : ℕ) → k < l.product → slice_index l.row k ≤ cap_of l.products k;
 }

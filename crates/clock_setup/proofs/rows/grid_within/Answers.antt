@@ -18,7 +18,8 @@ returns-in-Some-clause-err c =
     let row : c.as_slice-row.result.now ≡ get_or demands number c.as_slice-row.result.now = rw c.as_slice-row.ensures c.index-demands-number.is in
     let line = zip_at setup.bidders demands number c.index-bidders-number.result c.as_slice-row.result.now (omega arith) c.loop-number-test.true bidder row in
     λ known. sym c.loop-number.invariant.rest
-    ∙ turn_failed (row_checks setup.products) (zip setup.bidders demands) number _ c.in-Some.fault (omega (arith, length-zip setup.bidders demands)) line (sym c.in-Some.ensures.fault)
+    ∙ turn_failed (row_checks setup.products) (zip setup.bidders demands) number _ c.in-Some.fault
+    (omega (arith, length-zip setup.bidders demands)) line (sym c.in-Some.ensures.fault)
 
 pub loop-number-preserved : goal.loop-number-preserved
 loop-number-preserved c =
@@ -29,14 +30,18 @@ loop-number-preserved c =
     let bidder : c.index-bidders-number.result ≡ get_or setup.bidders number c.index-bidders-number.result = rw (← bidders) c.index-bidders-number.is in
     let row : c.as_slice-row.result.now ≡ get_or demands number c.as_slice-row.result.now = rw c.as_slice-row.ensures c.index-demands-number.is in
     let line = zip_at setup.bidders demands number c.index-bidders-number.result c.as_slice-row.result.now (omega arith) c.loop-number-test.true bidder row in
-    let each : length c.as_slice-row.result.now ≡ length setup.products = ap length row ∙ c.requires.1 number c.as_slice-row.result.now c.loop-number-test.true in
+    let each : length c.as_slice-row.result.now ≡ length setup.products = ap length row
+    ∙ c.requires.1 number c.as_slice-row.result.now c.loop-number-test.true in
     let empty : List (List ℕ) = no_demands (length setup.bidders) (length setup.products) in
     record {
-      shape = rw c.set_row.ensures (grid-set (length setup.bidders) (length setup.products) c.loop-number.grid number c.as_slice-row.result.now c.loop-number.invariant.shape each);
+      shape = rw c.set_row.ensures (grid-set (length setup.bidders) (length setup.products)
+      c.loop-number.grid number c.as_slice-row.result.now c.loop-number.invariant.shape each);
       rows = c.set_row.ensures
           ∙ ap (λ (grid : List (List ℕ)). set grid number c.as_slice-row.result.now) c.loop-number.invariant.rows
-          ∙ replaced_more demands empty number [] c.as_slice-row.result.now c.loop-number-test.true (c.requires.0 ∙ sym (length-replicate {A = List ℕ} _ _)) row;
-      rest = sym (turn_passed (row_checks setup.products) (zip setup.bidders demands) number _ (omega (arith, length-zip setup.bidders demands)) line (sym c.in-None.ensures.fault))
+          ∙ replaced_more demands empty number [] c.as_slice-row.result.now c.loop-number-test.true
+          (c.requires.0 ∙ sym (length-replicate {A = List ℕ} _ _)) row;
+      rest = sym (turn_passed (row_checks setup.products) (zip setup.bidders demands) number _ (omega (arith, length-zip setup.bidders demands)) line
+      (sym c.in-None.ensures.fault))
           ∙ c.loop-number.invariant.rest;
     }
 

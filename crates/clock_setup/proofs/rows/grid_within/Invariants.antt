@@ -9,5 +9,6 @@ abbrev pub invariant-loop-number : goal.invariant-loop-number
 invariant-loop-number l = record {
   shape : IsGrid (length l.setup.bidders) (length l.setup.products) l.grid;
   rows : l.grid ≡ take l.number l.demands ++ drop l.number (no_demands (length l.setup.bidders) (length l.setup.products));
-  rest : first_fault (in_turn (row_checks l.setup.products) l.number (drop l.number (zip l.setup.bidders l.demands))) ≡ first_fault (in_turn (row_checks l.setup.products) 0 (zip l.setup.bidders l.demands));
+  rest : first_fault (in_turn (row_checks l.setup.products) l.number (drop l.number (zip l.setup.bidders l.demands)))
+      ≡ first_fault (in_turn (row_checks l.setup.products) 0 (zip l.setup.bidders l.demands));
 }

@@ -11,7 +11,8 @@ returns-in-Some-clause-fault c =
     let products = c.as_slice.ensures in
     let view = c.setup.view_is in
     let fault = c.in-Some.ensures.fault in
-    sym (failed (in_turn (demand_checks c.args.number) 0 (zip c.args.setup.now.products c.args.row.now)) _ c.in-Some.fault (search (rules, products, view, fault)))
+    sym (failed (in_turn (demand_checks c.args.number) 0 (zip c.args.setup.now.products c.args.row.now)) _ c.in-Some.fault
+    (search (rules, products, view, fault)))
 
 pub returns-clause-small : goal.returns-clause-small
 returns-clause-small c =

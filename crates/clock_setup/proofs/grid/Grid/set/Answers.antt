@@ -25,4 +25,5 @@ invariant_of-self c =
     let row : c.index_mut-row.result.now ≡ get_or rows c.args.bidder [] = get_or_read rows _ _ within c.index_mut-row.ensures.value [] in
     let after = total_after rows totals c.args.bidder c.args.product c.args.demand c.self.invariant within c.requires.small in
     rw (c.set-2.ensures, c.set.ensures, row, total, held)
-    (kept_with_demand rows totals c.args.bidder c.args.product c.args.demand _ c.self.invariant within (in_totals rows totals c.args.product c.self.invariant wide) c.requires.small after.0)
+    (kept_with_demand rows totals c.args.bidder c.args.product c.args.demand _ c.self.invariant within
+    (in_totals rows totals c.args.product c.self.invariant wide) c.requires.small after.0)
