@@ -45,9 +45,9 @@ kept_with_demand grid totals b p v n kept h k low is =
         product_count = rw (length-set totals p n) kept.small.product_count;
         bidder_count = rw (length-set grid b (set (row_of grid b) p v)) kept.small.bidder_count;
         same_length = rw (length-set totals p n) (All-set (λ row. length row ≡ length totals) grid b (set (row_of grid b) p v)
-        (length-set (row_of grid b) p v ∙ row_length) kept.small.same_length);
+            (length-set (row_of grid b) p v ∙ row_length) kept.small.same_length);
         small = All-set (λ row. All (λ demand. demand ≤ most_supply) row) grid b (set (row_of grid b) p v)
-        (All-set (λ demand. demand ≤ most_supply) (row_of grid b) p v low (kept.small.small b [] h)) kept.small.small;
+            (All-set (λ demand. demand ≤ most_supply) (row_of grid b) p v low (kept.small.small b [] h)) kept.small.small;
       };
       has_bidder = rw (length-set grid b (set (row_of grid b) p v)) kept.has_bidder;
       kept = λ q j.
@@ -103,9 +103,11 @@ grid-set bidders products grid b row is same =
 
 -- nobody's demands are a grid
 pub no_demands_grid : (bidders products : ℕ) → IsGrid bidders products (no_demands bidders products)
-no_demands_grid bidders products =
-    (length-replicate {A = List ℕ} bidders (replicate products 0), All-replicate (λ row. length row ≡ products) bidders (replicate products 0)
-    (length-replicate {A = ℕ} products 0))
+no_demands_grid bidders products = (
+  length-replicate {A = List ℕ} bidders (replicate products 0),
+  All-replicate (λ row. length row ≡ products) bidders (replicate products 0)
+      (length-replicate {A = ℕ} products 0),
+)
 
 -- who demands nothing has no activity
 pub activity_zeros : (products : List Product) (n : ℕ) → activity products (replicate n 0) ≡ 0

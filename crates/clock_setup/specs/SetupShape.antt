@@ -27,8 +27,8 @@ product_of version value = do
   opening ← number_at (codes "opening") value
   granule ← added_number version 1 (codes "granule") value
   if has_members (key_count version 5) value
-    then Some (record { name = name; units = units; supply = supply; cap = cap; opening = opening; granule = granule })
-    else None
+      then Some (record { name = name; units = units; supply = supply; cap = cap; opening = opening; granule = granule })
+      else None
 
 -- {"name":T,"token":T,"eligibility":N}
 unfoldable pub bidder_of : Data → Option Bidder
@@ -49,5 +49,5 @@ fields_of value = do
   products ← option_and_then (meanings (product_of version)) (items_at (codes "products") value)
   bidders ← option_and_then (meanings bidder_of) (items_at (codes "bidders") value)
   if has_members (key_count version 5) value
-    then Some (record { version = version; limit = limit; requirement = requirement; operator = operator; products = products; bidders = bidders })
-    else None
+      then Some (record { version = version; limit = limit; requirement = requirement; operator = operator; products = products; bidders = bidders })
+      else None

@@ -71,8 +71,13 @@ impl<'v> Model for SetupEntries<'v> {
     ghost Value = { SetupFields };
 
     ghost view = { λ e. record {
-        version = e.version; limit = e.limit; requirement = e.requirement;
-        operator = e.operator.now; products = e.products.items; bidders = e.bidders.items } };
+      version = e.version;
+      limit = e.limit;
+      requirement = e.requirement;
+      operator = e.operator.now;
+      products = e.products.items;
+      bidders = e.bidders.items;
+    } };
 }
 
 /// A number that documents have from version 2 on.

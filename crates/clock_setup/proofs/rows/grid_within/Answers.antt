@@ -35,13 +35,13 @@ loop-number-preserved c =
     let empty : List (List ℕ) = no_demands (length setup.bidders) (length setup.products) in
     record {
       shape = rw c.set_row.ensures (grid-set (length setup.bidders) (length setup.products)
-      c.loop-number.grid number c.as_slice-row.result.now c.loop-number.invariant.shape each);
+          c.loop-number.grid number c.as_slice-row.result.now c.loop-number.invariant.shape each);
       rows = c.set_row.ensures
           ∙ ap (λ (grid : List (List ℕ)). set grid number c.as_slice-row.result.now) c.loop-number.invariant.rows
           ∙ replaced_more demands empty number [] c.as_slice-row.result.now c.loop-number-test.true
           (c.requires.0 ∙ sym (length-replicate {A = List ℕ} _ _)) row;
       rest = sym (turn_passed (row_checks setup.products) (zip setup.bidders demands) number _ (omega (arith, length-zip setup.bidders demands)) line
-      (sym c.in-None.ensures.fault))
+          (sym c.in-None.ensures.fault))
           ∙ c.loop-number.invariant.rest;
     }
 
