@@ -1,9 +1,8 @@
 -- A set-up whose checks all pass is within the limits that the type of set-ups keeps.
-use Rattle.std.proofs.Common.{◌≡◌, ℕ, ◌+◌, ◌≤◌, Bool, true, false, not, ◌||◌, nat_le, List, [], ◌∷◌, length, map, Some, None, refl, ◌∙◌, arith, ◌&&◌, Ok, codes}
+use Rattle.std.proofs.Common.{◌≡◌, ℕ, ◌+◌, Bool, true, false, not, ◌||◌, List, [], ◌∷◌, length, map, Some, None, refl, ◌∙◌, Ok, codes}
 use Rattle.std.specs.List.{list_any, list_all, IsDistinct, AllByRecursion}
 use Rattle.std.specs.Str.{bytes_eq}
-use Rattle.std.proofs.lemmas.Bool.{and_parts}
-use Rattle.std.proofs.lemmas.Bool.Decides.{nat_tests}
+use Rattle.std.proofs.lemmas.Bool.{and_parts, leb-true, le-leb}
 use Rattle.std.proofs.lemmas.List.Sums.{AllPass-from_list_all, list_all-from_AllPass}
 use Rattle.std.proofs.lemmas.List.Elements.{All-from_recursion, recursion_from_All}
 use Rattle.std.proofs.lemmas.Map.Made.{AllPairs-from_IsDistinct, IsDistinct-from_AllPairs}
@@ -14,6 +13,7 @@ use Rattle.clock_setup.specs.declared.setup.Product.{Product}
 use Rattle.clock_setup.specs.declared.setup.Bidder.{Bidder}
 use Rattle.clock_setup.specs.declared.fault.SetupFault.{SetupFault}
 use Rattle.clock_setup.specs.Limits.{SetupFields, IsWithin, is_within, IsName, is_name, IsToken, is_token, is_name_character, is_letter_or_digit, AreDistinct, is_distinct, IsProduct, IsBidder, IsSetup, IsOfFirstVersion, latest_version, most_products, most_bidders, most_units, most_supply, most_granule, most_eligibility, least_requirement, most_requirement, least_limit, most_limit}
+use Rattle.clock_setup.specs.WithinLaws.{both_true, within_of_test, test_of_within}
 use Rattle.clock_setup.specs.Members.{number_at}
 use Rattle.clock_setup.specs.SetupShape.{fields_of}
 use Rattle.clock_setup.proofs.FaultLaws.{passed, failed, both_pass}
@@ -37,14 +37,6 @@ each_passes checks P means i [] h = tt
 each_passes checks P means i (x ∷ xs) h =
     let both = both_pass (checks i x) (in_turn checks (i + 1) xs) h in
     (means i x both.0, each_passes checks P means (i + 1) xs both.1)
-
-le_of_test : (a b : ℕ) → nat_le a b ≡ true → a ≤ b
-le_of_test a b h = grind (arith, nat_tests)
-
-within_of_test : (low high n : ℕ) → is_within low high n ≡ true → IsWithin low high n
-within_of_test low high n h =
-    let both = and_parts (nat_le low n) (nat_le n high) h in
-    (le_of_test low n both.0, le_of_test n high both.1)
 
 name_of_test : (text : List ℕ) → is_name text ≡ true → IsName text
 name_of_test text h =
@@ -96,7 +88,7 @@ bidder_of_checks i bidder h =
     record {
       name = name_of_test bidder.name pass.0;
       token = token_of_test bidder.token pass.1.0;
-      eligibility = le_of_test bidder.eligibility most_eligibility pass.1.1.0;
+      eligibility = leb-true bidder.eligibility most_eligibility pass.1.1.0;
     }
 
 -- a set-up of a known version of which every check passes
@@ -145,24 +137,14 @@ bidder_fault_first setup fault requirement limit operator product_count products
 
 -- ---- the other way: what is within the limits passes every check
 
-two_true : (x y : Bool) → x ≡ true → y ≡ true → (x && y) ≡ true
-two_true true y first second = second
-two_true false y first second = cc
-
-test_of_le : (a b : ℕ) → a ≤ b → nat_le a b ≡ true
-test_of_le a b h = grind (arith, nat_tests)
-
-test_of_within : (low high n : ℕ) → IsWithin low high n → is_within low high n ≡ true
-test_of_within low high n h = two_true (nat_le low n) (nat_le n high) (test_of_le low n h.0) (test_of_le n high h.1)
-
 test_of_name : (text : List ℕ) → IsName text → is_name text ≡ true
 test_of_name text h =
-    two_true (is_within 1 32 (length text)) (list_all is_name_character text) (test_of_within 1 32 (length text) h.0)
+    both_true (is_within 1 32 (length text)) (list_all is_name_character text) (test_of_within 1 32 (length text) h.0)
     (list_all-from_AllPass is_name_character text h.1)
 
 test_of_token : (text : List ℕ) → IsToken text → is_token text ≡ true
 test_of_token text h =
-    two_true (is_within 16 64 (length text)) (list_all is_letter_or_digit text) (test_of_within 16 64 (length text) h.0)
+    both_true (is_within 16 64 (length text)) (list_all is_letter_or_digit text) (test_of_within 16 64 (length text) h.0)
     (list_all-from_AllPass is_letter_or_digit text h.1)
 
 no_any : (test : List ℕ → Bool) (texts : List (List ℕ)) → AllByRecursion (λ text. test text ≡ false) texts → not (list_any test texts) ≡ true
@@ -173,7 +155,7 @@ test_by_distinct : (texts : List (List ℕ)) → IsDistinct bytes_eq texts → i
 unfolding IsDistinct
 test_by_distinct [] h = refl
 test_by_distinct (text ∷ texts) h =
-    two_true (not (list_any (bytes_eq text) texts)) (is_distinct texts) (no_any (bytes_eq text) texts h.0) (test_by_distinct texts h.1)
+    both_true (not (list_any (bytes_eq text) texts)) (is_distinct texts) (no_any (bytes_eq text) texts h.0) (test_by_distinct texts h.1)
 
 test_of_distinct : (texts : List (List ℕ)) → AreDistinct texts → is_distinct texts ≡ true
 test_of_distinct texts h = test_by_distinct texts (IsDistinct-from_AllPairs bytes_eq-Decides texts h)
@@ -193,7 +175,7 @@ checks_of_product i product h =
 checks_of_bidder : (i : ℕ) (bidder : Bidder) → IsBidder bidder → first_fault (bidder_checks i bidder) ≡ None
 unfolding bidder_checks
 checks_of_bidder i bidder h =
-    rw (test_of_name bidder.name h.name, test_of_token bidder.token h.token, test_of_le bidder.eligibility most_eligibility h.eligibility) refl
+    rw (test_of_name bidder.name h.name, test_of_token bidder.token h.token, le-leb bidder.eligibility most_eligibility h.eligibility) refl
 
 each_within : {X F : Type 0} (checks : ℕ → X → List (F × Bool)) (P : X → Type 0) → ((i : ℕ) (x : X) → P x → first_fault (checks i x) ≡ None)
     → (i : ℕ) (items : List X) → AllByRecursion P items → first_fault (in_turn checks i items) ≡ None
@@ -207,7 +189,7 @@ checks_of_setup setup h =
     let products = each_within product_checks IsProduct checks_of_product 0 setup.products (recursion_from_All IsProduct setup.products h.products) in
     let bidders = each_within bidder_checks IsBidder checks_of_bidder 0 setup.bidders (recursion_from_All IsBidder setup.bidders h.bidders) in
     let names : has_distinct_names setup ≡ true =
-    two_true (is_distinct (map (λ product. product.name) setup.products)) (is_distinct (map (λ bidder. bidder.name) setup.bidders))
+    both_true (is_distinct (map (λ product. product.name) setup.products)) (is_distinct (map (λ bidder. bidder.name) setup.bidders))
     (test_of_distinct (map (λ product. product.name) setup.products) h.product_names)
     (test_of_distinct (map (λ bidder. bidder.name) setup.bidders) h.bidder_names) in
     let tokens : has_distinct_tokens setup ≡ true = test_of_distinct (setup.operator ∷ map (λ bidder. bidder.token) setup.bidders) h.tokens in

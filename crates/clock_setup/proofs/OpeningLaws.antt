@@ -1,7 +1,7 @@
 -- Laws of the checks of an opening document.
 use Rattle.std.proofs.Common.{◌≡◌, ℕ, ◌+◌, ◌<◌, ◌≤◌, All, ◌==◌, Bool, true, false, nat_le, if◌then◌else◌, List, length, get_or, drop, zip, Option, Some, None, Ok, Err, refl, sym, ap, ◌∙◌, subst, arith}
 use Rattle.std.specs.List.{list_all, AllPass}
-use Rattle.std.proofs.lemmas.Bool.{and_parts}
+use Rattle.std.proofs.lemmas.Bool.{and_parts, le-leb, lt-leb}
 use Rattle.std.proofs.lemmas.Bool.Decides.{nat_tests}
 use Rattle.std.proofs.lemmas.List.{get_or_default}
 use Rattle.std.proofs.lemmas.List.Sums.{AllPass-from_list_all}
@@ -25,12 +25,6 @@ pub zip_at : {A B : Type 0} (ks : List A) (vs : List B) (i : ℕ) (a : A) (b : B
 zip_at ks vs i a b h k first second =
     ap (λ x. (x, b)) first ∙ ap (λ y. (get_or ks i a, y)) second ∙ sym (get_or-zip ks vs i (a, b) h k)
 
-le_true : (a b : ℕ) → a ≤ b → nat_le a b ≡ true
-le_true a b h = grind (arith, nat_tests)
-
-le_false : (a b : ℕ) → b < a → nat_le a b ≡ false
-le_false a b h = grind (arith, nat_tests)
-
 line_at : (products : List Product) (row : List ℕ) (i : ℕ) (d : Product) → length row ≡ length products → i < length row
     → (get_or products i d, get_or row i 0) ≡ get_or (zip products row) i (get_or products i d, get_or row i 0)
 line_at products row i d same h =
@@ -53,7 +47,7 @@ pub demand_failed : (number : ℕ) (products : List Product) (row : List ℕ) (i
 demand_failed number products row i d same h above =
     turn_failed (demand_checks number) (zip products row) i (get_or products i d, get_or row i 0) (Demand number i)
     (line_within products row i same h) (line_at products row i d same h)
-    (one_demand number i (get_or products i d) (get_or row i 0) false (le_false (get_or row i 0) (get_or products i d).cap above))
+    (one_demand number i (get_or products i d) (get_or row i 0) false (lt-leb (get_or row i 0) (get_or products i d).cap above))
 
 -- a demand within its cap
 pub demand_passed : (number : ℕ) (products : List Product) (row : List ℕ) (i : ℕ) (d : Product) → length row ≡ length products → i < length row
@@ -63,7 +57,7 @@ pub demand_passed : (number : ℕ) (products : List Product) (row : List ℕ) (i
 demand_passed number products row i d same h within =
     turn_passed (demand_checks number) (zip products row) i (get_or products i d, get_or row i 0) (line_within products row i same h)
     (line_at products row i d same h)
-    (one_demand number i (get_or products i d) (get_or row i 0) true (le_true (get_or row i 0) (get_or products i d).cap within))
+    (one_demand number i (get_or products i d) (get_or row i 0) true (le-leb (get_or row i 0) (get_or products i d).cap within))
 
 -- no demand is left
 pub demands_end : (number : ℕ) (products : List Product) (row : List ℕ) (i : ℕ) → length row ≤ i

@@ -1,13 +1,14 @@
 -- What increments say of each product, and where the two forms say the same.
 use Rattle.std.proofs.Common.{◌≡◌, ℕ, ◌<◌, ◌&&◌, Bool, true, false, length, replicate, slice_index_or, zero, suc, refl, ap, ◌∙◌, arith}
 use Rattle.std.specs.List.{list_all}
-use Rattle.std.proofs.lemmas.Bool.{and_parts, leb-true, le-leb, eqb-true, eq-eqb}
+use Rattle.std.proofs.lemmas.Bool.{and_parts, eqb-true, eq-eqb}
 use Rattle.std.proofs.lemmas.List.{get_or-replicate, length-replicate}
 use Rattle.std.proofs.lemmas.List.Sums.{AllPass-from_list_all, list_all-from_AllPass}
 use Rattle.clock_setup.specs.declared.increments.Increments.{Increments}
 use Rattle.clock_setup.specs.declared.increments.Increments.TheVariants.{Single, PerProduct}
 use Rattle.clock_setup.specs.Limits.{least_increment, most_increment}
 use Rattle.clock_setup.specs.Increments.{increment_at, HasIncrement, IsIncrement, is_increment, AreIncrements, are_increments}
+use Rattle.clock_setup.specs.WithinLaws.{both_true, within_of_test, test_of_within}
 
 -- there is an increment for each of the products
 pub increment_there : (count : ℕ) (increments : Increments) (product : ℕ) → AreIncrements count increments → product < count → HasIncrement increments product
@@ -20,31 +21,19 @@ pub increment_within : (count : ℕ) (increments : Increments) (product : ℕ) �
 increment_within count (Single increment) product are within = are
 increment_within count (PerProduct increments) product are within = are.1 product 0 (omega (arith, are.0, within))
 
-both : (x y : Bool) → x ≡ true → y ≡ true → (x && y) ≡ true
-both true y first second = second
-both false y first second = cc
-
--- the test of one increment, and of all, tells what it is for
-increment_of_test : (increment : ℕ) → is_increment increment ≡ true → IsIncrement increment
-increment_of_test increment h =
-    let parts = and_parts _ _ h in
-    (leb-true least_increment increment parts.0, leb-true increment most_increment parts.1)
-
-test_of_increment : (increment : ℕ) → IsIncrement increment → is_increment increment ≡ true
-test_of_increment increment is = both _ _ (le-leb least_increment increment is.0) (le-leb increment most_increment is.1)
-
+-- the test of increments tells what they are
 pub increments_of_test : (count : ℕ) (increments : Increments) → are_increments count increments ≡ true → AreIncrements count increments
-increments_of_test count (Single increment) h = increment_of_test increment h
+increments_of_test count (Single increment) h = within_of_test least_increment most_increment increment h
 increments_of_test count (PerProduct increments) h =
     let parts = and_parts _ _ h in
     let each = AllPass-from_list_all is_increment increments parts.1 in
-    (eqb-true (length increments) count parts.0, λ k d within. increment_of_test (slice_index_or increments k d) (each k d within))
+    (eqb-true (length increments) count parts.0, λ k d within. within_of_test least_increment most_increment (slice_index_or increments k d) (each k d within))
 
 pub test_of_increments : (count : ℕ) (increments : Increments) → AreIncrements count increments → are_increments count increments ≡ true
-test_of_increments count (Single increment) are = test_of_increment increment are
+test_of_increments count (Single increment) are = test_of_within least_increment most_increment increment are
 test_of_increments count (PerProduct increments) are =
-    both _ _ (eq-eqb (length increments) count are.0) (list_all-from_AllPass is_increment increments
-    (λ k d within. test_of_increment (slice_index_or increments k d) (are.1 k d within)))
+    both_true _ _ (eq-eqb (length increments) count are.0) (list_all-from_AllPass is_increment increments
+    (λ k d within. test_of_within least_increment most_increment (slice_index_or increments k d) (are.1 k d within)))
 
 -- one increment says of each product what a list of the same increment for each product says
 pub one_for_each : (count increment product : ℕ) → product < count
