@@ -42,14 +42,14 @@ kept_with_demand grid totals b p v n kept h k low is =
     let same : total_of (with_demand grid b p v) p + demand_at grid b p ≡ total_of grid p + v = total-with_demand_same grid b p v h (omega arith) in
     record {
       small = record {
-        product_count = rw (length-set totals p n) kept.small.product_count;
-        bidder_count = rw (length-set grid b (set (row_of grid b) p v)) kept.small.bidder_count;
+        few_products = rw (length-set totals p n) kept.small.few_products;
+        few_bidders = rw (length-set grid b (set (row_of grid b) p v)) kept.small.few_bidders;
         same_length = rw (length-set totals p n) (All-set (λ row. length row ≡ length totals) grid b (set (row_of grid b) p v)
             (length-set (row_of grid b) p v ∙ row_length) kept.small.same_length);
         small = All-set (λ row. All (λ demand. demand ≤ most_supply) row) grid b (set (row_of grid b) p v)
             (All-set (λ demand. demand ≤ most_supply) (row_of grid b) p v low (kept.small.small b [] h)) kept.small.small;
       };
-      has_bidder = rw (length-set grid b (set (row_of grid b) p v)) kept.has_bidder;
+      some_bidder = rw (length-set grid b (set (row_of grid b) p v)) kept.some_bidder;
       kept = λ q j.
           let within : q < length totals = omega (arith, length-set totals p n) in
           ⊎_elim
@@ -61,8 +61,8 @@ kept_with_demand grid totals b p v n kept h k low is =
 -- a product of each row has a total
 pub in_totals : (grid : List (List ℕ)) (totals : List ℕ) (p : ℕ) → IsKeptGrid grid totals → All (λ row. p < length row) grid → p < length totals
 in_totals grid totals p kept wide =
-    let first : p < length (get_or grid 0 []) = wide 0 [] kept.has_bidder in
-    let same : length (get_or grid 0 []) ≡ length totals = kept.small.same_length 0 [] kept.has_bidder in
+    let first : p < length (get_or grid 0 []) = wide 0 [] kept.some_bidder in
+    let same : length (get_or grid 0 []) ≡ length totals = kept.small.same_length 0 [] kept.some_bidder in
     omega arith
 
 -- a total, less one demand and with another in its place
@@ -71,7 +71,7 @@ pub total_after : (grid : List (List ℕ)) (totals : List ℕ) (b p v : ℕ) →
 total_after grid totals b p v kept h low =
     let most : total_of grid p ≤ length grid * most_supply = total_small grid p kept.small.small in
     let part : demand_at grid b p ≤ total_of grid p = demand-le-total grid b p h in
-    let few : length grid ≤ most_bidders = kept.small.bidder_count in
+    let few : length grid ≤ most_bidders = kept.small.few_bidders in
     (omega arith, omega arith)
 
 -- one more item of a list takes the place of another list's

@@ -5,7 +5,7 @@ use Rattle.serde_json.specs.Data.{Data, Members, item}
 use Rattle.serde_json.specs.Events.{members_len}
 use Rattle.serde_json.specs.View.{view, items_view, members_view}
 use Rattle.serde_json.specs.declared.value.Value.{Value}
-use Rattle.clock_setup.specs.Members.{is_count, meanings, ◌>>=◌}
+use Rattle.clock_setup.specs.Members.{is_count, each, ◌>>=◌}
 
 -- an object has as many members as its map has entries
 members_len-view : (entries : List (String Global × Value)) → members_len (members_view entries) ≡ length entries
@@ -28,9 +28,9 @@ behind_none None = refl
 behind_none (Some rest) = refl
 
 pub behind_all : {A : Type 0} (meaning : Data → Option A) (items : List Value) (i : ℕ) (so_far : List A) → length items ≤ i
-    → behind so_far (meanings meaning (items_view (drop i items))) ≡ Some so_far
+    → behind so_far (each meaning (items_view (drop i items))) ≡ Some so_far
 behind_all meaning items i so_far h =
-    ap (λ (rest : List Value). behind so_far (meanings meaning (items_view rest))) (drop_all i items h) ∙ ap Some (append-nil so_far)
+    ap (λ (rest : List Value). behind so_far (each meaning (items_view rest))) (drop_all i items h) ∙ ap Some (append-nil so_far)
 
 unrolled : (items : List Value) (i : ℕ) (d : Value) → i < length items
     → items_view (drop i items) ≡ item (view (get_or items i d)) (items_view (drop (i + 1) items))
@@ -43,18 +43,18 @@ joined so_far x (Some rest) = ap Some (sym (append_assoc so_far (x ∷ []) rest)
 -- the next item means something
 pub one_more : {A : Type 0} (meaning : Data → Option A) (items : List Value) (i : ℕ) (d : Value) (so_far : List A) (x : A) → i < length items
     → meaning (view (get_or items i d)) ≡ Some x
-    → behind so_far (meanings meaning (items_view (drop i items))) ≡ behind (so_far ++ x ∷ []) (meanings meaning (items_view (drop (i + 1) items)))
+    → behind so_far (each meaning (items_view (drop i items))) ≡ behind (so_far ++ x ∷ []) (each meaning (items_view (drop (i + 1) items)))
 one_more meaning items i d so_far x h is =
-    let rest = meanings meaning (items_view (drop (i + 1) items)) in
-    ap (λ r. behind so_far (meanings meaning r)) (unrolled items i d h)
+    let rest = each meaning (items_view (drop (i + 1) items)) in
+    ap (λ r. behind so_far (each meaning r)) (unrolled items i d h)
     ∙ ap (λ o. behind so_far (o >>= λ first. (rest >>= λ more. Some (first ∷ more)))) is
     ∙ joined so_far x rest
 
 -- the next item means nothing, and so do all
 pub none_here : {A : Type 0} (meaning : Data → Option A) (items : List Value) (i : ℕ) (d : Value) (so_far : List A) → i < length items
     → meaning (view (get_or items i d)) ≡ None
-    → behind so_far (meanings meaning (items_view (drop i items))) ≡ None
+    → behind so_far (each meaning (items_view (drop i items))) ≡ None
 none_here meaning items i d so_far h is =
-    let rest = meanings meaning (items_view (drop (i + 1) items)) in
-    ap (λ r. behind so_far (meanings meaning r)) (unrolled items i d h)
+    let rest = each meaning (items_view (drop (i + 1) items)) in
+    ap (λ r. behind so_far (each meaning r)) (unrolled items i d h)
     ∙ ap (λ o. behind so_far (o >>= λ first. (rest >>= λ more. Some (first ∷ more)))) is

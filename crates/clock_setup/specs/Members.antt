@@ -3,7 +3,7 @@
 --     number_at key value, text_at key value, items_at key value      the member of that kind at a key
 --     has_members count value      the value is an object of so many members
 --     number_from value      a whole number of 64 bits; RFC 8259's other numbers are none
---     meanings meaning items      what all items mean, where each means something
+--     each meaning items      what all items mean, where each means something
 use Rattle.std.specs.Prelude.{ℕ, Bool, false, List, [], ◌∷◌, ◌==◌, Option, Some, None, option_and_then}
 use Rattle.serde_json.specs.Data.{Data, Members, Items, no_items, item}
 use Rattle.serde_json.specs.Find.{get, as_number, as_u64, as_str, as_array, as_object}
@@ -41,9 +41,9 @@ None >>= f = None
 (Some x) >>= f = f x
 
 -- what all items mean, where each means something
-abbrev pub meanings : {A : Type 0} → (Data → Option A) → Items → Option (List A)
-meanings meaning no_items = Some []
-meanings meaning (item value items) = do
+abbrev pub each : {A : Type 0} → (Data → Option A) → Items → Option (List A)
+each meaning no_items = Some []
+each meaning (item value items) = do
   first ← meaning value
-  rest ← meanings meaning items
+  rest ← each meaning items
   Some (first ∷ rest)

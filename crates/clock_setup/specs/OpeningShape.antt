@@ -4,7 +4,7 @@
 use Rattle.std.specs.Prelude.{ℕ, List, Option, Some, None, option_and_then, if◌then◌else◌, codes}
 use Rattle.serde_json.specs.Data.{Data}
 use Rattle.serde_json.specs.Find.{get, as_array}
-use Rattle.clock_setup.specs.Members.{number_from, number_at, items_at, has_members, meanings, ◌>>=◌}
+use Rattle.clock_setup.specs.Members.{number_from, number_at, items_at, has_members, each, ◌>>=◌}
 
 -- what an opening document has: any value for the set-up, rows of demands, and the increment in percent
 pub record OpeningParts : Type 0 where
@@ -14,12 +14,12 @@ pub record OpeningParts : Type 0 where
 
 -- [N,..]
 unfoldable pub row_of : Data → Option (List ℕ)
-row_of value = option_and_then (meanings number_from) (as_array value)
+row_of value = option_and_then (each number_from) (as_array value)
 
 -- {"demands":[ROW,..],"increment":N,"setup":VALUE}
 unfoldable pub parts_of : Data → Option OpeningParts
 parts_of value = do
   setup ← get (codes "setup") value
-  demands ← option_and_then (meanings row_of) (items_at (codes "demands") value)
+  demands ← option_and_then (each row_of) (items_at (codes "demands") value)
   increment ← number_at (codes "increment") value
   if has_members 3 value then Some (record { setup = setup; demands = demands; increment = increment }) else None

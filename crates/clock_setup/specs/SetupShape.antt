@@ -4,7 +4,7 @@
 --     fields_of value      the whole document, with no limit tested yet
 use Rattle.std.specs.Prelude.{ℕ, ◌+◌, ◌==◌, List, Option, Some, None, option_and_then, if◌then◌else◌, codes}
 use Rattle.serde_json.specs.Data.{Data}
-use Rattle.clock_setup.specs.Members.{number_at, text_at, items_at, has_members, meanings, ◌>>=◌}
+use Rattle.clock_setup.specs.Members.{number_at, text_at, items_at, has_members, each, ◌>>=◌}
 use Rattle.clock_setup.specs.declared.setup.Product.{Product}
 use Rattle.clock_setup.specs.declared.setup.Bidder.{Bidder}
 use Rattle.clock_setup.specs.Limits.{SetupFields}
@@ -26,9 +26,7 @@ product_of version value = do
   cap ← number_at (codes "cap") value
   opening ← number_at (codes "opening") value
   granule ← added_number version 1 (codes "granule") value
-  if has_members (key_count version 5) value
-      then Some (record { name = name; units = units; supply = supply; cap = cap; opening = opening; granule = granule })
-      else None
+  if has_members (key_count version 5) value then Some (record { name = name; units = units; supply = supply; cap = cap; opening = opening; granule = granule }) else None
 
 -- {"name":T,"token":T,"eligibility":N}
 unfoldable pub bidder_of : Data → Option Bidder
@@ -46,8 +44,6 @@ fields_of value = do
   limit ← added_number version 100 (codes "limit") value
   requirement ← number_at (codes "requirement") value
   operator ← text_at (codes "operator") value
-  products ← option_and_then (meanings (product_of version)) (items_at (codes "products") value)
-  bidders ← option_and_then (meanings bidder_of) (items_at (codes "bidders") value)
-  if has_members (key_count version 5) value
-      then Some (record { version = version; limit = limit; requirement = requirement; operator = operator; products = products; bidders = bidders })
-      else None
+  products ← option_and_then (each (product_of version)) (items_at (codes "products") value)
+  bidders ← option_and_then (each bidder_of) (items_at (codes "bidders") value)
+  if has_members (key_count version 5) value then Some (record { version = version; limit = limit; requirement = requirement; operator = operator; products = products; bidders = bidders }) else None

@@ -2,7 +2,7 @@ ghost use Rattle.std.specs.Prelude.{◌≡◌, ◌≤◌, codes, Some, All, IfOk
 ghost use Rattle.serde_json.specs.View.{view, items_view};
 ghost use Rattle.clock_setup.specs.Faults.{IsRefusal, or_fault};
 ghost use Rattle.clock_setup.specs.Members as members;
-ghost use Rattle.clock_setup.specs.Members.{meanings};
+ghost use Rattle.clock_setup.specs.Members.{each};
 ghost use Rattle.clock_setup.specs.Limits.{IsOfFirstVersion};
 ghost use Rattle.clock_setup.specs.SetupShape as shape;
 ghost use Rattle.clock_setup.specs.SetupShape.{product_of, bidder_of, fields_of};
@@ -154,10 +154,10 @@ fn product_entries(
     items: &[Value],
     version: u64,
 ) -> Result<Vec<ProductEntry<'_>>, SetupFault>
-    ensures ok { IfOk result (λ entries. meanings (product_of version) (items_view items.now) ≡ Some entries.items) }
+    ensures ok { IfOk result (λ entries. each (product_of version) (items_view items.now) ≡ Some entries.items) }
     ensures first_version { IfOk result (λ entries. version ≡ 1 → All (λ entry. entry.granule ≡ 1) entries.items) }
     ensures err { IfErr result (IsRefusal SetupFault.NoMemory
-        (or_fault SetupFault.Shape (meanings (product_of version) (items_view items.now)))) }
+        (or_fault SetupFault.Shape (each (product_of version) (items_view items.now)))) }
 {
     let mut entries = Vec::new(alloc);
     for item in items {
@@ -169,9 +169,9 @@ fn product_entries(
 
 /// Bidders of the right shape.
 fn bidder_entries(alloc: Global, items: &[Value]) -> Result<Vec<BidderEntry<'_>>, SetupFault>
-    ensures ok { IfOk result (λ entries. meanings bidder_of (items_view items.now) ≡ Some entries.items) }
+    ensures ok { IfOk result (λ entries. each bidder_of (items_view items.now) ≡ Some entries.items) }
     ensures err { IfErr result (IsRefusal SetupFault.NoMemory
-        (or_fault SetupFault.Shape (meanings bidder_of (items_view items.now)))) }
+        (or_fault SetupFault.Shape (each bidder_of (items_view items.now)))) }
 {
     let mut entries = Vec::new(alloc);
     for item in items {

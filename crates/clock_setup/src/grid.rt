@@ -97,7 +97,7 @@ impl Grid {
     /// Changes a bidder's demands, and no others. There is one demand for each product, at most 1,000 blocks.
     pub fn set_row(&mut self, bidder: usize, demands: &[u64])
         requires bidder { bidder < length self.old }
-        requires lengths { All (λ row. length demands.now ≡ length row) self.old }
+        requires each { All (λ row. length demands.now ≡ length row) self.old }
         requires small { All (λ demand. demand ≤ most_supply) demands.now }
         ensures { self.new ≡ slice_set self.old bidder demands.now }
     {

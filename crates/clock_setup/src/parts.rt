@@ -1,7 +1,7 @@
 ghost use Rattle.std.specs.Prelude.{◌≡◌, ◌≢◌, Some, Ok, Err, IfOk, IfErr};
 ghost use Rattle.serde_json.specs.View.{view, items_view};
 ghost use Rattle.clock_setup.specs.Faults.{IsRefusal, or_fault};
-ghost use Rattle.clock_setup.specs.Members.{meanings, number_from};
+ghost use Rattle.clock_setup.specs.Members.{each, number_from};
 ghost use Rattle.clock_setup.specs.OpeningShape as shape;
 
 use crate::fault::SetupFault;
@@ -21,8 +21,8 @@ pub(crate) struct OpeningEntries<'v> {
 
 /// The numbers of a list.
 fn numbers(alloc: Global, items: &[Value]) -> Result<Amounts, OpeningFault>
-    ensures ok { IfOk result (λ row. meanings number_from (items_view items.now) ≡ Some row) }
-    ensures err { IfErr result (IsRefusal OpeningFault.NoMemory (or_fault OpeningFault.Shape (meanings number_from (items_view items.now)))) }
+    ensures ok { IfOk result (λ row. each number_from (items_view items.now) ≡ Some row) }
+    ensures err { IfErr result (IsRefusal OpeningFault.NoMemory (or_fault OpeningFault.Shape (each number_from (items_view items.now)))) }
     ensures held { IfErr result (λ fault. fault ≢ OpeningFault.Setup SetupFault.NoMemory) }
 {
     let mut row = Amounts::new(alloc);
@@ -46,8 +46,8 @@ fn row_entry(alloc: Global, value: &Value) -> Result<Amounts, OpeningFault>
 
 /// The rows of demands.
 fn row_entries(alloc: Global, items: &[Value]) -> Result<Vec<Amounts>, OpeningFault>
-    ensures ok { IfOk result (λ rows. meanings shape.row_of (items_view items.now) ≡ Some rows.items) }
-    ensures err { IfErr result (IsRefusal OpeningFault.NoMemory (or_fault OpeningFault.Shape (meanings shape.row_of (items_view items.now)))) }
+    ensures ok { IfOk result (λ rows. each shape.row_of (items_view items.now) ≡ Some rows.items) }
+    ensures err { IfErr result (IsRefusal OpeningFault.NoMemory (or_fault OpeningFault.Shape (each shape.row_of (items_view items.now)))) }
     ensures held { IfErr result (λ fault. fault ≢ OpeningFault.Setup SetupFault.NoMemory) }
 {
     let mut rows = Vec::new(alloc);
