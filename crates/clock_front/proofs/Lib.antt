@@ -11,3 +11,4 @@ mod TokenLaws
 mod OutcomeLaws
 mod FrontLaws
 mod ChangeLaws
+mod RunLaws

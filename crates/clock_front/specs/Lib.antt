@@ -16,3 +16,4 @@ pub mod Requests
 pub mod Outcomes
 pub mod ShownAsked
 pub mod Fronts
+pub mod Runs

@@ -21,6 +21,7 @@ mod put_body;
 mod reply;
 mod request_text;
 mod routes;
+mod runs;
 mod scan;
 mod telling;
 #[cfg(test)]
@@ -36,6 +37,7 @@ pub use put_body::{PutBody, read_put};
 pub use reply::Reply;
 pub use request_text::{Framing, Head, frame};
 pub use routes::{Page, Role};
+pub use runs::{Replies, run};
 
 /// What is decided of a text is decided alike of every text that it begins.
 pub fn decided_once()

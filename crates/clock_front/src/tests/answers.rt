@@ -1,8 +1,10 @@
 //! What requests are answered with, one after the other.
-use crate::Front;
+use crate::{Front, run};
+use clock_device::{Items, Text};
 use clock_processor::Plain;
 use clock_setup::fixtures::{GRANULES_AND_INCREMENTS, ONE_PRODUCT};
 use clock_setup::read_setup;
+use clock_views::Code;
 use std::alloc::Global;
 use std::process::Abort;
 use std::test::Fail;
@@ -23,8 +25,8 @@ const Y: &str = "authorization: Bearer YYYYYYYYYYYYYYYY\r\n";
 
 const OPERATOR: &str = "authorization: Bearer OPERATOROPERATOR\r\n";
 
-/// A step in one line.
-fn step(
+/// A request and what it is answered with.
+fn asked(
     line: &'static str,
     token: &'static str,
     body: &'static str,
@@ -105,28 +107,28 @@ fn a_sheet_is_put_and_told(rt: HostRuntime) -> Result<(), Fail> {
         alloc,
         &mut front,
         &[
-            step(
+            asked(
                 "GET /v1/me/bids",
                 X,
                 "",
                 "HTTP/1.1 200 OK",
                 "\r\n\r\n{\"bids\":[{\"price\":100,\"product\":0,\"quantity\":2}],\"round\":1}",
             ),
-            step(
+            asked(
                 "PUT /v1/me/bids",
                 X,
                 "{\"bids\":[],\"round\":1}",
                 "HTTP/1.1 200 OK",
                 "\r\n\r\n{\"accepted\":true,\"bids\":0,\"round\":1}",
             ),
-            step(
+            asked(
                 "GET /v1/me/bids",
                 X,
                 "",
                 "HTTP/1.1 200 OK",
                 "\r\n\r\n{\"bids\":[],\"round\":1}",
             ),
-            step(
+            asked(
                 "GET /v1/me/bids",
                 Y,
                 "",
@@ -146,84 +148,84 @@ fn a_drop_is_applied_in_part(rt: HostRuntime) -> Result<(), Fail> {
         alloc,
         &mut front,
         &[
-            step(
+            asked(
                 "PUT /v1/me/bids",
                 X,
                 "{\"bids\":[{\"price\":100,\"product\":0,\"quantity\":2}],\"round\":1}",
                 "HTTP/1.1 200",
                 "1}",
             ),
-            step(
+            asked(
                 "PUT /v1/me/bids",
                 Y,
                 "{\"bids\":[{\"price\":100,\"product\":0,\"quantity\":1}],\"round\":1}",
                 "HTTP/1.1 200",
                 "1}",
             ),
-            step(
+            asked(
                 "POST /v1/close",
                 OPERATOR,
                 "{\"increment\":10,\"round\":1,\"ties\":[]}",
                 "HTTP/1.1 200",
                 "\r\n\r\n{\"closed\":1,\"ended\":false}",
             ),
-            step(
+            asked(
                 "PUT /v1/me/bids",
                 X,
                 "{\"bids\":[{\"price\":110,\"product\":0,\"quantity\":2}],\"round\":1}",
                 "HTTP/1.1 409 Conflict",
                 "\r\n\r\n{\"code\":\"wrong_round\",\"round\":2,\"status\":409}",
             ),
-            step(
+            asked(
                 "PUT /v1/me/bids",
                 X,
                 "{\"bids\":[{\"price\":103,\"product\":0,\"quantity\":0}],\"round\":2}",
                 "HTTP/1.1 200",
                 "2}",
             ),
-            step(
+            asked(
                 "PUT /v1/me/bids",
                 Y,
                 "{\"bids\":[{\"price\":110,\"product\":0,\"quantity\":1}],\"round\":2}",
                 "HTTP/1.1 200",
                 "2}",
             ),
-            step(
+            asked(
                 "GET /v1/me",
                 X,
                 "",
                 "HTTP/1.1 200",
                 "\r\n\r\n{\"activity\":2,\"demands\":[2],\"eligibility\":3,\"ended\":false,\"name\":\"X\",\"round\":2}",
             ),
-            step(
+            asked(
                 "POST /v1/close",
                 OPERATOR,
                 "{\"increment\":10,\"round\":2,\"ties\":[]}",
                 "HTTP/1.1 200",
                 "\r\n\r\n{\"closed\":2,\"ended\":true}",
             ),
-            step(
+            asked(
                 "GET /v1/results",
                 OPERATOR,
                 "",
                 "HTTP/1.1 200",
                 "\r\n\r\n{\"bidders\":[{\"demands\":[1],\"eligibility\":2,\"name\":\"X\"},{\"demands\":[1],\"eligibility\":2,\"name\":\"Y\"}],\"ended\":true,\"round\":2}",
             ),
-            step(
+            asked(
                 "GET /v1/me/rounds/2",
                 X,
                 "",
                 "HTTP/1.1 200",
                 "\r\n\r\n{\"activity\":1,\"demands\":[1],\"eligibility\":2,\"round\":2}",
             ),
-            step(
+            asked(
                 "GET /v1/rounds/2",
                 "",
                 "",
                 "HTTP/1.1 200",
                 "\r\n\r\n{\"ended\":true,\"products\":[{\"clock\":110,\"demand\":null,\"name\":\"A\",\"next\":null,\"posted\":103,\"start\":100}],\"round\":2}",
             ),
-            step(
+            asked(
                 "PUT /v1/me/bids",
                 X,
                 "{\"bids\":[],\"round\":2}",
@@ -243,98 +245,98 @@ fn an_earlier_line_refuses_first(rt: HostRuntime) -> Result<(), Fail> {
         alloc,
         &mut front,
         &[
-            step(
+            asked(
                 "PUT /v1/none",
                 "",
                 "",
                 "HTTP/1.1 404 Not Found",
                 "\r\n\r\n{\"code\":\"no_page\",\"status\":404}",
             ),
-            step(
+            asked(
                 "DELETE /v1/me/bids",
                 "",
                 "",
                 "HTTP/1.1 405 Method Not Allowed\r\nallow: GET, PUT\r\n",
                 "\r\n\r\n{\"code\":\"method\",\"status\":405}",
             ),
-            step(
+            asked(
                 "PUT /v1/me/bids",
                 "",
                 "x",
                 "HTTP/1.1 401 Unauthorized",
                 "\r\nwww-authenticate: Bearer\r\n\r\n{\"code\":\"token\",\"status\":401}",
             ),
-            step(
+            asked(
                 "PUT /v1/me/bids",
                 OPERATOR,
                 "x",
                 "HTTP/1.1 403 Forbidden",
                 "\r\n\r\n{\"code\":\"role\",\"status\":403}",
             ),
-            step(
+            asked(
                 "POST /v1/close",
                 X,
                 "x",
                 "HTTP/1.1 403 Forbidden",
                 "\r\n\r\n{\"code\":\"role\",\"status\":403}",
             ),
-            step(
+            asked(
                 "PUT /v1/me/bids",
                 X,
                 "x",
                 "HTTP/1.1 400 Bad Request",
                 "\r\n\r\n{\"code\":\"bad_json\",\"status\":400}",
             ),
-            step(
+            asked(
                 "PUT /v1/me/bids",
                 X,
                 "{\"bids\":[]}",
                 "HTTP/1.1 422 Unprocessable Entity",
                 "\r\n\r\n{\"code\":\"shape\",\"status\":422}",
             ),
-            step(
+            asked(
                 "PUT /v1/me/bids",
                 X,
                 "{\"bids\":[{\"price\":1,\"product\":1,\"quantity\":2}],\"round\":2}",
                 "HTTP/1.1 409 Conflict",
                 "\r\n\r\n{\"code\":\"wrong_round\",\"round\":1,\"status\":409}",
             ),
-            step(
+            asked(
                 "PUT /v1/me/bids",
                 X,
                 "{\"bids\":[{\"price\":1,\"product\":1,\"quantity\":2}],\"round\":1}",
                 "HTTP/1.1 422",
                 "\r\n\r\n{\"code\":\"unknown_product\",\"place\":0,\"status\":422}",
             ),
-            step(
+            asked(
                 "POST /v1/close",
                 OPERATOR,
                 "{\"increments\":[10],\"round\":1,\"ties\":[]}",
                 "HTTP/1.1 422",
                 "\r\n\r\n{\"code\":\"shape\",\"status\":422}",
             ),
-            step(
+            asked(
                 "POST /v1/close",
                 OPERATOR,
                 "{\"increment\":51,\"round\":1,\"ties\":[[0,1,5]]}",
                 "HTTP/1.1 422",
                 "\r\n\r\n{\"code\":\"increment\",\"status\":422}",
             ),
-            step(
+            asked(
                 "POST /v1/close",
                 OPERATOR,
                 "{\"increment\":10,\"round\":1,\"ties\":[[0,0,1],[0,0,2]]}",
                 "HTTP/1.1 422",
                 "\r\n\r\n{\"code\":\"tie_repeated\",\"place\":1,\"status\":422}",
             ),
-            step(
+            asked(
                 "GET /v1/rounds/01",
                 "",
                 "",
                 "HTTP/1.1 404",
                 "\r\n\r\n{\"code\":\"no_round\",\"status\":404}",
             ),
-            step(
+            asked(
                 "GET /v1/products",
                 "",
                 "",
@@ -354,28 +356,28 @@ fn version_2_has_an_increment_for_each_product(rt: HostRuntime) -> Result<(), Fa
         alloc,
         &mut front,
         &[
-            step(
+            asked(
                 "POST /v1/close",
                 OPERATOR,
                 "{\"increment\":10,\"round\":1,\"ties\":[]}",
                 "HTTP/1.1 422",
                 "\r\n\r\n{\"code\":\"shape\",\"status\":422}",
             ),
-            step(
+            asked(
                 "POST /v1/close",
                 OPERATOR,
                 "{\"increments\":[10],\"round\":1,\"ties\":[]}",
                 "HTTP/1.1 422",
                 "\r\n\r\n{\"code\":\"increment\",\"status\":422}",
             ),
-            step(
+            asked(
                 "POST /v1/close",
                 OPERATOR,
                 "{\"increments\":[10,20],\"round\":1,\"ties\":[]}",
                 "HTTP/1.1 200",
                 "\r\n\r\n{\"closed\":1,\"ended\":true}",
             ),
-            step(
+            asked(
                 "GET /v1/status",
                 "",
                 "",
@@ -384,4 +386,19 @@ fn version_2_has_an_increment_for_each_product(rt: HostRuntime) -> Result<(), Fa
             ),
         ],
     )
+}
+
+#[test]
+fn a_run_gives_a_reply_to_each_text(rt: HostRuntime) -> Result<(), Fail> {
+    let alloc = rt.alloc();
+    let setup = read_setup(alloc, ONE_PRODUCT.as_bytes())?;
+    let mut texts = Items::new(alloc);
+    for text in ["GET /v1/status HTTP/1.1\r\n\r\n", "GET /v1/status"] {
+        texts.push(Text::from_slice(alloc, text.as_bytes())?)?;
+    }
+    let replies = run(alloc, setup, Plain, texts.as_slice())?;
+    assert_eq!(rt; replies.as_slice().len(), 2);
+    assert_eq!(rt; replies.as_slice()[0].code(), Code::Done);
+    assert_eq!(rt; replies.as_slice()[1].code(), Code::CutShort);
+    Ok(())
 }
