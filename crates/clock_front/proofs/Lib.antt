@@ -12,3 +12,5 @@ mod OutcomeLaws
 mod FrontLaws
 mod ChangeLaws
 mod RunLaws
+pub mod AskerLaws
+pub mod TextViews

@@ -1,51 +1,69 @@
--- One more text of a run.
-use Rattle.std.proofs.Common.{◌≡◌, ◌⊎◌, ◌+◌, ◌<◌, ℕ, List, [], ◌∷◌, ◌++◌, length, get_or, take, refl, sym, ◌∙◌, ap, subst, inl, inr}
-use Rattle.std.proofs.lemmas.List.{take_more}
-use Rattle.clock_setup.specs.Limits.{SetupFields}
+-- A run goes on by one text, and each right reply is private.
+use Rattle.std.proofs.Common.{◌≡◌, ◌⊎◌, ℕ, ◌<◌, List, [], ◌∷◌, ◌++◌, length, refl, sym, ◌∙◌, ap, subst, inl, inr}
+use Rattle.clock_setup.specs.Limits.{SetupFields, IsSetup}
 use Rattle.clock_front.specs.Replies.{Answer}
 use Rattle.clock_house.specs.House.{HouseFields}
 use Rattle.clock_front.specs.Fronts.{reply, no_memory, StandsForTexts, AnswersText}
-use Rattle.clock_front.specs.Runs.{Runs}
+use Rattle.clock_front.specs.Runs.{IsRight, Runs}
+use Rattle.clock_front.proofs.TextViews.{answered_from_view, isolated}
 
--- a text is answered after those that were, or struck out
-abbrev pub IsNext : SetupFields → List (List ℕ) → List ℕ → Answer → List (List ℕ) → Type 0
-IsNext setup mid text answer last = ((answer ≡ reply setup mid text) × (text ∷ mid ≡ last)) ⊎ ((answer ≡ no_memory) × (mid ≡ last))
+-- a right reply is private
+pub right : (setup : SetupFields) (limits : IsSetup setup) (past : List (List ℕ)) (text : List ℕ) (one : Answer) → one ≡ reply setup past text → IsRight setup past text one
+right setup limits past text one is = record {
+  is = is;
+  private = λ bidder lt own. record {
+    from_view = is ∙ answered_from_view setup bidder past text limits lt own;
+    elsewhere = λ other number other_past other_limits other_lt alike. is ∙ isolated setup other bidder number past other_past text limits other_limits lt other_lt alike own;
+  };
+}
 
-pub run_more : (setup : SetupFields) (past texts : List (List ℕ)) (answers : List Answer) (mid : List (List ℕ)) (text : List ℕ) (answer : Answer) (last : List (List ℕ))
-    → Runs setup past texts answers mid → IsNext setup mid text answer last → Runs setup past (texts ++ text ∷ []) (answers ++ answer ∷ []) last
-run_more setup past [] [] mid text answer last same (inl next) =
-    inl (next.0 ∙ ap (λ p. reply setup p text) (sym same), ap (λ p. text ∷ p) same ∙ next.1)
-run_more setup past [] [] mid text answer last same (inr next) = inr (next.0, same ∙ next.1)
-run_more setup past [] (a ∷ answers) mid text answer last runs next = absurd runs
-run_more setup past (t ∷ texts) [] mid text answer last runs next = absurd runs
-run_more setup past (t ∷ texts) (a ∷ answers) mid text answer last (inl first) next =
-    inl (first.0, run_more setup (t ∷ past) texts answers mid text answer last first.1 next)
-run_more setup past (t ∷ texts) (a ∷ answers) mid text answer last (inr first) next =
-    inr (first.0, run_more setup past texts answers mid text answer last first.1 next)
+-- the next text found no memory
+pub goes_on_without : (setup : SetupFields) (past texts : List (List ℕ)) (answers : List Answer) (end : List (List ℕ)) (text : List ℕ) (one : Answer) →
+    Runs setup past texts answers end → one ≡ no_memory → Runs setup past (texts ++ text ∷ []) (answers ++ one ∷ []) end
+goes_on_without setup past [] [] end text one runs none = inl (none, runs)
+goes_on_without setup past [] (a ∷ answers) end text one runs none = absurd runs
+goes_on_without setup past (t ∷ texts) [] end text one runs none = absurd runs
+goes_on_without setup past (t ∷ texts) (a ∷ answers) end text one runs none =
+    elim runs [
+      | inl struck ↦ inl (struck.0, goes_on_without setup past texts answers end text one struck.1 none)
+      | inr replied ↦ inr (replied.0, goes_on_without setup (t ∷ past) texts answers end text one replied.1 none)
+    ]
 
--- the texts so far were answered, and the house stands for those that found memory
-abbrev pub SoFar : SetupFields → List (List ℕ) → List Answer → HouseFields → Type 0
-SoFar setup texts answers house = (past : List (List ℕ)) × StandsForTexts past house × Runs setup [] texts answers past
+-- the next text was replied to
+pub goes_on : (setup : SetupFields) (past texts : List (List ℕ)) (answers : List Answer) (end : List (List ℕ)) (text : List ℕ) (one : Answer) →
+    Runs setup past texts answers end → IsRight setup end text one → Runs setup past (texts ++ text ∷ []) (answers ++ one ∷ []) (text ∷ end)
+goes_on setup past [] [] end text one runs is = inr (subst (λ before. IsRight setup before text one) runs is, ap (λ before. text ∷ before) runs)
+goes_on setup past [] (a ∷ answers) end text one runs is = absurd runs
+goes_on setup past (t ∷ texts) [] end text one runs is = absurd runs
+goes_on setup past (t ∷ texts) (a ∷ answers) end text one runs is =
+    elim runs [
+      | inl struck ↦ inl (struck.0, goes_on setup past texts answers end text one struck.1 is)
+      | inr replied ↦ inr (replied.0, goes_on setup (t ∷ past) texts answers end text one replied.1 is)
+    ]
 
-run_next : (setup : SetupFields) (texts : List (List ℕ)) (i : ℕ) (answers more : List Answer) (past : List (List ℕ)) (text : List ℕ) (answer : Answer) (last : List (List ℕ))
-    → i < length texts → text ≡ get_or texts i text → more ≡ answers ++ answer ∷ [] → Runs setup [] (take i texts) answers past → IsNext setup past text answer last
-    → Runs setup [] (take (i + 1) texts) more last
-run_next setup texts i answers more past text answer last lt at is runs next =
-    let taken : take i texts ++ text ∷ [] ≡ take (i + 1) texts = ap (λ t. take i texts ++ t ∷ []) at ∙ sym (take_more texts i text lt) in
-    subst (λ list. Runs setup [] list more last) taken
-    (subst (λ list. Runs setup [] (take i texts ++ text ∷ []) list last) (sym is) (run_more setup [] (take i texts) answers past text answer last runs next))
+-- a run on its way: the front has the set-up and stands for the texts that were replied to
+pub record IsUnderWay (setup : SetupFields) (texts : List (List ℕ)) (answers : List Answer) (front : HouseFields) : Type 0 where
+  pub end : List (List ℕ)
+  pub kept : front.setup ≡ setup
+  pub runs : Runs setup [] texts answers end
+  pub stands : StandsForTexts end front
 
--- one more text is answered, or found no memory
-pub one_more_text : (setup : SetupFields) (texts : List (List ℕ)) (i : ℕ) (answers more : List Answer) (text : List ℕ) (answer : Answer) (old new : HouseFields)
-    → i < length texts → text ≡ get_or texts i text → more ≡ answers ++ answer ∷ [] → old.setup ≡ setup → AnswersText text answer old new
-    → SoFar setup (take i texts) answers old → SoFar setup (take (i + 1) texts) more new
-one_more_text setup texts i answers more text answer old new lt at is same answered so_far =
-    elim (answered so_far.0 so_far.1) [
-      | inl h ↦ (
-        text ∷ so_far.0,
-        h.1,
-        run_next setup texts i answers more so_far.0 text answer (text ∷ so_far.0) lt at is so_far.2
-            (inl (h.0 ∙ ap (λ s. reply s so_far.0 text) same, refl)),
-      )
-      | inr h ↦ (so_far.0, h.1, run_next setup texts i answers more so_far.0 text answer so_far.0 lt at is so_far.2 (inr (h.0, refl)))
+-- one more text is answered
+pub step : (setup : SetupFields) (limits : IsSetup setup) (texts : List (List ℕ)) (answers : List Answer) (front next : HouseFields) (text : List ℕ) (one : Answer) →
+    IsUnderWay setup texts answers front → next.setup ≡ front.setup → AnswersText text one front next →
+    IsUnderWay setup (texts ++ text ∷ []) (answers ++ one ∷ []) next
+step setup limits texts answers front next text one before same answered =
+    elim (answered before.end before.stands) [
+      | inl told ↦ record {
+        end = text ∷ before.end;
+        kept = same ∙ before.kept;
+        runs = goes_on setup [] texts answers before.end text one before.runs (right setup limits before.end text one (told.0 ∙ ap (λ of_setup. reply of_setup before.end text) before.kept));
+        stands = told.1;
+      }
+      | inr none ↦ record {
+        end = before.end;
+        kept = same ∙ before.kept;
+        runs = goes_on_without setup [] texts answers before.end text one before.runs none.0;
+        stands = none.1;
+      }
     ]

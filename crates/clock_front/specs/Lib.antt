@@ -17,3 +17,5 @@ pub mod Outcomes
 pub mod ShownAsked
 pub mod Fronts
 pub mod Runs
+pub mod Views
+pub mod Isolation

@@ -5,6 +5,7 @@
 #![tactic(auto)]
 
 ghost use Rattle.clock_front.specs.FramingLaws as laws;
+ghost use Rattle.clock_front.specs.Isolation as isolation;
 
 mod asked;
 mod body_fault;
@@ -57,4 +58,14 @@ pub fn head_of_grammar()
 /// A decided text keeps its head, whatever follows.
 pub fn one_head()
     ensures { laws.HasOneHead }
+{}
+
+/// The reply to an own request is the answer to what the bidder sees, in whose arguments no rival occurs.
+pub fn answered_from_view()
+    ensures { isolation.IsAnsweredFromView }
+{}
+
+/// Where a bidder sees the same in two runs it gets the same replies, byte for byte.
+pub fn isolated()
+    ensures { isolation.IsIsolated }
 {}

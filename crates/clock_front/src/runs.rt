@@ -1,5 +1,5 @@
-ghost use Rattle.std.specs.Prelude.{◌≡◌, ℕ, List, [], IfOk};
-ghost use Rattle.clock_front.specs.Runs.{Runs};
+ghost use Rattle.std.specs.Prelude.{IfOk};
+ghost use Rattle.clock_front.specs.Runs.{IsRun};
 
 use crate::front::Front;
 use crate::reply::Reply;
@@ -8,23 +8,28 @@ use clock_processor::Processor;
 use clock_setup::Setup;
 use std::alloc::Global;
 
-/// The replies to texts, in their order.
+/// Replies in the order of their requests.
 pub type Replies = Items<Reply>;
 
-/// The replies to texts in turn, from a front before its first text. Those that are not the reply of want of memory are
-/// the replies to the texts with the others struck out.
+/// Answers request texts in turn, each by what those before it have made of the auction: one reply for each, in order.
+///
+/// A reply of want of memory has done nothing, and its text is struck out. Every other reply is the right one; to a bidder's
+/// own request it is a function of the public set-up, the bidder's row and what the bidder sees of the run, so that every
+/// other run in which a bidder sees the same gives it the same bytes.
 pub fn run<P: Processor>(
     alloc: Global,
     setup: Setup,
     processor: P,
     texts: &[Text],
 ) -> Result<Replies, NoMemory>
-    ensures { IfOk result (λ replies. (last : List (List ℕ)) × Runs setup [] texts.now replies last) }
+    ensures { IfOk result (IsRun setup texts.now) }
 {
     let mut front = Front::new(alloc, setup, processor)?;
-    let mut replies = Items::new(alloc);
+    let mut replies = Replies::new(alloc);
     for text in texts {
+        front.house().keeps();
         replies.push(front.answer(text.as_slice()))?;
     }
+    front.house().keeps();
     Ok(replies)
 }

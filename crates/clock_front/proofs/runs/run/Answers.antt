@@ -1,26 +1,36 @@
-use Rattle.std.proofs.Common.{◌≡◌, ℕ, List, [], length, get_or, take, refl, sym, ◌∙◌, ap, subst, arith}
-use Rattle.std.proofs.lemmas.List.{take_all}
+use Rattle.std.proofs.Common.{◌≡◌, ◌+◌, ◌++◌, ◌<◌, ℕ, List, [], ◌∷◌, length, get_or, take, refl, sym, ◌∙◌, ap, subst, arith}
+use Rattle.std.proofs.lemmas.List.{take_all, take_more}
+use Rattle.clock_setup.specs.Limits.{SetupFields, IsSetup}
+use Rattle.clock_house.specs.History.{history}
+use Rattle.clock_house.specs.House.{HouseFields}
+use Rattle.clock_house.specs.Laws.{IsSound}
 use Rattle.clock_front.specs.Replies.{Answer}
+use Rattle.clock_front.specs.Fronts.{commands_of}
 use Rattle.clock_front.specs.Runs.{Runs}
-use Rattle.clock_front.proofs.RunLaws.{SoFar, one_more_text}
+use Rattle.clock_front.proofs.RunLaws.{IsUnderWay, step}
 use Rattle.clock_front.proofs.runs.run.Goals as goal
-
-pub loop-text-init : goal.loop-text-init
-loop-text-init g c = record {
-  setup = c.in_ok-front.ensures.setup;
-  so_far = ([], c.in_ok-front.ensures.stands, subst (λ (replies : List Answer). Runs c.args.setup [] [] replies []) (sym c.new-replies.ensures) refl);
-}
 
 pub loop-text-preserved : goal.loop-text-preserved
 loop-text-preserved g c =
-    let at : c.as_slice.result.now ≡ get_or c.args.texts.now c.loop-text.text-index c.as_slice.result.now = rw c.as_slice.ensures c.text-item.is in
-    record {
-      setup = c.answer.ensures.setup ∙ c.loop-text.invariant.setup;
-      so_far = one_more_text c.args.setup c.args.texts.now c.loop-text.text-index c.loop-text.replies c.push.new.self c.as_slice.result.now c.answer.result
-          c.loop-text.front c.answer.new.self c.loop-text-test.true at c.in_ok-push.ensures.ok c.loop-text.invariant.setup c.answer.ensures.answered c.loop-text.invariant.so_far;
-    }
+    let i = c.loop-text.text-index in
+    let texts = c.args.texts.now in
+    let text = c.as_slice.result.now in
+    let front = c.loop-text.front in
+    let below : i < length texts = c.loop-text-test.true in
+    let at : text ≡ get_or texts i text = rw c.as_slice.ensures c.text-item.is in
+    let more : take (i + 1) texts ≡ take i texts ++ text ∷ [] = take_more texts i text below ∙ ap (λ (last : List ℕ). take i texts ++ last ∷ []) (sym at) in
+    let limits : IsSetup c.args.setup = subst IsSetup (ap (λ (house : HouseFields). house.setup) c.house.ensures ∙ c.loop-text.invariant.kept) c.keeps.ensures.limits in
+    let next : IsUnderWay c.args.setup (take i texts ++ text ∷ []) (c.loop-text.replies ++ c.answer.result ∷ []) c.answer.new.self =
+    step c.args.setup limits (take i texts) c.loop-text.replies front c.answer.new.self text c.answer.result c.loop-text.invariant c.answer.ensures.setup c.answer.ensures.answered in
+    subst (λ (so_far : List (List ℕ)). IsUnderWay c.args.setup so_far c.push.new.self c.answer.new.self) (sym more)
+    (subst (λ (answers : List Answer). IsUnderWay c.args.setup (take i texts ++ text ∷ []) answers c.answer.new.self) (sym c.in_ok-push.ensures.ok) next)
 
 pub returns : goal.returns
 returns g c =
-    let so_far = c.loop-text.invariant.so_far in
-    (so_far.0, subst (λ (texts : List (List ℕ)). Runs c.args.setup [] texts c.loop-text.replies so_far.0) (take_all c.loop-text.text-index c.args.texts.now (omega arith)) so_far.2)
+    let before = c.loop-text.invariant in
+    let same = ap (λ (house : HouseFields). house.setup) c.house-2.ensures ∙ before.kept in
+    record {
+      end = before.end;
+      runs = subst (λ (texts : List (List ℕ)). Runs c.args.setup [] texts c.loop-text.replies before.end) (take_all c.loop-text.text-index c.args.texts.now (omega arith)) before.runs;
+      sound = subst (λ (setup : SetupFields). IsSound setup (history setup (commands_of c.args.setup before.end))) same (c.keeps-2.ensures.sound (commands_of c.args.setup before.end));
+    }

@@ -1,0 +1,225 @@
+-- What a bidder knows in the whole run is what its view of the texts tells it.
+use Rattle.std.proofs.Common.{◌≡◌, ◌≢◌, ℕ, ◌<◌, Bool, true, false, cond, List, [], ◌∷◌, ◌++◌, length, map, get_or, refl, sym, ◌∙◌, ap, arith, eqb, eq-eqb, append-nil, append_assoc, zero-add}
+use Rattle.std.specs.Prelude.{Option, Some, None, option_map, option_and_then, slice_index_or, Result, Ok, Err}
+use Rattle.std.specs.List.{range_with_len}
+use Rattle.std.proofs.lemmas.Bool.Decides.{nat_tests}
+use Rattle.std.proofs.lemmas.List.FromFn.{get_or-map-range_with_len}
+use Rattle.clock_setup.specs.declared.setup.Bidder.{Bidder}
+use Rattle.clock_setup.specs.Limits.{SetupFields, IsSetup, PublicSetup, public_setup}
+use Rattle.clock_bids.specs.declared.sheet.Bid.{Bid}
+use Rattle.clock_bids.specs.Holding.{Holding}
+use Rattle.clock_posting.specs.declared.sheet.RoundSheet.{RoundSheet}
+use Rattle.clock_house.specs.Command as command
+use Rattle.clock_house.specs.Command.{Command}
+use Rattle.clock_house.specs.declared.slip.Slip.{Slip}
+use Rattle.clock_house.specs.declared.fault.CloseFault.{CloseFault}
+use Rattle.clock_house.specs.declared.closed_round.ClosedRound.{ClosedRound}
+use Rattle.clock_house.specs.Standing.{Standing}
+use Rattle.clock_house.specs.History.{Auction, history, bidder_at, closing_of, round_at, slip_of, standing, holding, sheet_in_force, for_each_bidder}
+use Rattle.clock_house.specs.View.{Seen, own_put, view_of, seen_of, seen_closing, seen_standing, seen_holding, seen_in_force, seen_round, shown_to, IsSeen}
+use Rattle.clock_house.specs.View as typed
+use Rattle.clock_house.proofs.Isolation.{seen}
+use Rattle.clock_views.specs.PublicPages.{sheet_value}
+use Rattle.clock_views.specs.BidderPages.{bids_value, slip_value}
+use Rattle.clock_front.specs.declared.put_body.PutBody.{PutBody}
+use Rattle.clock_front.specs.declared.close_body.CloseBody.{CloseBody}
+use Rattle.clock_front.specs.declared.body_fault.BodyFault.{BodyFault}
+use Rattle.clock_front.specs.declared.tokens.Asker.{Asker}
+use Rattle.clock_front.specs.declared.tokens.Asker.TheVariants as who
+use Rattle.clock_front.specs.Askers.{asker}
+use Rattle.clock_front.specs.Routes.{round_named}
+use Rattle.clock_front.specs.Requests.{Ask, request_of}
+use Rattle.clock_front.specs.Requests as ask
+use Rattle.clock_front.specs.Outcomes.{Outcome, done, answer_of, page_or_no_round, in_version, close_command, outcome, command_of}
+use Rattle.clock_front.specs.Fronts.{text_command, commands_of, house_after, reply}
+use Rattle.clock_front.specs.Views.{SeenText, own, accepted_close, is_own, closings_of, seen_of_text, text_view, sheet_put, typed_view, Known, known_from, bidder_outcome, answer}
+use Rattle.clock_front.specs.Isolation.{IsAnsweredFromView, SeesTheSame, IsIsolated}
+use Rattle.clock_front.proofs.AskerLaws.{asker_own, asker_other}
+
+-- a view of joined parts
+typed_view-append : (front back : List SeenText) → typed_view (front ++ back) ≡ typed_view front ++ typed_view back
+typed_view-append [] back = refl
+typed_view-append (own text ∷ front) back =
+    ap (λ rest. sheet_put (request_of text).ask ++ rest) (typed_view-append front back)
+    ∙ sym (append_assoc (sheet_put (request_of text).ask) (typed_view front) (typed_view back))
+typed_view-append (accepted_close sheet slip ∷ front) back = ap (λ rest. typed.accepted_close sheet slip ∷ rest) (typed_view-append front back)
+
+-- an own request is seen as the sheet that it puts
+own_put_seen : (setup : SetupFields) (b : ℕ) (auction : Auction) (round : ℕ) (sent : PutBody) →
+    seen_of setup b auction (command.put b sent.round sent.bids) ≡ own_put sent.round sent.bids ∷ []
+own_put_seen setup b auction round sent = ap (λ t. cond t (own_put sent.round sent.bids ∷ []) []) (eq-eqb b b refl)
+
+own_seen : (setup : SetupFields) (b : ℕ) (auction : Auction) (asked : Ask) →
+    seen_of setup b auction (command_of setup (who.Bidder b) asked) ≡ sheet_put asked
+own_seen setup b auction (ask.put (Ok sent)) = own_put_seen setup b auction 0 sent
+own_seen setup b auction (ask.put (Err fault)) = refl
+own_seen setup b auction (ask.turned_away code) = refl
+own_seen setup b auction (ask.no_method page) = refl
+own_seen setup b auction ask.status = refl
+own_seen setup b auction ask.products = refl
+own_seen setup b auction (ask.sheet segment) = refl
+own_seen setup b auction ask.account = refl
+own_seen setup b auction ask.bids = refl
+own_seen setup b auction (ask.slip segment) = refl
+own_seen setup b auction (ask.close sent) = refl
+own_seen setup b auction ask.results = refl
+
+-- of what others do the accepted closings are seen, and nothing else
+closing_seen_again : (b : ℕ) (closing : Result ClosedRound CloseFault) → typed_view (closings_of (seen_closing b closing)) ≡ seen_closing b closing
+closing_seen_again b (Ok round) = refl
+closing_seen_again b (Err fault) = refl
+
+closing_seen_of : (setup : SetupFields) (b : ℕ) (auction : Auction) (sent : Result CloseBody BodyFault) →
+    typed_view (closings_of (seen_of setup b auction (close_command sent))) ≡ seen_of setup b auction (close_command sent)
+closing_seen_of setup b auction (Err fault) = refl
+closing_seen_of setup b auction (Ok sent) = closing_seen_again b (closing_of setup auction sent.round sent.increments sent.ties)
+
+rival_put_seen : (setup : SetupFields) (b d : ℕ) (auction : Auction) (sent : PutBody) → d ≢ b →
+    seen_of setup b auction (command.put d sent.round sent.bids) ≡ []
+rival_put_seen setup b d auction sent differ =
+    let no : eqb d b ≡ false = grind (arith, nat_tests) in
+    ap (λ t. cond t (own_put sent.round sent.bids ∷ []) []) no
+
+other_seen : (setup : SetupFields) (b : ℕ) (auction : Auction) (author : Asker) (asked : Ask) → (author ≡ who.Bidder b → ⊥) →
+    typed_view (closings_of (seen_of setup b auction (command_of setup author asked))) ≡ seen_of setup b auction (command_of setup author asked)
+other_seen setup b auction (who.Bidder d) (ask.put (Ok sent)) not_b =
+    let none = rival_put_seen setup b d auction sent (λ e. not_b (ap who.Bidder e)) in
+    ap (λ xs. typed_view (closings_of xs)) none ∙ sym none
+other_seen setup b auction who.Operator (ask.close sent) not_b = closing_seen_of setup b auction (in_version setup.version sent)
+other_seen setup b auction _ _ not_b = refl
+
+-- the sheets and closings in a view of texts are what is seen of their commands
+text_seen : (setup : SetupFields) (b : ℕ) (limits : IsSetup setup) → b < length setup.bidders → (past : List (List ℕ)) (text : List ℕ) (mine : Bool) → is_own (bidder_at setup b) text ≡ mine →
+    typed_view (cond mine (own text ∷ []) (closings_of (seen_of setup b (history setup (commands_of setup past)) (text_command setup text))))
+    ≡ seen_of setup b (history setup (commands_of setup past)) (text_command setup text)
+text_seen setup b limits lt past text true is =
+    append-nil (sheet_put (request_of text).ask)
+    ∙ sym (own_seen setup b (history setup (commands_of setup past)) (request_of text).ask)
+    ∙ ap (λ author. seen_of setup b (history setup (commands_of setup past)) (command_of setup author (request_of text).ask)) (sym (asker_own setup limits b lt (request_of text).token is))
+text_seen setup b limits lt past text false is =
+    other_seen setup b (history setup (commands_of setup past)) (asker setup (request_of text).token) (request_of text).ask (asker_other setup b (request_of text).token is)
+
+pub typed_view-text_view : (setup : SetupFields) (b : ℕ) (limits : IsSetup setup) → b < length setup.bidders → (past : List (List ℕ)) →
+    typed_view (text_view setup b past) ≡ view_of setup b (commands_of setup past)
+typed_view-text_view setup b limits lt [] = refl
+typed_view-text_view setup b limits lt (text ∷ past) =
+    typed_view-append (seen_of_text setup b past text) (text_view setup b past)
+    ∙ ap (λ front. front ++ typed_view (text_view setup b past)) (text_seen setup b limits lt past text (is_own (bidder_at setup b) text) refl)
+    ∙ ap (λ rest. seen_of setup b (history setup (commands_of setup past)) (text_command setup text) ++ rest) (typed_view-text_view setup b limits lt past)
+
+-- ---- a reply depends on what is known of the round that is asked for, and of no other
+abbrev Rounds : Type 0
+Rounds = ℕ → Option (RoundSheet × Slip)
+
+module _ (setup : PublicSetup) (row : Bidder) (standing_now : Standing) (held : Holding) (in_force : Option (List Bid)) (one two : Rounds) (alike : (n : ℕ) → one n ≡ two n) where
+  same_slip : (named : Option ℕ) →
+      page_or_no_round (option_map (λ (one_seen : RoundSheet × Slip). slip_value one_seen.1) (option_and_then one named))
+      ≡ page_or_no_round (option_map (λ (one_seen : RoundSheet × Slip). slip_value one_seen.1) (option_and_then two named))
+  same_slip None = refl
+  same_slip (Some n) = ap (λ found. page_or_no_round (option_map (λ (one_seen : RoundSheet × Slip). slip_value one_seen.1) found)) (alike n)
+
+  same_sheet : (named : Option ℕ) →
+      page_or_no_round (option_map (λ (one_seen : RoundSheet × Slip). sheet_value setup one_seen.0) (option_and_then one named))
+      ≡ page_or_no_round (option_map (λ (one_seen : RoundSheet × Slip). sheet_value setup one_seen.0) (option_and_then two named))
+  same_sheet None = refl
+  same_sheet (Some n) = ap (λ found. page_or_no_round (option_map (λ (one_seen : RoundSheet × Slip). sheet_value setup one_seen.0) found)) (alike n)
+
+  pub same_rounds : (asked : Ask) →
+      bidder_outcome setup row (record { standing = standing_now; holding = held; in_force = in_force; rounds = one }) asked
+      ≡ bidder_outcome setup row (record { standing = standing_now; holding = held; in_force = in_force; rounds = two }) asked
+  unfolding bidder_outcome
+  same_rounds (ask.slip segment) = same_slip (round_named segment)
+  same_rounds (ask.sheet segment) = same_sheet (round_named segment)
+  same_rounds (ask.turned_away why) = refl
+  same_rounds (ask.no_method page) = refl
+  same_rounds ask.status = refl
+  same_rounds ask.products = refl
+  same_rounds ask.account = refl
+  same_rounds ask.bids = refl
+  same_rounds (ask.put (Ok body)) = refl
+  same_rounds (ask.put (Err fault)) = refl
+  same_rounds (ask.close body) = refl
+  same_rounds ask.results = refl
+
+-- ---- what a bidder is told in the whole run
+module _ (setup : SetupFields) (b : ℕ) (lt : b < length setup.bidders) (commands : List Command) where
+  -- what it knows after the whole list
+  abbrev pub known_in : Known
+  known_in = record {
+    standing = standing setup.products (history setup commands).closed;
+    holding = holding setup (history setup commands).closed b;
+    in_force = sheet_in_force setup (history setup commands) b;
+    rounds = λ n. option_map (shown_to b) (round_at n (history setup commands).closed);
+  }
+
+  slip_told : (found : Option ClosedRound) →
+      option_map (λ closed. slip_value (slip_of b closed)) found ≡ option_map (λ (one_seen : RoundSheet × Slip). slip_value one_seen.1) (option_map (shown_to b) found)
+  slip_told None = refl
+  slip_told (Some closed) = refl
+
+  sheet_told : (found : Option ClosedRound) →
+      option_map (λ closed. sheet_value (public_setup setup) closed.sheet) found ≡ option_map (λ (one_seen : RoundSheet × Slip). sheet_value (public_setup setup) one_seen.0) (option_map (shown_to b) found)
+  sheet_told None = refl
+  sheet_told (Some closed) = refl
+
+  named_slip : (named : Option ℕ) →
+      option_map (λ closed. slip_value (slip_of b closed)) (option_and_then (λ n. round_at n (history setup commands).closed) named)
+      ≡ option_map (λ (one_seen : RoundSheet × Slip). slip_value one_seen.1) (option_and_then known_in.rounds named)
+  named_slip None = refl
+  named_slip (Some n) = slip_told (round_at n (history setup commands).closed)
+
+  named_sheet : (named : Option ℕ) →
+      option_map (λ closed. sheet_value (public_setup setup) closed.sheet) (option_and_then (λ n. round_at n (history setup commands).closed) named)
+      ≡ option_map (λ (one_seen : RoundSheet × Slip). sheet_value (public_setup setup) one_seen.0) (option_and_then known_in.rounds named)
+  named_sheet None = refl
+  named_sheet (Some n) = sheet_told (round_at n (history setup commands).closed)
+
+  own_sheet : slice_index_or (for_each_bidder setup (sheet_in_force setup (history setup commands))) b None ≡ sheet_in_force setup (history setup commands) b
+  own_sheet = get_or-map-range_with_len (sheet_in_force setup (history setup commands)) 0 (length setup.bidders) b b None lt (zero-add b)
+
+  pub told_of_known : (asked : Ask) → outcome (house_after setup commands) (who.Bidder b) asked ≡ bidder_outcome (public_setup setup) (bidder_at setup b) known_in asked
+  unfolding bidder_outcome
+  told_of_known (ask.slip segment) = ap page_or_no_round (named_slip (round_named segment))
+  told_of_known (ask.sheet segment) = ap page_or_no_round (named_sheet (round_named segment))
+  told_of_known ask.bids = ap (λ sheet. done (bids_value (standing setup.products (history setup commands).closed).round sheet)) own_sheet
+  told_of_known (ask.turned_away why) = refl
+  told_of_known (ask.no_method page) = refl
+  told_of_known ask.status = refl
+  told_of_known ask.products = refl
+  told_of_known ask.account = refl
+  told_of_known (ask.put (Ok body)) = refl
+  told_of_known (ask.put (Err fault)) = refl
+  told_of_known (ask.close body) = refl
+  told_of_known ask.results = refl
+
+  -- what is known in the run is what the view tells
+  pub told_of_view : (asked : Ask) →
+      outcome (house_after setup commands) (who.Bidder b) asked
+      ≡ bidder_outcome (public_setup setup) (bidder_at setup b) (known_from (public_setup setup) (bidder_at setup b) (view_of setup b commands)) asked
+  told_of_view asked =
+      let is : IsSeen setup b commands = seen setup b commands in
+      let public = public_setup setup in
+      let row = bidder_at setup b in
+      let view = view_of setup b commands in
+      told_of_known asked
+      ∙ ap (λ s. bidder_outcome public row (record { standing = s; holding = known_in.holding; in_force = known_in.in_force; rounds = known_in.rounds }) asked) is.standing
+      ∙ ap (λ h. bidder_outcome public row (record { standing = seen_standing public view; holding = h; in_force = known_in.in_force; rounds = known_in.rounds }) asked) is.holding
+      ∙ ap (λ f. bidder_outcome public row (record { standing = seen_standing public view; holding = seen_holding public row view; in_force = f; rounds = known_in.rounds }) asked) is.in_force
+      ∙ same_rounds public row (seen_standing public view) (seen_holding public row view) (seen_in_force public row view) known_in.rounds (λ n. seen_round n view) is.rounds asked
+
+-- ---- the headline
+
+pub answered_from_view : IsAnsweredFromView
+answered_from_view setup b past text limits lt is =
+    ap (λ author. answer_of (outcome (house_after setup (commands_of setup past)) author (request_of text).ask)) (asker_own setup limits b lt (request_of text).token is)
+    ∙ ap answer_of (told_of_view setup b lt (commands_of setup past) (request_of text).ask)
+    ∙ ap (λ view. answer_of (bidder_outcome (public_setup setup) (bidder_at setup b) (known_from (public_setup setup) (bidder_at setup b) view) (request_of text).ask)) (sym (typed_view-text_view setup b limits lt past))
+
+pub isolated : IsIsolated
+isolated one two b d past other_past text limits other_limits lb ld alike is =
+    let is_other : is_own (bidder_at two d) text ≡ true = ap (λ row. is_own row text) (sym alike.row) ∙ is in
+    answered_from_view one b past text limits lb is
+    ∙ ap (λ public. answer public (bidder_at one b) (text_view one b past) text) alike.public
+    ∙ ap (λ row. answer (public_setup two) row (text_view one b past) text) alike.row
+    ∙ ap (λ view. answer (public_setup two) (bidder_at two d) view text) alike.view
+    ∙ sym (answered_from_view two d other_past text other_limits ld is_other)

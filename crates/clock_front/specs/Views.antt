@@ -1,0 +1,121 @@
+-- What one bidder sees of a list of request texts, and what it is answered by that alone.
+--     is_own row text      the request is the bidder's: its head has the bidder's token
+--     SeenText      an own request, or an accepted closing as the round's sheet and the bidder's slip
+--     text_view setup bidder past      the run, the newest first, with every request struck out that is not the bidder's own,
+--         but each accepted closing stands as sheet and own slip
+--     Known      what a bidder knows of the auction
+--     bidder_outcome setup row known ask      what a bidder is told: no rival, and no number of bidders, is an argument
+--     answer setup row view text      the reply to an own request, by the public set-up, the bidder's row and its view
+use Rattle.std.specs.Prelude.{ℕ, Bool, false, List, [], ◌∷◌, ◌++◌, if◌then◌else◌, Option, Some, None, option_map, option_and_then, Ok, Err}
+use Rattle.clock_setup.specs.declared.setup.Bidder.{Bidder}
+use Rattle.clock_setup.specs.Limits.{SetupFields, PublicSetup}
+use Rattle.clock_bids.specs.declared.sheet.Bid.{Bid}
+use Rattle.clock_bids.specs.Holding.{Holding}
+use Rattle.clock_posting.specs.declared.sheet.RoundSheet.{RoundSheet}
+use Rattle.clock_house.specs.declared.slip.Slip.{Slip}
+use Rattle.clock_house.specs.Standing.{Standing, put_fault}
+use Rattle.clock_house.specs.History.{history, bidder_at}
+use Rattle.clock_house.specs.View.{Seen, seen_of, seen_standing, seen_holding, seen_in_force, seen_round}
+use Rattle.clock_house.specs.View as typed
+use Rattle.clock_views.specs.declared.code.Code.TheVariants as code
+use Rattle.clock_views.specs.Refusals.{alone}
+use Rattle.clock_views.specs.PublicPages.{status_value, products_value, sheet_value}
+use Rattle.clock_views.specs.BidderPages.{account_value, bids_value, slip_value}
+use Rattle.clock_front.specs.Heads.{same_bytes}
+use Rattle.clock_front.specs.Routes.{round_named}
+use Rattle.clock_front.specs.Replies.{Answer}
+use Rattle.clock_front.specs.Requests.{Ask, request_of}
+use Rattle.clock_front.specs.Requests as asked
+use Rattle.clock_front.specs.Outcomes.{Outcome, done, refused, not_allowed, answer_of, body_code, page_or_no_round, put_outcome}
+use Rattle.clock_front.specs.Fronts.{text_command, commands_of}
+
+-- the token is the bidder's
+abbrev pub has_token : List ℕ → Option (List ℕ) → Bool
+has_token token None = false
+has_token token (Some sent) = same_bytes token sent
+
+-- the request is the bidder's own, on whatever route, also where it is refused behind its head
+abbrev pub is_own : Bidder → List ℕ → Bool
+is_own row text = has_token row.token (request_of text).token
+
+-- ---- what a bidder sees
+
+-- an own request, or an accepted closing
+pub data SeenText : Type 0 where
+  own : List ℕ → SeenText
+  accepted_close : RoundSheet → Slip → SeenText
+
+-- of what others do a bidder sees the accepted closings
+abbrev pub closings_of : List Seen → List SeenText
+closings_of [] = []
+closings_of (typed.own_put round bids ∷ rest) = closings_of rest
+closings_of (typed.accepted_close sheet slip ∷ rest) = accepted_close sheet slip ∷ closings_of rest
+
+-- what the bidder sees of one text, after the texts of the past
+abbrev pub seen_of_text : SetupFields → ℕ → List (List ℕ) → List ℕ → List SeenText
+seen_of_text setup bidder past text =
+    if is_own (bidder_at setup bidder) text then own text ∷ []
+    else closings_of (seen_of setup bidder (history setup (commands_of setup past)) (text_command setup text))
+
+-- what the bidder sees of all texts, the newest first
+abbrev pub text_view : SetupFields → ℕ → List (List ℕ) → List SeenText
+text_view setup bidder [] = []
+text_view setup bidder (text ∷ past) = seen_of_text setup bidder past text ++ text_view setup bidder past
+
+-- ---- what a bidder knows by it
+
+-- a sheet, where an own request puts one
+abbrev pub sheet_put : Ask → List Seen
+sheet_put (asked.put (Ok body)) = typed.own_put body.round body.bids ∷ []
+sheet_put _ = []
+
+-- the sheets and closings in a view of texts
+abbrev pub typed_view : List SeenText → List Seen
+typed_view [] = []
+typed_view (own text ∷ earlier) = sheet_put (request_of text).ask ++ typed_view earlier
+typed_view (accepted_close sheet slip ∷ earlier) = typed.accepted_close sheet slip ∷ typed_view earlier
+
+-- where the auction stands, what the bidder holds, its sheet in force, and of each closed round the sheet and its own slip
+pub record Known : Type 0 where
+  pub standing : Standing
+  pub holding : Holding
+  pub in_force : Option (List Bid)
+  pub rounds : ℕ → Option (RoundSheet × Slip)
+
+-- what a bidder knows by its view
+abbrev pub known_from : PublicSetup → Bidder → List Seen → Known
+known_from setup row view = record {
+  standing = seen_standing setup view;
+  holding = seen_holding setup row view;
+  in_force = seen_in_force setup row view;
+  rounds = λ n. seen_round n view;
+}
+
+-- ---- what a bidder is told
+
+-- the closed round that a segment of a path names
+abbrev pub known_round : Known → List ℕ → Option (RoundSheet × Slip)
+known_round known segment = option_and_then known.rounds (round_named segment)
+
+-- pages of everyone and its own, and the answers to its sheets; the operator's pages are not for it
+unfoldable pub bidder_outcome : PublicSetup → Bidder → Known → Ask → Outcome
+bidder_outcome setup row known (asked.turned_away why) = refused (alone why)
+bidder_outcome setup row known (asked.no_method page) = not_allowed page
+bidder_outcome setup row known asked.status = done (status_value setup known.standing.round known.standing.ended)
+bidder_outcome setup row known asked.products = done (products_value setup)
+bidder_outcome setup row known (asked.sheet segment) =
+    page_or_no_round (option_map (λ seen. sheet_value setup seen.0) (known_round known segment))
+bidder_outcome setup row known asked.account =
+    done (account_value setup.products row.name known.standing.round known.holding known.standing.ended)
+bidder_outcome setup row known asked.bids = done (bids_value known.standing.round known.in_force)
+bidder_outcome setup row known (asked.put (Err fault)) = refused (alone (body_code fault))
+bidder_outcome setup row known (asked.put (Ok body)) =
+    put_outcome body (put_fault setup known.standing known.holding body.round body.bids)
+bidder_outcome setup row known (asked.slip segment) =
+    page_or_no_round (option_map (λ seen. slip_value seen.1) (known_round known segment))
+bidder_outcome setup row known (asked.close body) = refused (alone code.Role)
+bidder_outcome setup row known asked.results = refused (alone code.Role)
+
+-- the reply to an own request
+abbrev pub answer : PublicSetup → Bidder → List SeenText → List ℕ → Answer
+answer setup row view text = answer_of (bidder_outcome setup row (known_from setup row (typed_view view)) (request_of text).ask)
