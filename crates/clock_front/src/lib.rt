@@ -1,5 +1,6 @@
 //! Requests as whole bytes: where one ends, what it asks for, and the bytes of its reply.
 //!
+//! [`Front::answer`] replies to one text and [`run`] to a list of them, as the auction stands after the texts before.
 //! [`frame`] says what a text of bytes is when it has come so far, and [`Progress`] is what is known of a text that comes
 //! in pieces. Both are functions of the text alone, so however a text comes, it is decided alike.
 #![tactic(auto)]
