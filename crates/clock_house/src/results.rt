@@ -15,7 +15,7 @@ ghost use Rattle.clock_house.specs.Laws.{eligibilities_of, grid_of};
 use crate::fault::CloseFault;
 use crate::house::{House, bidder_count};
 use crate::slip::{Slip, Slips};
-use clock_bids::{Bid, Changes, asked_demands, changes_of};
+use clock_bids::{Bid, Changes, asked_demands, bids_of, changes_of};
 use clock_device::NoMemory;
 use clock_order::{Ties, ordered};
 use clock_posting::{Posting, post, post_first};
@@ -138,10 +138,7 @@ impl<P: Processor> House<P> {
         requires { bidder < length self.now.setup.bidders }
         ensures { result.now ≡ rules.bids_at self.now.sheets bidder }
     {
-        match self.bids(bidder) {
-            Some(sheet) => sheet.bids(),
-            None => &[],
-        }
+        bids_of(self.bids(bidder))
     }
 
     /// How many bidders there are.
