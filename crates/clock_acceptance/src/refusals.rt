@@ -102,16 +102,19 @@ fn the_price_limit_comes_in_later_rounds_too(rt: HostRuntime) -> Result<(), Fail
 
 #[test]
 fn refused_closings_have_their_first_fault(rt: HostRuntime) -> Result<(), Fail> {
-    let unknown = [(0, 1, 5)];
-    let repeated = [(0, 0, 1), (0, 0, 2)];
     let steps = [
         Put(X, &[(0, 2, HIGHEST)]),
         Put(Y, &[(0, 1, HIGHEST)]),
-        RefusedClose(2, 0, &unknown, CloseFault::WrongRound(1)),
-        RefusedClose(1, 0, &unknown, CloseFault::Increment),
-        RefusedClose(1, 51, &unknown, CloseFault::Increment),
-        RefusedClose(1, 1, &unknown, CloseFault::Tie(TieFault::Range(0))),
-        RefusedClose(1, 1, &repeated, CloseFault::Tie(TieFault::Repeated(1))),
+        RefusedClose(2, 0, &[(0, 1, 5)], CloseFault::WrongRound(1)),
+        RefusedClose(1, 0, &[(0, 1, 5)], CloseFault::Increment),
+        RefusedClose(1, 51, &[(0, 1, 5)], CloseFault::Increment),
+        RefusedClose(1, 1, &[(0, 1, 5)], CloseFault::Tie(TieFault::Range(0))),
+        RefusedClose(
+            1,
+            1,
+            &[(0, 0, 1), (0, 0, 2)],
+            CloseFault::Tie(TieFault::Repeated(1)),
+        ),
         RefusedClose(1, 1, &[], CloseFault::PriceLimit(0)),
     ];
     play(&rt, rt.alloc(), HIGHEST_OPENING, &steps)

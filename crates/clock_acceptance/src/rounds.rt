@@ -25,18 +25,17 @@ const SECOND: u32 = 1;
 /// A sheet asks for more activity than it may.
 const OVER: PutFault = PutFault::Bid(BidFault::OverActivity);
 
-/// The first round of an auction of one product: X asks for 2 blocks and Y for 1 of a supply of 2.
-const FIRST_ROUND: [Step; 4] = [
-    Put(X, &[(0, 2, 100)]),
-    Put(Y, &[(0, 1, 100)]),
-    Close(10, &[]),
-    Lines(1, b"round 1\nA 100 100 100 3 110\n"),
-];
-
-/// A second round behind that first one. The auction ends with it.
+/// The second round of an auction of one product, after X asked for 2 blocks and Y for 1 of a supply
+/// of 2. The auction ends with it.
 fn second_round(rt: &impl Abort, alloc: Global, steps: &[Step]) -> Result<(), Fail> {
+    let first = [
+        Put(X, &[(0, 2, 100)]),
+        Put(Y, &[(0, 1, 100)]),
+        Close(10, &[]),
+        Lines(1, b"round 1\nA 100 100 100 3 110\n"),
+    ];
     let mut all = Vec::new(alloc);
-    all.extend_from_slice(FIRST_ROUND.as_slice())?;
+    all.extend_from_slice(&first)?;
     all.extend_from_slice(steps)?;
     all.push(Stands(2, true))?;
     play(rt, alloc, ONE_PRODUCT, all.as_slice())
