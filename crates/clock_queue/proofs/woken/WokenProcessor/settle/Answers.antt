@@ -1,12 +1,32 @@
 -- One more request is settled; at the end all are.
-use Rattle.std.proofs.Common.{List, sym, subst, ◌∙◌, arith}
+use Rattle.std.proofs.Common.{List, ap, sym, subst, ◌∙◌, arith}
 use Rattle.clock_bids.specs.declared.change.Change.{Change}
+use Rattle.clock_processor.specs.Board.{BoardFields}
 use Rattle.clock_processor.specs.Requests.{CanSettle}
 use Rattle.clock_processor.specs.Settlement.{IsSettlement, IsProperEnd}
 use Rattle.clock_queue.specs.Bound.{IsWithinTests}
 use Rattle.clock_queue.proofs.Steps.{reaches_from}
 use Rattle.clock_queue.proofs.Ended.{IsDone, is_settlement, is_proper, is_within}
 use Rattle.clock_queue.proofs.woken.WokenProcessor.settle.Goals as goal
+
+pub loop-place-init : goal.loop-place-init
+loop-place-init c = record {
+  queue = c.in_ok-queue.ensures.queue;
+  counts = c.in_ok-queue.ensures.counts;
+  none = c.in_ok-queue.ensures.none.0;
+  admitted = c.in_ok-queue.ensures.none.1;
+  products = ap (λ (board : BoardFields). board.products) c.in_ok-queue.ensures.board;
+  eligibilities = ap (λ (board : BoardFields). board.eligibilities) c.in_ok-queue.ensures.board;
+  reached = (
+    0,
+    λ k. record {
+      admitted = sym c.in_ok-queue.ensures.none.1 k;
+      left = sym c.in_ok-queue.ensures.left k;
+      grid = ap (λ (board : BoardFields). board.grid) (sym c.in_ok-queue.ensures.board) k;
+      applied = ap (λ (board : BoardFields). board.applied) (sym c.in_ok-queue.ensures.board) k;
+    },
+  );
+}
 
 pub loop-place-preserved : goal.loop-place-preserved
 loop-place-preserved c = record {
