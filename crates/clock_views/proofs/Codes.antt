@@ -1,5 +1,5 @@
 -- The page of a refusal in the pieces in which it is pushed.
-use Rattle.std.proofs.Common.{◌≡◌, ℕ, List, ◌++◌, [], ◌∷◌, Option, Some, None, append_assoc, codes, decimal, refl, ap, ◌∙◌}
+use Rattle.std.proofs.Common.{◌≡◌, ℕ, List, ◌++◌, Option, Some, None, append_assoc, codes, decimal, refl, ap, ◌∙◌}
 use Rattle.json.specs.Print.{escape}
 use Rattle.serde_json.specs.Written.{compact_text}
 use Rattle.serde_json.proofs.OnLiterals.{serde_json_on_literals}
@@ -63,7 +63,8 @@ in_pieces : (code : Code) (place round : Option ℕ)
     ≡ codes "{\"code\":\"" ++ (text_of code ++ (codes "\"" ++ behind code place round))
 in_pieces code place round =
     escaped code place round
-    ∙ ap (λ text. codes "{\"code\":\"" ++ text) (ap (λ text. (text ++ codes "\"") ++ behind code place round) (plain code) ∙ append_assoc (text_of code) _ _)
+    ∙ ap (λ text. codes "{\"code\":\"" ++ text) (ap (λ text. (text ++ codes "\"")
+    ++ behind code place round) (plain code) ∙ append_assoc (text_of code) _ _)
 
 pub refusal_in_pieces : (shown : Shown)
     → compact_text (refusal_value shown)

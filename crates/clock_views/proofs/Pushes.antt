@@ -1,7 +1,5 @@
 -- Pieces that are added one behind the other.
 use Rattle.std.proofs.Common.{◌≡◌, ℕ, List, ◌++◌, append_assoc, ap, sym, ◌∙◌}
-use Rattle.serde_json.specs.Data.{Data}
-use Rattle.serde_json.specs.Written.{compact_text}
 use Rattle.clock_views.specs.Values.{Adds}
 
 -- a piece, and what is added behind it

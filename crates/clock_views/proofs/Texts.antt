@@ -22,7 +22,8 @@ use Rattle.clock_views.specs.OperatorPages.{closed_value, closed_bytes, result_v
 
 pub status_in_pieces : (setup : PublicSetup) (round : ℕ) (ended : Bool)
     → compact_text (status_value setup round ended)
-    ≡ (codes "{\"ended\":" ++ true_or_false ended) ++ ((codes ",\"round\":" ++ decimal round) ++ ((codes ",\"version\":" ++ decimal setup.version) ++ codes "}"))
+    ≡ (codes "{\"ended\":" ++ true_or_false ended) ++ ((codes ",\"round\":" ++ decimal round)
+    ++ ((codes ",\"version\":" ++ decimal setup.version) ++ codes "}"))
 unfolding status_value serde_json_on_literals
 status_in_pieces setup round true = refl
 status_in_pieces setup round false = refl
@@ -100,7 +101,8 @@ line_in_pieces product line = refl
 
 sheet_with : (ended : Bool) (lines : Data) (round : ℕ)
     → compact_text (object_of (("ended", boolean ended) ∷ ("products", lines) ∷ ("round", whole round) ∷ []))
-    ≡ (codes "{\"ended\":" ++ true_or_false ended) ++ (codes ",\"products\":" ++ (compact_text lines ++ ((codes ",\"round\":" ++ decimal round) ++ codes "}")))
+    ≡ (codes "{\"ended\":" ++ true_or_false ended) ++ (codes ",\"products\":" ++ (compact_text lines
+    ++ ((codes ",\"round\":" ++ decimal round) ++ codes "}")))
 unfolding serde_json_on_literals
 sheet_with true lines round = refl
 sheet_with false lines round = refl
@@ -130,17 +132,20 @@ account_in_pieces products name round held false = refl
 
 pub bid_in_pieces : (bid : Bid)
     → compact_text (bid_value bid)
-    ≡ (codes "{\"price\":" ++ decimal bid.price) ++ ((codes ",\"product\":" ++ decimal bid.product) ++ ((codes ",\"quantity\":" ++ decimal bid.quantity) ++ codes "}"))
+    ≡ (codes "{\"price\":" ++ decimal bid.price) ++ ((codes ",\"product\":" ++ decimal bid.product)
+    ++ ((codes ",\"quantity\":" ++ decimal bid.quantity) ++ codes "}"))
 unfolding bid_value serde_json_on_literals
 bid_in_pieces bid = refl
 
 pub bids_in_pieces : (round : ℕ) (sheet : Option (List Bid))
-    → compact_text (bids_value round sheet) ≡ codes "{\"bids\":" ++ (compact_text (sheet_or_null sheet) ++ ((codes ",\"round\":" ++ decimal round) ++ codes "}"))
+    → compact_text (bids_value round sheet)
+    ≡ codes "{\"bids\":" ++ (compact_text (sheet_or_null sheet) ++ ((codes ",\"round\":" ++ decimal round) ++ codes "}"))
 unfolding bids_value serde_json_on_literals
 bids_in_pieces round sheet = refl
 
 pub accepted_in_pieces : (round count : ℕ)
-    → compact_text (accepted_value round count) ≡ (codes "{\"accepted\":true,\"bids\":" ++ decimal count) ++ ((codes ",\"round\":" ++ decimal round) ++ codes "}")
+    → compact_text (accepted_value round count)
+    ≡ (codes "{\"accepted\":true,\"bids\":" ++ decimal count) ++ ((codes ",\"round\":" ++ decimal round) ++ codes "}")
 unfolding accepted_value serde_json_on_literals
 accepted_in_pieces round count = refl
 
@@ -180,7 +185,8 @@ result_in_pieces name held = refl
 
 results_with : (bidders : Data) (ended : Bool) (round : ℕ)
     → compact_text (object_of (("bidders", bidders) ∷ ("ended", boolean ended) ∷ ("round", whole round) ∷ []))
-    ≡ codes "{\"bidders\":" ++ (compact_text bidders ++ ((codes ",\"ended\":" ++ true_or_false ended) ++ ((codes ",\"round\":" ++ decimal round) ++ codes "}")))
+    ≡ codes "{\"bidders\":" ++ (compact_text bidders ++ ((codes ",\"ended\":" ++ true_or_false ended)
+    ++ ((codes ",\"round\":" ++ decimal round) ++ codes "}")))
 unfolding serde_json_on_literals
 results_with bidders true round = refl
 results_with bidders false round = refl
@@ -191,4 +197,5 @@ pub results_in_pieces : (house : HouseFields)
     ++ (compact_text (list_of (result_in house) (range_with_len 0 (length house.setup.bidders)))
     ++ ((codes ",\"ended\":" ++ true_or_false (standing_in house).ended) ++ ((codes ",\"round\":" ++ decimal (standing_in house).round) ++ codes "}")))
 unfolding results_value
-results_in_pieces house = results_with (list_of (result_in house) (range_with_len 0 (length house.setup.bidders))) (standing_in house).ended (standing_in house).round
+results_in_pieces house =
+    results_with (list_of (result_in house) (range_with_len 0 (length house.setup.bidders))) (standing_in house).ended (standing_in house).round

@@ -1,7 +1,8 @@
 -- The pages of one bidder: functions of the products, which are public, and of what is its own.
 --     account_value products name round held ended      what the bidder holds before the current round
---     bids_value round bids      its sheet in force, or none
+--     bid_value bid, bids_value round sheet      its sheet in force, or none
 --     accepted_value round count      what answers a sheet that was accepted
+--     accepted_bytes round count      the same page, byte for byte
 --     slip_value slip      what a closed round has left it with
 use Rattle.std.specs.Prelude.{ℕ, List, [], ◌∷◌, ◌++◌, Bool, true, Option, Some, None, codes, decimal}
 use Rattle.serde_json.specs.Data.{Data, null, boolean, string}
@@ -12,7 +13,8 @@ use Rattle.clock_bids.specs.Holding.{Holding}
 use Rattle.clock_house.specs.declared.slip.Slip.{Slip}
 use Rattle.clock_views.specs.Values.{whole, list_of, object_of}
 
--- the activity, demands and eligibility that the bidder holds, whether the auction has ended, the bidder's name, and the current round
+-- the activity, demands and eligibility that the bidder holds, whether the auction has ended, the
+-- bidder's name, and the current round
 unfoldable pub account_value : List Product → List ℕ → ℕ → Holding → Bool → Data
 account_value products name round held ended = object_of (
     ("activity", whole (activity products held.demands)) ∷

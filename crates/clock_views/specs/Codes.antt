@@ -1,7 +1,8 @@
 -- The codes of replies (own), and the statuses of HTTP that they have.
 --     status_of code      the status
 --     text_of code      the code as pages show it
---     has_place code      a page with this code shows a place
+--     has_place code, has_round code      a page with this code shows a place, or the current round
+--     is_refusal code      the request was refused
 use Rattle.std.specs.Prelude.{ℕ, List, Bool, true, false, codes}
 use Rattle.clock_views.specs.declared.code.Code.{Code}
 use Rattle.clock_views.specs.declared.code.Code.TheVariants.{Done, BadHead, BadLength, CutShort, BadJson, Token, Role, NoPage, NoRound, Method, Ended, WrongRound, LongBody, Shape, TooMany, UnknownProduct, PriceRange, OverCap, PriceOrder, MixedDirection, KeepPrice, OverActivity, Increment, TieRange, TieRepeated, TooManyTies, PriceLimit, LongHead, Coding, Memory}

@@ -1,5 +1,7 @@
 -- The pages of the operator.
 --     closed_value round ended      what answers a closing that was accepted
+--     closed_bytes round ended      the same page, byte for byte
+--     result_in house bidder      what a bidder of a house holds
 --     results_value house      what each bidder holds now; of all pages it alone sees all bidders
 use Rattle.std.specs.Prelude.{ℕ, List, [], ◌∷◌, ◌++◌, Bool, length, codes, decimal}
 use Rattle.std.specs.List.{range_with_len}

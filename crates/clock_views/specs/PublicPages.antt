@@ -1,8 +1,10 @@
 -- The pages that everyone may see. They are functions of what is public alone.
 --     status_value setup round ended      where the auction stands
 --     status_bytes setup round ended      the same page, byte for byte
---     products_value setup      what is auctioned
---     sheet_value setup sheet      what a closed round has posted
+--     from_version_2 version n      a number that set-up documents have from version 2 on
+--     product_value version product, products_value setup      what is auctioned
+--     limit_text limit      how the products page begins where there is a limit
+--     line_value product line, sheet_value setup sheet      what a closed round has posted
 use Rattle.std.specs.Prelude.{ℕ, List, [], ◌∷◌, ◌++◌, Bool, nat_le, Option, Some, None, if◌then◌else◌, codes, decimal, zip}
 use Rattle.serde_json.specs.Data.{Data, boolean, string}
 use Rattle.clock_setup.specs.declared.setup.Product.{Product}
@@ -29,7 +31,8 @@ status_bytes setup round ended =
 abbrev pub from_version_2 : ℕ → ℕ → Option ℕ
 from_version_2 version n = if nat_le 2 version then Some n else None
 
--- the most blocks that one bidder may demand, from version 2 on the granule, the name, the opening price, how many blocks there are, and the bidding units of one
+-- the most blocks that one bidder may demand, from version 2 on the granule, the name, the opening
+-- price, how many blocks there are, and the bidding units of one
 unfoldable pub product_value : ℕ → Product → Data
 product_value version product = object_of (
     ("cap", whole product.cap) ∷
@@ -52,7 +55,8 @@ abbrev pub limit_text : Option ℕ → List ℕ
 limit_text None = []
 limit_text (Some limit) = codes "\"limit\":" ++ (decimal limit ++ codes ",")
 
--- the clock price, the demand where it is told, the product's name, the next clock price where there is one, the posted price, and the start price
+-- the clock price, the demand where it is told, the product's name, the next clock price where there
+-- is one, the posted price, and the start price
 unfoldable pub line_value : Product → Line → Data
 line_value product line = object_of (
     ("clock", whole line.clock) ∷

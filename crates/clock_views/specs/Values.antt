@@ -1,7 +1,7 @@
 -- The words in which pages are written: a page is a value of JSON (RFC 8259), and its text is the
 -- value's compact text, with no space.
 --     whole n, whole_or_null n      a number
---     list_of value items      an array
+--     items_of value items, list_of value items      the items of an array, and the array
 --     object_of members      an object
 --     member_if key number      a member only where there is a number
 --     true_or_false b      the word that a truth value is written as

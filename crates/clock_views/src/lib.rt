@@ -1,4 +1,16 @@
-//! The pages of an auction and the codes of its replies.
+//! The pages of an auction, as compact JSON, and the codes of its replies.
+//!
+//! Everyone may see [`status_page`], [`products_page`] and [`sheet_page`], which are functions of
+//! what is public of a set-up. A bidder sees its own [`account_page`], [`bids_page`],
+//! [`accepted_page`] and [`slip_page`], and the operator [`closed_page`] and [`results_page`]. A
+//! refused request is answered by a [`refusal_page`], of which a [`Refusal`] says what it shows: a
+//! [`Code`], and for some codes a place or a round.
+//!
+//! Contracts say of each page which value of JSON it is (specs/), and that its text is that value's
+//! compact text; of a flat page also its very bytes. Each page is written by pushes onto one text, in
+//! a time linear in that text, and no tree of values is built. The calls named `push_..` add the
+//! page to a text that already holds something, as the head of a reply; where there is no memory,
+//! that text may be left with a part of the page.
 #![tactic(auto)]
 
 mod bidder;
