@@ -1,5 +1,7 @@
 mod answers;
 mod bodies;
 mod framing;
+mod isolation;
 mod replies;
+mod requests;
 mod routes;

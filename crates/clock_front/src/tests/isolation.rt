@@ -1,0 +1,237 @@
+//! One bidder's replies in two runs in which it sees the same.
+use super::requests::{opened, reply_of, text_of};
+use crate::Front;
+use clock_processor::Plain;
+use std::alloc::Global;
+use std::test::Fail;
+
+/// What is public in the first version, and in the second.
+const PUBLIC: &str =
+    r#""version":1,"requirement":95,"operator":"OPERATOROPERATOR","products":[{"name":"A","units":1,"supply":2,"cap":2,"opening":100}]"#;
+
+const PUBLIC_2: &str =
+    r#""version":2,"limit":125,"requirement":95,"operator":"OPERATOROPERATOR","products":[{"name":"A","units":1,"supply":2,"cap":2,"opening":100,"granule":1}]"#;
+
+/// The bidders of a run. X has the same row in all.
+const X_AND_Y: &str =
+    r#"{"name":"X","token":"XXXXXXXXXXXXXXXX","eligibility":10},{"name":"Y","token":"YYYYYYYYYYYYYYYY","eligibility":10}"#;
+
+const Y_AND_X: &str =
+    r#"{"name":"Y","token":"YYYYYYYYYYYYYYYY","eligibility":10},{"name":"X","token":"XXXXXXXXXXXXXXXX","eligibility":10}"#;
+
+const V_X_AND_W: &str =
+    r#"{"name":"V","token":"VVVVVVVVVVVVVVVV","eligibility":3},{"name":"X","token":"XXXXXXXXXXXXXXXX","eligibility":10},{"name":"W","token":"WWWWWWWWWWWWWWWW","eligibility":5}"#;
+
+/// X's own requests, a line each: the request line, whose token it has, and its body. At each line of `~` the others send
+/// theirs.
+const OWN: &str = r#"GET /v1/me/bids|X|
+PUT /v1/me/bids|X|{"bids":[{"price":100,"product":0,"quantity":3}],"round":1}
+PUT /v1/me/bids|X|{"bids":[{"price":100,"product":0,"quantity":2}],"round":1}
+~
+GET /v1/me/bids|X|
+GET /v1/rounds/1|X|
+~
+PUT /v1/me/bids|X|{"bids":[{"price":110,"product":0,"quantity":2}],"round":1}
+GET /v1/rounds/1|X|
+GET /v1/me/rounds/1|X|
+PUT /v1/me/bids|X|{"bids":[{"price":103,"product":0,"quantity":0}],"round":2}
+GET /v1/me|X|
+~
+GET /v1/me/bids|X|
+GET /v1/status|X|
+~
+GET /v1/me|X|
+GET /v1/me/rounds/2|X|
+GET /v1/rounds/2|X|
+GET /v1/products|X|
+GET /v1/none|X|
+DELETE /v1/me/bids|X|
+GET /v1/results|X|
+POST /v1/close|X|{"increment":10,"round":2,"ties":[]}
+PUT /v1/me/bids|X|{"bids":[],"round":2}"#;
+
+/// The pages that X is shown of itself in round 2, and of round 2's results.
+const PAGES: &str =
+    r#"{"activity":2,"demands":[2],"eligibility":3,"ended":false,"name":"X","round":2}
+{"activity":1,"demands":[1],"eligibility":2,"round":2}
+{"ended":true,"products":[{"clock":110,"demand":null,"name":"A","next":null,"posted":103,"start":100}],"round":2}"#;
+
+/// Y wants one block in both rounds.
+const BY_Y: &str = r#"PUT /v1/me/bids|Y|{"bids":[{"price":100,"product":0,"quantity":1}],"round":1}
+~
+POST /v1/close|O|{"increment":10,"round":1,"ties":[]}
+~
+PUT /v1/me/bids|Y|{"bids":[{"price":110,"product":0,"quantity":1}],"round":2}
+~
+POST /v1/close|O|{"increment":10,"round":2,"ties":[]}"#;
+
+/// W in its place, after a sheet of two blocks, and before one that is over the cap.
+const BY_W: &str = r#"PUT /v1/me/bids|W|{"bids":[{"price":100,"product":0,"quantity":2}],"round":1}
+PUT /v1/me/bids|W|{"bids":[{"price":100,"product":0,"quantity":1}],"round":1}
+PUT /v1/me/bids|W|{"bids":[{"price":100,"product":0,"quantity":3}],"round":1}
+~
+POST /v1/close|O|{"increment":10,"round":1,"ties":[]}
+~
+PUT /v1/me/bids|W|{"bids":[{"price":110,"product":0,"quantity":1}],"round":2}
+~
+POST /v1/close|O|{"increment":10,"round":2,"ties":[]}"#;
+
+/// Three further requests, each of them refused: a closing, a sheet of nobody's, and what is no head.
+const BY_Y_AND_STRANGERS: &str =
+    r#"PUT /v1/me/bids|Y|{"bids":[{"price":100,"product":0,"quantity":1}],"round":1}
+POST /v1/close|O|{"increment":0,"round":1,"ties":[]}
+~
+PUT /v1/me/bids|N|{"bids":[{"price":100,"product":0,"quantity":1}],"round":1}
+POST /v1/close|O|{"increment":10,"round":1,"ties":[]}
+~
+GET  /v1/status|N|
+PUT /v1/me/bids|Y|{"bids":[{"price":110,"product":0,"quantity":1}],"round":2}
+~
+POST /v1/close|O|{"increment":10,"round":2,"ties":[]}"#;
+
+/// The sheets of Y and of W in the second version.
+const BY_Y_2: &str =
+    r#"PUT /v1/me/bids|Y|{"bids":[{"price":100,"product":0,"quantity":1}],"round":1}
+~
+POST /v1/close|O|{"increments":[10],"round":1,"ties":[]}
+~
+PUT /v1/me/bids|Y|{"bids":[{"price":110,"product":0,"quantity":1}],"round":2}
+~
+POST /v1/close|O|{"increments":[10],"round":2,"ties":[]}"#;
+
+const BY_W_2: &str =
+    r#"PUT /v1/me/bids|W|{"bids":[{"price":100,"product":0,"quantity":2}],"round":1}
+PUT /v1/me/bids|W|{"bids":[{"price":100,"product":0,"quantity":1}],"round":1}
+PUT /v1/me/bids|W|{"bids":[{"price":100,"product":0,"quantity":3}],"round":1}
+~
+POST /v1/close|O|{"increments":[10],"round":1,"ties":[]}
+~
+PUT /v1/me/bids|W|{"bids":[{"price":110,"product":0,"quantity":1}],"round":2}
+~
+POST /v1/close|O|{"increments":[10],"round":2,"ties":[]}"#;
+
+/// Y's wrong sheets and the operator's refused closings, in another order at each place, and ties by other numbers.
+const BY_Y_WITH_FAULTS: &str = r#"POST /v1/close|O|{"increment":51,"round":1,"ties":[]}
+PUT /v1/me/bids|Y|{"bids":[{"price":101,"product":0,"quantity":1}],"round":1}
+PUT /v1/me/bids|Y|{"bids":[{"price":100,"product":0,"quantity":1}],"round":1}
+~
+PUT /v1/me/bids|Y|{"bids":[],"round":2}
+POST /v1/close|O|{"increment":10,"round":2,"ties":[]}
+POST /v1/close|O|{"increment":10,"round":1,"ties":[[0,0,7],[1,0,3]]}
+~
+PUT /v1/me/bids|Y|{"bids":[{"price":110,"product":0,"quantity":1}],"round":2}
+POST /v1/close|O|{"increments":[10],"round":2,"ties":[]}
+PUT /v1/me/bids|Y|{"bids":[{"price":110,"product":0,"quantity":1}]}
+~
+POST /v1/close|O|{"increment":10,"round":2,"ties":[[1,0,1],[1,0,1]]}
+POST /v1/close|O|{"increment":10,"round":2,"ties":[[1,0,2]]}"#;
+
+const BY_Y_WITH_OTHER_FAULTS: &str =
+    r#"PUT /v1/me/bids|Y|{"bids":[{"price":100,"product":0,"quantity":1}],"round":1}
+PUT /v1/me/bids|Y|{"bids":[{"price":100,"product":1,"quantity":1}],"round":1}
+POST /v1/close|O|{"increment":10,"round":1,"ties":[[2,0,1]]}
+~
+POST /v1/close|Y|{"increment":10,"round":1,"ties":[]}
+POST /v1/close|O|{"increment":10,"round":1,"ties":[]}
+PUT /v1/me/bids|Y|{"bids":[],"round":1}
+~
+POST /v1/close|O|{"increment":10,"round":1,"ties":[]}
+PUT /v1/me/bids|Y|{"bids":[{"price":105,"product":0,"quantity":2}],"round":2}
+PUT /v1/me/bids|Y|{"bids":[{"price":110,"product":0,"quantity":1}],"round":2}
+~
+PUT /v1/me/bids|Y|{"bids":[{"price":111,"product":0,"quantity":1}],"round":2}
+POST /v1/close|O|{"increment":10,"round":2,"ties":[[0,0,8]]}"#;
+
+/// A front of what is public and of bidders.
+fn opened_for(alloc: Global, public: &str, bidders: &str) -> Result<Front<Plain>, Fail> {
+    let document = format!(in alloc; "{{{public},\"bidders\":[{bidders}]}}")?;
+    opened(alloc, document.as_str())
+}
+
+/// The reply to the request of a row.
+fn reply_to(alloc: Global, front: &mut Front<Plain>, row: &str) -> Result<String, Fail> {
+    let mut fields = row.split('|');
+    let line = fields.next().unwrap_or("");
+    let who = fields.next().unwrap_or("");
+    let body = fields.next().unwrap_or("");
+    let text = text_of(alloc, line, who, body)?;
+    reply_of(alloc, front, text.as_str())
+}
+
+/// The replies to the requests of all rows.
+fn replies_to(alloc: Global, front: &mut Front<Plain>, rows: &str) -> Result<String, Fail> {
+    let mut replies = String::new(alloc);
+    for row in rows.split('\n') {
+        if !row.is_empty() {
+            let reply = reply_to(alloc, front, row)?;
+            replies.push_str(reply.as_str())?;
+        }
+    }
+    Ok(replies)
+}
+
+/// All replies to X's own requests, between which the others send theirs.
+fn told_x(alloc: Global, public: &str, bidders: &str, others: &str) -> Result<String, Fail> {
+    let mut front = opened_for(alloc, public, bidders)?;
+    let mut others = others.split('~');
+    let mut told = String::new(alloc);
+    for own in OWN.split('~') {
+        let replies = replies_to(alloc, &mut front, own)?;
+        told.push_str(replies.as_str())?;
+        replies_to(alloc, &mut front, others.next().unwrap_or(""))?;
+    }
+    Ok(told)
+}
+
+/// Whether each of X's pages stands among its replies.
+fn has_pages(told: &str) -> bool {
+    PAGES.split('\n').all(|page| told.contains(page))
+}
+
+#[test]
+fn rivals_show_in_no_reply(rt: HostRuntime) -> Result<(), Fail> {
+    let alloc = rt.alloc();
+    let one = told_x(alloc, PUBLIC, X_AND_Y, BY_Y)?;
+    assert!(rt; has_pages(one.as_str()), "{}", one.as_str());
+    let two = told_x(alloc, PUBLIC, V_X_AND_W, BY_W)?;
+    assert_eq!(rt; one.as_str(), two.as_str());
+    Ok(())
+}
+
+#[test]
+fn refused_requests_show_in_no_reply(rt: HostRuntime) -> Result<(), Fail> {
+    let alloc = rt.alloc();
+    let one = told_x(alloc, PUBLIC, X_AND_Y, BY_Y_AND_STRANGERS)?;
+    let two = told_x(alloc, PUBLIC, V_X_AND_W, BY_W)?;
+    assert_eq!(rt; one.as_str(), two.as_str());
+    Ok(())
+}
+
+#[test]
+fn rivals_show_in_no_reply_of_version_2(rt: HostRuntime) -> Result<(), Fail> {
+    let alloc = rt.alloc();
+    let one = told_x(alloc, PUBLIC_2, X_AND_Y, BY_Y_2)?;
+    assert!(rt; has_pages(one.as_str()), "{}", one.as_str());
+    let two = told_x(alloc, PUBLIC_2, V_X_AND_W, BY_W_2)?;
+    assert_eq!(rt; one.as_str(), two.as_str());
+    Ok(())
+}
+
+#[test]
+fn its_number_shows_in_no_reply(rt: HostRuntime) -> Result<(), Fail> {
+    let alloc = rt.alloc();
+    let one = told_x(alloc, PUBLIC, X_AND_Y, BY_Y)?;
+    let two = told_x(alloc, PUBLIC, Y_AND_X, BY_Y)?;
+    assert_eq!(rt; one.as_str(), two.as_str());
+    Ok(())
+}
+
+#[test]
+fn faults_and_ties_of_others_show_in_no_reply(rt: HostRuntime) -> Result<(), Fail> {
+    let alloc = rt.alloc();
+    let one = told_x(alloc, PUBLIC, X_AND_Y, BY_Y_WITH_FAULTS)?;
+    assert!(rt; has_pages(one.as_str()), "{}", one.as_str());
+    let two = told_x(alloc, PUBLIC, X_AND_Y, BY_Y_WITH_OTHER_FAULTS)?;
+    assert_eq!(rt; one.as_str(), two.as_str());
+    Ok(())
+}

@@ -1,0 +1,44 @@
+//! Requests as rows of text, and the fronts that they are sent to.
+use crate::Front;
+use clock_processor::Plain;
+use clock_setup::read_setup;
+use std::alloc::Global;
+use std::test::Fail;
+
+/// A front of a set-up.
+pub(super) fn opened(alloc: Global, document: &str) -> Result<Front<Plain>, Fail> {
+    let setup = read_setup(alloc, document.as_bytes())?;
+    Ok(Front::new(alloc, setup, Plain)?)
+}
+
+/// The header line of a token, by whose it is: a bidder's letter, the operator's, or `N` for nobody's.
+fn token_line(who: &str) -> &'static str {
+    match who {
+        "V" => "authorization: Bearer VVVVVVVVVVVVVVVV\r\n",
+        "W" => "authorization: Bearer WWWWWWWWWWWWWWWW\r\n",
+        "X" => "authorization: Bearer XXXXXXXXXXXXXXXX\r\n",
+        "Y" => "authorization: Bearer YYYYYYYYYYYYYYYY\r\n",
+        "O" => "authorization: Bearer OPERATOROPERATOR\r\n",
+        "N" => "authorization: Bearer NNNNNNNNNNNNNNNN\r\n",
+        _ => "",
+    }
+}
+
+/// The text of a request.
+pub(super) fn text_of(alloc: Global, line: &str, who: &str, body: &str) -> Result<String, Fail> {
+    let token = token_line(who);
+    Ok(format!(in alloc;
+        "{line} HTTP/1.1\r\n{token}content-length: {}\r\n\r\n{body}",
+        body.len()
+    )?)
+}
+
+/// The bytes of the reply to a text.
+pub(super) fn reply_of(
+    alloc: Global,
+    front: &mut Front<Plain>,
+    text: &str,
+) -> Result<String, Fail> {
+    let reply = front.answer(text.as_bytes());
+    Ok(String::from_utf8_lossy(alloc, reply.bytes())?)
+}
