@@ -1,5 +1,5 @@
 //! What requests are answered with, one after the other.
-use super::requests::{opened, reply_of, text_of};
+use super::requests::{compare, opened, reply_of, text_of};
 use crate::{Front, run};
 use clock_device::{Items, Text};
 use clock_processor::Plain;
@@ -47,29 +47,36 @@ POST /v1/close|O|{"increment":10,"round":1,"ties":[[0,0,1],[0,0,2]]}|422 Unproce
 GET /v1/rounds/01|||404 Not Found|{"code":"no_round","status":404}
 GET /v1/products|||200 OK|{"products":[{"cap":2,"name":"A","opening":100,"supply":2,"units":1}],"requirement":95,"version":1}"#;
 
+/// Each request has one fault.
+const FAULTS: &str = r#"GET /v1/me|||401 Unauthorized|{"code":"token","status":401}
+GET /v1/me|O||403 Forbidden|{"code":"role","status":403}
+GET /v1/rounds/1|||404 Not Found|{"code":"no_round","status":404}
+POST /v1/close|O|{"increment":0,"round":1,"ties":[]}|422 Unprocessable Entity|{"code":"increment","status":422}
+POST /v1/close|O|{"increment":51,"round":1,"ties":[]}|422 Unprocessable Entity|{"code":"increment","status":422}
+POST /v1/close|O|{"increment":10,"round":1,"ties":[[0,1,5]]}|422 Unprocessable Entity|{"code":"tie_range","place":0,"status":422}"#;
+
+/// One product that opens at the highest price.
+const HIGHEST_PRICE: &str =
+    r#"{"version":1,"requirement":95,"operator":"OPERATOROPERATOR","products":[{"name":"A","units":1,"supply":2,"cap":2,"opening":1000000000000}],"bidders":[{"name":"X","token":"XXXXXXXXXXXXXXXX","eligibility":10},{"name":"Y","token":"YYYYYYYYYYYYYYYY","eligibility":10}]}"#;
+
+/// A round that cannot be closed at its demand keeps its sheets, and can be closed once it has less.
+const PRICE_LIMIT: &str =
+    r#"PUT /v1/me/bids|X|{"bids":[{"price":1000000000000,"product":0,"quantity":2}],"round":1}|200 OK|{"accepted":true,"bids":1,"round":1}
+PUT /v1/me/bids|Y|{"bids":[{"price":1000000000000,"product":0,"quantity":1}],"round":1}|200 OK|{"accepted":true,"bids":1,"round":1}
+POST /v1/close|O|{"increment":1,"round":1,"ties":[]}|422 Unprocessable Entity|{"code":"price_limit","place":0,"status":422}
+GET /v1/status|||200 OK|{"ended":false,"round":1,"version":1}
+GET /v1/me/bids|X||200 OK|{"bids":[{"price":1000000000000,"product":0,"quantity":2}],"round":1}
+GET /v1/me/bids|Y||200 OK|{"bids":[{"price":1000000000000,"product":0,"quantity":1}],"round":1}
+PUT /v1/me/bids|X|{"bids":[{"price":1000000000000,"product":0,"quantity":1}],"round":1}|200 OK|{"accepted":true,"bids":1,"round":1}
+POST /v1/close|O|{"increment":1,"round":1,"ties":[]}|200 OK|{"closed":1,"ended":true}"#;
+
 const VERSION_2: &str =
     r#"POST /v1/close|O|{"increment":10,"round":1,"ties":[]}|422 Unprocessable Entity|{"code":"shape","status":422}
 POST /v1/close|O|{"increments":[10],"round":1,"ties":[]}|422 Unprocessable Entity|{"code":"increment","status":422}
+POST /v1/close|O|{"increments":[10,20,30],"round":1,"ties":[]}|422 Unprocessable Entity|{"code":"increment","status":422}
+POST /v1/close|O|{"increments":[10,51],"round":1,"ties":[]}|422 Unprocessable Entity|{"code":"increment","status":422}
 POST /v1/close|O|{"increments":[10,20],"round":1,"ties":[]}|200 OK|{"closed":1,"ended":true}
 GET /v1/status|||200 OK|{"ended":true,"round":1,"version":2}"#;
-
-/// The header lines that only some statuses have, before all others and after them.
-fn lines_of(status: &str) -> (&'static str, &'static str) {
-    match status {
-        "405 Method Not Allowed" => ("allow: GET, PUT\r\n", ""),
-        "401 Unauthorized" => ("", "www-authenticate: Bearer\r\n"),
-        _ => ("", ""),
-    }
-}
-
-/// The bytes of a reply with a status and a page.
-fn reply_with(alloc: Global, status: &str, page: &str) -> Result<String, Fail> {
-    let (first, last) = lines_of(status);
-    Ok(format!(in alloc;
-        "HTTP/1.1 {status}\r\n{first}connection: close\r\ncontent-length: {}\r\ncontent-type: application/json\r\n{last}\r\n{page}",
-        page.len()
-    )?)
-}
 
 /// Sends the request of a line, and compares its reply.
 fn send(rt: &impl Abort, alloc: Global, front: &mut Front<Plain>, row: &str) -> Result<(), Fail> {
@@ -80,10 +87,7 @@ fn send(rt: &impl Abort, alloc: Global, front: &mut Front<Plain>, row: &str) -> 
     let status = fields.next().unwrap_or("");
     let page = fields.next().unwrap_or("");
     let text = text_of(alloc, line, who, body)?;
-    let reply = reply_of(alloc, front, text.as_str())?;
-    let expected = reply_with(alloc, status, page)?;
-    assert_eq!(rt; reply.as_str(), expected.as_str(), "{row}");
-    Ok(())
+    compare(rt, alloc, front, text.as_str(), status, page)
 }
 
 /// Sends the requests of all lines in turn.
@@ -122,6 +126,44 @@ fn a_drop_is_applied_in_part(rt: HostRuntime) -> Result<(), Fail> {
 #[test]
 fn an_earlier_line_refuses_first(rt: HostRuntime) -> Result<(), Fail> {
     send_all(&rt, rt.alloc(), ONE_PRODUCT, REFUSALS)
+}
+
+#[test]
+fn a_fault_is_told_by_its_page(rt: HostRuntime) -> Result<(), Fail> {
+    send_all(&rt, rt.alloc(), ONE_PRODUCT, FAULTS)
+}
+
+#[test]
+fn a_refused_closing_keeps_the_sheets(rt: HostRuntime) -> Result<(), Fail> {
+    send_all(&rt, rt.alloc(), HIGHEST_PRICE, PRICE_LIMIT)
+}
+
+/// The body of a sheet that has one bid more than a sheet may have.
+fn sheet_of_too_many(alloc: Global) -> Result<String, Fail> {
+    let bid = r#"{"price":100,"product":0,"quantity":1}"#;
+    let mut body = format!(in alloc; "{{\"bids\":[{bid}")?;
+    for _ in 0..8192 {
+        body.push_str(",")?;
+        body.push_str(bid)?;
+    }
+    body.push_str("],\"round\":1}")?;
+    Ok(body)
+}
+
+#[test]
+fn a_sheet_has_at_most_8192_bids(rt: HostRuntime) -> Result<(), Fail> {
+    let alloc = rt.alloc();
+    let mut front = opened(alloc, ONE_PRODUCT)?;
+    let body = sheet_of_too_many(alloc)?;
+    let text = text_of(alloc, "PUT /v1/me/bids", "X", body.as_str())?;
+    compare(
+        &rt,
+        alloc,
+        &mut front,
+        text.as_str(),
+        "422 Unprocessable Entity",
+        r#"{"code":"too_many","status":422}"#,
+    )
 }
 
 #[test]

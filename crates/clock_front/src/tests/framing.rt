@@ -65,26 +65,6 @@ fn head_with(alloc: Global, lines: &str) -> Result<String, Fail> {
     Ok(format!(in alloc; "GET / HTTP/1.1\r\n{lines}\r\n")?)
 }
 
-/// A head of so many header lines.
-fn head_of_lines(alloc: Global, count: usize) -> Result<String, Fail> {
-    let mut text = String::from_str(alloc, "GET / HTTP/1.1\r\n")?;
-    for _ in 0..count {
-        text.push_str("a: b\r\n")?;
-    }
-    text.push_str("\r\n")?;
-    Ok(text)
-}
-
-/// A head of 23 bytes and the filling of its one line's value.
-fn head_filled(alloc: Global, filling: usize) -> Result<String, Fail> {
-    let mut text = String::from_str(alloc, "GET / HTTP/1.1\r\na: ")?;
-    for _ in 0..filling {
-        text.push_str("x")?;
-    }
-    text.push_str("\r\n\r\n")?;
-    Ok(text)
-}
-
 #[test]
 fn a_request_is_its_head_and_body(rt: HostRuntime) {
     assert_eq!(rt;
@@ -179,21 +159,6 @@ fn a_token_stands_in_one_line(rt: HostRuntime) -> Result<(), Fail> {
         let found = token_of(alloc, lines)?;
         assert_eq!(rt; found.as_ref().map(|text| text.as_str()), token, "{lines}");
     }
-    Ok(())
-}
-
-#[test]
-fn a_head_has_limits(rt: HostRuntime) -> Result<(), Fail> {
-    let alloc = rt.alloc();
-    let lines = head_of_lines(alloc, 64)?;
-    assert!(rt; body_of(lines.as_str()).is_some());
-    let more_lines = head_of_lines(alloc, 65)?;
-    assert!(rt; is_refused(more_lines.as_str(), Code::LongHead));
-    let long = head_filled(alloc, 16_361)?;
-    assert_eq!(rt; long.len(), 16_384);
-    assert!(rt; body_of(long.as_str()).is_some());
-    let longer = head_filled(alloc, 16_362)?;
-    assert!(rt; is_refused(longer.as_str(), Code::LongHead));
     Ok(())
 }
 

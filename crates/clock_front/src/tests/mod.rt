@@ -1,6 +1,7 @@
 mod answers;
 mod bodies;
 mod framing;
+mod heads;
 mod isolation;
 mod replies;
 mod requests;

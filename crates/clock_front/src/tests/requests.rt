@@ -3,6 +3,7 @@ use crate::Front;
 use clock_processor::Plain;
 use clock_setup::read_setup;
 use std::alloc::Global;
+use std::process::Abort;
 use std::test::Fail;
 
 /// A front of a set-up.
@@ -41,4 +42,37 @@ pub(super) fn reply_of(
 ) -> Result<String, Fail> {
     let reply = front.answer(text.as_bytes());
     Ok(String::from_utf8_lossy(alloc, reply.bytes())?)
+}
+
+/// The header lines that only some statuses have, before all others and after them.
+fn lines_of(status: &str) -> (&'static str, &'static str) {
+    match status {
+        "405 Method Not Allowed" => ("allow: GET, PUT\r\n", ""),
+        "401 Unauthorized" => ("", "www-authenticate: Bearer\r\n"),
+        _ => ("", ""),
+    }
+}
+
+/// The bytes of a reply with a status and a page.
+fn reply_with(alloc: Global, status: &str, page: &str) -> Result<String, Fail> {
+    let (first, last) = lines_of(status);
+    Ok(format!(in alloc;
+        "HTTP/1.1 {status}\r\n{first}connection: close\r\ncontent-length: {}\r\ncontent-type: application/json\r\n{last}\r\n{page}",
+        page.len()
+    )?)
+}
+
+/// Compares the reply to a text with a status and a page.
+pub(super) fn compare(
+    rt: &impl Abort,
+    alloc: Global,
+    front: &mut Front<Plain>,
+    text: &str,
+    status: &str,
+    page: &str,
+) -> Result<(), Fail> {
+    let reply = reply_of(alloc, front, text)?;
+    let expected = reply_with(alloc, status, page)?;
+    assert_eq!(rt; reply.as_str(), expected.as_str());
+    Ok(())
 }

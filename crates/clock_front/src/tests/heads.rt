@@ -1,0 +1,113 @@
+//! What is answered where a head is at a limit or past it, or is none.
+use super::requests::{compare, opened};
+use clock_setup::fixtures::ONE_PRODUCT;
+use std::alloc::Global;
+use std::process::Abort;
+use std::test::Fail;
+
+/// Header lines of a request, and the status and page of its reply.
+const HEADER_LINES: &str = r#"content-length: +5|400 Bad Request|{"code":"bad_length","status":400}
+content-length: 1048577|413 Payload Too Large|{"code":"long_body","status":413}
+content-length: 1048576|400 Bad Request|{"code":"cut_short","status":400}
+transfer-encoding: chunked|501 Not Implemented|{"code":"coding","status":501}
+a : b|400 Bad Request|{"code":"bad_head","status":400}
+a: b|200 OK|{"ended":false,"round":1,"version":1}"#;
+
+/// A head of so many header lines.
+fn head_of_lines(alloc: Global, count: usize) -> Result<String, Fail> {
+    let mut text = String::from_str(alloc, "GET / HTTP/1.1\r\n")?;
+    for _ in 0..count {
+        text.push_str("a: b\r\n")?;
+    }
+    text.push_str("\r\n")?;
+    Ok(text)
+}
+
+/// A head of 19 bytes, the filling of its one line's value, and its end.
+fn head_filled(alloc: Global, filling: usize, end: &str) -> Result<String, Fail> {
+    let mut text = String::from_str(alloc, "GET / HTTP/1.1\r\na: ")?;
+    for _ in 0..filling {
+        text.push_str("x")?;
+    }
+    text.push_str(end)?;
+    Ok(text)
+}
+
+/// A text by itself is answered with a status and a page.
+fn answers(
+    rt: &impl Abort,
+    alloc: Global,
+    text: &str,
+    status: &str,
+    page: &str,
+) -> Result<(), Fail> {
+    let mut front = opened(alloc, ONE_PRODUCT)?;
+    compare(rt, alloc, &mut front, text, status, page)
+}
+
+/// The head of a text is read, and its path has no page.
+fn is_read(rt: &impl Abort, alloc: Global, text: &str) -> Result<(), Fail> {
+    answers(
+        rt,
+        alloc,
+        text,
+        "404 Not Found",
+        r#"{"code":"no_page","status":404}"#,
+    )
+}
+
+fn is_too_long(rt: &impl Abort, alloc: Global, text: &str) -> Result<(), Fail> {
+    answers(
+        rt,
+        alloc,
+        text,
+        "431 Request Header Fields Too Large",
+        r#"{"code":"long_head","status":431}"#,
+    )
+}
+
+/// A request with the header line of a row is answered as the row says.
+fn answers_row(rt: &impl Abort, alloc: Global, row: &str) -> Result<(), Fail> {
+    let mut fields = row.split('|');
+    let line = fields.next().unwrap_or("");
+    let status = fields.next().unwrap_or("");
+    let page = fields.next().unwrap_or("");
+    let text = format!(in alloc; "GET /v1/status HTTP/1.1\r\n{line}\r\n\r\n")?;
+    answers(rt, alloc, text.as_str(), status, page)
+}
+
+#[test]
+fn a_head_has_at_most_64_lines(rt: HostRuntime) -> Result<(), Fail> {
+    let alloc = rt.alloc();
+    let most = head_of_lines(alloc, 64)?;
+    is_read(&rt, alloc, most.as_str())?;
+    let more = head_of_lines(alloc, 65)?;
+    is_too_long(&rt, alloc, more.as_str())
+}
+
+#[test]
+fn a_head_has_at_most_16384_bytes(rt: HostRuntime) -> Result<(), Fail> {
+    let alloc = rt.alloc();
+    let longest = head_filled(alloc, 16_361, "\r\n\r\n")?;
+    assert_eq!(rt; longest.len(), 16_384);
+    is_read(&rt, alloc, longest.as_str())?;
+    let longer = head_filled(alloc, 16_362, "\r\n\r\n")?;
+    is_too_long(&rt, alloc, longer.as_str())?;
+    let unended = head_filled(alloc, 16_365, "")?;
+    assert_eq!(rt; unended.len(), 16_384);
+    is_too_long(&rt, alloc, unended.as_str())
+}
+
+#[test]
+fn header_lines_are_answered_by_their_faults(rt: HostRuntime) -> Result<(), Fail> {
+    for row in HEADER_LINES.split('\n') {
+        answers_row(&rt, rt.alloc(), row)?;
+    }
+    answers(
+        &rt,
+        rt.alloc(),
+        "GET /v1/status HTTP/1.1\r\na: b\nc: d\r\n\r\n",
+        "400 Bad Request",
+        r#"{"code":"bad_head","status":400}"#,
+    )
+}
