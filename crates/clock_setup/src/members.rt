@@ -1,28 +1,33 @@
+//! What a JSON value has: the value that bytes are, and under a key a number, a text, or the items of a list.
+//! `Value::get` gives the value under a key itself.
+
 ghost use Rattle.std.specs.Prelude.{◌≡◌, option_map, IfOk};
 ghost use Rattle.serde_json.specs.View.{view, items_view};
 ghost use Rattle.clock_setup.specs.Members as members;
+ghost use Rattle.clock_setup.specs.Members.{each, number_from};
 ghost use Rattle.clock_setup.specs.SetupDocument.{json};
 
+use crate::grid::Amounts;
 use clock_device::NoMemory;
 use serde_json::Value;
 use std::alloc::Global;
 
 /// A whole number from 0 to 2^64 - 1 under a key.
-pub(crate) fn number_at(value: &Value, key: &str) -> Option<u64>
+pub fn number_at(value: &Value, key: &str) -> Option<u64>
     ensures { result ≡ members.number_at key.now (view value.now) }
 {
     value.get(key).and_then(Value::as_u64)
 }
 
 /// A text under a key.
-pub(crate) fn text_at<'v>(value: &'v Value, key: &str) -> Option<&'v str>
+pub fn text_at<'v>(value: &'v Value, key: &str) -> Option<&'v str>
     ensures { option_map (λ text. text.now) result ≡ members.text_at key.now (view value.now) }
 {
     value.get(key).and_then(Value::as_str)
 }
 
 /// The items of a list under a key.
-pub(crate) fn items_at<'v>(value: &'v Value, key: &str) -> Option<&'v [Value]>
+pub fn items_at<'v>(value: &'v Value, key: &str) -> Option<&'v [Value]>
     ensures { option_map (λ items. items_view items.now) result
         ≡ members.items_at key.now (view value.now) }
 {
@@ -33,7 +38,7 @@ pub(crate) fn items_at<'v>(value: &'v Value, key: &str) -> Option<&'v [Value]>
 }
 
 /// Whether a value is an object of so many members.
-pub(crate) fn has_members(value: &Value, count: usize) -> bool
+pub fn has_members(value: &Value, count: usize) -> bool
     ensures { result ≡ members.has_members count (view value.now) }
 {
     match value.as_object() {
@@ -42,9 +47,23 @@ pub(crate) fn has_members(value: &Value, count: usize) -> bool
     }
 }
 
-/// The JSON value that the bytes are, or none.
+/// The numbers of a list, or none where an item is no whole number from 0 to 2^64 - 1.
+pub fn numbers_of(alloc: Global, items: &[Value]) -> Result<Option<Amounts>, NoMemory>
+    ensures { IfOk result (λ numbers. numbers ≡ each number_from (items_view items.now)) }
+{
+    let mut numbers = Amounts::new(alloc);
+    for item in items {
+        match item.as_u64() {
+            Some(number) => numbers.push(number)?,
+            None => return Ok(None),
+        }
+    }
+    Ok(Some(numbers))
+}
+
+/// The JSON value (RFC 8259) that the bytes are, or none.
 #[tactic(auto, unfolding(crate::specs::SetupDocument::json))]
-pub(crate) fn read_value(alloc: Global, bytes: &[u8]) -> Result<Option<Value>, NoMemory>
+pub fn read_value(alloc: Global, bytes: &[u8]) -> Result<Option<Value>, NoMemory>
     ensures { IfOk result (λ value. option_map view value ≡ json bytes.now) }
 {
     match Value::from_slice(alloc, bytes) {

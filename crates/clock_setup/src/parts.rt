@@ -1,12 +1,12 @@
 ghost use Rattle.std.specs.Prelude.{◌≡◌, ◌≢◌, Some, Ok, Err, IfOk, IfErr};
 ghost use Rattle.serde_json.specs.View.{view, items_view};
 ghost use Rattle.clock_setup.specs.Faults.{IsRefusal, or_fault};
-ghost use Rattle.clock_setup.specs.Members.{each, number_from};
+ghost use Rattle.clock_setup.specs.Members.{each};
 ghost use Rattle.clock_setup.specs.OpeningShape as shape;
 
 use crate::fault::SetupFault;
 use crate::grid::Amounts;
-use crate::members::{has_members, items_at, number_at};
+use crate::members::{has_members, items_at, number_at, numbers_of};
 use crate::opening::OpeningFault;
 use serde_json::Value;
 use std::alloc::Global;
@@ -19,20 +19,6 @@ pub(crate) struct OpeningEntries<'v> {
     pub increment: u64,
 }
 
-/// The numbers of a list.
-fn numbers(alloc: Global, items: &[Value]) -> Result<Amounts, OpeningFault>
-    ensures ok { IfOk result (λ row. each number_from (items_view items.now) ≡ Some row) }
-    ensures err { IfErr result (IsRefusal OpeningFault.NoMemory (or_fault OpeningFault.Shape (each number_from (items_view items.now)))) }
-    ensures held { IfErr result (λ fault. fault ≢ OpeningFault.Setup SetupFault.NoMemory) }
-{
-    let mut row = Amounts::new(alloc);
-    for item in items {
-        let number = item.as_u64().ok_or(OpeningFault::Shape)?;
-        row.push(number)?;
-    }
-    Ok(row)
-}
-
 /// One bidder's demands.
 #[tactic(auto, unfolding(crate::specs::OpeningShape::row_of))]
 fn row_entry(alloc: Global, value: &Value) -> Result<Amounts, OpeningFault>
@@ -41,7 +27,7 @@ fn row_entry(alloc: Global, value: &Value) -> Result<Amounts, OpeningFault>
     ensures held { IfErr result (λ fault. fault ≢ OpeningFault.Setup SetupFault.NoMemory) }
 {
     let items = value.as_array().ok_or(OpeningFault::Shape)?;
-    numbers(alloc, items.as_slice())
+    numbers_of(alloc, items.as_slice())?.ok_or(OpeningFault::Shape)
 }
 
 /// The rows of demands.
