@@ -1,5 +1,6 @@
 -- What clap promises of a parse, said of the program's own grammar.
-use Rattle.std.proofs.Common.{◌≡◌, ◌≢◌, ◌∷◌, [], inl, inr, true, List, Option, None, refl, sym, ◌<◌, length, map, arith, Bor, ap, subst, ◌∙◌}
+use Rattle.std.proofs.Common.{◌≡◌, ◌≢◌, ◌∷◌, [], ◌<◌, length, map, inl, inr, true, List, Option, None, Bor}
+use Rattle.std.proofs.Common.{refl, sym, arith, ap, subst, ◌∙◌}
 use Rattle.clap.specs.Words.{App, HasKind, Kinds, Row, Text, fault_of, is_simple, is_simple_and_free, kind_of, subcommand_of}
 use Rattle.clap.specs.declared.error.Error.{Error}
 use Rattle.clap.specs.declared.error.kind.ErrorKind.TheVariants.{OutOfMemory}

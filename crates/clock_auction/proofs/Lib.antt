@@ -1,4 +1,4 @@
-mod IncrementText
+mod NumberText
 mod Grammar
 mod Reading
 mod Outcomes

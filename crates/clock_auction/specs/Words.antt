@@ -10,15 +10,16 @@ use Rattle.clap.specs.Words.{App, Kinds, Row, Rule, Shape, Text, fault_of, new_a
 use Rattle.clap.specs.Simple.{on_top}
 use Rattle.clap.specs.ValueTests.{is_unsigned_in}
 use Rattle.clap.specs.declared.builder.value_parser.ValueParser.TheVariants as parser
-use Rattle.clock_setup.specs.Limits.{IsWithin}
+use Rattle.clock_setup.specs.Increments.{IsIncrement}
+use Rattle.clock_setup.specs.Limits.{least_increment, most_increment}
 use Rattle.clock_auction.specs.declared.words.Job.{Job}
 use Rattle.clock_auction.specs.declared.words.Job.TheVariants.{Prices, Opening}
 
--- `--increment N`, from 1 to 50, and 10 where it is not given
+-- `--increment N`, within its limits, and 10 where it is not given
 abbrev pub increment_option : Rule
 increment_option = record (new_rule (codes "increment")) {
   long = Some (codes "increment");
-  parser = Some (parser.Unsigned 1 50);
+  parser = Some (parser.Unsigned least_increment most_increment);
   defaults = codes "10" ∷ [];
 }
 
@@ -41,15 +42,20 @@ abbrev pub given : List Text → List Text
 given [] = codes "prices" ∷ codes "--increment" ∷ codes "10" ∷ []
 given (word ∷ words) = word ∷ words
 
--- the number that a text writes, where it is from 1 to 50
-abbrev pub increment_from : Text → Option ℕ
-increment_from text = if is_unsigned_in 1 50 text then Some (digits_value 10 (without_leading_plus text)) else None
+-- the number that a text writes, where it is within the limits
+abbrev pub number_from : ℕ → ℕ → Text → Option ℕ
+number_from least most text =
+    if is_unsigned_in least most text then Some (digits_value 10 (without_leading_plus text)) else None
+
+-- the number that an option has, where it is within the limits
+abbrev pub number_of : Text → ℕ → ℕ → List Row → Option ℕ
+number_of name least most options = option_and_then (number_from least most) (one_of name options)
 
 -- what a command asks for, with what its options have
 abbrev pub job_named : Text → List Row → Option Job
 job_named name options =
     if bytes_eq name (codes "prices")
-    then option_map Prices (option_and_then increment_from (one_of (codes "increment") options))
+    then option_map Prices (number_of (codes "increment") least_increment most_increment options)
     else (if bytes_eq name (codes "opening") then Some Opening else None)
 
 -- what the command that was met asks for
@@ -70,7 +76,7 @@ job_meant words = unless_refused (fault_of grammar words) (job_met (subcommand_o
 abbrev pub job_of : List Text → Option Job
 job_of words = job_meant (given words)
 
--- an increment is from 1 to 50 percent
+-- the increment of a job is within its limits
 abbrev pub IsJob : Job → Type 0
-IsJob (Prices increment) = IsWithin 1 50 increment
+IsJob (Prices increment) = IsIncrement increment
 IsJob Opening = Unit {0}

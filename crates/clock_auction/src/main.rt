@@ -5,8 +5,10 @@ ghost use Rattle.std.specs.Prelude.{◌≡◌, map, string_bytes, IfOk};
 
 mod answer;
 mod command;
+mod commands;
 mod fault;
 mod fault_lines;
+mod help;
 mod input;
 mod prices;
 #[cfg(test)]

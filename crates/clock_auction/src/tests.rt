@@ -2,17 +2,28 @@
 //! compared by the gate on the built program.
 use crate::command::command;
 use clock_device::{ListSink, ListSource, NoMemory, Stop};
+use clock_setup::fixtures::ONE_PRODUCT;
 use std::alloc::Global;
 use std::process::Abort;
 use std::test::Fail;
 
-/// One product A that opens at 100, and the bidders X and Y.
-const ONE_PRODUCT: &str =
-    "{\"version\":1,\"requirement\":95,\"operator\":\"OPERATOROPERATOR\",\"products\":[{\"name\":\"A\",\"units\":1,\"supply\":2,\"cap\":2,\"opening\":100}],\"bidders\":[{\"name\":\"X\",\"token\":\"XXXXXXXXXXXXXXXX\",\"eligibility\":10},{\"name\":\"Y\",\"token\":\"YYYYYYYYYYYYYYYY\",\"eligibility\":10}]}";
-
-/// The same with three blocks asked in round 1, at an increment of 10.
-const OPENING: &str =
-    "{\"setup\":{\"version\":1,\"requirement\":95,\"operator\":\"OPERATOROPERATOR\",\"products\":[{\"name\":\"A\",\"units\":1,\"supply\":2,\"cap\":2,\"opening\":100}],\"bidders\":[{\"name\":\"X\",\"token\":\"XXXXXXXXXXXXXXXX\",\"eligibility\":10},{\"name\":\"Y\",\"token\":\"YYYYYYYYYYYYYYYY\",\"eligibility\":10}]},\"demands\":[[2],[1]],\"increment\":10}";
+/// The set-up of one product with three blocks asked in round 1, at an increment of 10.
+const OPENING: &str = r#"{
+  "setup": {
+    "version": 1,
+    "requirement": 95,
+    "operator": "OPERATOROPERATOR",
+    "products": [
+      {"name": "A", "units": 1, "supply": 2, "cap": 2, "opening": 100}
+    ],
+    "bidders": [
+      {"name": "X", "token": "XXXXXXXXXXXXXXXX", "eligibility": 10},
+      {"name": "Y", "token": "YYYYYYYYYYYYYYYY", "eligibility": 10}
+    ]
+  },
+  "demands": [[2], [1]],
+  "increment": 10
+}"#;
 
 /// How the streams of a run behave.
 #[derive(Clone, Copy)]

@@ -1,19 +1,19 @@
-ghost use Rattle.std.specs.Prelude.{◌≡◌, ◌≢◌, ◌&&◌, if◌then◌else◌, nat_le, Some, None, false, codes, map, option_and_then, IfSome, IfOk, IfErr};
+//! What the words after the program's name ask for.
+ghost use Rattle.std.specs.Prelude.{◌≡◌, ◌≢◌, ◌&&◌, if◌then◌else◌, nat_le, Some, None, map, IfSome, IfOk, IfErr};
 ghost use Rattle.clock_setup.specs.Limits.{IsWithin};
-ghost use Rattle.clap.specs.Words.{app_of, found_of, kind_of, new_app, one_of, rows_of, subcommand_rows_of};
-ghost use Rattle.clap.specs.Simple.{on_top};
-ghost use Rattle.clap.specs.declared.builder.Command.TheViews.{out-Command};
-ghost use Rattle.clock_auction.specs.Words.{IsJob, asks_for_a_command, grammar, increment_from, job_meant, job_met, job_of, prices_grammar};
+ghost use Rattle.clap.specs.Words.{found_of, kind_of, rows_of, subcommand_rows_of};
+ghost use Rattle.clock_auction.specs.Words.{IsJob, job_meant, job_met, job_of, number_of};
 
-use clap::builder::ValueParser;
+use crate::commands::{number_helps, program};
 use clap::error::ErrorKind;
-use clap::{Arg, ArgMatches, Command, Error, value_parser};
+use clap::{ArgMatches, Error};
+use clock_money::{LEAST_INCREMENT, MOST_INCREMENT};
 use std::alloc::Global;
 
 /// What the words ask the program to do.
 #[derive(Clone, Copy, Debug, PartialEq, Eq)]
 pub enum Job {
-    /// Price lines for a set-up document, with clock prices at this increment of 1 to 50 percent.
+    /// Price lines for a set-up document, with clock prices at this increment in percent.
     Prices(u64),
     /// The lines of round 1 for an opening document.
     Opening,
@@ -22,86 +22,25 @@ pub enum Job {
 /// What a run without any word does.
 static WITHOUT_WORDS: [&str; 3] = ["prices", "--increment", "10"];
 
-/// What the help says of documents and of a run without words.
-static HELP_ON_DOCUMENTS: &str =
-    "The document is read from standard input. Without any word the program does `prices --increment 10`.\nA fault is one line on standard error, with status 1. For help and for words that are refused the status is 2.";
-
-/// What `--increment` takes.
-fn increment_parser<'a>() -> ValueParser<'a>
-    ensures { result ≡ ValueParser.Unsigned 1 50 }
+/// The number, where it is within the limits.
+fn within_limits(least: u64, most: u64, number: u64) -> Option<u64>
+    ensures value { result ≡ (if nat_le least number && nat_le number most then Some number else None) }
+    ensures limits { IfSome result (IsWithin least most) }
 {
-    value_parser!(u64).range(1..=50)
-}
-
-/// `prices` and its option.
-fn prices_command<'a>(alloc: Global) -> Result<Command<'a>, Error>
-    ensures shape { IfOk result (λ command. app_of command ≡ prices_grammar) }
-    ensures local { IfOk result (λ command. (out-Command command).has_globals ≡ false) }
-    ensures err { IfErr result (λ error. kind_of error ≡ ErrorKind.OutOfMemory) }
-{
-    let increment = Arg::new(alloc, "increment")
-        .long("increment")
-        .value_parser(increment_parser())
-        .default_value("10")
-        .help("By how many percent prices rise, from 1 to 50");
-    let prices = Command::new(alloc, "prices").about(
-        "Reads a set-up document and prints each product's opening price and next clock price",
-    );
-    Ok(prices.arg(increment)?)
-}
-
-/// The program without its commands.
-fn program_alone<'a>(alloc: Global) -> Result<Command<'a>, Error>
-    ensures shape { IfOk result (λ command. app_of command ≡ on_top asks_for_a_command (new_app (codes "clock_auction"))) }
-    ensures err { IfErr result (λ error. kind_of error ≡ ErrorKind.OutOfMemory) }
-{
-    let named = Command::new(alloc, "clock_auction").bin_name("clock_auction")?;
-    Ok(
-        named
-            .version("0.1.0")
-            .about("The bidding system of an ascending clock auction")
-            .after_help(HELP_ON_DOCUMENTS)
-            .no_binary_name(true)
-            .subcommand_required(true),
-    )
-}
-
-/// The program's commands.
-fn program<'a>(alloc: Global) -> Result<Command<'a>, Error>
-    ensures shape { IfOk result (λ command. app_of command ≡ grammar) }
-    ensures err { IfErr result (λ error. kind_of error ≡ ErrorKind.OutOfMemory) }
-{
-    let prices = prices_command(alloc)?;
-    let opening = Command::new(alloc, "opening").about(
-        "Reads an opening document and prints the sheet of round 1",
-    );
-    Ok(
-        program_alone(alloc)?
-            .subcommand(prices)?
-            .subcommand(opening)?,
-    )
-}
-
-/// The increment, where it is from 1 to 50.
-fn within_limits(increment: u64) -> Option<u64>
-    ensures value { result ≡ (if nat_le 1 increment && nat_le increment 50 then Some increment else None) }
-    ensures limits { IfSome result (IsWithin 1 50) }
-{
-    if (1..=50).contains(&increment) {
-        Some(increment)
+    if (least..=most).contains(&number) {
+        Some(number)
     } else {
         None
     }
 }
 
-/// The increment that `prices` is given, where it is from 1 to 50.
-fn increment_in(options: &ArgMatches) -> Option<u64>
-    ensures value { result ≡ option_and_then increment_from
-        (one_of (codes "increment") (rows_of (found_of options.now))) }
-    ensures limits { IfSome result (IsWithin 1 50) }
+/// The number that an option is given, where it is within the limits.
+fn number_in(options: &ArgMatches, name: &str, least: u64, most: u64) -> Option<u64>
+    ensures value { result ≡ number_of name.now least most (rows_of (found_of options.now)) }
+    ensures limits { IfSome result (IsWithin least most) }
 {
-    let increment = options.get_one::<u64>("increment")?;
-    within_limits(increment)
+    let number = options.get_one::<u64>(name)?;
+    within_limits(least, most, number)
 }
 
 /// The job that the matches name.
@@ -111,7 +50,7 @@ fn job_in(matches: &ArgMatches) -> Option<Job>
 {
     let (name, options) = matches.subcommand()?;
     if name == "prices" {
-        Some(Job::Prices(increment_in(options)?))
+        Some(Job::Prices(number_in(options, "increment", LEAST_INCREMENT, MOST_INCREMENT)?))
     } else if name == "opening" {
         Some(Job::Opening)
     } else {
@@ -126,7 +65,8 @@ fn job_in_words(alloc: Global, words: &[&str]) -> Result<Option<Job>, Error>
     ensures err { IfErr result (λ error. kind_of error ≢ ErrorKind.OutOfMemory
         → job_meant (map (λ word. word.now) words.entry.now) ≡ None) }
 {
-    let matches = program(alloc)?.try_get_matches_from(words)?;
+    let helps = number_helps(alloc)?;
+    let matches = program(alloc, &helps)?.try_get_matches_from(words)?;
     Ok(job_in(&matches))
 }
 

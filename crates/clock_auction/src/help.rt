@@ -1,0 +1,43 @@
+//! What `--help` says of the program and of each command.
+use std::alloc::{AllocError, Global};
+
+/// Of the whole program.
+pub static PROGRAM_HELP: &str = "\
+Documents are read from standard input. Without any word the program does `prices --increment 10`.
+
+Status 0: the answer is on standard output.
+Status 1: there was a fault, one line `fault: WORDS` on standard error, and nothing on standard output.
+Status 2: help, or words that are refused.";
+
+/// Of `prices`.
+pub static PRICES_HELP: &str = "\
+Reads from standard input a set-up document of version 1 or 2.
+Prints a line `NAME OPENING CLOCK` for each product: its name, its opening price and the clock price of
+round 2, in dollars, or `-` where that would be above the highest price.
+Answers with 0, or with 1 and a line as `fault: setup_not_json`, `fault: setup_range cap 0`, `fault: input`.
+
+Example:
+  clock_auction prices --increment 25 < examples/one_product.json
+  A 100 125";
+
+/// Of `opening`.
+pub static OPENING_HELP: &str = "\
+Reads from standard input an opening document: a set-up, the demands of round 1 and an increment.
+Prints `round 1` and a line `NAME START CLOCK POSTED DEMAND NEXT` for each product. DEMAND is `-` where
+no more is asked than is supplied, NEXT is `-` where the auction ends.
+Answers with 0, or with 1 and a line as `fault: shape`, `fault: demand 0 0`, `fault: price_limit 0`.
+
+Example:
+  clock_auction opening < examples/opening.json
+  round 1
+  A 100 100 100 3 110";
+
+/// What is said of a number that an option takes, with its limits.
+pub fn number_help(
+    alloc: Global,
+    meaning: &str,
+    least: u64,
+    most: u64,
+) -> Result<String, AllocError> {
+    format!(in alloc; "{meaning}, from {least} to {most}")
+}
