@@ -10,6 +10,11 @@ use Rattle.clap.proofs.ValueTestLemmas.{accepts-Accepts, Accepts-accepts}
 use Rattle.clap.proofs.WalkLemmas.{both}
 use Rattle.clock_auction.specs.Words.{number_from}
 
+-- the number, where it is within the limits
+abbrev pub within_limits : ℕ → ℕ → Option ℕ → Option ℕ
+within_limits least most None = None
+within_limits least most (Some n) = cond (nat_le least n && nat_le n most) (Some n) None
+
 same_choice : (a b : Bool) (n v : ℕ) → n ≡ v → (a ≡ true → b ≡ true) → (b ≡ true → a ≡ true)
     → cond a (Some n) None ≡ cond b (Some v) None
 same_choice true true n v e there back = rw e refl
@@ -23,12 +28,7 @@ none_taken false v never = refl
 
 module _ {E : Type 0} (gives : List ℕ → Result ℕ E → Type 0) (parses : (t : List ℕ) (r : Result ℕ E) → gives t r → ParsesUnsigned 64 10 t r)
     (least most : ℕ) where
-  -- the number, where it is within the limits
-  abbrev pub within_limits : Option ℕ → Option ℕ
-  within_limits None = None
-  within_limits (Some n) = cond (nat_le least n && nat_le n most) (Some n) None
-
-  read_at : (t : List ℕ) (r : Option ℕ) → ReadsOne gives t r → within_limits r ≡ number_from least most t
+  read_at : (t : List ℕ) (r : Option ℕ) → ReadsOne gives t r → within_limits least most r ≡ number_from least most t
   read_at t None given =
       none_taken (is_unsigned_in least most t) _ (λ e. let accepted = accepts-Accepts false (parser.Unsigned least most) t e in
       parses t (Err given.0) given.1 (accepted.0, accepted.1))
@@ -48,6 +48,6 @@ module _ {E : Type 0} (gives : List ℕ → Result ℕ E → Type 0) (parses : (
       rw (enough, few) refl)
 
   pub number_read : (text : Option (List ℕ)) (r : Option ℕ) → (text ≡ None → r ≡ None) → ((t : List ℕ) → text ≡ Some t → ReadsOne gives t r)
-      → within_limits r ≡ option_and_then (number_from least most) text
+      → within_limits least most r ≡ option_and_then (number_from least most) text
   number_read None r none some = rw (none refl) refl
   number_read (Some t) r none some = read_at t r (some t refl)
