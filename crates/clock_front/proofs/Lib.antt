@@ -3,7 +3,7 @@ mod HeadLaws
 mod ScanLaws
 mod HeaderLaws
 mod TextLaws
-mod ProgressLaws
+pub mod ProgressLaws
 mod RouteLaws
 mod MemberLaws
 mod ReplyLaws

@@ -3,7 +3,7 @@ use Rattle.std.proofs.Common.{◌≡◌, ℕ, ◌+◌, ◌-◌, ◌≤◌, ◌<�
 use Rattle.std.specs.Prelude.{option_map, nat_lt}
 use Rattle.std.proofs.lemmas.Bool.Decides.{nat_tests}
 use Rattle.std.proofs.lemmas.List.{take-append-le, drop-append-le, length-take, take-append-drop, take_all, take_min}
-use Rattle.std.proofs.Math.Seq.{take-add}
+use Rattle.std.proofs.Math.Seq.{take-add, take-append_seam}
 use Rattle.httparse.specs.Spans.{span_bytes, IsWithin}
 use Rattle.httparse.specs.declared.spans.Span.{Span}
 use Rattle.clock_views.specs.declared.code.Code.{Code}
@@ -181,3 +181,7 @@ fewer text count = omega (arith, length-take count text)
 -- as many bytes as were looked at are those that were looked at
 pub looked_at : (text : List ℕ) (count n : ℕ) → n ≡ length (take count text) → take n text ≡ take count text
 looked_at text count n is = ap (λ k. take k text) (is ∙ length-take count text) ∙ take_min count text
+
+-- what is known of a text is known of the start of each longer one
+pub knows_start : (text more : List ℕ) (progress : Progress) → Knows text progress → KnowsOfStart (text ++ more) progress
+knows_start text more progress knows = (length text, subst (λ front. Knows front progress) (sym (take-append_seam text more)) knows)

@@ -3,7 +3,7 @@ use Rattle.std.proofs.Common.{◌≡◌, ◌⊎◌, ℕ, ◌<◌, List, [], ◌�
 use Rattle.clock_setup.specs.Limits.{SetupFields, IsSetup}
 use Rattle.clock_front.specs.Replies.{Answer}
 use Rattle.clock_house.specs.House.{HouseFields}
-use Rattle.clock_front.specs.Fronts.{reply, no_memory, StandsForTexts, AnswersText}
+use Rattle.clock_front.specs.Fronts.{reply, IsStruckOut, StandsForTexts, AnswersText}
 use Rattle.clock_front.specs.Runs.{IsRight, Runs}
 use Rattle.clock_front.proofs.TextViews.{answered_from_view, isolated}
 
@@ -19,7 +19,7 @@ right setup limits past text one is = record {
 
 -- the next text found no memory
 pub goes_on_without : (setup : SetupFields) (past texts : List (List ℕ)) (answers : List Answer) (end : List (List ℕ)) (text : List ℕ) (one : Answer) →
-    Runs setup past texts answers end → one ≡ no_memory → Runs setup past (texts ++ text ∷ []) (answers ++ one ∷ []) end
+    Runs setup past texts answers end → IsStruckOut text one → Runs setup past (texts ++ text ∷ []) (answers ++ one ∷ []) end
 goes_on_without setup past [] [] end text one runs none = inl (none, runs)
 goes_on_without setup past [] (a ∷ answers) end text one runs none = absurd runs
 goes_on_without setup past (t ∷ texts) [] end text one runs none = absurd runs

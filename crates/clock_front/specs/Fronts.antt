@@ -3,13 +3,16 @@
 --     house_after setup commands      the auction that commands have made, as a house shows it
 --     reply setup texts text      the answer to a text after others
 --     StandsForTexts texts house      the house stands for the commands of the texts
+--     IsStruckOut text reply      the reply of want of memory, to a text that needs some
 --     AnswersText text reply old new      a text is answered by what is right, or there was no memory and it did nothing
 use Rattle.std.specs.Prelude.{◌≡◌, ◌⊎◌, ℕ, List, ◌∷◌, map}
 use Rattle.clock_setup.specs.Limits.{SetupFields}
 use Rattle.clock_house.specs.Command.{Command}
 use Rattle.clock_house.specs.History.{history, sheet_in_force, for_each_bidder}
 use Rattle.clock_house.specs.House.{HouseFields, StandsFor}
+use Rattle.clock_views.specs.declared.code.Code.{Code}
 use Rattle.clock_views.specs.declared.code.Code.TheVariants.{Memory}
+use Rattle.clock_front.specs.Framing.{framing, refusal}
 use Rattle.clock_front.specs.Replies.{Answer, refusal_bytes}
 use Rattle.clock_front.specs.Requests.{request_of}
 use Rattle.clock_front.specs.Askers.{asker}
@@ -44,9 +47,14 @@ StandsForTexts texts house = StandsFor (commands_of house.setup texts) house
 abbrev pub no_memory : Answer
 no_memory = record { code = Memory; bytes = refusal_bytes Memory }
 
+-- the reply of want of memory, to a text that needs some: one that is refused at its head or at its length needs none
+pub record IsStruckOut (text : List ℕ) (answer : Answer) : Type 0 where
+  pub is : answer ≡ no_memory
+  pub needs : (code : Code) → framing text ≡ refusal code → ⊥
+
 -- the right reply, after which the front stands for the texts and this one; or the reply of want of memory, and it stands
 -- for the texts
 abbrev pub AnswersText : List ℕ → Answer → HouseFields → HouseFields → Type 0
 AnswersText text answer old new = (texts : List (List ℕ)) → StandsForTexts texts old
     → ((answer ≡ reply old.setup texts text) × StandsForTexts (text ∷ texts) new)
-    ⊎ ((answer ≡ no_memory) × StandsForTexts texts new)
+    ⊎ (IsStruckOut text answer × StandsForTexts texts new)

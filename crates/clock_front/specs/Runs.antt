@@ -8,7 +8,7 @@ use Rattle.clock_setup.specs.Limits.{SetupFields, IsSetup, public_setup}
 use Rattle.clock_house.specs.History.{history, bidder_at}
 use Rattle.clock_house.specs.Laws.{IsSound}
 use Rattle.clock_front.specs.Replies.{Answer}
-use Rattle.clock_front.specs.Fronts.{reply, commands_of, no_memory}
+use Rattle.clock_front.specs.Fronts.{reply, commands_of, IsStruckOut}
 use Rattle.clock_front.specs.Views.{is_own, text_view, answer}
 use Rattle.clock_front.specs.Isolation.{SeesTheSame}
 
@@ -23,14 +23,14 @@ pub record IsRight (setup : SetupFields) (past : List (List ℕ)) (text : List �
   pub is : one ≡ reply setup past text
   pub private : (bidder : ℕ) → bidder < length setup.bidders → is_own (bidder_at setup bidder) text ≡ true → IsPrivate setup bidder past text one
 
--- one reply for each text, in order: that of want of memory, and then the text is struck out; or the right one after the
--- texts that were replied to before it. At the end the texts that were replied to stand, the newest first
+-- one reply for each text, in order: that of want of memory, and then the text is struck out, and was not refused at its head
+-- or length; or the right one after the texts that were replied to before it. At the end the texts that were replied to stand, the newest first
 abbrev pub Runs : SetupFields → List (List ℕ) → List (List ℕ) → List Answer → List (List ℕ) → Type 0
 Runs setup past [] [] end = end ≡ past
 Runs setup past [] (one ∷ answers) end = ⊥
 Runs setup past (text ∷ texts) [] end = ⊥
 Runs setup past (text ∷ texts) (one ∷ answers) end =
-    ((one ≡ no_memory) × Runs setup past texts answers end)
+    (IsStruckOut text one × Runs setup past texts answers end)
     ⊎ (IsRight setup past text one × Runs setup (text ∷ past) texts answers end)
 
 -- the texts that were replied to, the replies, and the auction that these texts have made: bidders within their limits,

@@ -1,5 +1,4 @@
 use clock_device::NoMemory;
-use std::alloc::{AllocError, AllocFailed};
 use thiserror::Error;
 
 /// Why a body is refused: the first of these that applies.
@@ -23,28 +22,6 @@ impl From<NoMemory> for BodyFault {
     ghost from_gives = { λ _ fault. fault ≡ faults.NoMemory };
 
     fn from(_refused: NoMemory) -> BodyFault {
-        BodyFault::NoMemory
-    }
-}
-
-impl From<AllocError> for BodyFault {
-    ghost use Rattle.std.specs.Prelude.{◌≡◌};
-    ghost use Rattle.clock_front.specs.declared.body_fault.BodyFault.TheVariants as faults;
-
-    ghost from_gives = { λ _ fault. fault ≡ faults.NoMemory };
-
-    fn from(_refused: AllocError) -> BodyFault {
-        BodyFault::NoMemory
-    }
-}
-
-impl<T: Drop> From<AllocFailed<T>> for BodyFault {
-    ghost use Rattle.std.specs.Prelude.{◌≡◌};
-    ghost use Rattle.clock_front.specs.declared.body_fault.BodyFault.TheVariants as faults;
-
-    ghost from_gives = { λ _ fault. fault ≡ faults.NoMemory };
-
-    fn from(_refused: AllocFailed<T>) -> BodyFault {
         BodyFault::NoMemory
     }
 }

@@ -8,14 +8,15 @@ ghost use Rattle.clock_front.specs.Outcomes.{answer_of, outcome, command_of};
 ghost use Rattle.clock_front.specs.Replies.{refusal_bytes};
 ghost use Rattle.clock_front.specs.Requests.{ask_by_route, request_of};
 ghost use Rattle.clock_front.specs.Routes.{page_of};
-ghost use Rattle.clock_front.specs.Shown.{shown_head, shown_bytes};
+ghost use Rattle.clock_front.specs.Shown.{Knows, shown_head, shown_bytes};
 ghost use Rattle.clock_front.specs.ShownAsked.{shown_asked};
 
 use crate::asked::{Asked, asked_of};
 use crate::changes::{close, put};
 use crate::pages::{not_allowed, refusal};
+use crate::progress::Progress;
 use crate::reply::Reply;
-use crate::request_text::{Framing, Head, frame};
+use crate::request_text::{Framing, Head};
 use crate::routes::Routes;
 use crate::telling::{bidder_of, operator_of, tell};
 use crate::tokens::{Asker, Tokens};
@@ -119,8 +120,9 @@ impl<P: Processor> Front<P> {
         })
     }
 
-    /// The reply to a text, where there is memory for it.
-    fn answer_text(&mut self, text: &[u8]) -> Result<Reply, NoMemory>
+    /// The reply to a text of which this is known, where there is memory for it.
+    fn answer_text(&mut self, text: &[u8], progress: Progress) -> Result<Reply, NoMemory>
+        requires { Knows text.now progress }
         ensures reply { IfOk result (λ reply. reply
             ≡ answer_of (outcome self.old (asker_with self.old.setup (request_of text.now).token) (request_of text.now).ask)) }
         ensures followed { OnOk result (IsFollowedBy
@@ -129,7 +131,7 @@ impl<P: Processor> Front<P> {
         ensures refused { (code : ReplyCode) → framing_of text.now ≡ refusal_of code → IsOk result }
     {
         self.house.keeps();
-        match frame(text) {
+        match progress.framing(text) {
             Framing::NeedMore => refusal(self.alloc, Refusal::alone(Code::CutShort)),
             Framing::Refused(code) => Ok(Reply::constant(code)),
             Framing::Whole { head, body } => {
@@ -146,19 +148,30 @@ impl<P: Processor> Front<P> {
         }
     }
 
+    /// The reply to a text of which this is known, after which the input has ended. It is that of [`Front::answer`]; a text
+    /// that came in pieces is not looked at again from its beginning.
+    pub fn answer_known(&mut self, text: &[u8], progress: Progress) -> Reply
+        requires { Knows text.now progress }
+        ensures answered { AnswersText text.now result self.old self.new }
+        ensures setup { self.new.setup ≡ self.old.setup }
+        ensures refused { (code : ReplyCode) → framing_of text.now ≡ refusal_of code → result.code ≡ code }
+    {
+        match self.answer_text(text, progress) {
+            Ok(reply) => reply,
+            Err(_) => Reply::no_memory(),
+        }
+    }
+
     /// The reply to a text, after which the input has ended: a request, less than one, or none at all.
     ///
     /// Where there is no memory the reply is that of [`Code::Memory`], and nothing has changed; a text that is refused at its
-    /// head needs none. The page of a change is built before the change is made.
+    /// head or at its length needs none. The page of a change is built before the change is made.
     pub fn answer(&mut self, text: &[u8]) -> Reply
         ensures answered { AnswersText text.now result self.old self.new }
         ensures setup { self.new.setup ≡ self.old.setup }
         ensures refused { (code : ReplyCode) → framing_of text.now ≡ refusal_of code → result.code ≡ code }
     {
-        match self.answer_text(text) {
-            Ok(reply) => reply,
-            Err(_) => Reply::constant(Code::Memory),
-        }
+        self.answer_known(text, Progress::new().advance(text))
     }
 
     /// The house that is asked.

@@ -1,4 +1,5 @@
 ghost use Rattle.std.specs.Prelude.{◌≡◌, ◌≤◌, ◌++◌, drop, length, codes, IsTrue};
+ghost use Rattle.clock_front.specs.Fronts.{no_memory};
 ghost use Rattle.clock_front.specs.Replies.{allow_line, challenge_line, reason_of, status_line, lines_and_page, reply_bytes, refusal_bytes, is_constant};
 
 use crate::head_room::{HEAD_ROOM, put_before};
@@ -163,6 +164,13 @@ impl Reply {
             code,
             held: Held::Constant(constant_bytes(code)),
         }
+    }
+
+    /// The reply where there was no memory. It needs none.
+    pub fn no_memory() -> Reply
+        ensures { result ≡ no_memory }
+    {
+        Reply::constant(Code::Memory)
     }
 
     /// The reply whose page stands behind the room for its head.

@@ -1,6 +1,6 @@
-ghost use Rattle.std.specs.Prelude.{◌≡◌, ◌≤◌, length, option_map};
+ghost use Rattle.std.specs.Prelude.{◌≡◌, ◌≤◌, ◌↔◌, ℕ, List, IsTrue, length, option_map};
 ghost use Rattle.httparse.specs.Spans.{span_bytes};
-ghost use Rattle.clock_front.specs.Framing.{framing as framing_of};
+ghost use Rattle.clock_front.specs.Framing.{framing as framing_of, needs_more};
 ghost use Rattle.clock_front.specs.Shown.{Knows, IsHeadWithin, IsSomeWithin, shown_ended, shown_head, shown_bytes, shown_framing};
 
 use crate::head::EndedHead;
@@ -53,6 +53,18 @@ fn head_in(text: &[u8], head: EndedHead) -> Head<'_>
 }
 
 impl Progress {
+    /// Whether a text of which this is known is still to grow: it is neither a whole request nor refused.
+    pub fn needs_more(self) -> bool
+        ensures { (text : List ℕ) → Knows text self → (IsTrue result ↔ (framing_of text ≡ needs_more)) }
+    {
+        match self {
+            Progress::Unended(_) => true,
+            Progress::Waiting(_) => true,
+            Progress::Complete(_) => false,
+            Progress::Refused(_) => false,
+        }
+    }
+
     /// What the text is of which this is known. It takes no memory, and all slices are of the text.
     pub fn framing(self, text: &[u8]) -> Framing<'_>
         requires { Knows text.now self }
@@ -73,7 +85,8 @@ impl Progress {
 /// What a text is. It takes no memory, and all slices are of the text.
 ///
 /// Nothing is decided before the head has ended with CR LF CR LF, 16,384 bytes have come without an end, or the head's body
-/// has come whole. Then the first that applies is answered: 64 header lines, a head of the grammar, no transfer coding, one length of digits, up to 1,048,576. What is decided stays, whatever bytes follow.
+/// has come whole. Then the first that applies is answered: 64 header lines, a head of the grammar, no transfer coding, one
+/// length of digits, up to 1,048,576. What is decided stays, whatever bytes follow.
 pub fn frame(text: &[u8]) -> Framing<'_>
     ensures { shown_framing result ≡ framing_of text.now }
 {

@@ -3,7 +3,7 @@ use Rattle.clock_front.specs.Askers.{asker}
 use Rattle.clock_front.specs.Replies.{Answer}
 use Rattle.clock_front.specs.Requests.{request_of}
 use Rattle.clock_front.proofs.FrontLaws.{refused_code}
-use Rattle.clock_front.proofs.front.Front.answer.Goals as goal
+use Rattle.clock_front.proofs.front.Front.answer_known.Goals as goal
 
 pub returns-in-Ok-clause-refused : goal.returns-in-Ok-clause-refused
 returns-in-Ok-clause-refused g c =
