@@ -14,3 +14,4 @@ mod ChangeLaws
 mod RunLaws
 pub mod AskerLaws
 pub mod TextViews
+mod PrivateLaws

@@ -19,3 +19,4 @@ pub mod Fronts
 pub mod Runs
 pub mod Views
 pub mod Isolation
+pub mod Private

@@ -8,6 +8,8 @@ ghost use Rattle.clock_front.specs.Bodies.{put_body};
 ghost use Rattle.clock_front.specs.CloseBodies.{close_body};
 ghost use Rattle.clock_front.specs.Outcomes as told;
 ghost use Rattle.clock_front.specs.Outcomes.{answer_of};
+ghost use Rattle.clock_front.specs.Private.{IsToldByView};
+ghost use Rattle.clock_front.specs.Requests as asked;
 ghost use Rattle.clock_views.specs.OperatorPages.{closed_value};
 
 use crate::body_fault::BodyFault;
@@ -55,6 +57,7 @@ fn put_sheet<P: Processor>(
     requires { bidder < length house.old.setup.bidders }
     ensures reply { IfOk result (λ reply. reply
         ≡ answer_of (told.put_outcome sheet (put_fault_in house.old bidder sheet.round sheet.bids))) }
+    ensures private { IfOk result (IsToldByView house.old bidder (asked.put (Ok sheet))) }
     ensures followed { OnOk result (IsFollowedBy (command.put bidder sheet.round sheet.bids) house.old house.new) }
     ensures still { OnErr result (StandsStill house.old house.new) }
 {

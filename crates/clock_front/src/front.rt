@@ -1,10 +1,11 @@
-ghost use Rattle.std.specs.Prelude.{◌≡◌, [], length, IfOk, IsOk, OnOk, OnErr};
+ghost use Rattle.std.specs.Prelude.{◌≡◌, ◌⊎◌, [], length, IfOk, IsOk, OnOk, OnErr};
 ghost use Rattle.clock_house.specs.House.{IsFollowedBy, StandsStill};
 ghost use Rattle.clock_views.specs.declared.code.Code.{Code as ReplyCode};
 ghost use Rattle.clock_front.specs.Askers.{IsKnown, asker as asker_with};
 ghost use Rattle.clock_front.specs.Framing.{framing as framing_of, refusal as refusal_of};
-ghost use Rattle.clock_front.specs.Fronts.{AnswersText, StandsForTexts};
+ghost use Rattle.clock_front.specs.Fronts.{AnswersText, IsStruckOut, StandsForTexts};
 ghost use Rattle.clock_front.specs.Outcomes.{answer_of, outcome, command_of};
+ghost use Rattle.clock_front.specs.Private.{IsToldAsker, IsPrivateReply};
 ghost use Rattle.clock_front.specs.Replies.{refusal_bytes};
 ghost use Rattle.clock_front.specs.Requests.{ask_by_route, request_of};
 ghost use Rattle.clock_front.specs.Routes.{page_of};
@@ -89,6 +90,7 @@ fn answer_head<P: Processor>(
     requires { IsKnown (length house.old.setup.bidders) asker }
     ensures reply { IfOk result (λ reply. reply
         ≡ answer_of (outcome house.old asker (ask_by_route (page_of head.now.path.now) (shown_head head.now) body.now))) }
+    ensures private { IfOk result (IsToldAsker house.old asker (ask_by_route (page_of head.now.path.now) (shown_head head.now) body.now)) }
     ensures followed { OnOk result (IsFollowedBy
         (command_of house.old.setup asker (ask_by_route (page_of head.now.path.now) (shown_head head.now) body.now)) house.old house.new) }
     ensures still { OnErr result (StandsStill house.old house.new) }
@@ -128,6 +130,7 @@ impl<P: Processor> Front<P> {
         ensures followed { OnOk result (IsFollowedBy
             (command_of self.old.setup (asker_with self.old.setup (request_of text.now).token) (request_of text.now).ask) self.old self.new) }
         ensures still { OnErr result (StandsStill self.old self.new) }
+        ensures private { IfOk result (IsPrivateReply text.now self.old) }
         ensures refused { (code : ReplyCode) → framing_of text.now ≡ refusal_of code → IsOk result }
     {
         self.house.keeps();
@@ -153,6 +156,7 @@ impl<P: Processor> Front<P> {
     pub fn answer_known(&mut self, text: &[u8], progress: Progress) -> Reply
         requires { Knows text.now progress }
         ensures answered { AnswersText text.now result self.old self.new }
+        ensures private { IsStruckOut text.now result ⊎ IsPrivateReply text.now self.old result }
         ensures setup { self.new.setup ≡ self.old.setup }
         ensures refused { (code : ReplyCode) → framing_of text.now ≡ refusal_of code → result.code ≡ code }
     {
@@ -168,6 +172,7 @@ impl<P: Processor> Front<P> {
     /// head or at its length needs none. The page of a change is built before the change is made.
     pub fn answer(&mut self, text: &[u8]) -> Reply
         ensures answered { AnswersText text.now result self.old self.new }
+        ensures private { IsStruckOut text.now result ⊎ IsPrivateReply text.now self.old result }
         ensures setup { self.new.setup ≡ self.old.setup }
         ensures refused { (code : ReplyCode) → framing_of text.now ≡ refusal_of code → result.code ≡ code }
     {

@@ -3,6 +3,7 @@
 ghost use Rattle.std.specs.Prelude.{◌≡◌, ◌<◌, length, Some, None, IfOk};
 ghost use Rattle.clock_front.specs.Outcomes as told;
 ghost use Rattle.clock_front.specs.Outcomes.{answer_of};
+ghost use Rattle.clock_front.specs.Private.{IsToldByView};
 ghost use Rattle.clock_front.specs.Requests as asked;
 
 use crate::head_room::text_with_room;
@@ -70,7 +71,8 @@ pub(crate) fn sheet<P>(alloc: Global, house: &House<P>, segment: &[u8]) -> Resul
 /// What a bidder holds.
 pub(crate) fn account<P>(alloc: Global, house: &House<P>, bidder: u32) -> Result<Reply, NoMemory>
     requires { bidder < length house.now.setup.bidders }
-    ensures { IfOk result (λ reply. reply ≡ answer_of (told.told_bidder house.now bidder asked.account)) }
+    ensures reply { IfOk result (λ reply. reply ≡ answer_of (told.told_bidder house.now bidder asked.account)) }
+    ensures private { IfOk result (IsToldByView house.now bidder asked.account) }
 {
     let mut text = text_with_room(alloc)?;
     push_account_page(

@@ -1,4 +1,5 @@
 use Rattle.std.proofs.Common.{ap, sym, subst, ◌∙◌}
+use Rattle.clock_setup.specs.Limits.{IsSetup}
 use Rattle.clock_house.specs.Command.{Command, other}
 use Rattle.clock_house.specs.House.{HouseFields, IsFollowedBy}
 use Rattle.clock_views.specs.Refusals.{Shown}
@@ -12,6 +13,7 @@ use Rattle.clock_front.specs.Shown.{shown_head}
 use Rattle.clock_front.specs.TokenTable.{IsTableOf}
 use Rattle.clock_front.specs.declared.tokens.Asker.{Asker}
 use Rattle.clock_front.proofs.OutcomeLaws.{away_other}
+use Rattle.clock_front.proofs.PrivateLaws.{private_reply, if_private}
 use Rattle.clock_front.proofs.FrontLaws.{refused_constant, told_as, done_as, if_done, ask_by, whole_request, constant_answer}
 use Rattle.clock_front.proofs.front.Front.answer_text.Goals as goal
 
@@ -80,3 +82,18 @@ returns-in-Whole-clause-followed g c =
     (λ followed. subst (λ (command : Command). IsFollowedBy command house new) same
     (subst (λ (h : HouseFields). IsFollowedBy (command_of h.setup c.asker-asker.result ask) h new) c.self.view_is followed))
     c.answer_head.ensures.followed
+
+pub returns-in-NeedMore-clause-private : goal.returns-in-NeedMore-clause-private
+returns-in-NeedMore-clause-private g c =
+    let limits = subst (λ (h : HouseFields). IsSetup h.setup) c.self.view_is c.keeps.ensures.limits in
+    if_private c.refusal.result c.args.self.now c.args.text.now limits (returns-in-NeedMore-clause-reply g c)
+
+pub returns-in-Refused-clause-private : goal.returns-in-Refused-clause-private
+returns-in-Refused-clause-private g c =
+    let limits = subst (λ (h : HouseFields). IsSetup h.setup) c.self.view_is c.keeps.ensures.limits in
+    private_reply c.args.self.now c.args.text.now c.constant.result limits (returns-in-Refused-clause-reply g c)
+
+pub returns-in-Whole-clause-private : goal.returns-in-Whole-clause-private
+returns-in-Whole-clause-private g c =
+    let limits = subst (λ (h : HouseFields). IsSetup h.setup) c.self.view_is c.keeps.ensures.limits in
+    if_private c.answer_head.result c.args.self.now c.args.text.now limits (returns-in-Whole-clause-reply g c)

@@ -1,0 +1,89 @@
+-- What a right answer tells, it tells by the bidder's view alone.
+use Rattle.std.proofs.Common.{◌≡◌, ◌≢◌, ℕ, ◌<◌, List, length, Option, Some, None, Result, Ok, Err, sym, ◌∙◌, ap}
+use Rattle.std.specs.Prelude.{IfOk, OnOk}
+use Rattle.clock_setup.specs.Limits.{IsSetup, public_setup}
+use Rattle.clock_setup.specs.Faults.{IsFirstFault}
+use Rattle.clock_bids.specs.declared.sheet.Bid.{Bid}
+use Rattle.clock_house.specs.History.{bidder_at}
+use Rattle.clock_house.specs.House.{HouseFields, ToView}
+use Rattle.clock_house.specs.View.{view_of, seen_put_fault}
+use Rattle.clock_house.specs.declared.fault.PutFault.{PutFault}
+use Rattle.clock_house.specs.declared.fault.PutFault.TheVariants.{NoMemory}
+use Rattle.clock_views.specs.Refusals.{shown_put}
+use Rattle.clock_front.specs.Askers.{IsKnown, asker}
+use Rattle.clock_front.specs.Fronts.{commands_of}
+use Rattle.clock_front.specs.Outcomes.{outcome, answer_of, put_outcome, refused}
+use Rattle.clock_front.specs.Private.{IsToldByView, IsToldAsker, IsPrivateReply}
+use Rattle.clock_front.specs.Replies.{Answer}
+use Rattle.clock_front.specs.Requests.{Ask, request_of, put}
+use Rattle.clock_front.specs.Views.{bidder_outcome}
+use Rattle.clock_front.specs.declared.put_body.PutBody.{PutBody}
+use Rattle.clock_front.specs.declared.tokens.Asker.{Asker}
+use Rattle.clock_front.specs.declared.tokens.Asker.TheVariants.{Nobody, Operator, Bidder}
+use Rattle.clock_front.proofs.FrontLaws.{outcome_after}
+use Rattle.clock_front.proofs.RunLaws.{right}
+use Rattle.clock_front.proofs.TextViews.{told_of_view}
+
+-- what is told to a bidder is what its view tells
+pub told_by_view : (house : HouseFields) (bidder : ℕ) (ask : Ask) (answer : Answer) → bidder < length house.setup.bidders
+    → answer ≡ answer_of (outcome house (Bidder bidder) ask) → IsToldByView house bidder ask answer
+told_by_view house bidder ask answer lt is =
+    λ commands stands. is ∙ ap answer_of (outcome_after house commands (Bidder bidder) ask stands ∙ told_of_view house.setup bidder lt commands ask)
+
+pub told_asker : (house : HouseFields) (who : Asker) (ask : Ask) (answer : Answer) → IsKnown (length house.setup.bidders) who
+    → answer ≡ answer_of (outcome house who ask) → IsToldAsker house who ask answer
+told_asker house Nobody ask answer known is = tt
+told_asker house Operator ask answer known is = tt
+told_asker house (Bidder bidder) ask answer known is = told_by_view house bidder ask answer known is
+
+pub if_told_asker : {N : Type 0} (told : Result Answer N) (house : HouseFields) (who : Asker) (ask : Ask) → IsKnown (length house.setup.bidders) who
+    → IfOk told (λ reply. reply ≡ answer_of (outcome house who ask)) → IfOk told (IsToldAsker house who ask)
+if_told_asker (Ok reply) house who ask known is = told_asker house who ask reply known is
+if_told_asker (Err e) house who ask known is = tt
+
+-- the right answer to a text is private
+pub private_reply : (house : HouseFields) (text : List ℕ) (answer : Answer) → IsSetup house.setup
+    → answer ≡ answer_of (outcome house (asker house.setup (request_of text).token) (request_of text).ask) → IsPrivateReply text house answer
+private_reply house text answer limits is =
+    λ texts bidder stands lt own.
+    (right house.setup limits texts text answer
+    (is ∙ ap answer_of (outcome_after house (commands_of house.setup texts) (asker house.setup (request_of text).token) (request_of text).ask stands))).private bidder lt own
+
+pub if_private : {N : Type 0} (told : Result Answer N) (house : HouseFields) (text : List ℕ) → IsSetup house.setup
+    → IfOk told (λ reply. reply ≡ answer_of (outcome house (asker house.setup (request_of text).token) (request_of text).ask)) → IfOk told (IsPrivateReply text house)
+if_private (Ok reply) house text limits is = private_reply house text reply limits is
+if_private (Err e) house text limits is = tt
+
+pub if_told_by_view : {N : Type 0} (told : Result Answer N) (house : HouseFields) (bidder : ℕ) (ask : Ask) → bidder < length house.setup.bidders
+    → IfOk told (λ reply. reply ≡ answer_of (outcome house (Bidder bidder) ask)) → IfOk told (IsToldByView house bidder ask)
+if_told_by_view (Ok reply) house bidder ask lt is = told_by_view house bidder ask reply lt is
+if_told_by_view (Err e) house bidder ask lt is = tt
+
+-- ---- a sheet is judged by what the bidder sees
+
+-- the answer to an accepted sheet
+pub accepted_by_view : (house : HouseFields) (bidder : ℕ) (sent : PutBody) (bids : List Bid) (answer : Answer) → bids ≡ sent.bids
+    → ToView house bidder (λ view. seen_put_fault (public_setup house.setup) (bidder_at house.setup bidder) view sent.round bids ≡ None)
+    → answer ≡ answer_of (put_outcome sent None) → IsToldByView house bidder (put (Ok sent)) answer
+unfolding bidder_outcome
+accepted_by_view house bidder sent bids answer same seen is =
+    λ commands stands.
+    let judged : List Bid → Option PutFault = seen_put_fault (public_setup house.setup) (bidder_at house.setup bidder) (view_of house.setup bidder commands) sent.round in
+    is ∙ ap (λ fault. answer_of (put_outcome sent fault)) (sym (seen commands stands) ∙ ap judged same)
+
+refused_answer : (house : HouseFields) (bidder : ℕ) (sent : PutBody) (bids : List Bid) (fault : PutFault) (answer : Answer) → bids ≡ sent.bids
+    → ToView house bidder (λ view. seen_put_fault (public_setup house.setup) (bidder_at house.setup bidder) view sent.round bids ≡ Some fault)
+    → answer ≡ answer_of (refused (shown_put fault)) → IsToldByView house bidder (put (Ok sent)) answer
+unfolding bidder_outcome
+refused_answer house bidder sent bids fault answer same seen is =
+    λ commands stands.
+    let judged : List Bid → Option PutFault = seen_put_fault (public_setup house.setup) (bidder_at house.setup bidder) (view_of house.setup bidder commands) sent.round in
+    is ∙ ap (λ first. answer_of (put_outcome sent first)) (sym (seen commands stands) ∙ ap judged same)
+
+-- the answer to a sheet that is not put in force
+pub refused_by_view : {N : Type 0} (told : Result Answer N) (house : HouseFields) (bidder : ℕ) (sent : PutBody) (bids : List Bid) (fault : PutFault) → bids ≡ sent.bids
+    → ToView house bidder (λ view. IsFirstFault NoMemory (seen_put_fault (public_setup house.setup) (bidder_at house.setup bidder) view sent.round bids) fault)
+    → IfOk told (λ reply. reply ≡ answer_of (refused (shown_put fault))) → OnOk told (fault ≢ NoMemory) → IfOk told (IsToldByView house bidder (put (Ok sent)))
+refused_by_view (Ok reply) house bidder sent bids fault same seen is known =
+    refused_answer house bidder sent bids fault reply same (λ commands stands. seen commands stands known) is
+refused_by_view (Err e) house bidder sent bids fault same seen is known = tt
