@@ -5,7 +5,7 @@ mod HeaderLaws
 mod TextLaws
 pub mod ProgressLaws
 mod RouteLaws
-mod MemberLaws
+mod TieLaws
 mod ReplyLaws
 mod TokenLaws
 mod OutcomeLaws

@@ -92,8 +92,8 @@ pub(crate) fn put<P: Processor>(
     }
 }
 
-/// Whether increments have the form of a set-up's version.
-fn is_of_version(version: u64, increments: &Increments) -> bool
+/// Whether increments have the form of a set-up's version: one for all products in version 1, one for each later.
+pub fn is_of_version(version: u64, increments: &Increments) -> bool
     ensures { result ≡ told.is_of_version version increments.now }
 {
     match increments {

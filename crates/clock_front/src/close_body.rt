@@ -1,14 +1,14 @@
 ghost use Rattle.std.specs.Prelude.{◌≡◌, ◌≢◌, Some, Ok, Err, IfOk, IfErr};
 ghost use Rattle.serde_json.specs.View.{view, items_view};
 ghost use Rattle.clock_setup.specs.Faults.{or_fault};
-ghost use Rattle.clock_setup.specs.Members.{each, number_from};
+ghost use Rattle.clock_setup.specs.Members.{each};
 ghost use Rattle.clock_front.specs.CloseBodies as bodies;
 
 use crate::body_fault::BodyFault;
-use crate::members::{has_members, items_at, number_at, read_value};
 use clock_device::Items;
 use clock_order::Tie;
-use clock_setup::{Amounts, Increments};
+use clock_setup::Increments;
+use clock_setup::members::{has_members, items_at, number_at, numbers_of, read_value};
 use serde_json::Value;
 use std::alloc::Global;
 
@@ -24,22 +24,8 @@ pub struct CloseBody {
     pub ties: Items<Tie>,
 }
 
-/// The numbers of a list.
-fn numbers_of(alloc: Global, items: &[Value]) -> Result<Amounts, BodyFault>
-    ensures ok { IfOk result (λ numbers. each number_from (items_view items.now) ≡ Some numbers) }
-    ensures err { IfErr result (λ fault. fault ≢ BodyFault.NoMemory
-        → or_fault BodyFault.Shape (each number_from (items_view items.now)) ≡ Err fault) }
-{
-    let mut numbers = Amounts::new(alloc);
-    for item in items {
-        let number = item.as_u64().ok_or(BodyFault::Shape)?;
-        numbers.push(number)?;
-    }
-    Ok(numbers)
-}
-
-/// The tie number that a value means.
-fn tie_of(value: &Value) -> Option<Tie>
+/// The tie number that a JSON value means: a list of a bidder, a product and a number.
+pub fn tie_of(value: &Value) -> Option<Tie>
     ensures { result ≡ bodies.tie_of (view value.now) }
 {
     let items = value.as_array()?.as_slice();
@@ -77,7 +63,7 @@ fn increments_of(alloc: Global, value: &Value) -> Result<Increments, BodyFault>
         return Ok(Increments::Single(increment));
     }
     let items = items_at(value, "increments").ok_or(BodyFault::Shape)?;
-    let increments = numbers_of(alloc, items)?;
+    let increments = numbers_of(alloc, items)?.ok_or(BodyFault::Shape)?;
     Ok(Increments::PerProduct(increments))
 }
 

@@ -5,9 +5,9 @@ ghost use Rattle.clock_setup.specs.Members.{each};
 ghost use Rattle.clock_front.specs.Bodies as bodies;
 
 use crate::body_fault::BodyFault;
-use crate::members::{has_members, items_at, number_at, read_value};
 use clock_bids::Bid;
 use clock_device::Items;
+use clock_setup::members::{has_members, items_at, number_at, read_value};
 use serde_json::Value;
 use std::alloc::Global;
 
@@ -20,9 +20,9 @@ pub struct PutBody {
     pub bids: Items<Bid>,
 }
 
-/// The bid that a value means.
+/// The bid that a JSON value means: an object of price, product and quantity, whole numbers of at most 64 bits.
 #[tactic(auto, unfolding(crate::specs::Bodies::bid_of))]
-fn bid_of(value: &Value) -> Option<Bid>
+pub fn bid_of(value: &Value) -> Option<Bid>
     ensures { result ≡ bodies.bid_of (view value.now) }
 {
     let price = number_at(value, "price")?;

@@ -1,7 +1,7 @@
 use Rattle.std.proofs.Common.{length, sym, ap, ◌∙◌}
 use Rattle.std.specs.Prelude.{option_and_then}
 use Rattle.clock_front.specs.CloseBodies.{tie_from}
-use Rattle.clock_front.proofs.MemberLaws.{no_tie}
+use Rattle.clock_front.proofs.TieLaws.{no_tie}
 use Rattle.clock_front.proofs.close_body.tie_of.Goals as goal
 
 pub returns-then-items-ne3 : goal.returns-then-items-ne3

@@ -2,7 +2,7 @@ use Rattle.std.proofs.Common.{◌≡◌, drop}
 use Rattle.serde_json.specs.View.{items_view}
 use Rattle.clock_setup.specs.Members.{each}
 use Rattle.clock_front.specs.Bodies.{bid_of}
-use Rattle.clock_front.proofs.MemberLaws.{behind}
+use Rattle.clock_setup.proofs.MemberLaws.{behind}
 use Rattle.clock_front.proofs.put_body.bids_of.Given as goal
 
 -- the bids so far, and those of what is left
