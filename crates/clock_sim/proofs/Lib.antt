@@ -1,2 +1,0 @@
-pub mod CheckLaws
-mod Examples

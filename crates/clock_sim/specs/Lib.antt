@@ -1,4 +1,0 @@
-pub mod Replays
-pub mod Reports
-pub mod ReplayChecks
-pub mod ReportText
