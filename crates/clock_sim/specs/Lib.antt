@@ -1,0 +1,4 @@
+pub mod Replays
+pub mod Reports
+pub mod ReplayChecks
+pub mod ReportText

@@ -1,0 +1,17 @@
+//! Scripted bidders: what a replay document means, and the report of a replay.
+#![tactic(auto)]
+
+mod checks;
+mod closing;
+mod fault;
+mod replay;
+mod report;
+mod report_lines;
+mod script;
+
+pub use closing::{Closing, Closings, TieList};
+pub use fault::ScriptFault;
+pub use replay::Replay;
+pub use report::{Report, RoundSheets};
+pub use report_lines::report_text;
+pub use script::{BidList, LimitLists, Script, Scripts, SheetList};

@@ -1,0 +1,120 @@
+ghost use Rattle.std.specs.Prelude.{◌≡◌, ◌≤◌, ◌++◌, All, IfOk, OnOk, length, decimal, codes, zip};
+ghost use Rattle.std.specs.List.{flat_map};
+ghost use Rattle.clock_setup.specs.Limits.{IsRow, most_products, most_supply};
+ghost use Rattle.clock_posting.specs.SheetText.{sheet_text};
+ghost use Rattle.clock_sim.specs.Reports.{IsReport};
+ghost use Rattle.clock_sim.specs.ReportText as words;
+
+use crate::report::Report;
+use clock_device::{NoMemory, Text};
+use clock_posting::{Line, RoundSheet, sheet_lines};
+use clock_setup::{Bidder, Grid, Setup};
+use std::alloc::Global;
+
+/// The text of a report: the lines of each round's sheet, by rising round, then for each bidder the line
+/// `won NAME DEMAND .. PAY` with its demand for each product and the sum of demand times posted price of the last
+/// round, in whole dollars. Fields are parted by one space, numbers are plain decimal, and each line ends with a line feed:
+///
+/// ```text
+/// round 1
+/// A 100 100 100 - -
+/// won X 1 100
+/// won Y 1 100
+/// ```
+pub fn report_text(alloc: Global, report: &Report) -> Result<Text, NoMemory>
+    ensures { IfOk result (λ text. text ≡ words.report_text report.now) }
+{
+    let sheets = report.sheets.as_slice();
+    let mut text = Text::new(alloc);
+    push_rounds(alloc, &mut text, &report.setup, sheets)?;
+    let lines = sheets[sheets.len() - 1].lines.as_slice();
+    push_wins(
+        &mut text,
+        lines,
+        report.setup.bidders.as_slice(),
+        &report.grid,
+    )?;
+    Ok(text)
+}
+
+/// Adds the lines of the rounds.
+fn push_rounds(
+    alloc: Global,
+    text: &mut Text,
+    setup: &Setup,
+    sheets: &[RoundSheet],
+) -> Result<(), NoMemory>
+    requires { All (λ sheet. length sheet.lines ≡ length setup.now.products) sheets.now }
+    ensures { OnOk result (text.new ≡ text.old ++ flat_map (sheet_text setup.now.products) sheets.now) }
+{
+    for sheet in sheets {
+        let lines = sheet_lines(alloc, setup, sheet)?;
+        text.extend_from_slice(lines.as_slice())?;
+    }
+    Ok(())
+}
+
+/// What demands cost at the posted prices, in whole dollars.
+fn payment(lines: &[Line], demands: &[u64]) -> u64
+    requires each { length demands.now ≡ length lines.now }
+    requires few { length lines.now ≤ most_products }
+    requires small { All (λ demand. demand ≤ most_supply) demands.now }
+    ensures { result ≡ words.payment lines.now demands.now }
+{
+    let mut total: u64 = 0;
+    for (product, line) in lines.iter().enumerate() {
+        total += line.posted.get() * demands[product];
+    }
+    total
+}
+
+/// Adds demands by product, each with a space behind it.
+fn push_demands(text: &mut Text, demands: &[u64]) -> Result<(), NoMemory>
+    ensures { OnOk result (text.new ≡ text.old ++ flat_map (λ demand. decimal demand ++ codes " ") demands.now) }
+{
+    for demand in demands {
+        text.push_number(*demand)?;
+        text.push(b' ')?;
+    }
+    Ok(())
+}
+
+/// Adds the line of a bidder.
+fn push_won(
+    text: &mut Text,
+    lines: &[Line],
+    bidder: &Bidder,
+    demands: &[u64],
+) -> Result<(), NoMemory>
+    requires each { length demands.now ≡ length lines.now }
+    requires few { length lines.now ≤ most_products }
+    requires small { All (λ demand. demand ≤ most_supply) demands.now }
+    ensures { OnOk result (text.new ≡ text.old ++ words.won_text lines.now (bidder.now, demands.now)) }
+{
+    text.extend_from_slice(b"won ")?;
+    text.extend_from_slice(bidder.name.as_slice())?;
+    text.push(b' ')?;
+    push_demands(text, demands)?;
+    text.push_number(payment(lines, demands))?;
+    text.push(b'\n')?;
+    Ok(())
+}
+
+/// Adds the lines of the bidders.
+fn push_wins(
+    text: &mut Text,
+    lines: &[Line],
+    bidders: &[Bidder],
+    grid: &Grid,
+) -> Result<(), NoMemory>
+    requires few { length lines.now ≤ most_products }
+    requires bidders { length grid.now ≡ length bidders.now }
+    requires each { All (λ row. length row ≡ length lines.now) grid.now }
+    requires small { All (λ row. All (λ demand. demand ≤ most_supply) row) grid.now }
+    ensures { OnOk result (text.new ≡ text.old ++ flat_map (words.won_text lines.now) (zip bidders.now grid.now)) }
+{
+    for (number, bidder) in bidders.iter().enumerate() {
+        push_won(text, lines, bidder, grid.row(number))?;
+    }
+    Ok(())
+}
