@@ -3,7 +3,7 @@ use super::requests::{compare, opened, reply_of, text_of};
 use crate::{Front, run};
 use clock_device::{Items, Text};
 use clock_processor::Plain;
-use clock_setup::fixtures::{GRANULES_AND_INCREMENTS, ONE_PRODUCT};
+use clock_setup::fixtures::{ACTIVITY_LIMIT, GRANULES_AND_INCREMENTS, ONE_PRODUCT};
 use clock_setup::read_setup;
 use clock_views::Code;
 use std::alloc::Global;
@@ -13,6 +13,8 @@ use std::test::Fail;
 /// Requests in turn, a line each: the request line, whose token it has, its body, and the status and page of its reply.
 const SHEETS: &str =
     r#"GET /v1/me/bids|X||200 OK|{"bids":[{"price":100,"product":0,"quantity":2}],"round":1}
+PUT /v1/me/bids|X|{"bids":[{"price":100,"product":0,"quantity":1}],"round":1}|200 OK|{"accepted":true,"bids":1,"round":1}
+GET /v1/me/bids|X||200 OK|{"bids":[{"price":100,"product":0,"quantity":1}],"round":1}
 PUT /v1/me/bids|X|{"bids":[],"round":1}|200 OK|{"accepted":true,"bids":0,"round":1}
 GET /v1/me/bids|X||200 OK|{"bids":[],"round":1}
 GET /v1/me/bids|Y||200 OK|{"bids":null,"round":1}"#;
@@ -29,19 +31,27 @@ POST /v1/close|O|{"increment":10,"round":2,"ties":[]}|200 OK|{"closed":2,"ended"
 GET /v1/results|O||200 OK|{"bidders":[{"demands":[1],"eligibility":2,"name":"X"},{"demands":[1],"eligibility":2,"name":"Y"}],"ended":true,"round":2}
 GET /v1/me/rounds/2|X||200 OK|{"activity":1,"demands":[1],"eligibility":2,"round":2}
 GET /v1/rounds/2|||200 OK|{"ended":true,"products":[{"clock":110,"demand":null,"name":"A","next":null,"posted":103,"start":100}],"round":2}
-PUT /v1/me/bids|X|{"bids":[],"round":2}|409 Conflict|{"code":"ended","status":409}"#;
+PUT /v1/me/bids|X|{"bids":[],"round":2}|409 Conflict|{"code":"ended","status":409}
+PUT /v1/me/bids|X|{"bids":[],"round":1}|409 Conflict|{"code":"ended","status":409}
+PUT /v1/me/bids|X|{"bids":[]}|422 Unprocessable Entity|{"code":"shape","status":422}
+POST /v1/close|O|{"increment":10,"round":1,"ties":[]}|409 Conflict|{"code":"ended","status":409}
+POST /v1/close|O|{"increments":[10],"round":2,"ties":[]}|422 Unprocessable Entity|{"code":"shape","status":422}"#;
 
-/// Each request has two faults, of which the earlier line of the table answers.
-const REFUSALS: &str = r#"PUT /v1/none|||404 Not Found|{"code":"no_page","status":404}
+/// Each request has two faults or more, of which the earlier one answers.
+const REFUSALS: &str = r#"DELETE /v1/none|||404 Not Found|{"code":"no_page","status":404}
 DELETE /v1/me/bids|||405 Method Not Allowed|{"code":"method","status":405}
 PUT /v1/me/bids||x|401 Unauthorized|{"code":"token","status":401}
 PUT /v1/me/bids|O|x|403 Forbidden|{"code":"role","status":403}
+PUT /v1/me/bids|O|{"bids":[]}|403 Forbidden|{"code":"role","status":403}
 POST /v1/close|X|x|403 Forbidden|{"code":"role","status":403}
+POST /v1/close|X|{"increments":[10],"round":1,"ties":[]}|403 Forbidden|{"code":"role","status":403}
 PUT /v1/me/bids|X|x|400 Bad Request|{"code":"bad_json","status":400}
 PUT /v1/me/bids|X|{"bids":[]}|422 Unprocessable Entity|{"code":"shape","status":422}
 PUT /v1/me/bids|X|{"bids":[{"price":1,"product":1,"quantity":2}],"round":2}|409 Conflict|{"code":"wrong_round","round":1,"status":409}
 PUT /v1/me/bids|X|{"bids":[{"price":1,"product":1,"quantity":2}],"round":1}|422 Unprocessable Entity|{"code":"unknown_product","place":0,"status":422}
-POST /v1/close|O|{"increments":[10],"round":1,"ties":[]}|422 Unprocessable Entity|{"code":"shape","status":422}
+PUT /v1/me/bids|X|{"bids":[{"price":101,"product":0,"quantity":3}],"round":1}|422 Unprocessable Entity|{"code":"price_range","place":0,"status":422}
+POST /v1/close|O|{"increments":[10],"round":2,"ties":[]}|422 Unprocessable Entity|{"code":"shape","status":422}
+POST /v1/close|O|{"increment":51,"round":2,"ties":[[0,1,5]]}|409 Conflict|{"code":"wrong_round","round":1,"status":409}
 POST /v1/close|O|{"increment":51,"round":1,"ties":[[0,1,5]]}|422 Unprocessable Entity|{"code":"increment","status":422}
 POST /v1/close|O|{"increment":10,"round":1,"ties":[[0,0,1],[0,0,2]]}|422 Unprocessable Entity|{"code":"tie_repeated","place":1,"status":422}
 GET /v1/rounds/01|||404 Not Found|{"code":"no_round","status":404}
@@ -53,7 +63,19 @@ GET /v1/me|O||403 Forbidden|{"code":"role","status":403}
 GET /v1/rounds/1|||404 Not Found|{"code":"no_round","status":404}
 POST /v1/close|O|{"increment":0,"round":1,"ties":[]}|422 Unprocessable Entity|{"code":"increment","status":422}
 POST /v1/close|O|{"increment":51,"round":1,"ties":[]}|422 Unprocessable Entity|{"code":"increment","status":422}
-POST /v1/close|O|{"increment":10,"round":1,"ties":[[0,1,5]]}|422 Unprocessable Entity|{"code":"tie_range","place":0,"status":422}"#;
+POST /v1/close|O|{"increment":10,"round":1,"ties":[[0,1,5]]}|422 Unprocessable Entity|{"code":"tie_range","place":0,"status":422}
+PUT /v1/me/bids|X|{"bids":[{"price":101,"product":0,"quantity":1}],"round":1}|422 Unprocessable Entity|{"code":"price_range","place":0,"status":422}
+PUT /v1/me/bids|X|{"bids":[{"price":100,"product":0,"quantity":3}],"round":1}|422 Unprocessable Entity|{"code":"over_cap","place":0,"status":422}
+PUT /v1/me/bids|X|{"bids":[{"price":100,"product":0,"quantity":1},{"price":100,"product":0,"quantity":2}],"round":1}|422 Unprocessable Entity|{"code":"price_order","place":1,"status":422}
+PUT /v1/me/bids|X|{"bids":[{"price":100,"product":0,"quantity":2}],"round":1}|200 OK|{"accepted":true,"bids":1,"round":1}
+PUT /v1/me/bids|Y|{"bids":[{"price":100,"product":0,"quantity":1}],"round":1}|200 OK|{"accepted":true,"bids":1,"round":1}
+POST /v1/close|O|{"increment":10,"round":1,"ties":[]}|200 OK|{"closed":1,"ended":false}
+PUT /v1/me/bids|X|{"bids":[{"price":103,"product":0,"quantity":1},{"price":105,"product":0,"quantity":2}],"round":2}|422 Unprocessable Entity|{"code":"mixed_direction","place":1,"status":422}
+PUT /v1/me/bids|X|{"bids":[{"price":105,"product":0,"quantity":2}],"round":2}|422 Unprocessable Entity|{"code":"keep_price","place":0,"status":422}"#;
+
+/// More activity than a bidder is eligible for.
+const ACTIVE: &str =
+    r#"PUT /v1/me/bids|X|{"bids":[{"price":100,"product":0,"quantity":4},{"price":100,"product":1,"quantity":1}],"round":1}|422 Unprocessable Entity|{"code":"over_activity","status":422}"#;
 
 /// One product that opens at the highest price.
 const HIGHEST_PRICE: &str =
@@ -63,6 +85,7 @@ const HIGHEST_PRICE: &str =
 const PRICE_LIMIT: &str =
     r#"PUT /v1/me/bids|X|{"bids":[{"price":1000000000000,"product":0,"quantity":2}],"round":1}|200 OK|{"accepted":true,"bids":1,"round":1}
 PUT /v1/me/bids|Y|{"bids":[{"price":1000000000000,"product":0,"quantity":1}],"round":1}|200 OK|{"accepted":true,"bids":1,"round":1}
+POST /v1/close|O|{"increment":1,"round":1,"ties":[[0,1,5]]}|422 Unprocessable Entity|{"code":"tie_range","place":0,"status":422}
 POST /v1/close|O|{"increment":1,"round":1,"ties":[]}|422 Unprocessable Entity|{"code":"price_limit","place":0,"status":422}
 GET /v1/status|||200 OK|{"ended":false,"round":1,"version":1}
 GET /v1/me/bids|X||200 OK|{"bids":[{"price":1000000000000,"product":0,"quantity":2}],"round":1}
@@ -134,36 +157,62 @@ fn a_fault_is_told_by_its_page(rt: HostRuntime) -> Result<(), Fail> {
 }
 
 #[test]
+fn activity_is_within_eligibility(rt: HostRuntime) -> Result<(), Fail> {
+    send_all(&rt, rt.alloc(), ACTIVITY_LIMIT, ACTIVE)
+}
+
+#[test]
 fn a_refused_closing_keeps_the_sheets(rt: HostRuntime) -> Result<(), Fail> {
     send_all(&rt, rt.alloc(), HIGHEST_PRICE, PRICE_LIMIT)
 }
 
-/// The body of a sheet that has one bid more than a sheet may have.
-fn sheet_of_too_many(alloc: Global) -> Result<String, Fail> {
-    let bid = r#"{"price":100,"product":0,"quantity":1}"#;
-    let mut body = format!(in alloc; "{{\"bids\":[{bid}")?;
-    for _ in 0..8192 {
+/// A body of so many items, one like the other.
+fn body_of(alloc: Global, front: &str, item: &str, count: u32, back: &str) -> Result<String, Fail> {
+    let mut body = String::from_str(alloc, front)?;
+    body.push_str(item)?;
+    for _ in 1..count {
         body.push_str(",")?;
-        body.push_str(bid)?;
+        body.push_str(item)?;
     }
-    body.push_str("],\"round\":1}")?;
+    body.push_str(back)?;
     Ok(body)
 }
 
-#[test]
-fn a_sheet_has_at_most_8192_bids(rt: HostRuntime) -> Result<(), Fail> {
-    let alloc = rt.alloc();
+/// A body is refused for how many items it has.
+fn has_too_many(
+    rt: &impl Abort,
+    alloc: Global,
+    line: &str,
+    who: &str,
+    body: &str,
+    page: &str,
+) -> Result<(), Fail> {
     let mut front = opened(alloc, ONE_PRODUCT)?;
-    let body = sheet_of_too_many(alloc)?;
-    let text = text_of(alloc, "PUT /v1/me/bids", "X", body.as_str())?;
+    let text = text_of(alloc, line, who, body)?;
     compare(
-        &rt,
+        rt,
         alloc,
         &mut front,
         text.as_str(),
         "422 Unprocessable Entity",
-        r#"{"code":"too_many","status":422}"#,
+        page,
     )
+}
+
+#[test]
+fn a_sheet_has_at_most_8192_bids(rt: HostRuntime) -> Result<(), Fail> {
+    let bid = r#"{"price":100,"product":0,"quantity":1}"#;
+    let body = body_of(rt.alloc(), "{\"bids\":[", bid, 8_193, "],\"round\":1}")?;
+    let page = r#"{"code":"too_many","status":422}"#;
+    has_too_many(&rt, rt.alloc(), "PUT /v1/me/bids", "X", body.as_str(), page)
+}
+
+#[test]
+fn a_closing_has_at_most_16384_ties(rt: HostRuntime) -> Result<(), Fail> {
+    let front = "{\"increment\":10,\"round\":1,\"ties\":[";
+    let body = body_of(rt.alloc(), front, "[0,1,5]", 16_385, "]}")?;
+    let page = r#"{"code":"too_many_ties","status":422}"#;
+    has_too_many(&rt, rt.alloc(), "POST /v1/close", "O", body.as_str(), page)
 }
 
 #[test]

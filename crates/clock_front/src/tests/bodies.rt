@@ -1,120 +1,105 @@
 //! What the bodies of requests mean.
 use crate::{BodyFault, read_close, read_put};
+use clock_bids::Bid;
 use clock_setup::Increments;
 use std::alloc::Global;
 use std::test::Fail;
 
-fn put_fault(alloc: Global, body: &[u8]) -> Option<BodyFault> {
-    read_put(alloc, body).err()
+/// Bodies of sheets, and the product, quantity and price of each bid with the round, or the fault.
+const SHEETS: &str =
+    r#" {"round":18446744073709551615,"bids":[{"price":100,"product":0,"quantity":2}, {"quantity":1,"\u0070rice":0,"product":7}]}|0 2 100,7 1 0,18446744073709551615
+{"bids":[],"round":1}|1
+|NotJson
+{"bids":[]|NotJson
+{"bids":[],"round":1}x|NotJson
+{"bids":[],"round":1e400}|NotJson
+{"bids":[],"round":"\ud800"}|NotJson
+[]|Shape
+{"bids":[]}|Shape
+{"bids":null,"round":1}|Shape
+{"bids":[],"round":1,"x":1}|Shape
+{"bids":[1],"round":1}|Shape
+{"bids":[{"price":100,"product":0}],"round":1}|Shape
+{"bids":[{"price":100,"product":0,"quantity":2,"x":1}],"round":1}|Shape
+{"bids":[{"price":100,"product":"0","quantity":2}],"round":1}|Shape
+{"bids":[],"round":18446744073709551616}|Shape
+{"bids":[],"round":-0}|Shape
+{"bids":[],"round":-1}|Shape
+{"bids":[],"round":1.0}|Shape
+{"bids":[],"round":1e2}|Shape
+{"bids":[],"round":1e-400}|Shape"#;
+
+/// Bodies of closings, and how many increments by product and ties each has with its round, or its fault.
+const CLOSINGS: &str = r#"{"increment":10,"round":1,"ties":[]}|0 0 1
+{"increments":[10,20],"round":2,"ties":[[0,1,5],[1,0,3]]}|2 2 2
+{"increment":10,"increments":[10],"round":1,"ties":[]}|Shape
+{"round":1,"ties":[]}|Shape
+{"increment":10,"round":1,"ties":[[0,1]]}|Shape
+{"increment":10,"round":1,"ties":[[0,1,5,6]]}|Shape
+{"increment":10,"round":1,"ties":[}|NotJson"#;
+
+/// The bids of a sheet.
+fn told_bids(alloc: Global, bids: &[Bid]) -> Result<String, Fail> {
+    let mut told = String::new(alloc);
+    for bid in bids {
+        let row = format!(in alloc; "{} {} {},", bid.product, bid.quantity, bid.price)?;
+        told.push_str(row.as_str())?;
+    }
+    Ok(told)
 }
 
-/// The sheet of a body with its round put in.
-fn put_fault_of_round(alloc: Global, round: &str) -> Result<Option<BodyFault>, Fail> {
-    let body = format!(in alloc; "{{\"bids\":[],\"round\":{round}}}")?;
-    Ok(put_fault(alloc, body.as_bytes()))
+/// What the body of a sheet means.
+fn told_sheet(alloc: Global, body: &[u8]) -> Result<String, Fail> {
+    match read_put(alloc, body) {
+        Ok(sheet) => {
+            let bids = told_bids(alloc, sheet.bids.as_slice())?;
+            Ok(format!(in alloc; "{}{}", bids.as_str(), sheet.round)?)
+        }
+        Err(fault) => Ok(format!(in alloc; "{fault:?}")?),
+    }
+}
+
+/// What the body of a closing means.
+fn told_closing(alloc: Global, body: &[u8]) -> Result<String, Fail> {
+    match read_close(alloc, body) {
+        Ok(closing) => {
+            let increments = match &closing.increments {
+                Increments::Single(_) => 0,
+                Increments::PerProduct(increments) => increments.as_slice().len(),
+            };
+            let ties = closing.ties.as_slice().len();
+            Ok(format!(in alloc; "{increments} {ties} {}", closing.round)?)
+        }
+        Err(fault) => Ok(format!(in alloc; "{fault:?}")?),
+    }
 }
 
 #[test]
 fn a_sheet_is_its_bids_and_round(rt: HostRuntime) -> Result<(), Fail> {
-    let body =
-        b" {\"round\":18446744073709551615,\"bids\":[{\"price\":100,\"product\":0,\"quantity\":2}, {\"quantity\":1,\"\\u0070rice\":0,\"product\":7}]}";
-    let sheet = read_put(rt.alloc(), body)?;
-    assert_eq!(rt; sheet.round, 18_446_744_073_709_551_615);
-    let bids = sheet.bids.as_slice();
-    assert_eq!(rt; bids.len(), 2);
-    assert_eq!(rt;
-        (bids[0].product, bids[0].quantity, bids[0].price),
-        (0, 2, 100)
-    );
-    assert_eq!(rt;
-        (bids[1].product, bids[1].quantity, bids[1].price),
-        (7, 1, 0)
-    );
+    for row in SHEETS.split('\n') {
+        let (body, meaning) = row.rsplit_once('|').unwrap_or((row, ""));
+        let told = told_sheet(rt.alloc(), body.as_bytes())?;
+        assert_eq!(rt; told.as_str(), meaning, "{body}");
+    }
     Ok(())
 }
 
 #[test]
-fn a_body_that_is_no_json_is_refused(rt: HostRuntime) {
+fn a_body_that_is_no_text_is_no_json(rt: HostRuntime) {
     for body in [
-        b"".as_slice(),
-        b"{\"bids\":[]",
-        b"{\"bids\":[],\"round\":1}x",
-        b"{\"bids\":[],\"round\":1e400}",
-        b"\xef\xbb\xbf{\"bids\":[],\"round\":1}",
+        b"\xef\xbb\xbf{\"bids\":[],\"round\":1}".as_slice(),
         b"{\"bids\":[],\"round\":\"\xff\"}",
-        b"{\"bids\":[],\"round\":\"\\ud800\"}",
     ] {
-        assert_eq!(rt; put_fault(rt.alloc(), body), Some(BodyFault::NotJson));
+        assert_eq!(rt; read_put(rt.alloc(), body).err(), Some(BodyFault::NotJson));
     }
 }
 
 #[test]
-fn a_body_of_another_shape_is_refused(rt: HostRuntime) {
-    for body in [
-        b"[]".as_slice(),
-        b"{\"bids\":[]}",
-        b"{\"bids\":null,\"round\":1}",
-        b"{\"bids\":[],\"round\":1,\"x\":1}",
-        b"{\"bids\":[1],\"round\":1}",
-        b"{\"bids\":[{\"price\":100,\"product\":0}],\"round\":1}",
-        b"{\"bids\":[{\"price\":100,\"product\":0,\"quantity\":2,\"x\":1}],\"round\":1}",
-        b"{\"bids\":[{\"price\":100,\"product\":\"0\",\"quantity\":2}],\"round\":1}",
-    ] {
-        assert_eq!(rt; put_fault(rt.alloc(), body), Some(BodyFault::Shape));
-    }
-}
-
-#[test]
-fn a_number_is_whole_and_of_64_bits(rt: HostRuntime) -> Result<(), Fail> {
-    for round in ["18446744073709551616", "-0", "-1", "1.0", "1e2", "1e-400"] {
-        assert_eq!(rt;
-            put_fault_of_round(rt.alloc(), round)?,
-            Some(BodyFault::Shape),
-            "{round}"
-        );
+fn a_closing_has_one_form_of_increments(rt: HostRuntime) -> Result<(), Fail> {
+    for row in CLOSINGS.split('\n') {
+        let (body, meaning) = row.rsplit_once('|').unwrap_or((row, ""));
+        let told = told_closing(rt.alloc(), body.as_bytes())?;
+        assert_eq!(rt; told.as_str(), meaning, "{body}");
     }
     Ok(())
-}
-
-/// The round, the increments by product and the number of ties of a closing's body, or its fault.
-fn closing_of(alloc: Global, body: &[u8]) -> Result<(u64, usize, usize), BodyFault> {
-    let closing = read_close(alloc, body)?;
-    let increments = match &closing.increments {
-        Increments::Single(_) => 0,
-        Increments::PerProduct(increments) => increments.as_slice().len(),
-    };
-    Ok((closing.round, increments, closing.ties.as_slice().len()))
-}
-
-#[test]
-fn a_closing_has_one_form_of_increments(rt: HostRuntime) {
-    for (body, closing) in [
-        (
-            b"{\"increment\":10,\"round\":1,\"ties\":[]}".as_slice(),
-            Ok((1, 0, 0)),
-        ),
-        (
-            b"{\"increments\":[10,20],\"round\":2,\"ties\":[[0,1,5],[1,0,3]]}",
-            Ok((2, 2, 2)),
-        ),
-        (
-            b"{\"increment\":10,\"increments\":[10],\"round\":1,\"ties\":[]}",
-            Err(BodyFault::Shape),
-        ),
-        (b"{\"round\":1,\"ties\":[]}", Err(BodyFault::Shape)),
-        (
-            b"{\"increment\":10,\"round\":1,\"ties\":[[0,1]]}",
-            Err(BodyFault::Shape),
-        ),
-        (
-            b"{\"increment\":10,\"round\":1,\"ties\":[[0,1,5,6]]}",
-            Err(BodyFault::Shape),
-        ),
-        (
-            b"{\"increment\":10,\"round\":1,\"ties\":[}",
-            Err(BodyFault::NotJson),
-        ),
-    ] {
-        assert_eq!(rt; closing_of(rt.alloc(), body), closing);
-    }
 }

@@ -1,184 +1,135 @@
 //! What a text is, whole and in pieces.
 ghost use Rattle.std.specs.Prelude.{◌≤◌, length};
+ghost use Rattle.clock_front.specs.Shown.{Knows};
 
-use crate::{Framing, Progress, frame};
-use clock_views::Code;
+use super::requests::opened;
+use crate::{Framing, Front, Head, Progress, frame};
+use clock_processor::Plain;
+use clock_setup::fixtures::ONE_PRODUCT;
 use std::alloc::Global;
 use std::test::Fail;
 
-/// A sheet's request: its head ends with the last line before the body of three bytes.
-const PUT: &str =
-    "PUT /v1/me/bids?x HTTP/1.1\r\nauthorization: Bearer XXXXXXXXXXXXXXXX\r\ncontent-length: 3\r\n\r\n{} and more";
+/// Texts, and what they are: `more` is needed, a code refuses them, or they have a method, a path, a token or `-`, and a body.
+/// Here `~` stands for CR LF, `$` for LF and `^` for CR.
+const TEXTS: &str = "|more
+^|more
+$$|more
+GET / HTTP/1.1$$|more
+GET / HTTP/1.1~^|more
+GET / HTTP/1.1~content-length: 2~~1|more
+GET / HTTP/1.1~content-length: 01048576~~|more
+GET / HTTP/1.0~~|GET / - []
+GET / HTTP/1.1~Content-Length: \t 0001 ~~$x|GET / - [$]
+PUT /v1/me/bids?x HTTP/1.1~authorization: Bearer abc~content-length: 3~~{} and more|PUT /v1/me/bids abc [{} ]
+~~|BadHead
+~GET / HTTP/1.1~~|BadHead
+$GET / HTTP/1.1~~|BadHead
+GET / HTTP/1.1~a: b$c: d~~|BadHead
+GET / HTTP/1.1$a: b~~|BadHead
+GET  / HTTP/1.1~~|BadHead
+GET / HTTP/1.2~~|BadHead
+GET / HTTP/1.1 ~~|BadHead
+GET / HTTP/1.1~a : b~~|BadHead
+GET / HTTP/1.1~a: b~ c~~|BadHead
+GET / HTTP/1.1~: b~~|BadHead
+GET / HTTP/1.1~content-length: +5~~|BadLength
+GET / HTTP/1.1~content-length:~~|BadLength
+GET / HTTP/1.1~content-length: 5 5~~|BadLength
+GET / HTTP/1.1~content-length: 0x5~~|BadLength
+GET / HTTP/1.1~content-length: 1~CONTENT-LENGTH: 1~~|BadLength
+GET / HTTP/1.1~content-length: 1048577~~|LongBody
+GET / HTTP/1.1~content-length: 18446744073709551617~~|LongBody
+GET / HTTP/1.1~Transfer-Encoding: chunked~content-length: x~~|Coding
+GET / HTTP/1.1~transfer-encoding:~~|Coding
+GET / HTTP/1.1~Authorization:\tbEARER   a bc ~~|GET / a bc []
+GET / HTTP/1.1~authorization: Bearer\tabc~~|GET / - []
+GET / HTTP/1.1~authorization: Bearer ~~|GET / - []
+GET / HTTP/1.1~authorization: Basic abc~~|GET / - []
+GET / HTTP/1.1~authorization: Bearer abc~authorization: Bearer abc~~|GET / - []";
 
-fn refusal_of(text: &str) -> Option<Code> {
-    match frame(text.as_bytes()) {
-        Framing::Refused(code) => Some(code),
-        Framing::NeedMore => None,
-        Framing::Whole { .. } => None,
-    }
+/// A request with the token of X, and the head of another behind it.
+const STATUS: &str =
+    "GET /v1/status HTTP/1.1\r\nauthorization: Bearer XXXXXXXXXXXXXXXX\r\ncontent-length: 3\r\n\r\n{} GET /";
+
+/// The row with its line ends.
+fn with_line_ends(alloc: Global, row: &str) -> Result<String, Fail> {
+    let row = row.replace(alloc, "~", "\r\n")?;
+    let row = row.as_str().replace(alloc, "$", "\n")?;
+    Ok(row.as_str().replace(alloc, "^", "\r")?)
 }
 
-fn is_refused(text: &str, code: Code) -> bool {
-    refusal_of(text) == Some(code)
+/// The parts of a request.
+fn told_parts(alloc: Global, head: &Head<'_>, body: &[u8]) -> Result<String, Fail> {
+    let method = String::from_utf8_lossy(alloc, head.method)?;
+    let path = String::from_utf8_lossy(alloc, head.path)?;
+    let token = String::from_utf8_lossy(alloc, head.token.unwrap_or(b"-"))?;
+    let body = String::from_utf8_lossy(alloc, body)?;
+    Ok(format!(in alloc;
+        "{} {} {} [{}]",
+        method.as_str(),
+        path.as_str(),
+        token.as_str(),
+        body.as_str()
+    )?)
 }
 
-fn needs_more(text: &str) -> bool {
-    match frame(text.as_bytes()) {
-        Framing::NeedMore => true,
-        Framing::Refused(_) => false,
-        Framing::Whole { .. } => false,
-    }
-}
-
-fn body_of(text: &str) -> Option<&[u8]> {
-    match frame(text.as_bytes()) {
-        Framing::Whole { body, .. } => Some(body),
-        Framing::NeedMore => None,
-        Framing::Refused(_) => None,
-    }
-}
-
-fn method_and_path(text: &str) -> Option<(&[u8], &[u8])> {
-    match frame(text.as_bytes()) {
-        Framing::Whole { head, .. } => Some((head.method, head.path)),
-        Framing::NeedMore => None,
-        Framing::Refused(_) => None,
-    }
-}
-
-/// The token of a head with these header lines.
-fn token_of(alloc: Global, lines: &str) -> Result<Option<String>, Fail> {
-    let text = format!(in alloc; "GET / HTTP/1.1\r\n{lines}\r\n")?;
-    let token = match frame(text.as_bytes()) {
-        Framing::Whole { head, .. } => head.token,
-        Framing::NeedMore => None,
-        Framing::Refused(_) => None,
-    };
-    match token {
-        Some(bytes) => Ok(Some(String::from_utf8_lossy(alloc, bytes)?)),
-        None => Ok(None),
-    }
-}
-
-/// A head with these header lines.
-fn head_with(alloc: Global, lines: &str) -> Result<String, Fail> {
-    Ok(format!(in alloc; "GET / HTTP/1.1\r\n{lines}\r\n")?)
-}
-
-#[test]
-fn a_request_is_its_head_and_body(rt: HostRuntime) {
-    assert_eq!(rt;
-        method_and_path(PUT),
-        Some((b"PUT".as_slice(), b"/v1/me/bids".as_slice()))
-    );
-    assert_eq!(rt; body_of(PUT), Some(b"{} ".as_slice()));
-    assert_eq!(rt; body_of("GET / HTTP/1.0\r\n\r\n"), Some(b"".as_slice()));
-    assert_eq!(rt;
-        body_of("GET / HTTP/1.1\r\nContent-Length: \t 0001 \r\n\r\n\nx"),
-        Some(b"\n".as_slice())
-    );
-}
-
-#[test]
-fn nothing_is_decided_before_the_end(rt: HostRuntime) {
-    for text in [
-        "",
-        "\r",
-        "\n\n",
-        "GET / HTTP/1.1\n\n",
-        "GET / HTTP/1.1\r\n\r",
-        "GET / HTTP/1.1\r\ncontent-length: 2\r\n\r\n1",
-    ] {
-        assert!(rt; needs_more(text), "{text}");
+/// What a text is.
+fn told(alloc: Global, text: &[u8]) -> Result<String, Fail> {
+    match frame(text) {
+        Framing::NeedMore => Ok(String::from_str(alloc, "more")?),
+        Framing::Refused(code) => Ok(format!(in alloc; "{code:?}")?),
+        Framing::Whole { head, body } => told_parts(alloc, &head, body),
     }
 }
 
 #[test]
-fn what_is_no_head_is_refused(rt: HostRuntime) -> Result<(), Fail> {
-    for text in [
-        "\r\n\r\n",
-        "\r\nGET / HTTP/1.1\r\n\r\n",
-        "\nGET / HTTP/1.1\r\n\r\n",
-        "GET / HTTP/1.1\r\na: b\nc: d\r\n\r\n",
-        "GET / HTTP/1.1\na: b\r\n\r\n",
-        "GET  / HTTP/1.1\r\n\r\n",
-        "GET / HTTP/1.2\r\n\r\n",
-        "GET / HTTP/1.1 \r\n\r\n",
-        "GET / HTTP/1.1\r\na : b\r\n\r\n",
-        "GET / HTTP/1.1\r\na: b\r\n c\r\n\r\n",
-        "GET / HTTP/1.1\r\n: b\r\n\r\n",
-    ] {
-        assert!(rt; is_refused(text, Code::BadHead), "{text}");
+fn a_text_is_a_request_or_refused_or_needs_more(rt: HostRuntime) -> Result<(), Fail> {
+    for row in TEXTS.split('\n') {
+        let row = with_line_ends(rt.alloc(), row)?;
+        let (text, meaning) = row.as_str().rsplit_once('|').unwrap_or(("", ""));
+        let is = told(rt.alloc(), text.as_bytes())?;
+        assert_eq!(rt; is.as_str(), meaning, "{text}");
     }
     Ok(())
 }
 
-#[test]
-fn a_length_is_one_line_of_digits(rt: HostRuntime) -> Result<(), Fail> {
-    let alloc = rt.alloc();
-    for (lines, code) in [
-        ("content-length: +5\r\n", Code::BadLength),
-        ("content-length:\r\n", Code::BadLength),
-        ("content-length: 5 5\r\n", Code::BadLength),
-        ("content-length: 0x5\r\n", Code::BadLength),
-        (
-            "content-length: 1\r\nCONTENT-LENGTH: 1\r\n",
-            Code::BadLength,
-        ),
-        ("content-length: 1048577\r\n", Code::LongBody),
-        ("content-length: 18446744073709551617\r\n", Code::LongBody),
-        (
-            "Transfer-Encoding: chunked\r\ncontent-length: x\r\n",
-            Code::Coding,
-        ),
-        ("transfer-encoding:\r\n", Code::Coding),
-    ] {
-        let text = head_with(alloc, lines)?;
-        assert!(rt; is_refused(text.as_str(), code), "{lines}");
-    }
-    let longest = head_with(alloc, "content-length: 01048576\r\n")?;
-    assert!(rt; needs_more(longest.as_str()));
-    Ok(())
+/// What is known of a text that comes in two pieces.
+fn known_in_two(text: &[u8], count: usize) -> Progress
+    requires { count ≤ length text.now }
+    ensures { Knows text.now result }
+{
+    Progress::new().advance(&text[..count]).advance(text)
 }
 
-#[test]
-fn a_token_stands_in_one_line(rt: HostRuntime) -> Result<(), Fail> {
-    let alloc = rt.alloc();
-    for (lines, token) in [
-        ("authorization: Bearer abc\r\n", Some("abc")),
-        ("Authorization:\tbEARER   a bc \r\n", Some("a bc")),
-        ("authorization: Bearer\tabc\r\n", None),
-        ("authorization: Bearer \r\n", None),
-        ("authorization: Basic abc\r\n", None),
-        (
-            "authorization: Bearer abc\r\nauthorization: Bearer abc\r\n",
-            None,
-        ),
-        ("", None),
-    ] {
-        let found = token_of(alloc, lines)?;
-        assert_eq!(rt; found.as_ref().map(|text| text.as_str()), token, "{lines}");
-    }
-    Ok(())
-}
-
-/// How long the body is of a text that comes in two pieces.
-fn body_in_two(text: &[u8], count: usize) -> Option<usize>
+/// What a text in two pieces is answered.
+fn answer_in_two(
+    alloc: Global,
+    front: &mut Front<Plain>,
+    text: &[u8],
+    count: usize,
+) -> Result<String, Fail>
     requires { count ≤ length text.now }
 {
-    let first = Progress::new().advance(&text[..count]);
-    match first.advance(text) {
-        Progress::Unended(_) => None,
-        Progress::Waiting(_) => None,
-        Progress::Complete(head) => Some(head.body),
-        Progress::Refused(_) => None,
+    let progress = known_in_two(text, count);
+    if progress.needs_more() {
+        return Err("the text is whole")?;
     }
+    let reply = front.answer_known(text, progress);
+    Ok(String::from_utf8_lossy(alloc, reply.bytes())?)
 }
 
 #[test]
-fn a_text_in_pieces_is_the_text(rt: HostRuntime) {
-    let text = PUT.as_bytes();
+fn a_text_in_pieces_is_answered_as_the_text(rt: HostRuntime) -> Result<(), Fail> {
+    let alloc = rt.alloc();
+    let mut front = opened(alloc, ONE_PRODUCT)?;
+    let text = STATUS.as_bytes();
     for count in 0..text.len() {
-        assert_eq!(rt; body_in_two(text, count), Some(3));
+        let reply = answer_in_two(alloc, &mut front, text, count)?;
+        assert!(rt;
+            reply
+                .as_str()
+                .ends_with(r#"{"ended":false,"round":1,"version":1}"#)
+        );
     }
+    Ok(())
 }

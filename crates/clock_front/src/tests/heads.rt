@@ -5,13 +5,17 @@ use std::alloc::Global;
 use std::process::Abort;
 use std::test::Fail;
 
-/// Header lines of a request, and the status and page of its reply.
+/// Header lines of a request, with `~` between two, and the status and page of its reply. Where there are two faults the
+/// earlier one answers.
 const HEADER_LINES: &str = r#"content-length: +5|400 Bad Request|{"code":"bad_length","status":400}
 content-length: 1048577|413 Payload Too Large|{"code":"long_body","status":413}
 content-length: 1048576|400 Bad Request|{"code":"cut_short","status":400}
 transfer-encoding: chunked|501 Not Implemented|{"code":"coding","status":501}
+transfer-encoding: chunked~a : b|400 Bad Request|{"code":"bad_head","status":400}
+content-length: x~transfer-encoding: chunked|501 Not Implemented|{"code":"coding","status":501}
+content-length: 1048577~content-length: 1048577|400 Bad Request|{"code":"bad_length","status":400}
 a : b|400 Bad Request|{"code":"bad_head","status":400}
-a: b|200 OK|{"ended":false,"round":1,"version":1}"#;
+a: b|404 Not Found|{"code":"no_page","status":404}"#;
 
 /// A head of so many header lines.
 fn head_of_lines(alloc: Global, count: usize) -> Result<String, Fail> {
@@ -72,7 +76,8 @@ fn answers_row(rt: &impl Abort, alloc: Global, row: &str) -> Result<(), Fail> {
     let line = fields.next().unwrap_or("");
     let status = fields.next().unwrap_or("");
     let page = fields.next().unwrap_or("");
-    let text = format!(in alloc; "GET /v1/status HTTP/1.1\r\n{line}\r\n\r\n")?;
+    let lines = line.replace(alloc, "~", "\r\n")?;
+    let text = format!(in alloc; "GET /v1/none HTTP/1.1\r\n{lines}\r\n\r\n")?;
     answers(rt, alloc, text.as_str(), status, page)
 }
 
@@ -82,7 +87,9 @@ fn a_head_has_at_most_64_lines(rt: HostRuntime) -> Result<(), Fail> {
     let most = head_of_lines(alloc, 64)?;
     is_read(&rt, alloc, most.as_str())?;
     let more = head_of_lines(alloc, 65)?;
-    is_too_long(&rt, alloc, more.as_str())
+    is_too_long(&rt, alloc, more.as_str())?;
+    let loose = format!(in alloc; "\n{}", more.as_str())?;
+    is_too_long(&rt, alloc, loose.as_str())
 }
 
 #[test]

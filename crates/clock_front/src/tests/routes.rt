@@ -4,72 +4,103 @@ use crate::routes::{Routes, last_segment, round_named};
 use std::alloc::Global;
 use std::test::Fail;
 
+/// Paths, and the pages that they name.
+const PATHS: &str = "/v1/status Some(Status)
+/v1/products Some(Products)
+/v1/rounds/12 Some(Sheet)
+/v1/rounds/x Some(Sheet)
+/v1/me Some(Account)
+/v1/me/bids Some(Bids)
+/v1/me/rounds/01 Some(Slip)
+/v1/close Some(Close)
+/v1/results Some(Results)
+ None
+* None
+/ None
+/v1/status/ None
+//v1/status None
+/v1/%73tatus None
+/V1/status None
+/v1/rounds None
+/v1/rounds/ None
+/v1/rounds/1/2 None
+http://x/v1/status None";
+
+/// Methods, and the pages that have them.
+const METHODS: &str = "GET Status Products Sheet Account Bids Slip Results
+PUT Bids
+POST Close
+put
+HEAD";
+
+/// Paths, and the rounds that their last segments name.
+const SEGMENTS: &str = "/v1/rounds/12 Some(12)
+/v1/rounds/0 Some(0)
+/v1/me/rounds/18446744073709551615 Some(18446744073709551615)
+18446744073709551616 None
+01 None
++1 None
+1a None";
+
 /// The page that a path names.
-fn page_of(alloc: Global, path: &str) -> Result<Option<Page>, Fail> {
-    Ok(Routes::new(alloc)?.page_of(path.as_bytes()))
+fn page_of(alloc: Global, path: &str) -> Result<String, Fail> {
+    let page = Routes::new(alloc)?.page_of(path.as_bytes());
+    Ok(format!(in alloc; "{page:?}")?)
+}
+
+/// A method, and the pages that have it.
+fn pages_with(alloc: Global, method: &str) -> Result<String, Fail> {
+    let mut row = String::from_str(alloc, method)?;
+    for page in [
+        Page::Status,
+        Page::Products,
+        Page::Sheet,
+        Page::Account,
+        Page::Bids,
+        Page::Slip,
+        Page::Close,
+        Page::Results,
+    ] {
+        if page.has_method(method.as_bytes()) {
+            let name = format!(in alloc; " {page:?}")?;
+            row.push_str(name.as_str())?;
+        }
+    }
+    Ok(row)
+}
+
+/// The round that a path's last segment names.
+fn round_of(alloc: Global, path: &str) -> Result<String, Fail> {
+    let round = round_named(last_segment(path.as_bytes()));
+    Ok(format!(in alloc; "{round:?}")?)
 }
 
 #[test]
-fn eight_paths_have_a_page(rt: HostRuntime) -> Result<(), Fail> {
-    for (path, page) in [
-        ("/v1/status", Page::Status),
-        ("/v1/products", Page::Products),
-        ("/v1/rounds/12", Page::Sheet),
-        ("/v1/rounds/x", Page::Sheet),
-        ("/v1/me", Page::Account),
-        ("/v1/me/bids", Page::Bids),
-        ("/v1/me/rounds/01", Page::Slip),
-        ("/v1/close", Page::Close),
-        ("/v1/results", Page::Results),
-    ] {
-        assert_eq!(rt; page_of(rt.alloc(), path)?, Some(page), "{path}");
+fn a_path_names_a_page_or_none(rt: HostRuntime) -> Result<(), Fail> {
+    for row in PATHS.split('\n') {
+        let (path, page) = row.rsplit_once(' ').unwrap_or((row, ""));
+        let named = page_of(rt.alloc(), path)?;
+        assert_eq!(rt; named.as_str(), page, "{path}");
     }
     Ok(())
 }
 
 #[test]
-fn other_paths_have_none(rt: HostRuntime) -> Result<(), Fail> {
-    for path in [
-        "",
-        "*",
-        "/",
-        "/v1/status/",
-        "//v1/status",
-        "/v1/%73tatus",
-        "/V1/status",
-        "/v1/rounds",
-        "/v1/rounds/",
-        "/v1/rounds/1/2",
-        "http://x/v1/status",
-    ] {
-        assert_eq!(rt; page_of(rt.alloc(), path)?, None, "{path}");
+fn a_page_has_its_methods(rt: HostRuntime) -> Result<(), Fail> {
+    for row in METHODS.split('\n') {
+        let method = row.split(' ').next().unwrap_or("");
+        let pages = pages_with(rt.alloc(), method)?;
+        assert_eq!(rt; pages.as_str(), row);
     }
     Ok(())
 }
 
 #[test]
-fn a_page_has_its_methods(rt: HostRuntime) {
-    assert!(rt; Page::Bids.has_method(b"PUT"));
-    assert!(rt; Page::Bids.has_method(b"GET"));
-    assert!(rt; !Page::Bids.has_method(b"put"));
-    assert!(rt; Page::Close.has_method(b"POST"));
-    assert!(rt; !Page::Close.has_method(b"GET"));
-    assert!(rt; !Page::Status.has_method(b"HEAD"));
-    assert_eq!(rt; Page::Bids.methods(), "GET, PUT");
-}
-
-#[test]
-fn a_round_is_named_by_plain_digits(rt: HostRuntime) {
-    assert_eq!(rt; last_segment(b"/v1/rounds/12"), b"12".as_slice());
-    for (segment, round) in [
-        (b"12".as_slice(), Some(12)),
-        (b"0", Some(0)),
-        (b"18446744073709551615", Some(18_446_744_073_709_551_615)),
-        (b"18446744073709551616", None),
-        (b"01", None),
-        (b"+1", None),
-        (b"1a", None),
-    ] {
-        assert_eq!(rt; round_named(segment), round);
+fn a_round_is_named_by_plain_digits(rt: HostRuntime) -> Result<(), Fail> {
+    for row in SEGMENTS.split('\n') {
+        let (path, round) = row.rsplit_once(' ').unwrap_or((row, ""));
+        let named = round_of(rt.alloc(), path)?;
+        assert_eq!(rt; named.as_str(), round, "{path}");
     }
+    Ok(())
 }
