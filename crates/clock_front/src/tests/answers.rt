@@ -1,10 +1,9 @@
 //! What requests are answered with, one after the other.
-use super::requests::{compare, opened, reply_of, text_of};
+use super::requests::{compare, fields_of, opened, reply_of, setup_of, text_of};
 use crate::{Front, run};
 use clock_device::{Items, Text};
 use clock_processor::Plain;
 use clock_setup::fixtures::{ACTIVITY_LIMIT, GRANULES_AND_INCREMENTS, ONE_PRODUCT};
-use clock_setup::read_setup;
 use clock_views::Code;
 use std::alloc::Global;
 use std::process::Abort;
@@ -103,12 +102,10 @@ GET /v1/status|||200 OK|{"ended":true,"round":1,"version":2}"#;
 
 /// Sends the request of a line, and compares its reply.
 fn send(rt: &impl Abort, alloc: Global, front: &mut Front<Plain>, row: &str) -> Result<(), Fail> {
-    let mut fields = row.split('|');
-    let line = fields.next().unwrap_or("");
-    let who = fields.next().unwrap_or("");
-    let body = fields.next().unwrap_or("");
-    let status = fields.next().unwrap_or("");
-    let page = fields.next().unwrap_or("");
+    let fields = fields_of(alloc, row)?;
+    let &[line, who, body, status, page] = fields.as_slice() else {
+        return Err("a row has five fields")?;
+    };
     let text = text_of(alloc, line, who, body)?;
     compare(rt, alloc, front, text.as_str(), status, page)
 }
@@ -230,7 +227,7 @@ fn two_texts(alloc: Global) -> Result<Items<Text>, Fail> {
 
 /// The codes of the replies to texts.
 fn codes_of(alloc: Global, texts: &[Text]) -> Result<Items<Code>, Fail> {
-    let setup = read_setup(alloc, ONE_PRODUCT.as_bytes())?;
+    let setup = setup_of(alloc, ONE_PRODUCT)?;
     let replies = run(alloc, setup, Plain, texts)?;
     let mut codes = Items::new(alloc);
     for reply in replies.as_slice() {

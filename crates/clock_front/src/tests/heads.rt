@@ -1,5 +1,5 @@
 //! What is answered where a head is at a limit or past it, or is none.
-use super::requests::{compare, opened};
+use super::requests::{compare, fields_of, opened};
 use clock_setup::fixtures::ONE_PRODUCT;
 use std::alloc::Global;
 use std::process::Abort;
@@ -72,10 +72,10 @@ fn is_too_long(rt: &impl Abort, alloc: Global, text: &str) -> Result<(), Fail> {
 
 /// A request with the header line of a row is answered as the row says.
 fn answers_row(rt: &impl Abort, alloc: Global, row: &str) -> Result<(), Fail> {
-    let mut fields = row.split('|');
-    let line = fields.next().unwrap_or("");
-    let status = fields.next().unwrap_or("");
-    let page = fields.next().unwrap_or("");
+    let fields = fields_of(alloc, row)?;
+    let &[line, status, page] = fields.as_slice() else {
+        return Err("a row has three fields")?;
+    };
     let lines = line.replace(alloc, "~", "\r\n")?;
     let text = format!(in alloc; "GET /v1/none HTTP/1.1\r\n{lines}\r\n\r\n")?;
     answers(rt, alloc, text.as_str(), status, page)

@@ -1,5 +1,5 @@
 //! One bidder's replies in two runs in which it sees the same.
-use super::requests::{opened, reply_of, text_of};
+use super::requests::{fields_of, opened, reply_of, text_of};
 use crate::Front;
 use clock_processor::Plain;
 use std::alloc::Global;
@@ -150,10 +150,10 @@ fn opened_for(alloc: Global, public: &str, bidders: &str) -> Result<Front<Plain>
 
 /// The reply to the request of a row.
 fn reply_to(alloc: Global, front: &mut Front<Plain>, row: &str) -> Result<String, Fail> {
-    let mut fields = row.split('|');
-    let line = fields.next().unwrap_or("");
-    let who = fields.next().unwrap_or("");
-    let body = fields.next().unwrap_or("");
+    let fields = fields_of(alloc, row)?;
+    let &[line, who, body] = fields.as_slice() else {
+        return Err("a row has three fields")?;
+    };
     let text = text_of(alloc, line, who, body)?;
     reply_of(alloc, front, text.as_str())
 }

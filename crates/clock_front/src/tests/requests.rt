@@ -1,15 +1,25 @@
 //! Requests as rows of text, and the fronts that they are sent to.
 use crate::Front;
 use clock_processor::Plain;
-use clock_setup::read_setup;
+use clock_setup::{Setup, read_setup};
 use std::alloc::Global;
 use std::process::Abort;
 use std::test::Fail;
 
+/// The set-up of a document.
+pub(super) fn setup_of(alloc: Global, document: &str) -> Result<Setup, Fail> {
+    Ok(read_setup(alloc, document.as_bytes())?)
+}
+
 /// A front of a set-up.
 pub(super) fn opened(alloc: Global, document: &str) -> Result<Front<Plain>, Fail> {
-    let setup = read_setup(alloc, document.as_bytes())?;
+    let setup = setup_of(alloc, document)?;
     Ok(Front::new(alloc, setup, Plain)?)
+}
+
+/// The fields of a row, with `|` between two.
+pub(super) fn fields_of(alloc: Global, row: &str) -> Result<Vec<&str>, Fail> {
+    Ok(row.split('|').collect(alloc)?)
 }
 
 /// The header line of a token, by whose it is: a bidder's letter, the operator's, or `N` for nobody's.
