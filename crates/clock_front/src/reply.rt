@@ -10,23 +10,23 @@ use itoa::Buffer;
 use std::marker::Model;
 
 /// The replies that are always the same.
-const LONG_HEAD: &[u8] =
-    b"HTTP/1.1 431 Request Header Fields Too Large\r\nconnection: close\r\ncontent-length: 33\r\ncontent-type: application/json\r\n\r\n{\"code\":\"long_head\",\"status\":431}";
+const LONG_HEAD: &[u8] = b"HTTP/1.1 431 Request Header Fields Too Large\r\nconnection: close\r\n\
+    content-length: 33\r\ncontent-type: application/json\r\n\r\n{\"code\":\"long_head\",\"status\":431}";
 
-const BAD_HEAD: &[u8] =
-    b"HTTP/1.1 400 Bad Request\r\nconnection: close\r\ncontent-length: 32\r\ncontent-type: application/json\r\n\r\n{\"code\":\"bad_head\",\"status\":400}";
+const BAD_HEAD: &[u8] = b"HTTP/1.1 400 Bad Request\r\nconnection: close\r\n\
+    content-length: 32\r\ncontent-type: application/json\r\n\r\n{\"code\":\"bad_head\",\"status\":400}";
 
-const CODING: &[u8] =
-    b"HTTP/1.1 501 Not Implemented\r\nconnection: close\r\ncontent-length: 30\r\ncontent-type: application/json\r\n\r\n{\"code\":\"coding\",\"status\":501}";
+const CODING: &[u8] = b"HTTP/1.1 501 Not Implemented\r\nconnection: close\r\n\
+    content-length: 30\r\ncontent-type: application/json\r\n\r\n{\"code\":\"coding\",\"status\":501}";
 
-const BAD_LENGTH: &[u8] =
-    b"HTTP/1.1 400 Bad Request\r\nconnection: close\r\ncontent-length: 34\r\ncontent-type: application/json\r\n\r\n{\"code\":\"bad_length\",\"status\":400}";
+const BAD_LENGTH: &[u8] = b"HTTP/1.1 400 Bad Request\r\nconnection: close\r\n\
+    content-length: 34\r\ncontent-type: application/json\r\n\r\n{\"code\":\"bad_length\",\"status\":400}";
 
-const LONG_BODY: &[u8] =
-    b"HTTP/1.1 413 Payload Too Large\r\nconnection: close\r\ncontent-length: 33\r\ncontent-type: application/json\r\n\r\n{\"code\":\"long_body\",\"status\":413}";
+const LONG_BODY: &[u8] = b"HTTP/1.1 413 Payload Too Large\r\nconnection: close\r\n\
+    content-length: 33\r\ncontent-type: application/json\r\n\r\n{\"code\":\"long_body\",\"status\":413}";
 
-const MEMORY: &[u8] =
-    b"HTTP/1.1 503 Service Unavailable\r\nconnection: close\r\ncontent-length: 30\r\ncontent-type: application/json\r\n\r\n{\"code\":\"memory\",\"status\":503}";
+const MEMORY: &[u8] = b"HTTP/1.1 503 Service Unavailable\r\nconnection: close\r\n\
+    content-length: 30\r\ncontent-type: application/json\r\n\r\n{\"code\":\"memory\",\"status\":503}";
 
 /// A text from a place on.
 #[derive(Drop)]

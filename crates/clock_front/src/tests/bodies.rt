@@ -7,7 +7,8 @@ use std::test::Fail;
 
 /// Bodies of sheets, and the product, quantity and price of each bid with the round, or the fault.
 const SHEETS: &str =
-    r#" {"round":18446744073709551615,"bids":[{"price":100,"product":0,"quantity":2}, {"quantity":1,"\u0070rice":0,"product":7}]}|0 2 100,7 1 0,18446744073709551615
+    r#" {"round":1,"bids":[{"price":100,"product":0,"quantity":2}, {"quantity":1,"\u0070rice":0,"product":7}]}|0 2 100,7 1 0,1
+{"bids":[],"round":18446744073709551615}|18446744073709551615
 {"bids":[],"round":1}|1
 |NotJson
 {"bids":[]|NotJson

@@ -9,8 +9,8 @@ use std::test::Fail;
 const PUBLIC: &str =
     r#""version":1,"requirement":95,"operator":"OPERATOROPERATOR","products":[{"name":"A","units":1,"supply":2,"cap":2,"opening":100}]"#;
 
-const PUBLIC_2: &str =
-    r#""version":2,"limit":125,"requirement":95,"operator":"OPERATOROPERATOR","products":[{"name":"A","units":1,"supply":2,"cap":2,"opening":100,"granule":1}]"#;
+const PUBLIC_2: &str = r#""version":2,"limit":125,"requirement":95,"operator":"OPERATOROPERATOR",
+"products":[{"name":"A","units":1,"supply":2,"cap":2,"opening":100,"granule":1}]"#;
 
 /// The bidders of a run. X has the same row in all.
 const X_AND_Y: &str =
@@ -20,7 +20,8 @@ const Y_AND_X: &str =
     r#"{"name":"Y","token":"YYYYYYYYYYYYYYYY","eligibility":10},{"name":"X","token":"XXXXXXXXXXXXXXXX","eligibility":10}"#;
 
 const V_X_AND_W: &str =
-    r#"{"name":"V","token":"VVVVVVVVVVVVVVVV","eligibility":3},{"name":"X","token":"XXXXXXXXXXXXXXXX","eligibility":10},{"name":"W","token":"WWWWWWWWWWWWWWWW","eligibility":5}"#;
+    r#"{"name":"V","token":"VVVVVVVVVVVVVVVV","eligibility":3},{"name":"X","token":"XXXXXXXXXXXXXXXX","eligibility":10},
+{"name":"W","token":"WWWWWWWWWWWWWWWW","eligibility":5}"#;
 
 /// X's own requests, a line each: the request line, whose token it has, and its body. At each line of `~` the others send
 /// theirs.

@@ -26,7 +26,9 @@ fn a_reply_is_its_head_and_page(rt: HostRuntime) -> Result<(), Fail> {
     )?;
     assert_eq!(rt;
         accepted.bytes(),
-        b"HTTP/1.1 200 OK\r\nconnection: close\r\ncontent-length: 36\r\ncontent-type: application/json\r\n\r\n{\"accepted\":true,\"bids\":1,\"round\":1}".as_slice()
+        b"HTTP/1.1 200 OK\r\nconnection: close\r\n\
+          content-length: 36\r\ncontent-type: application/json\r\n\r\n{\"accepted\":true,\"bids\":1,\"round\":1}"
+            .as_slice()
     );
     let method = reply_of(
         alloc,
@@ -36,7 +38,9 @@ fn a_reply_is_its_head_and_page(rt: HostRuntime) -> Result<(), Fail> {
     )?;
     assert_eq!(rt;
         method.bytes(),
-        b"HTTP/1.1 405 Method Not Allowed\r\nallow: GET, PUT\r\nconnection: close\r\ncontent-length: 30\r\ncontent-type: application/json\r\n\r\n{\"code\":\"method\",\"status\":405}".as_slice()
+        b"HTTP/1.1 405 Method Not Allowed\r\nallow: GET, PUT\r\nconnection: close\r\n\
+          content-length: 30\r\ncontent-type: application/json\r\n\r\n{\"code\":\"method\",\"status\":405}"
+            .as_slice()
     );
     let token = reply_of(
         alloc,
@@ -46,7 +50,9 @@ fn a_reply_is_its_head_and_page(rt: HostRuntime) -> Result<(), Fail> {
     )?;
     assert_eq!(rt;
         token.bytes(),
-        b"HTTP/1.1 401 Unauthorized\r\nconnection: close\r\ncontent-length: 29\r\ncontent-type: application/json\r\nwww-authenticate: Bearer\r\n\r\n{\"code\":\"token\",\"status\":401}".as_slice()
+        b"HTTP/1.1 401 Unauthorized\r\nconnection: close\r\n\
+          content-length: 29\r\ncontent-type: application/json\r\nwww-authenticate: Bearer\r\n\r\n{\"code\":\"token\",\"status\":401}"
+            .as_slice()
     );
     Ok(())
 }
@@ -57,6 +63,8 @@ fn the_reply_to_want_of_memory_is_constant(rt: HostRuntime) {
     assert_eq!(rt; reply.code(), Code::Memory);
     assert_eq!(rt;
         reply.bytes(),
-        b"HTTP/1.1 503 Service Unavailable\r\nconnection: close\r\ncontent-length: 30\r\ncontent-type: application/json\r\n\r\n{\"code\":\"memory\",\"status\":503}".as_slice()
+        b"HTTP/1.1 503 Service Unavailable\r\nconnection: close\r\n\
+          content-length: 30\r\ncontent-type: application/json\r\n\r\n{\"code\":\"memory\",\"status\":503}"
+            .as_slice()
     );
 }
