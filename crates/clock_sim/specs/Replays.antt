@@ -4,13 +4,12 @@
 --     IsScript products script      what a bidder's script may be
 --     is_of_version version increments      the form of a closing's increments is that of the set-up's version
 --     ReplayFields, IsReplay      the parts of a replay, and how they fit together
-use Rattle.std.specs.Prelude.{◌≡◌, ℕ, ◌≤◌, ◌==◌, Bool, not, List, EachIndex, All, true, ⊤, length}
+use Rattle.std.specs.Prelude.{◌≡◌, ℕ, ◌≤◌, List, EachIndex, All, true, ⊤, length}
 use Rattle.std.specs.List.{AllPairs}
 use Rattle.clock_setup.specs.declared.setup.Product.{Product}
 use Rattle.clock_setup.specs.Limits.{SetupFields, IsSetup, cap_of}
 use Rattle.clock_setup.specs.Demands.{row_of}
-use Rattle.clock_setup.specs.declared.increments.Increments.{Increments}
-use Rattle.clock_setup.specs.declared.increments.Increments.TheVariants.{Single, PerProduct}
+pub use Rattle.clock_front.specs.Outcomes.{is_of_version}
 use Rattle.clock_sim.specs.declared.script.Script.{Script}
 use Rattle.clock_sim.specs.declared.script.Script.TheVariants.{Literal, Sincere}
 use Rattle.clock_sim.specs.declared.closing.Closing.{Closing}
@@ -29,11 +28,6 @@ pub record IsLimits (products : List Product) (limits : List (List ℕ)) : Type 
 abbrev pub IsScript : List Product → Script → Type 0
 IsScript products (Literal sheets) = ⊤
 IsScript products (Sincere limits) = IsLimits products limits
-
--- a set-up of the first version has one increment for all products, a later one has one for each
-abbrev pub is_of_version : ℕ → Increments → Bool
-is_of_version version (Single increment) = version == 1
-is_of_version version (PerProduct increments) = not (version == 1)
 
 -- a set-up, what each bidder does, and how each round is closed
 pub record ReplayFields : Type 0 where

@@ -2,24 +2,14 @@ ghost use Rattle.std.specs.Prelude.{◌≡◌, ◌≢◌, ◌&&◌, true, Some, 
 ghost use Rattle.std.specs.List.{list_all};
 ghost use Rattle.clock_setup.specs.Faults.{first_fault, in_turn};
 ghost use Rattle.clock_setup.specs.Limits.{IsSetup};
-ghost use Rattle.clock_sim.specs.Replays as replays;
 ghost use Rattle.clock_sim.specs.ReplayChecks as rules;
 ghost use Rattle.clock_sim.specs.ReplayChecks.{limit_checks, replay_checks, script_checks};
 
 use crate::closing::Closing;
 use crate::fault::ScriptFault;
 use crate::script::Script;
-use clock_setup::{Amounts, Increments, Product, Setup, SetupFault};
-
-/// Whether increments have the form of a set-up's version.
-fn is_of_version(version: u64, increments: &Increments) -> bool
-    ensures { result ≡ replays.is_of_version version increments.now }
-{
-    match increments {
-        Increments::Single(_) => version == 1,
-        Increments::PerProduct(_) => version != 1,
-    }
-}
+use clock_front::is_of_version;
+use clock_setup::{Amounts, Product, Setup, SetupFault};
 
 /// Whether each closing has the form of the version.
 fn are_of_version(version: u64, closings: &[Closing]) -> bool

@@ -4,13 +4,17 @@
 mod checks;
 mod closing;
 mod fault;
+mod part;
+mod read;
 mod replay;
 mod report;
 mod report_lines;
 mod script;
+mod shape;
 
 pub use closing::{Closing, Closings, TieList};
 pub use fault::ScriptFault;
+pub use read::read_replay;
 pub use replay::Replay;
 pub use report::{Report, RoundSheets};
 pub use report_lines::report_text;

@@ -1,0 +1,40 @@
+-- Laws of what a replay document means.
+use Rattle.std.proofs.Common.{◌≡◌, Some, None, Ok, Err, refl, sym, ap, ◌∙◌}
+use Rattle.serde_json.specs.Data.{Data}
+use Rattle.clock_setup.specs.Faults.{first_fault, unless, or_fault}
+use Rattle.clock_setup.specs.Limits.{SetupFields}
+use Rattle.clock_setup.specs.SetupDocument.{setup_of}
+use Rattle.clock_sim.specs.declared.fault.ScriptFault.{ScriptFault}
+use Rattle.clock_sim.specs.declared.fault.ScriptFault.TheVariants.{Shape}
+use Rattle.clock_sim.specs.ReplayShape.{ReplayParts, parts_of}
+use Rattle.clock_sim.specs.ReplayChecks.{replay_checks}
+use Rattle.clock_sim.specs.ReplayDocument.{replay_with, in_replay, replay_of}
+
+-- a document whose parts and set-up are known is judged by its other checks
+replay_at : (value : Data) (parts : ReplayParts) (setup : SetupFields) → parts_of value ≡ Some parts → setup_of parts.setup ≡ Ok setup
+    → replay_of value ≡ unless (first_fault (replay_checks (replay_with setup parts))) (replay_with setup parts)
+unfolding replay_of
+replay_at value parts setup read held = rw (read, held) refl
+
+-- a document of another shape
+pub replay_shape : (value : Data) → parts_of value ≡ None → replay_of value ≡ Err Shape
+unfolding replay_of
+replay_shape value none = rw none refl
+
+-- a document whose set-up is refused
+pub replay_setup : (value : Data) (parts : ReplayParts) (fault : ScriptFault) → parts_of value ≡ Some parts
+    → in_replay (setup_of parts.setup) ≡ Err fault → replay_of value ≡ Err fault
+unfolding replay_of
+replay_setup value parts fault read refused = rw (read, refused) refl
+
+-- a document that one of the other checks refuses
+pub replay_refused : (value : Data) (parts : ReplayParts) (setup : SetupFields) (fault : ScriptFault) → parts_of value ≡ Some parts
+    → setup_of parts.setup ≡ Ok setup → Some fault ≡ first_fault (replay_checks (replay_with setup parts)) → replay_of value ≡ Err fault
+replay_refused value parts setup fault read held first =
+    replay_at value parts setup read held ∙ ap (λ fault. unless fault (replay_with setup parts)) (sym first)
+
+-- a document that none of them refuses
+pub replay_taken : (value : Data) (parts : ReplayParts) (setup : SetupFields) → parts_of value ≡ Some parts
+    → setup_of parts.setup ≡ Ok setup → None ≡ first_fault (replay_checks (replay_with setup parts)) → replay_of value ≡ Ok (replay_with setup parts)
+replay_taken value parts setup read held first =
+    replay_at value parts setup read held ∙ ap (λ fault. unless fault (replay_with setup parts)) (sym first)
