@@ -11,6 +11,8 @@ mod report;
 mod report_lines;
 mod script;
 mod shape;
+#[cfg(test)]
+mod tests;
 
 pub use closing::{Closing, Closings, TieList};
 pub use fault::ScriptFault;
