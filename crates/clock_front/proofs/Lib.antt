@@ -12,6 +12,11 @@ mod OutcomeLaws
 mod FrontLaws
 mod ChangeLaws
 mod RunLaws
+mod ConnectionLaws
+mod NumberedLaws
+mod EventLaws
+mod ArrivalLaws
+mod StreamLaws
 pub mod AskerLaws
 pub mod TextViews
 mod PrivateLaws

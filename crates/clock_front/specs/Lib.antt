@@ -17,6 +17,12 @@ pub mod Outcomes
 pub mod ShownAsked
 pub mod Fronts
 pub mod Runs
+pub mod Pieces
+pub mod Hubs
+pub mod NumberedHubs
+pub mod EventRuns
+pub mod Arrivals
+pub mod Streamed
 pub mod Views
 pub mod Isolation
 pub mod Private

@@ -1,0 +1,117 @@
+-- A run over events goes on by one event.
+use Rattle.std.proofs.Common.{◌≡◌, ◌≤◌, ◌<◌, ◌+◌, ℕ, List, [], ◌∷◌, ◌++◌, length, map, get_or, set, drop, Option, Some, None, refl, sym, ◌∙◌, ap}
+use Rattle.std.proofs.Common.{subst, arith, append-nil, append_assoc, length-append}
+use Rattle.std.proofs.lemmas.List.{length-set, drop_more, drop_all, map-append}
+use Rattle.clock_setup.specs.Limits.{SetupFields, IsSetup}
+use Rattle.clock_house.specs.Command.{Command}
+use Rattle.clock_house.specs.History.{history}
+use Rattle.clock_house.specs.House.{HouseFields}
+use Rattle.clock_house.specs.Laws.{IsSound}
+use Rattle.clock_front.specs.Fronts.{StandsForTexts, commands_of}
+use Rattle.clock_front.specs.Replies.{Answer}
+use Rattle.clock_front.specs.Runs.{Runs, IsRun}
+use Rattle.clock_front.proofs.RunLaws.{IsUnderWay, step}
+use Rattle.clock_front.specs.declared.connections.Conn.{Conn}
+use Rattle.clock_front.specs.declared.events.Event.{Event}
+use Rattle.clock_front.specs.declared.events.Event.TheVariants.{Connect, Piece, Finish}
+use Rattle.clock_front.specs.declared.events.EventReply.{EventReply}
+use Rattle.clock_front.specs.Pieces.{Numbered, completed, after, and_then, requests_from, requests_of}
+use Rattle.clock_front.specs.Hubs.{ConnectionFields}
+use Rattle.clock_front.specs.NumberedHubs.{Stands, HasCompleted}
+use Rattle.clock_front.specs.EventRuns.{numbers_of, numbers_of_requests, texts_of, answers_of, kept, IsEventRun}
+
+-- a run over events on its way, after so many of them: the requests that are done are answered, and they and those of the
+-- other events are all
+pub record IsOnItsWay (setup : SetupFields) (events : List Event) (index : ℕ) (replies : List EventReply) (connections : ConnectionFields) (conns : List (Option Conn)) (house : HouseFields) : Type 0 where
+  pub numbered : Numbered
+  pub done : List (ℕ × List ℕ)
+  pub stands : Stands numbered connections conns
+  pub few : length numbered ≤ index
+  pub rest : done ++ requests_from numbered (drop index events) ≡ requests_of events
+  pub numbers : numbers_of replies ≡ numbers_of_requests done
+  pub underway : IsUnderWay setup (texts_of done) (answers_of replies) house
+
+-- requests and one more, if there is one
+abbrev with_request : List (ℕ × List ℕ) → Option (ℕ × List ℕ) → List (ℕ × List ℕ)
+with_request done None = done
+with_request done (Some request) = done ++ request ∷ []
+
+with_later : (done : List (ℕ × List ℕ)) (o : Option (ℕ × List ℕ)) (later : List (ℕ × List ℕ)) → with_request done o ++ later ≡ done ++ and_then o later
+with_later done None later = refl
+with_later done (Some request) later = append_assoc done (request ∷ []) later
+
+no_more_than_one : (numbered : Numbered) (event : Event) → length (after numbered event) ≤ length numbered + 1
+no_more_than_one numbered Connect = omega (arith, length-append {A = Option (List ℕ)})
+no_more_than_one numbered (Piece number piece) = omega (arith, length-set {A = Option (List ℕ)})
+no_more_than_one numbered (Finish number) = omega (arith, length-set {A = Option (List ℕ)})
+
+-- each reply has the number of its request
+next_numbers : (done : List (ℕ × List ℕ)) (replies : List EventReply) (o : Option (ℕ × List ℕ)) (told : Option EventReply) (house next : HouseFields)
+    → HasCompleted o house next told → numbers_of replies ≡ numbers_of_requests done
+    → numbers_of (kept replies told) ≡ numbers_of_requests (with_request done o)
+next_numbers done replies None None house next is same = same
+next_numbers done replies None (Some one) house next is same = absurd is
+next_numbers done replies (Some request) None house next is same = absurd is
+next_numbers done replies (Some request) (Some one) house next is same =
+    map-append (λ (r : EventReply). r.number) replies (one ∷ [])
+    ∙ ap (λ ns. ns ++ one.number ∷ []) same ∙ ap (λ n. numbers_of_requests done ++ n ∷ []) is.0
+    ∙ sym (map-append (λ (r : ℕ × List ℕ). r.0) done (request ∷ []))
+
+-- the replies are a run over the texts
+next_underway : (setup : SetupFields) (limits : IsSetup setup) (done : List (ℕ × List ℕ)) (replies : List EventReply) (o : Option (ℕ × List ℕ)) (told : Option EventReply) (house next : HouseFields)
+    → HasCompleted o house next told → IsUnderWay setup (texts_of done) (answers_of replies) house
+    → IsUnderWay setup (texts_of (with_request done o)) (answers_of (kept replies told)) next
+next_underway setup limits done replies None None house next is before =
+    subst (λ (h : HouseFields). IsUnderWay setup (texts_of done) (answers_of replies) h) (sym is) before
+next_underway setup limits done replies None (Some one) house next is before = absurd is
+next_underway setup limits done replies (Some request) None house next is before = absurd is
+next_underway setup limits done replies (Some request) (Some one) house next is before =
+    let one_more = step setup limits (texts_of done) (answers_of replies) house next request.1 one.reply before is.2 is.1 in
+    subst (λ (texts : List (List ℕ)). IsUnderWay setup texts (answers_of (replies ++ one ∷ [])) next) (sym (map-append (λ (r : ℕ × List ℕ). r.1) done (request ∷ [])))
+    (subst (λ (answers : List Answer). IsUnderWay setup (texts_of done ++ request.1 ∷ []) answers next) (sym (map-append (λ (r : EventReply). r.reply) replies (one ∷ []))) one_more)
+
+-- one more event
+pub goes_on : (setup : SetupFields) (limits : IsSetup setup) (events : List Event) (index : ℕ) (replies : List EventReply) (connections later : ConnectionFields) (conns more : List (Option Conn)) (house next : HouseFields)
+    (event : Event) (told : Option EventReply) (before : IsOnItsWay setup events index replies connections conns house)
+    → index < length events → event ≡ get_or events index event
+    → Stands (after before.numbered event) later more → HasCompleted (completed before.numbered event) house next told
+    → IsOnItsWay setup events (index + 1) (kept replies told) later more next
+goes_on setup limits events index replies connections later conns more house next event told before lt at stands is = record {
+  numbered = after before.numbered event;
+  done = with_request before.done (completed before.numbered event);
+  stands = stands;
+  few = (let le = before.few in let size = no_more_than_one before.numbered event in omega arith);
+  rest = with_later before.done (completed before.numbered event) (requests_from (after before.numbered event) (drop (index + 1) events))
+      ∙ ap (λ rest. before.done ++ requests_from before.numbered rest) (sym split) ∙ before.rest;
+  numbers = next_numbers before.done replies (completed before.numbered event) told house next is before.numbers;
+  underway = next_underway setup limits before.done replies (completed before.numbered event) told house next is before.underway;
+}
+  where
+    split : drop index events ≡ event ∷ drop (index + 1) events
+    split = drop_more events index event lt ∙ ap (λ (e : Event). e ∷ drop (index + 1) events) (sym at)
+
+-- before the first event
+pub begins : (setup : SetupFields) (events : List Event) (replies : List EventReply) (connections : ConnectionFields) (conns : List (Option Conn)) (house : HouseFields)
+    → replies ≡ [] → Stands [] connections conns → house.setup ≡ setup → StandsForTexts [] house → IsOnItsWay setup events 0 replies connections conns house
+begins setup events replies connections conns house none stands kept new = record {
+  numbered = [];
+  done = [];
+  stands = stands;
+  few = omega arith;
+  rest = refl;
+  numbers = ap numbers_of none;
+  underway = record { end = []; kept = kept; runs = subst (λ (answers : List Answer). Runs setup [] [] answers []) (sym (ap answers_of none)) refl; stands = new };
+}
+
+-- after the last event
+pub ends : (setup : SetupFields) (events : List Event) (index : ℕ) (replies : List EventReply) (connections : ConnectionFields) (conns : List (Option Conn)) (house : HouseFields)
+    → IsOnItsWay setup events index replies connections conns house → length events ≤ index
+    → ((commands : List Command) → IsSound setup (history setup commands)) → IsEventRun setup events replies
+ends setup events index replies connections conns house way past sound =
+    let all : way.done ≡ requests_of events = sym (append-nil way.done)
+    ∙ ap (λ (left : List Event). way.done ++ requests_from way.numbered left) (sym (drop_all index events past)) ∙ way.rest in
+    record {
+      numbers = way.numbers ∙ ap numbers_of_requests all;
+      run = subst (λ (requests : List (ℕ × List ℕ)). IsRun setup (texts_of requests) (answers_of replies)) all
+          (record { end = way.underway.end; runs = way.underway.runs; sound = sound (commands_of setup way.underway.end) });
+    }

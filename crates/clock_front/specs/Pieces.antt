@@ -1,0 +1,69 @@
+-- The requests that pieces over connections are.
+--     needs_more text      a text is not whole yet, and not refused
+--     Numbered      the connections by number, each with its text so far while it stands
+--     completed numbered event      the request that an event completes
+--     after numbered event      the connections after an event
+--     requests_of events      the requests of a list of events, in the order in which they are complete
+-- Connections are numbered from 0 as they are asked for, those that are refused too.
+use Rattle.std.specs.Prelude.{ℕ, ◌++◌, Bool, true, false, List, [], ◌∷◌, Option, Some, None, option_map, option_and_then, if◌then◌else◌, nat_lt}
+use Rattle.std.specs.Prelude.{is_some, count_by, slice_index_or, slice_set}
+use Rattle.clock_front.specs.Framing.{Framing, framing}
+use Rattle.clock_front.specs.Framing as framed
+use Rattle.clock_front.specs.declared.events.Event.{Event}
+use Rattle.clock_front.specs.declared.events.Event.TheVariants.{Connect, Piece, Finish}
+
+abbrev pub is_less : Framing → Bool
+is_less framed.needs_more = true
+is_less (framed.refusal code) = false
+is_less (framed.whole head body) = false
+
+-- the text is less than a request, and not refused
+abbrev pub needs_more : List ℕ → Bool
+needs_more text = is_less (framing text)
+
+-- the most connections that stand at once (own limit)
+abbrev pub most_connections : ℕ
+most_connections = 256
+
+-- for each number the pieces that came, joined; nothing where the connection was refused, or its request is complete
+abbrev pub Numbered : Type 0
+Numbered = List (Option (List ℕ))
+
+abbrev pub text_at : Numbered → ℕ → Option (List ℕ)
+text_at numbered number = slice_index_or numbered number None
+
+-- a connection that is asked for stands with no bytes, unless too many stand already
+abbrev pub opened : Numbered → Option (List ℕ)
+opened numbered = if nat_lt (count_by is_some numbered) most_connections then Some [] else None
+
+-- a request that is complete with a text, under its number
+abbrev pub if_complete : ℕ → List ℕ → Option (ℕ × List ℕ)
+if_complete number text = if needs_more text then None else Some (number, text)
+
+-- a text that is not complete stands
+abbrev pub if_standing : List ℕ → Option (List ℕ)
+if_standing text = if needs_more text then Some text else None
+
+-- the request that an event completes: a piece the one that needs no more with it, and the end of input any that stands
+abbrev pub completed : Numbered → Event → Option (ℕ × List ℕ)
+completed numbered Connect = None
+completed numbered (Piece number piece) = option_and_then (λ text. if_complete number (text ++ piece)) (text_at numbered number)
+completed numbered (Finish number) = option_map (λ text. (number, text)) (text_at numbered number)
+
+-- the connections after an event
+abbrev pub after : Numbered → Event → Numbered
+after numbered Connect = numbered ++ opened numbered ∷ []
+after numbered (Piece number piece) = slice_set numbered number (option_and_then (λ text. if_standing (text ++ piece)) (text_at numbered number))
+after numbered (Finish number) = slice_set numbered number None
+
+abbrev pub and_then : Option (ℕ × List ℕ) → List (ℕ × List ℕ) → List (ℕ × List ℕ)
+and_then None later = later
+and_then (Some request) later = request ∷ later
+
+-- the requests that events complete, from some connections on
+abbrev pub requests_from : Numbered → List Event → List (ℕ × List ℕ)
+requests_from numbered [] = []
+requests_from numbered (event ∷ events) = and_then (completed numbered event) (requests_from (after numbered event) events)
+
+abbrev pub requests_of : List Event → List (ℕ × List ℕ)
+requests_of events = requests_from [] events

@@ -1,0 +1,67 @@
+ghost use Rattle.std.specs.Prelude.{◌≡◌, IfOk, OnOk};
+ghost use Rattle.clock_front.specs.EventRuns.{IsEventRun, kept};
+
+use crate::front::Front;
+use crate::numbered::NumberedHub;
+use crate::reply::Reply;
+use clock_device::{Items, NoMemory, Text};
+use clock_processor::Processor;
+use clock_setup::Setup;
+use std::alloc::Global;
+
+/// What comes of connections, which are numbered from 0 as they are asked for, those that are refused too.
+///
+/// - `Connect`: one more is asked for. It is refused where 256 stand.
+/// - `Piece`: bytes of a connection's request.
+/// - `Finish`: the end of a connection's input.
+///
+/// A piece and an end do nothing where the connection was refused, its request was answered, or it was not asked for yet.
+#[derive(Drop)]
+pub enum Event {
+    Connect,
+    Piece(u64, Text),
+    Finish(u64),
+}
+
+/// The reply to the request of the connection of a number.
+#[derive(Drop)]
+pub struct EventReply {
+    pub number: u64,
+    pub reply: Reply,
+}
+
+/// Replies in the order in which their requests were complete.
+pub type EventReplies = Items<EventReply>;
+
+/// Keeps a reply, if there is one.
+fn keep(replies: &mut EventReplies, told: Option<EventReply>) -> Result<(), NoMemory>
+    ensures { OnOk result (replies.new ≡ kept replies.old told) }
+{
+    match told {
+        Some(one) => replies.push(one),
+        None => Ok(()),
+    }
+}
+
+/// Answers the requests that come in pieces over connections, in the order in which they are complete, as [`run`](crate::run)
+/// answers their texts. There is no memory where a connection, a piece or a list found none; a request that finds none while
+/// it is answered has a reply that says so.
+pub fn run_events<P: Processor>(
+    alloc: Global,
+    setup: Setup,
+    processor: P,
+    events: &[Event],
+) -> Result<EventReplies, NoMemory>
+    ensures { IfOk result (IsEventRun setup events.now) }
+{
+    let front = Front::new(alloc, setup, processor)?;
+    front.house().keeps();
+    let mut hub = NumberedHub::new(alloc, front);
+    let mut replies = EventReplies::new(alloc);
+    for event in events {
+        let told = hub.take_event(event)?;
+        keep(&mut replies, told)?;
+    }
+    hub.front().house().keeps();
+    Ok(replies)
+}

@@ -1,0 +1,100 @@
+ghost use Rattle.std.specs.Prelude.{◌≡◌, ◌++◌, ℕ, List, [], Some, IfOk, IfErr, OnErr, OnOk, IsSome};
+ghost use Rattle.clock_front.specs.Hubs.{text_of, IsConnected, IsConnectFault, IsFed, IsFeedFault, IsAnswered, IsFinishFault};
+
+use crate::connections::{Conn, Connections};
+use crate::fed::Fed;
+use crate::front::Front;
+use crate::hub_fault::HubFault;
+use crate::reply::Reply;
+use clock_processor::Processor;
+use std::alloc::Global;
+use std::marker::Model;
+
+/// A front whose requests come in pieces over connections that stand at once.
+///
+/// Contracts see the house of the front, and the connections: each that stands with the bytes that have come over it. A
+/// connection is for one request. It is gone with the reply, also with one of want of memory.
+#[derive(Drop)]
+pub struct Hub<P> {
+    front: Front<P>,
+    connections: Connections,
+}
+
+impl<P> Model for Hub<P> {
+    ghost use Rattle.clock_front.specs.Hubs.{HubFields};
+
+    ghost Value = { HubFields };
+
+    ghost view = { λ h. record { house = h.front; connections = h.connections } };
+}
+
+impl<P: Processor> Hub<P> {
+    /// A hub with no connection. It takes no memory.
+    pub fn new(alloc: Global, front: Front<P>) -> Hub<P>
+        ensures { result ≡ record { house = front; connections = record { slots = []; next = 0 } } }
+    {
+        Hub {
+            front,
+            connections: Connections::new(alloc),
+        }
+    }
+
+    /// A new connection, which was never given before. It is refused as full where 256 connections stand, or where so many
+    /// were made that there is no further serial number.
+    pub fn connect(&mut self) -> Result<Conn, HubFault>
+        ensures connected { IfOk result (IsConnected self.old.connections self.new.connections) }
+        ensures front { self.new.house ≡ self.old.house }
+        ensures fault { IfErr result (IsConnectFault self.old.connections) }
+        ensures still { OnErr result (self.new ≡ self.old) }
+    {
+        self.connections.connect()
+    }
+
+    /// Answers the request of a connection that stands, which is gone with it.
+    fn complete(&mut self, conn: Conn) -> Reply
+        requires { IsSome (text_of self.old.connections conn) }
+        ensures { (text : List ℕ) → text_of self.old.connections conn ≡ Some text → IsAnswered self.old self.new conn text result }
+    {
+        let partial = self.connections.remove(conn);
+        partial.answer(&mut self.front)
+    }
+
+    /// Takes a piece of a request: it needs more, or its reply is told, as [`Front::answer`] gives it. Where there is no
+    /// memory the connection stands with the bytes that it had, and the piece can be fed again.
+    pub fn feed(&mut self, conn: Conn, piece: &[u8]) -> Result<Fed, HubFault>
+        ensures fed { (text : List ℕ) → text_of self.old.connections conn ≡ Some text
+            → IfOk result (IsFed self.old self.new conn (text ++ piece.now)) }
+        ensures stood { OnOk result (IsSome (text_of self.old.connections conn)) }
+        ensures fault { IfErr result (IsFeedFault (text_of self.old.connections conn)) }
+        ensures still { OnErr result (self.new ≡ self.old) }
+    {
+        if !self.connections.stands(conn) {
+            return Err(HubFault::Unknown);
+        }
+        if self.connections.take(conn, piece)? {
+            return Ok(Fed::More);
+        }
+        Ok(Fed::Reply(self.complete(conn)))
+    }
+
+    /// The reply to a request whose input has ended.
+    pub fn finish(&mut self, conn: Conn) -> Result<Reply, HubFault>
+        ensures answered { (text : List ℕ) → text_of self.old.connections conn ≡ Some text
+            → IfOk result (IsAnswered self.old self.new conn text) }
+        ensures stood { OnOk result (IsSome (text_of self.old.connections conn)) }
+        ensures fault { IfErr result (IsFinishFault (text_of self.old.connections conn)) }
+        ensures still { OnErr result (self.new ≡ self.old) }
+    {
+        if !self.connections.stands(conn) {
+            return Err(HubFault::Unknown);
+        }
+        Ok(self.complete(conn))
+    }
+
+    /// The front that answers.
+    pub fn front(&self) -> &Front<P>
+        ensures { result.now ≡ self.now.house }
+    {
+        &self.front
+    }
+}

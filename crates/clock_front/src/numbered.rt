@@ -1,0 +1,118 @@
+ghost use Rattle.std.specs.Prelude.{◌≡◌, ◌<◌, ◌++◌, ℕ, [], length, Some, None, OnOk, IfOk};
+ghost use Rattle.clock_front.specs.Pieces.{Numbered, completed, after};
+ghost use Rattle.clock_front.specs.NumberedHubs.{Stands, HasCompleted, conn_at};
+ghost use Rattle.clock_front.specs.declared.events.Event.TheVariants as events;
+
+use crate::connections::Conn;
+use crate::events::{Event, EventReply};
+use crate::fed::Fed;
+use crate::front::Front;
+use crate::hub::Hub;
+use crate::hub_fault::HubFault;
+use clock_device::{Items, NoMemory};
+use clock_processor::Processor;
+use std::alloc::Global;
+
+/// A hub whose connections are numbered from 0 as they are asked for.
+#[derive(Drop)]
+pub struct NumberedHub<P> {
+    hub: Hub<P>,
+    conns: Items<Option<Conn>>,
+}
+
+impl<P: Processor> NumberedHub<P> {
+    /// No connection was asked for yet.
+    pub fn new(alloc: Global, front: Front<P>) -> NumberedHub<P>
+        ensures house { result.hub.house ≡ front }
+        ensures stands { Stands [] result.hub.connections result.conns }
+    {
+        NumberedHub {
+            hub: Hub::new(alloc, front),
+            conns: Items::new(alloc),
+        }
+    }
+
+    /// The connection of a number, where it was made.
+    fn conn(&self, number: u64) -> Option<Conn>
+        ensures { result ≡ conn_at self.now.conns number }
+    {
+        match self.conns.as_slice().get(number as usize) {
+            Some(conn) => *conn,
+            None => None,
+        }
+    }
+
+    /// One more connection is asked for.
+    fn connect(&mut self) -> Result<(), NoMemory>
+        requires { length self.old.conns < 18446744073709551615 }
+        ensures stands { (numbered : Numbered) → Stands numbered self.old.hub.connections self.old.conns
+            → OnOk result (Stands (after numbered events.Connect) self.new.hub.connections self.new.conns) }
+        ensures house { self.new.hub.house ≡ self.old.hub.house }
+    {
+        let conn = match self.hub.connect() {
+            Ok(conn) => Some(conn),
+            Err(HubFault::Full) => None,
+            Err(_) => return Err(NoMemory),
+        };
+        self.conns.push(conn)
+    }
+
+    /// A piece comes over a connection.
+    fn feed(&mut self, number: u64, piece: &[u8]) -> Result<Option<EventReply>, NoMemory>
+        ensures stands { (numbered : Numbered) → Stands numbered self.old.hub.connections self.old.conns
+            → OnOk result (Stands (after numbered (events.Piece number piece.now)) self.new.hub.connections self.new.conns) }
+        ensures told { (numbered : Numbered) → Stands numbered self.old.hub.connections self.old.conns
+            → IfOk result (HasCompleted (completed numbered (events.Piece number piece.now)) self.old.hub.house self.new.hub.house) }
+        ensures conns { self.new.conns ≡ self.old.conns }
+    {
+        let Some(conn) = self.conn(number) else {
+            return Ok(None);
+        };
+        match self.hub.feed(conn, piece) {
+            Ok(Fed::More) => Ok(None),
+            Ok(Fed::Reply(reply)) => Ok(Some(EventReply { number, reply })),
+            Err(HubFault::NoMemory) => Err(NoMemory),
+            Err(_) => Ok(None),
+        }
+    }
+
+    /// The input of a connection ends.
+    fn finish(&mut self, number: u64) -> Option<EventReply>
+        ensures stands { (numbered : Numbered) → Stands numbered self.old.hub.connections self.old.conns
+            → Stands (after numbered (events.Finish number)) self.new.hub.connections self.new.conns }
+        ensures told { (numbered : Numbered) → Stands numbered self.old.hub.connections self.old.conns
+            → HasCompleted (completed numbered (events.Finish number)) self.old.hub.house self.new.hub.house result }
+        ensures conns { self.new.conns ≡ self.old.conns }
+    {
+        let conn = self.conn(number)?;
+        match self.hub.finish(conn) {
+            Ok(reply) => Some(EventReply { number, reply }),
+            Err(_) => None,
+        }
+    }
+
+    /// Takes an event, and tells the reply to the request that it completes.
+    pub fn take_event(&mut self, event: &Event) -> Result<Option<EventReply>, NoMemory>
+        requires { length self.old.conns < 18446744073709551615 }
+        ensures stands { (numbered : Numbered) → Stands numbered self.old.hub.connections self.old.conns
+            → OnOk result (Stands (after numbered event.now) self.new.hub.connections self.new.conns) }
+        ensures told { (numbered : Numbered) → Stands numbered self.old.hub.connections self.old.conns
+            → IfOk result (HasCompleted (completed numbered event.now) self.old.hub.house self.new.hub.house) }
+    {
+        match event {
+            Event::Connect => {
+                self.connect()?;
+                Ok(None)
+            }
+            Event::Piece(number, piece) => self.feed(*number, piece.as_slice()),
+            Event::Finish(number) => Ok(self.finish(*number)),
+        }
+    }
+
+    /// The front that answers.
+    pub fn front(&self) -> &Front<P>
+        ensures { result.now ≡ self.now.hub.house }
+    {
+        self.hub.front()
+    }
+}

@@ -1,0 +1,100 @@
+ghost use Rattle.std.specs.Prelude.{◌≡◌, ◌≤◌, ◌<◌, ◌+◌, ◌||◌, Ok, false, length, vec_len, IfOk};
+ghost use Rattle.clock_device.specs.Calls.{IsUnread, count_after};
+ghost use Rattle.clock_front.specs.Framing.{framing, needs_more};
+ghost use Rattle.clock_front.specs.Arrivals.{EndsArrival, GrowsByOneAtMost, IsStepOf, is_read_fault, most_reads};
+
+use crate::arriving::Arriving;
+use clock_device::{NoMemory, Source, Stop};
+use std::alloc::{AllocError, Global};
+
+/// How many reads are made at most.
+const MOST_READS: u64 = 2_000_000;
+
+/// How many bytes one read asks for at most.
+const PIECE: usize = 16_384;
+
+/// Why no request was read.
+#[derive(Clone, Copy, Debug)]
+pub(crate) enum Unread {
+    /// A read failed, or all reads were made.
+    Read,
+    /// There was no memory for the bytes.
+    Memory,
+}
+
+impl From<NoMemory> for Unread {
+    ghost use Rattle.clock_front.specs.declared.reading.Unread.TheVariants as unread;
+
+    ghost from_gives = { λ _ fault. fault ≡ unread.Memory };
+
+    fn from(_refused: NoMemory) -> Unread {
+        Unread::Memory
+    }
+}
+
+impl From<AllocError> for Unread {
+    ghost use Rattle.clock_front.specs.declared.reading.Unread.TheVariants as unread;
+
+    ghost from_gives = { λ _ fault. fault ≡ unread.Memory };
+
+    fn from(_refused: AllocError) -> Unread {
+        Unread::Memory
+    }
+}
+
+/// Room for one read.
+fn empty_piece(alloc: Global, size: usize) -> Result<Vec<u8>, AllocError>
+    ensures { IfOk result (λ piece. vec_len piece ≡ size) }
+{
+    vec![in alloc; 0; size]
+}
+
+/// Makes one read and adds its bytes to the request. Answers whether it was the last: they decide what the request is, or the
+/// input has ended.
+fn read_once<R: Source>(
+    source: &mut R,
+    piece: &mut [u8],
+    request: &mut Arriving,
+) -> Result<bool, Unread>
+    requires room { 0 < length piece.old }
+    requires needed { framing request.old ≡ needs_more }
+    requires uncounted { R.interruptions source.old < most_reads }
+    ensures step { IsStepOf (R.bytes_left source.old) (R.bytes_left source.new) request.old request.new result }
+    ensures used { result ≡ Ok false
+        → length request.old + R.interruptions source.old < length request.new + R.interruptions source.new }
+    ensures counted { R.calls source.new ≡ count_after (R.calls source.old) }
+    ensures interrupted { GrowsByOneAtMost (R.interruptions source.old) (R.interruptions source.new) }
+    ensures failed { R.has_failed source.new ≡ (R.has_failed source.old || is_read_fault result) }
+{
+    let count = match source.read(piece) {
+        Ok(count) => count,
+        Err(Stop::Interrupted) => return Ok(false),
+        Err(Stop::Failed) => return Err(Unread::Read),
+    };
+    request.take(&piece[..count])?;
+    Ok(count == 0 || !request.needs_more())
+}
+
+/// Reads until the bytes decide what the request is, or the input ends. An interrupted read is tried again.
+pub(crate) fn read_request<R: Source>(alloc: Global, source: &mut R) -> Result<Arriving, Unread>
+    requires { IsUnread (R.calls source.old) (R.interruptions source.old) (R.has_failed source.old) }
+    ensures arrival { EndsArrival
+        (record {
+          before = R.bytes_left source.old;
+          after = R.bytes_left source.new;
+          calls = R.calls source.new;
+          interruptions = R.interruptions source.new;
+          has_failed = R.has_failed source.new;
+        })
+        result }
+    ensures calls { R.calls source.new ≤ most_reads }
+{
+    let mut piece = empty_piece(alloc, PIECE)?;
+    let mut request = Arriving::new(alloc);
+    for _read in 0..MOST_READS {
+        if read_once(source, piece.as_mut_slice(), &mut request)? {
+            return Ok(request);
+        }
+    }
+    Err(Unread::Read)
+}

@@ -1,0 +1,81 @@
+ghost use Rattle.std.specs.Prelude.{◌≡◌, ◌≤◌, ℕ, List, MatchOption};
+ghost use Rattle.clock_device.specs.Calls.{IsUnread, IsUnused};
+ghost use Rattle.clock_front.specs.Arrivals.{Reading, most_reads};
+ghost use Rattle.clock_front.specs.Fronts.{StandsForTexts};
+ghost use Rattle.clock_front.specs.Streamed.{HasServed, IsAnswerTo, IsServed, IsUnanswered};
+
+use crate::front::Front;
+use crate::reading::{Unread, read_request};
+use crate::reply::Reply;
+use crate::stream_fault::StreamFault;
+use clock_device::{Sink, Source, write_all};
+use clock_processor::Processor;
+use clock_views::Code;
+use std::alloc::Global;
+
+/// The reply to the request that a source brings, and none where no request could be read.
+fn answer_source<P: Processor, R: Source>(
+    alloc: Global,
+    front: &mut Front<P>,
+    source: &mut R,
+) -> Option<Reply>
+    requires { IsUnread (R.calls source.old) (R.interruptions source.old) (R.has_failed source.old) }
+    ensures answered { let reading : Reading = record {
+      before = R.bytes_left source.old;
+      after = R.bytes_left source.new;
+      calls = R.calls source.new;
+      interruptions = R.interruptions source.new;
+      has_failed = R.has_failed source.new;
+    } in MatchOption result (IsUnanswered reading front.old front.new) (λ reply. IsAnswerTo reading reply front.old front.new) }
+    ensures stands { (texts : List (List ℕ)) → StandsForTexts texts front.old → HasServed 1 texts front.new }
+    ensures calls { R.calls source.new ≤ most_reads }
+    ensures setup { front.new.setup ≡ front.old.setup }
+{
+    match read_request(alloc, source) {
+        Ok(request) => Some(front.answer_known(request.as_slice(), request.progress())),
+        Err(Unread::Memory) => Some(Reply::no_memory()),
+        Err(Unread::Read) => None,
+    }
+}
+
+/// Reads one request, answers it, and writes its reply. What the request did is told by the code of the reply.
+///
+/// No read is made once the bytes read decide what the request is, and 2,000,000 reads are made at most; an interrupted read is
+/// tried again. Where the input ends, the bytes that came are answered as they stand: [`Code::CutShort`]. Where there is no
+/// memory for them the reply is that of [`Code::Memory`], and nothing has changed.
+pub fn serve_stream<P: Processor, R: Source, W: Sink>(
+    alloc: Global,
+    front: &mut Front<P>,
+    source: &mut R,
+    sink: &mut W,
+) -> Result<Code, StreamFault>
+    requires unread { IsUnread (R.calls source.old) (R.interruptions source.old) (R.has_failed source.old) }
+    requires unused { IsUnused (W.calls sink.old) (W.has_failed sink.old) }
+    ensures served { IsServed
+        (record {
+          before = R.bytes_left source.old;
+          after = R.bytes_left source.new;
+          calls = R.calls source.new;
+          interruptions = R.interruptions source.new;
+          has_failed = R.has_failed source.new;
+        })
+        (record {
+          before = W.bytes_taken sink.old;
+          after = W.bytes_taken sink.new;
+          calls = W.calls sink.new;
+          has_failed = W.has_failed sink.new;
+        })
+        front.old front.new result }
+    ensures stands { (texts : List (List ℕ)) → StandsForTexts texts front.old → HasServed 1 texts front.new }
+    ensures calls { R.calls source.new ≤ most_reads }
+    ensures setup { front.new.setup ≡ front.old.setup }
+{
+    let Some(reply) = answer_source(alloc, front, source) else {
+        return Err(StreamFault::Read);
+    };
+    let code = reply.code();
+    match write_all(sink, reply.bytes()) {
+        Ok(()) => Ok(code),
+        Err(_) => Err(StreamFault::Write(code)),
+    }
+}
