@@ -4,3 +4,11 @@ pub mod ReplayShape
 pub mod ReplayChecks
 pub mod ReplayDocument
 pub mod ReportText
+pub mod Sincere
+pub mod Blocks
+pub mod RequestTexts
+pub mod RoundPrices
+pub mod ScriptedRequests
+pub mod FinalReport
+pub mod Rehearsal
+pub mod Steps

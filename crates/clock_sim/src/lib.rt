@@ -1,16 +1,27 @@
-//! Scripted bidders: what a replay document means, and the report of a replay.
+//! Scripted bidders: what a replay document means, how it is played, and its report.
+//!
+//! [`simulate`] plays a [`Replay`]: each sheet and closing is sent to the front as the bytes of a live request, so that a
+//! scripted bidder takes the path of a live one.
 #![tactic(auto)]
 
 mod checks;
 mod closing;
 mod fault;
+mod final_report;
 mod part;
 mod read;
 mod replay;
 mod report;
 mod report_lines;
+mod request_texts;
+mod round_prices;
+mod rounds;
 mod script;
+mod scripted;
 mod shape;
+mod sim_fault;
+mod simulation;
+mod sincere;
 #[cfg(test)]
 mod tests;
 
@@ -21,3 +32,5 @@ pub use replay::Replay;
 pub use report::{Report, RoundSheets};
 pub use report_lines::report_text;
 pub use script::{BidList, LimitLists, Script, Scripts, SheetList};
+pub use sim_fault::SimFault;
+pub use simulation::simulate;

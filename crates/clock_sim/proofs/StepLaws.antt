@@ -1,0 +1,380 @@
+-- Steps of a rehearsal, one after the other.
+use Rattle.std.proofs.Common.{◌≡◌, ◌≢◌, ℕ, ◌+◌, ◌<◌, ◌≤◌, Bool, true, false, List, [], ◌∷◌, length, drop, get_or, Option, Some, None, Result, Ok, Err, refl, sym, ◌∙◌, ap, subst, inl, inr}
+use Rattle.std.specs.Prelude.{MatchResult, if◌then◌else◌}
+use Rattle.std.proofs.lemmas.List.{drop_more, drop_all}
+use Rattle.clock_setup.specs.Limits.{SetupFields}
+use Rattle.clock_setup.specs.Faults.{◌>>=◌, IsRefusal}
+use Rattle.clock_house.specs.House.{HouseFields, standing_in}
+use Rattle.clock_house.specs.History.{standing}
+use Rattle.clock_house.specs.declared.closed_round.ClosedRound.{ClosedRound}
+use Rattle.clock_views.specs.declared.code.Code.{Code}
+use Rattle.clock_views.specs.declared.code.Code.TheVariants.{Done, Memory}
+use Rattle.clock_front.specs.Replies.{Answer}
+use Rattle.clock_front.specs.Fronts.{reply, StandsForTexts, AnswersText}
+use Rattle.clock_sim.specs.declared.sim_fault.SimFault.{SimFault}
+use Rattle.clock_sim.specs.declared.sim_fault.SimFault.TheVariants.{NoMemory, ClosingsSpent}
+use Rattle.clock_sim.specs.Rehearsal.{if_done, refused_by, after_request, after_request_if, rounds_after, after_put, after_puts, after_close, after_round, rehearsed, simulated}
+use Rattle.clock_sim.specs.FinalReport.{report_of}
+use Rattle.clock_sim.specs.Replays.{ReplayFields}
+use Rattle.clock_sim.specs.declared.script.Script.{Script}
+use Rattle.clock_sim.specs.declared.closing.Closing.{Closing}
+use Rattle.clock_sim.specs.ScriptedRequests.{scripted_put, scripted_close}
+use Rattle.clock_sim.specs.Steps.{IsTold, ComesTo, MakesStep}
+
+abbrev Texts : Type 0
+Texts = List (List ℕ)
+
+abbrev Step : Type 0
+Step = Texts → Result Texts SimFault
+
+-- ---- one request
+
+not_done : {T : Type 0} (code : Code) (done : T) (fault : SimFault) → code ≢ Done → if_done code done fault ≡ Err fault
+not_done Done done fault other = absurd (other refl)
+not_done code done fault other = refl
+
+-- a request whose reply is done
+pub request_done : (text : List ℕ) (answer : Answer) (old new : HouseFields) (sender : Option ℕ) (round : ℕ) → AnswersText text answer old new
+    → answer.code ≡ Done → (texts : Texts) → StandsForTexts texts old → ComesTo (after_request old.setup texts sender round text) new
+unfolding after_request
+request_done text answer old new sender round answered is texts stands =
+    elim (answered texts stands) [
+      | inl told ↦ (let same : (reply old.setup texts text).code ≡ Done = sym (ap (λ (one : Answer). one.code) told.0) ∙ is in record {
+        texts = text ∷ texts;
+        is = ap (λ (code : Code). if_done code (text ∷ texts) (refused_by sender round code)) same;
+        stands = told.1;
+      })
+      | inr none ↦ absurd (let same : Memory ≡ Done = sym (ap (λ (one : Answer). one.code) none.0.is) ∙ is in cc)
+    ]
+
+-- a request whose reply is another one, but for want of memory
+pub request_refused : (text : List ℕ) (answer : Answer) (old new : HouseFields) (sender : Option ℕ) (round : ℕ) → AnswersText text answer old new
+    → answer.code ≢ Done → answer.code ≢ Memory → (texts : Texts) → StandsForTexts texts old
+    → after_request old.setup texts sender round text ≡ Err (refused_by sender round answer.code)
+unfolding after_request
+request_refused text answer old new sender round answered not_good not_memory texts stands =
+    elim (answered texts stands) [
+      | inl told ↦ (let same : answer.code ≡ (reply old.setup texts text).code = ap (λ (one : Answer). one.code) told.0 in
+          ap (λ (code : Code). if_done code (text ∷ texts) (refused_by sender round code)) (sym same)
+          ∙ not_done answer.code (text ∷ texts) (refused_by sender round answer.code) not_good)
+      | inr none ↦ absurd (not_memory (ap (λ (one : Answer). one.code) none.0.is))
+    ]
+
+sent_by : {T : Type 0} (text : List ℕ) (answer : Answer) (old new : HouseFields) (sender : Option ℕ) (round : ℕ) (result : Result T SimFault)
+    → AnswersText text answer old new → IsTold answer.code (refused_by sender round answer.code) result → (texts : Texts) → StandsForTexts texts old
+    → MatchResult result (λ _. ComesTo (after_request old.setup texts sender round text) new) (IsRefusal NoMemory (after_request old.setup texts sender round text))
+sent_by text answer old new sender round (Ok done) answered told texts stands = request_done text answer old new sender round answered told texts stands
+sent_by text answer old new sender round (Err fault) answered told texts stands =
+    λ other. let refused = told other in
+    request_refused text answer old new sender round answered refused.not_done refused.not_memory texts stands ∙ ap Err (sym refused.told_is)
+
+-- a request is sent
+pub sent : {T : Type 0} (text : List ℕ) (answer : Answer) (code : Code) (old new : HouseFields) (sender : Option ℕ) (round : ℕ) (result : Result T SimFault)
+    → AnswersText text answer old new → new.setup ≡ old.setup → code ≡ answer.code → IsTold code (refused_by sender round code) result
+    → MakesStep (λ texts. after_request old.setup texts sender round text) old new result
+sent text answer code old new sender round result answered same is told = record {
+  setup = same;
+  comes = sent_by text answer old new sender round result answered (subst (λ one. IsTold one (refused_by sender round one) result) is told);
+}
+
+-- where there was no memory, nothing is told
+pub out_of_memory : {T : Type 0} (step : Step) (old new : HouseFields) → new.setup ≡ old.setup → MakesStep {T = T} step old new (Err NoMemory)
+out_of_memory step old new same = record { setup = same; comes = λ texts stands other. absurd (other refl) }
+
+-- ---- the requests of a round
+
+-- a bidder whose script gives no sheet puts none
+pub nothing_put : {T : Type 0} (old : HouseFields) (bidder : ℕ) (script : Script) (done : T) → scripted_put old.setup old.closed bidder script ≡ None
+    → MakesStep (after_put old.setup bidder script) old old (Ok done)
+nothing_put old bidder script done none = record {
+  setup = refl;
+  comes = λ texts stands. record {
+    texts = texts;
+    is =
+        ap (λ (closed : List ClosedRound). after_request_if old.setup texts (Some bidder) (standing old.setup.products closed).round (scripted_put old.setup closed bidder script)) (sym stands.closed)
+        ∙ ap (λ (put : Option (List ℕ)). after_request_if old.setup texts (Some bidder) (standing_in old).round put) none;
+    stands = stands;
+  };
+}
+
+-- the sheet that a script gives is put
+pub sheet_put : {T : Type 0} (old new : HouseFields) (bidder : ℕ) (script : Script) (text : List ℕ) (round : ℕ) (result : Result T SimFault)
+    → scripted_put old.setup old.closed bidder script ≡ Some text → round ≡ (standing_in old).round
+    → MakesStep (λ texts. after_request old.setup texts (Some bidder) round text) old new result → MakesStep (after_put old.setup bidder script) old new result
+sheet_put old new bidder script text round result puts at sent = record {
+  setup = sent.setup;
+  comes = λ texts stands.
+      let P : Result Texts SimFault → Type 0 = λ answer. MatchResult result (λ _. ComesTo answer new) (IsRefusal NoMemory answer) in
+      let same : after_request old.setup texts (Some bidder) round text ≡ after_put old.setup bidder script texts =
+      ap (λ (k : ℕ). after_request old.setup texts (Some bidder) k text) at
+      ∙ ap (λ (put : Option (List ℕ)). after_request_if old.setup texts (Some bidder) (standing_in old).round put) (sym puts)
+      ∙ ap (λ (closed : List ClosedRound). after_request_if old.setup texts (Some bidder) (standing old.setup.products closed).round (scripted_put old.setup closed bidder script)) stands.closed in
+      subst P same (sent.comes texts stands);
+}
+
+-- the operator closes the round
+pub round_closed : {T : Type 0} (old new : HouseFields) (closing : Closing) (text : List ℕ) (round : ℕ) (result : Result T SimFault)
+    → text ≡ scripted_close old.setup old.closed closing → round ≡ (standing_in old).round
+    → MakesStep (λ texts. after_request old.setup texts None round text) old new result → MakesStep (after_close old.setup closing) old new result
+round_closed old new closing text round result is at sent = record {
+  setup = sent.setup;
+  comes = λ texts stands.
+      let P : Result Texts SimFault → Type 0 = λ answer. MatchResult result (λ _. ComesTo answer new) (IsRefusal NoMemory answer) in
+      let same : after_request old.setup texts None round text ≡ after_close old.setup closing texts =
+      ap (λ (k : ℕ). after_request old.setup texts None k text) at
+      ∙ ap (λ (one : List ℕ). after_request old.setup texts None (standing_in old).round one) is
+      ∙ ap (λ (closed : List ClosedRound). after_request old.setup texts None (standing old.setup.products closed).round (scripted_close old.setup closed closing)) stands.closed in
+      subst P same (sent.comes texts stands);
+}
+
+-- ---- steps in turn
+
+-- a step that is made, and one after it
+pub and_then : {U T : Type 0} (first second : Step) (old mid new : HouseFields) (done : U) (result : Result T SimFault)
+    → MakesStep first old mid (Ok done) → MakesStep second mid new result → MakesStep (λ texts. first texts >>= second) old new result
+and_then first second old mid new done result one two = record {
+  setup = two.setup ∙ one.setup;
+  comes = λ texts stands.
+      let made = one.comes texts stands in
+      let P : Result Texts SimFault → Type 0 = λ answer. MatchResult result (λ _. ComesTo (answer >>= second) new) (IsRefusal NoMemory (answer >>= second)) in
+      subst P (sym made.is) (two.comes made.texts made.stands);
+}
+
+-- where the first step has a fault, there is none after it
+pub no_further : {U T : Type 0} (first second : Step) (old new : HouseFields) (fault : SimFault)
+    → MakesStep {T = U} first old new (Err fault) → MakesStep {T = T} (λ texts. first texts >>= second) old new (Err fault)
+no_further first second old new fault one = record {
+  setup = one.setup;
+  comes = λ texts stands other. ap (λ answer. answer >>= second) (one.comes texts stands other);
+}
+
+-- ---- steps on their way
+
+-- the rest of the steps give what the whole gives
+pub record IsLeft (rest : Step) (answer : Result Texts SimFault) (house : HouseFields) : Type 0 where
+  pub texts : Texts
+  pub stands : StandsForTexts texts house
+  pub same : rest texts ≡ answer
+
+pub record IsOnWay (whole rest : Step) (initial now : HouseFields) : Type 0 where
+  pub setup : now.setup ≡ initial.setup
+  pub comes : (texts : Texts) → StandsForTexts texts initial → IsLeft rest (whole texts) now
+
+pub begins : (whole : Step) (initial : HouseFields) → IsOnWay whole whole initial initial
+begins whole initial = record {
+  setup = refl;
+  comes = λ texts stands. record { texts = texts; stands = stands; same = refl };
+}
+
+-- one step of the rest is made
+pub goes_on : {U : Type 0} (whole step rest : Step) (initial now next : HouseFields) (done : U)
+    → IsOnWay whole (λ texts. step texts >>= rest) initial now → MakesStep step now next (Ok done) → IsOnWay whole rest initial next
+goes_on whole step rest initial now next done before made = record {
+  setup = made.setup ∙ before.setup;
+  comes = λ texts stands.
+      let way = before.comes texts stands in
+      let one = made.comes way.texts way.stands in
+      record { texts = one.texts; stands = one.stands; same = ap (λ answer. answer >>= rest) (sym one.is) ∙ way.same };
+}
+
+-- one step of the rest has a fault
+pub stops : {U T : Type 0} (whole step rest : Step) (initial now next : HouseFields) (fault : SimFault)
+    → IsOnWay whole (λ texts. step texts >>= rest) initial now → MakesStep {T = U} step now next (Err fault)
+    → MakesStep {T = T} whole initial next (Err fault)
+stops whole step rest initial now next fault before made = record {
+  setup = made.setup ∙ before.setup;
+  comes = λ texts stands other.
+      let way = before.comes texts stands in
+      sym way.same ∙ ap (λ answer. answer >>= rest) (made.comes way.texts way.stands other);
+}
+
+-- where the rest goes on until the auction has ended, the test is that of the house
+ended_as : (initial now : HouseFields) (texts : Texts) (ended : Bool) → now.setup ≡ initial.setup → StandsForTexts texts now → (standing_in now).ended ≡ ended
+    → (standing initial.setup.products (rounds_after initial.setup texts)).ended ≡ ended
+ended_as initial now texts ended same stands e =
+    ap (λ (setup : SetupFields). (standing setup.products (rounds_after setup texts)).ended) (sym same)
+    ∙ ap (λ (closed : List ClosedRound). (standing now.setup.products closed).ended) (sym stands.closed) ∙ e
+
+abbrev pub until_end : SetupFields → Step → Step
+until_end setup rest closed = if (standing setup.products (rounds_after setup closed)).ended then Ok closed else rest closed
+
+pub goes_past : (whole rest : Step) (initial now : HouseFields) → IsOnWay whole (until_end initial.setup rest) initial now → (standing_in now).ended ≡ false
+    → IsOnWay whole rest initial now
+goes_past whole rest initial now before going = record {
+  setup = before.setup;
+  comes = λ texts stands.
+      let way = before.comes texts stands in
+      let is = ended_as initial now way.texts false before.setup way.stands going in
+      record {
+        texts = way.texts;
+        stands = way.stands;
+        same = sym (ap (λ (over : Bool). if over then Ok way.texts else rest way.texts) is) ∙ way.same;
+      };
+}
+
+pub ends_there : {T : Type 0} (whole rest : Step) (initial now : HouseFields) (done : T) → IsOnWay whole (until_end initial.setup rest) initial now
+    → (standing_in now).ended ≡ true → MakesStep whole initial now (Ok done)
+ends_there whole rest initial now done before over = record {
+  setup = before.setup;
+  comes = λ texts stands.
+      let way = before.comes texts stands in
+      let is = ended_as initial now way.texts true before.setup way.stands over in
+      record {
+        texts = way.texts;
+        is = sym way.same ∙ ap (λ (over : Bool). if over then Ok way.texts else rest way.texts) is;
+        stands = way.stands;
+      };
+}
+
+-- a last step is made, and its end is a fault
+pub spent : {U T : Type 0} (whole step : Step) (initial now next : HouseFields) (done : U) (fault : SimFault)
+    → IsOnWay whole (λ texts. step texts >>= (λ put. Err fault)) initial now → MakesStep step now next (Ok done)
+    → MakesStep {T = T} whole initial next (Err fault)
+spent whole step initial now next done fault before made = record {
+  setup = made.setup ∙ before.setup;
+  comes = λ texts stands other.
+      let way = before.comes texts stands in
+      let one = made.comes way.texts way.stands in
+      sym way.same ∙ ap (λ answer. answer >>= (λ put. Err fault)) one.is;
+}
+
+-- nothing is left
+pub ends : {T : Type 0} (whole rest : Step) (initial now : HouseFields) (done : T) → IsOnWay whole rest initial now
+    → ((texts : Texts) → rest texts ≡ Ok texts) → MakesStep whole initial now (Ok done)
+ends whole rest initial now done before none = record {
+  setup = before.setup;
+  comes = λ texts stands.
+      let way = before.comes texts stands in
+      record { texts = way.texts; is = sym way.same ∙ none way.texts; stands = way.stands };
+}
+
+-- ---- the sheet that a script gives, by what was written
+
+pub puts_text : (house old : HouseFields) (bidder : ℕ) (script : Script) (puts : Bool) (written text : List ℕ) → house ≡ old
+    → scripted_put house.setup house.closed bidder script ≡ (if puts then Some written else None) → puts ≡ true → text ≡ written
+    → scripted_put old.setup old.closed bidder script ≡ Some text
+puts_text house old bidder script puts written text same gives there is =
+    let P : HouseFields → Type 0 = λ now. scripted_put now.setup now.closed bidder script ≡ Some text in
+    subst P same (gives ∙ ap (λ (b : Bool). if b then Some written else None) there ∙ ap Some (sym is))
+
+pub puts_none : (house old : HouseFields) (bidder : ℕ) (script : Script) (puts : Bool) (written : List ℕ) → house ≡ old
+    → scripted_put house.setup house.closed bidder script ≡ (if puts then Some written else None) → puts ≡ false
+    → scripted_put old.setup old.closed bidder script ≡ None
+puts_none house old bidder script puts written same gives no_sheet =
+    let P : HouseFields → Type 0 = λ now. scripted_put now.setup now.closed bidder script ≡ None in
+    subst P same (gives ∙ ap (λ (b : Bool). if b then Some written else None) no_sheet)
+
+-- ---- bidder after bidder
+
+next_script : (scripts : List Script) (i : ℕ) (script : Script) → i < length scripts → script ≡ get_or scripts i script → drop i scripts ≡ script ∷ drop (i + 1) scripts
+next_script scripts i script below is = drop_more scripts i script below ∙ ap (λ (one : Script). one ∷ drop (i + 1) scripts) (sym is)
+
+before_put : (whole : Step) (scripts : List Script) (i : ℕ) (script : Script) (initial now : HouseFields) → i < length scripts → script ≡ get_or scripts i script
+    → IsOnWay whole (after_puts initial.setup i (drop i scripts)) initial now
+    → IsOnWay whole (λ texts. after_put initial.setup i script texts >>= after_puts initial.setup (i + 1) (drop (i + 1) scripts)) initial now
+before_put whole scripts i script initial now below is before =
+    let P : List Script → Type 0 = λ rest. IsOnWay whole (after_puts initial.setup i rest) initial now in
+    subst P (next_script scripts i script below is) before
+
+pub next_put : {U : Type 0} (whole : Step) (scripts : List Script) (i : ℕ) (script : Script) (initial now next : HouseFields) (done : U)
+    → i < length scripts → script ≡ get_or scripts i script
+    → IsOnWay whole (after_puts initial.setup i (drop i scripts)) initial now → MakesStep (after_put now.setup i script) now next (Ok done)
+    → IsOnWay whole (after_puts initial.setup (i + 1) (drop (i + 1) scripts)) initial next
+next_put whole scripts i script initial now next done below is before made =
+    goes_on whole (after_put initial.setup i script) (after_puts initial.setup (i + 1) (drop (i + 1) scripts)) initial now next done
+    (before_put whole scripts i script initial now below is before)
+    (subst (λ (setup : SetupFields). MakesStep (after_put setup i script) now next (Ok done)) before.setup made)
+
+pub refused_put : {U T : Type 0} (whole : Step) (scripts : List Script) (i : ℕ) (script : Script) (initial now next : HouseFields) (fault : SimFault)
+    → i < length scripts → script ≡ get_or scripts i script
+    → IsOnWay whole (after_puts initial.setup i (drop i scripts)) initial now → MakesStep {T = U} (after_put now.setup i script) now next (Err fault)
+    → MakesStep {T = T} whole initial next (Err fault)
+refused_put {U = U} {T = T} whole scripts i script initial now next fault below is before made =
+    stops {U = U} {T = T} whole (after_put initial.setup i script) (after_puts initial.setup (i + 1) (drop (i + 1) scripts)) initial now next fault
+    (before_put whole scripts i script initial now below is before)
+    (subst (λ (setup : SetupFields). MakesStep {T = U} (after_put setup i script) now next (Err fault)) before.setup made)
+
+pub all_put : {T : Type 0} (whole : Step) (scripts : List Script) (i : ℕ) (initial now : HouseFields) (done : T) → length scripts ≤ i
+    → IsOnWay whole (after_puts initial.setup i (drop i scripts)) initial now → MakesStep whole initial now (Ok done)
+all_put whole scripts i initial now done past before =
+    let P : List Script → Type 0 = λ rest. IsOnWay whole (after_puts initial.setup i rest) initial now in
+    ends whole (after_puts initial.setup i []) initial now done (subst P (drop_all i scripts past) before) (λ texts. refl)
+
+-- ---- round after round
+
+next_closing : (closings : List Closing) (i : ℕ) (closing : Closing) → i < length closings → closing ≡ get_or closings i closing → drop i closings ≡ closing ∷ drop (i + 1) closings
+next_closing closings i closing below is = drop_more closings i closing below ∙ ap (λ (one : Closing). one ∷ drop (i + 1) closings) (sym is)
+
+before_round : (whole : Step) (scripts : List Script) (closings : List Closing) (i : ℕ) (closing : Closing) (initial now : HouseFields)
+    → i < length closings → closing ≡ get_or closings i closing
+    → IsOnWay whole (rehearsed initial.setup scripts (drop i closings)) initial now
+    → IsOnWay whole (λ texts. after_round initial.setup scripts closing texts >>= until_end initial.setup (rehearsed initial.setup scripts (drop (i + 1) closings))) initial now
+before_round whole scripts closings i closing initial now below is before =
+    let P : List Closing → Type 0 = λ rest. IsOnWay whole (rehearsed initial.setup scripts rest) initial now in
+    subst P (next_closing closings i closing below is) before
+
+-- a round is played
+pub round_played : {U : Type 0} (whole : Step) (scripts : List Script) (closings : List Closing) (i : ℕ) (closing : Closing) (initial now next : HouseFields) (done : U)
+    → i < length closings → closing ≡ get_or closings i closing
+    → IsOnWay whole (rehearsed initial.setup scripts (drop i closings)) initial now → MakesStep (after_round now.setup scripts closing) now next (Ok done)
+    → IsOnWay whole (until_end initial.setup (rehearsed initial.setup scripts (drop (i + 1) closings))) initial next
+round_played whole scripts closings i closing initial now next done below is before made =
+    goes_on whole (after_round initial.setup scripts closing) (until_end initial.setup (rehearsed initial.setup scripts (drop (i + 1) closings))) initial now next done
+    (before_round whole scripts closings i closing initial now below is before)
+    (subst (λ (setup : SetupFields). MakesStep (after_round setup scripts closing) now next (Ok done)) before.setup made)
+
+pub round_refused : {U T : Type 0} (whole : Step) (scripts : List Script) (closings : List Closing) (i : ℕ) (closing : Closing) (initial now next : HouseFields) (fault : SimFault)
+    → i < length closings → closing ≡ get_or closings i closing
+    → IsOnWay whole (rehearsed initial.setup scripts (drop i closings)) initial now → MakesStep {T = U} (after_round now.setup scripts closing) now next (Err fault)
+    → MakesStep {T = T} whole initial next (Err fault)
+round_refused {U = U} {T = T} whole scripts closings i closing initial now next fault below is before made =
+    stops {U = U} {T = T} whole (after_round initial.setup scripts closing) (until_end initial.setup (rehearsed initial.setup scripts (drop (i + 1) closings))) initial now next fault
+    (before_round whole scripts closings i closing initial now below is before)
+    (subst (λ (setup : SetupFields). MakesStep {T = U} (after_round setup scripts closing) now next (Err fault)) before.setup made)
+
+before_last : (whole : Step) (scripts : List Script) (closings : List Closing) (i : ℕ) (initial now : HouseFields) → length closings ≤ i
+    → IsOnWay whole (rehearsed initial.setup scripts (drop i closings)) initial now
+    → IsOnWay whole (λ texts. after_puts initial.setup 0 scripts texts >>= (λ put. Err ClosingsSpent)) initial now
+before_last whole scripts closings i initial now past before =
+    let P : List Closing → Type 0 = λ rest. IsOnWay whole (rehearsed initial.setup scripts rest) initial now in
+    subst P (drop_all i closings past) before
+
+-- no closing is left
+pub closings_spent : {U T : Type 0} (whole : Step) (scripts : List Script) (closings : List Closing) (i : ℕ) (initial now next : HouseFields) (done : U) → length closings ≤ i
+    → IsOnWay whole (rehearsed initial.setup scripts (drop i closings)) initial now → MakesStep (after_puts now.setup 0 scripts) now next (Ok done)
+    → MakesStep {T = T} whole initial next (Err ClosingsSpent)
+closings_spent {T = T} whole scripts closings i initial now next done past before made =
+    spent {T = T} whole (after_puts initial.setup 0 scripts) initial now next done ClosingsSpent (before_last whole scripts closings i initial now past before)
+    (subst (λ (setup : SetupFields). MakesStep (after_puts setup 0 scripts) now next (Ok done)) before.setup made)
+
+pub last_refused : {U T : Type 0} (whole : Step) (scripts : List Script) (closings : List Closing) (i : ℕ) (initial now next : HouseFields) (fault : SimFault) → length closings ≤ i
+    → IsOnWay whole (rehearsed initial.setup scripts (drop i closings)) initial now → MakesStep {T = U} (after_puts now.setup 0 scripts) now next (Err fault)
+    → MakesStep {T = T} whole initial next (Err fault)
+last_refused {U = U} {T = T} whole scripts closings i initial now next fault past before made =
+    stops {U = U} {T = T} whole (after_puts initial.setup 0 scripts) (λ put. Err ClosingsSpent) initial now next fault (before_last whole scripts closings i initial now past before)
+    (subst (λ (setup : SetupFields). MakesStep {T = U} (after_puts setup 0 scripts) now next (Err fault)) before.setup made)
+
+-- ---- the report
+
+-- the report of a rehearsal that has come to its end
+pub reported : (replay : ReplayFields) (setup : SetupFields) (old new : HouseFields) → setup ≡ replay.setup → old.setup ≡ setup → StandsForTexts [] old
+    → {U : Type 0} → (done : U) → MakesStep (rehearsed old.setup replay.scripts replay.closings) old new (Ok done)
+    → simulated replay ≡ Ok (report_of new.setup new.closed)
+reported replay setup old new copied held stands done made =
+    let end = made.comes [] stands in
+    let here : old.setup ≡ replay.setup = held ∙ copied in
+    let of_setup : rehearsed replay.setup replay.scripts replay.closings [] ≡ Ok end.texts =
+    ap (λ (s : SetupFields). rehearsed s replay.scripts replay.closings []) (sym here) ∙ end.is in
+    let same : new.setup ≡ replay.setup = made.setup ∙ here in
+    ap (λ (answer : Result Texts SimFault). answer >>= (λ texts. Ok (report_of replay.setup (rounds_after replay.setup texts)))) of_setup
+    ∙ ap (λ (s : SetupFields). Ok (report_of s (rounds_after s end.texts))) (sym same)
+    ∙ ap (λ (closed : List ClosedRound). Ok (report_of new.setup closed)) (sym end.stands.closed)
+
+-- the fault of a rehearsal
+pub faulted : (replay : ReplayFields) (setup : SetupFields) (old new : HouseFields) (fault : SimFault) → setup ≡ replay.setup → old.setup ≡ setup → StandsForTexts [] old
+    → {U : Type 0} → MakesStep {T = U} (rehearsed old.setup replay.scripts replay.closings) old new (Err fault)
+    → fault ≢ NoMemory → simulated replay ≡ Err fault
+faulted replay setup old new fault copied held stands made other =
+    let here : old.setup ≡ replay.setup = held ∙ copied in
+    ap (λ (answer : Result Texts SimFault). answer >>= (λ texts. Ok (report_of replay.setup (rounds_after replay.setup texts))))
+    (ap (λ (s : SetupFields). rehearsed s replay.scripts replay.closings []) (sym here) ∙ made.comes [] stands other)

@@ -1,0 +1,23 @@
+-- The texts of bodies in the pieces in which they are pushed.
+use Rattle.std.proofs.Common.{◌≡◌, ℕ, List, ◌++◌, codes, decimal, refl}
+use Rattle.serde_json.specs.Written.{compact_text}
+use Rattle.serde_json.proofs.OnLiterals.{serde_json_on_literals}
+use Rattle.clock_setup.specs.declared.increments.Increments.{Increments}
+use Rattle.clock_setup.specs.declared.increments.Increments.TheVariants.{Single, PerProduct}
+use Rattle.clock_order.specs.declared.ties.Tie.{Tie}
+use Rattle.clock_views.specs.Values.{list_of}
+use Rattle.clock_sim.specs.RequestTexts.{tie_value, close_value, increments_text}
+
+pub tie_in_pieces : (tie : Tie)
+    → compact_text (tie_value tie)
+    ≡ (codes "[" ++ decimal tie.bidder) ++ ((codes "," ++ decimal tie.product) ++ ((codes "," ++ decimal tie.number) ++ codes "]"))
+unfolding serde_json_on_literals
+tie_in_pieces tie = refl
+
+pub close_in_pieces : (round : ℕ) (increments : Increments) (ties : List Tie)
+    → compact_text (close_value round increments ties)
+    ≡ codes "{" ++ (increments_text increments ++ ((codes ",\"round\":" ++ decimal round)
+    ++ (codes ",\"ties\":" ++ (compact_text (list_of tie_value ties) ++ codes "}"))))
+unfolding close_value serde_json_on_literals
+close_in_pieces round (Single increment) ties = refl
+close_in_pieces round (PerProduct increments) ties = refl

@@ -1,0 +1,9 @@
+use Rattle.std.proofs.Common.{drop}
+use Rattle.clock_sim.specs.Rehearsal.{rehearsed}
+use Rattle.clock_sim.proofs.StepLaws.{IsOnWay}
+use Rattle.clock_sim.proofs.rounds.play.Given as goal
+
+-- the closings that are left are made
+abbrev pub invariant-loop-closing : goal.invariant-loop-closing
+invariant-loop-closing g l =
+    IsOnWay (rehearsed l.initial.front.setup l.scripts l.closings) (rehearsed l.initial.front.setup l.scripts (drop l.closing-index l.closings)) l.initial.front l.front

@@ -1,0 +1,79 @@
+-- What scripted bidders and closings make of an auction: the requests that are sent, as texts of bytes, and what comes of them. Texts
+-- stand the newest first.
+--     after_request setup texts sender text      a request is answered
+--     after_puts setup bidder scripts texts      the bidders from this one on put their sheets
+--     after_close setup closing texts      the round is closed
+--     rehearsed setup scripts closings texts      all requests until the end, or the first fault
+--     simulated replay      the report of these requests, or the first fault
+use Rattle.std.specs.Prelude.{ℕ, ◌+◌, List, [], ◌∷◌, Option, Some, None, Result, Ok, Err, if◌then◌else◌}
+use Rattle.clock_setup.specs.Limits.{SetupFields}
+use Rattle.clock_setup.specs.Faults.{◌>>=◌}
+use Rattle.clock_house.specs.History.{history, standing}
+use Rattle.clock_house.specs.declared.closed_round.ClosedRound.{ClosedRound}
+use Rattle.clock_views.specs.declared.code.Code.{Code}
+use Rattle.clock_views.specs.declared.code.Code.TheVariants as codes
+use Rattle.clock_front.specs.Fronts.{commands_of, reply}
+use Rattle.clock_sim.specs.declared.script.Script.{Script}
+use Rattle.clock_sim.specs.declared.closing.Closing.{Closing}
+use Rattle.clock_sim.specs.declared.sim_fault.SimFault.{SimFault}
+use Rattle.clock_sim.specs.declared.sim_fault.SimFault.TheVariants as faults
+use Rattle.clock_sim.specs.Replays.{ReplayFields}
+use Rattle.clock_sim.specs.Reports.{ReportFields}
+use Rattle.clock_sim.specs.FinalReport.{report_of}
+use Rattle.clock_sim.specs.ScriptedRequests.{scripted_put, scripted_close}
+
+-- the closed rounds that the texts have made
+abbrev pub rounds_after : SetupFields → List (List ℕ) → List ClosedRound
+rounds_after setup texts = (history setup (commands_of setup texts)).closed
+
+-- the fault of a refused request: that of a bidder, or of the operator
+abbrev pub refused_by : Option ℕ → ℕ → Code → SimFault
+refused_by (Some bidder) round code = faults.Refused bidder round code
+refused_by None round code = faults.Closing round code
+
+-- a request that is done stands before the others; every other reply is a fault
+abbrev pub if_done : {T : Type 0} → Code → T → SimFault → Result T SimFault
+if_done codes.Done done fault = Ok done
+if_done code done fault = Err fault
+
+-- a request is answered by the reply to it after the others
+unfoldable pub after_request : SetupFields → List (List ℕ) → Option ℕ → ℕ → List ℕ → Result (List (List ℕ)) SimFault
+after_request setup texts sender round text =
+    if_done (reply setup texts text).code (text ∷ texts) (refused_by sender round (reply setup texts text).code)
+
+abbrev pub after_request_if : SetupFields → List (List ℕ) → Option ℕ → ℕ → Option (List ℕ) → Result (List (List ℕ)) SimFault
+after_request_if setup texts sender round None = Ok texts
+after_request_if setup texts sender round (Some text) = after_request setup texts sender round text
+
+-- a bidder puts its sheet, if its script gives one
+abbrev pub after_put : SetupFields → ℕ → Script → List (List ℕ) → Result (List (List ℕ)) SimFault
+after_put setup bidder script texts =
+    after_request_if setup texts (Some bidder) (standing setup.products (rounds_after setup texts)).round
+    (scripted_put setup (rounds_after setup texts) bidder script)
+
+-- the bidders from this one on put their sheets
+abbrev pub after_puts : SetupFields → ℕ → List Script → List (List ℕ) → Result (List (List ℕ)) SimFault
+after_puts setup bidder [] texts = Ok texts
+after_puts setup bidder (script ∷ scripts) texts = after_put setup bidder script texts >>= after_puts setup (bidder + 1) scripts
+
+-- the operator closes the round
+abbrev pub after_close : SetupFields → Closing → List (List ℕ) → Result (List (List ℕ)) SimFault
+after_close setup closing texts =
+    after_request setup texts None (standing setup.products (rounds_after setup texts)).round
+    (scripted_close setup (rounds_after setup texts) closing)
+
+-- a round: all sheets, then the closing
+abbrev pub after_round : SetupFields → List Script → Closing → List (List ℕ) → Result (List (List ℕ)) SimFault
+after_round setup scripts closing texts = after_puts setup 0 scripts texts >>= after_close setup closing
+
+-- round after round until the end; where no closing is left, the sheets of the round are put all the same
+abbrev pub rehearsed : SetupFields → List Script → List Closing → List (List ℕ) → Result (List (List ℕ)) SimFault
+rehearsed setup scripts [] texts = after_puts setup 0 scripts texts >>= (λ put. Err faults.ClosingsSpent)
+rehearsed setup scripts (closing ∷ closings) texts =
+    after_round setup scripts closing texts
+    >>= (λ closed. if (standing setup.products (rounds_after setup closed)).ended then Ok closed else rehearsed setup scripts closings closed)
+
+-- the report of a replay, or its first fault
+abbrev pub simulated : ReplayFields → Result ReportFields SimFault
+simulated replay =
+    rehearsed replay.setup replay.scripts replay.closings [] >>= (λ texts. Ok (report_of replay.setup (rounds_after replay.setup texts)))

@@ -1,0 +1,236 @@
+//! The texts of requests, which are written onto the same memory again and again.
+
+ghost use Rattle.std.specs.Prelude.{◌≡◌, ◌++◌, decimal, OnOk};
+ghost use Rattle.serde_json.specs.Written.{compact_text, comma_if};
+ghost use Rattle.clock_views.specs.Values.{whole, list_of, Adds, item_text};
+ghost use Rattle.clock_views.specs.BidderPages.{bid_value};
+ghost use Rattle.clock_sim.specs.RequestTexts as texts;
+
+use clock_bids::Bid;
+use clock_device::NoMemory;
+use clock_order::Tie;
+use clock_setup::Increments;
+use itoa::Buffer;
+use std::alloc::Global;
+
+/// Adds a label, as `{"bids":[`.
+fn push_label(text: &mut Vec<u8>, label: &[u8]) -> Result<(), NoMemory>
+    ensures { OnOk result (Adds label.now text.old.items text.new.items) }
+{
+    text.extend_from_slice(label)?;
+    Ok(())
+}
+
+/// Adds a label, as `,"round":`, and the number behind it.
+fn push_number(text: &mut Vec<u8>, label: &[u8], number: u64) -> Result<(), NoMemory>
+    ensures { OnOk result (Adds (label.now ++ decimal number) text.old.items text.new.items) }
+{
+    let mut buffer = Buffer::new();
+    push_label(text, label)?;
+    push_label(text, buffer.format(number).as_bytes())?;
+    Ok(())
+}
+
+/// Adds the comma before an item, where it is a later one than the first.
+fn push_comma_if(text: &mut Vec<u8>, later: bool) -> Result<(), NoMemory>
+    ensures { OnOk result (Adds (comma_if later) text.old.items text.new.items) }
+{
+    if later {
+        push_label(text, b",")?;
+    }
+    Ok(())
+}
+
+/// Adds an item of an array of numbers.
+fn push_item(text: &mut Vec<u8>, later: bool, number: u64) -> Result<(), NoMemory>
+    ensures { OnOk result (Adds (item_text later (whole number)) text.old.items text.new.items) }
+{
+    push_comma_if(text, later)?;
+    push_number(text, b"", number)?;
+    Ok(())
+}
+
+/// Adds an array of numbers.
+fn push_numbers(text: &mut Vec<u8>, numbers: &[u64]) -> Result<(), NoMemory>
+    ensures { OnOk result (Adds (compact_text (list_of whole numbers.now)) text.old.items text.new.items) }
+{
+    push_label(text, b"[")?;
+    for (i, number) in numbers.iter().enumerate() {
+        push_item(text, i > 0, *number)?;
+    }
+    push_label(text, b"]")?;
+    Ok(())
+}
+
+/// Adds a bid, behind a comma where it is not the first.
+fn push_bid(text: &mut Vec<u8>, later: bool, bid: &Bid) -> Result<(), NoMemory>
+    ensures { OnOk result (Adds (item_text later (bid_value bid.now)) text.old.items text.new.items) }
+{
+    push_comma_if(text, later)?;
+    push_number(text, b"{\"price\":", bid.price)?;
+    push_number(text, b",\"product\":", bid.product)?;
+    push_number(text, b",\"quantity\":", bid.quantity)?;
+    push_label(text, b"}")?;
+    Ok(())
+}
+
+/// Adds an array of bids.
+fn push_bids(text: &mut Vec<u8>, bids: &[Bid]) -> Result<(), NoMemory>
+    ensures { OnOk result (Adds (compact_text (list_of bid_value bids.now)) text.old.items text.new.items) }
+{
+    push_label(text, b"[")?;
+    for (i, bid) in bids.iter().enumerate() {
+        push_bid(text, i > 0, bid)?;
+    }
+    push_label(text, b"]")?;
+    Ok(())
+}
+
+/// Adds the body of a sheet.
+fn push_put_body(text: &mut Vec<u8>, round: u64, bids: &[Bid]) -> Result<(), NoMemory>
+    ensures { OnOk result (Adds (texts.put_body round bids.now) text.old.items text.new.items) }
+{
+    push_label(text, b"{\"bids\":")?;
+    push_bids(text, bids)?;
+    push_number(text, b",\"round\":", round)?;
+    push_label(text, b"}")?;
+    Ok(())
+}
+
+/// Adds a tie number, behind a comma where it is not the first.
+fn push_tie(text: &mut Vec<u8>, later: bool, tie: &Tie) -> Result<(), NoMemory>
+    ensures { OnOk result (Adds (item_text later (texts.tie_value tie.now)) text.old.items text.new.items) }
+{
+    push_comma_if(text, later)?;
+    push_number(text, b"[", tie.bidder)?;
+    push_number(text, b",", tie.product)?;
+    push_number(text, b",", tie.number)?;
+    push_label(text, b"]")?;
+    Ok(())
+}
+
+/// Adds an array of tie numbers.
+fn push_ties(text: &mut Vec<u8>, ties: &[Tie]) -> Result<(), NoMemory>
+    ensures { OnOk result (Adds (compact_text (list_of texts.tie_value ties.now)) text.old.items text.new.items) }
+{
+    push_label(text, b"[")?;
+    for (i, tie) in ties.iter().enumerate() {
+        push_tie(text, i > 0, tie)?;
+    }
+    push_label(text, b"]")?;
+    Ok(())
+}
+
+/// Adds the increments of a closing, under their key.
+fn push_increments(text: &mut Vec<u8>, increments: &Increments) -> Result<(), NoMemory>
+    ensures { OnOk result (Adds (texts.increments_text increments.now) text.old.items text.new.items) }
+{
+    match increments {
+        Increments::Single(increment) => {
+            push_number(text, b"\"increment\":", *increment)?;
+        }
+        Increments::PerProduct(increments) => {
+            push_label(text, b"\"increments\":")?;
+            push_numbers(text, increments.as_slice())?;
+        }
+    }
+    Ok(())
+}
+
+/// Adds the body of a closing.
+fn push_close_body(
+    text: &mut Vec<u8>,
+    round: u64,
+    increments: &Increments,
+    ties: &[Tie],
+) -> Result<(), NoMemory>
+    ensures { OnOk result (Adds (texts.close_body round increments.now ties.now) text.old.items text.new.items) }
+{
+    push_label(text, b"{")?;
+    push_increments(text, increments)?;
+    push_number(text, b",\"round\":", round)?;
+    push_label(text, b",\"ties\":")?;
+    push_ties(text, ties)?;
+    push_label(text, b"}")?;
+    Ok(())
+}
+
+/// Adds a request of a line, with a token and a body.
+fn push_request(text: &mut Vec<u8>, line: &[u8], token: &[u8], body: &[u8]) -> Result<(), NoMemory>
+    ensures { OnOk result (Adds (texts.request_text line.now token.now body.now) text.old.items text.new.items) }
+{
+    push_label(text, line)?;
+    push_label(text, b" HTTP/1.1\r\nauthorization: Bearer ")?;
+    push_label(text, token)?;
+    push_number(text, b"\r\ncontent-length: ", body.len() as u64)?;
+    push_label(text, b"\r\n\r\n")?;
+    push_label(text, body)?;
+    Ok(())
+}
+
+/// The text of the last request that was written.
+#[derive(Drop)]
+pub(crate) struct RequestText {
+    body: Vec<u8>,
+    text: Vec<u8>,
+}
+
+impl RequestText {
+    /// Nothing yet. It takes no memory.
+    pub(crate) fn new(alloc: Global) -> RequestText {
+        RequestText {
+            body: Vec::new(alloc),
+            text: Vec::new(alloc),
+        }
+    }
+
+    /// Writes the request by which the bidder of a token puts a sheet.
+    pub(crate) fn write_put(
+        &mut self,
+        token: &[u8],
+        round: u64,
+        bids: &[Bid],
+    ) -> Result<(), NoMemory>
+        ensures { OnOk result (self.new.text.items ≡ texts.put_text token.now round bids.now) }
+    {
+        self.body.clear();
+        push_put_body(&mut self.body, round, bids)?;
+        self.text.clear();
+        push_request(
+            &mut self.text,
+            b"PUT /v1/me/bids",
+            token,
+            self.body.as_slice(),
+        )?;
+        Ok(())
+    }
+
+    /// Writes the request by which the operator, whose token it is, closes a round.
+    pub(crate) fn write_close(
+        &mut self,
+        token: &[u8],
+        round: u64,
+        increments: &Increments,
+        ties: &[Tie],
+    ) -> Result<(), NoMemory>
+        ensures { OnOk result (self.new.text.items ≡ texts.close_text token.now round increments.now ties.now) }
+    {
+        self.body.clear();
+        push_close_body(&mut self.body, round, increments, ties)?;
+        self.text.clear();
+        push_request(
+            &mut self.text,
+            b"POST /v1/close",
+            token,
+            self.body.as_slice(),
+        )?;
+        Ok(())
+    }
+
+    /// The bytes of the request.
+    pub(crate) fn as_slice(&self) -> &[u8]
+        ensures { result.now ≡ self.now.text.items }
+    {
+        self.text.as_slice()
+    }
+}

@@ -1,0 +1,58 @@
+ghost use Rattle.std.specs.Prelude.{◌≡◌, [], Ok, length, All, IfOk, IfErr};
+ghost use Rattle.clock_setup.specs.Faults.{IsRefusal};
+ghost use Rattle.clock_front.specs.Fronts.{StandsForTexts};
+ghost use Rattle.clock_sim.specs.Replays.{IsScript};
+ghost use Rattle.clock_sim.specs.Rehearsal as rules;
+ghost use Rattle.clock_sim.specs.declared.sim_fault.SimFault.TheVariants as faults;
+
+use crate::closing::Closing;
+use crate::final_report::final_report;
+use crate::replay::Replay;
+use crate::report::Report;
+use crate::rounds::play;
+use crate::script::Script;
+use crate::scripted::Requests;
+use crate::sim_fault::SimFault;
+use clock_front::Front;
+use clock_processor::Processor;
+use clock_queue::Woken;
+use std::alloc::Global;
+
+/// Plays an auction before its first request.
+fn played<P: Processor>(
+    alloc: Global,
+    front: &mut Front<P>,
+    scripts: &[Script],
+    closings: &[Closing],
+) -> Result<Report, SimFault>
+    requires first { StandsForTexts [] front.old }
+    requires each { length scripts.now ≡ length front.old.setup.bidders }
+    requires scripts { All (IsScript front.old.setup.products) scripts.now }
+    ensures ok { let replay = record { setup = front.old.setup; scripts = scripts.now; closings = closings.now } in
+        IfOk result (λ report. rules.simulated replay ≡ Ok report) }
+    ensures err { let replay = record { setup = front.old.setup; scripts = scripts.now; closings = closings.now } in
+        IfErr result (IsRefusal faults.NoMemory (rules.simulated replay)) }
+{
+    let mut requests = Requests::new(alloc);
+    play(front, &mut requests, scripts, closings)?;
+    Ok(final_report(alloc, front.house())?)
+}
+
+/// Plays an auction: in each round the bidders, in the order of their numbers, put the sheets that their scripts give,
+/// and then the next closing is made, until the auction ends; the closings that are left are not used.
+///
+/// Each sheet and closing is sent as the bytes of a live request, so that it takes the path of a live bidder's. The first
+/// fault in this order is answered: a request that is refused, or that the auction goes on and no closing is left.
+pub fn simulate(alloc: Global, replay: &Replay) -> Result<Report, SimFault>
+    ensures ok { IfOk result (λ report. rules.simulated replay.now ≡ Ok report) }
+    ensures err { IfErr result (IsRefusal faults.NoMemory (rules.simulated replay.now)) }
+{
+    let setup = replay.setup.copy(alloc)?;
+    let mut front = Front::new(alloc, setup, Woken)?;
+    played(
+        alloc,
+        &mut front,
+        replay.scripts.as_slice(),
+        replay.closings.as_slice(),
+    )
+}
