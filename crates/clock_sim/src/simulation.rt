@@ -1,7 +1,7 @@
 ghost use Rattle.std.specs.Prelude.{◌≡◌, [], Ok, length, All, IfOk, IfErr};
 ghost use Rattle.clock_setup.specs.Faults.{IsRefusal};
 ghost use Rattle.clock_front.specs.Fronts.{StandsForTexts};
-ghost use Rattle.clock_sim.specs.Replays.{IsScript};
+ghost use Rattle.clock_sim.specs.Replays.{IsScript, ReplayFields};
 ghost use Rattle.clock_sim.specs.Rehearsal as rules;
 ghost use Rattle.clock_sim.specs.declared.sim_fault.SimFault.TheVariants as faults;
 
@@ -28,9 +28,9 @@ fn played<P: Processor>(
     requires first { StandsForTexts [] front.old }
     requires each { length scripts.now ≡ length front.old.setup.bidders }
     requires scripts { All (IsScript front.old.setup.products) scripts.now }
-    ensures ok { let replay = record { setup = front.old.setup; scripts = scripts.now; closings = closings.now } in
+    ensures ok { let replay : ReplayFields = record { setup = front.old.setup; scripts = scripts.now; closings = closings.now } in
         IfOk result (λ report. rules.simulated replay ≡ Ok report) }
-    ensures err { let replay = record { setup = front.old.setup; scripts = scripts.now; closings = closings.now } in
+    ensures err { let replay : ReplayFields = record { setup = front.old.setup; scripts = scripts.now; closings = closings.now } in
         IfErr result (IsRefusal faults.NoMemory (rules.simulated replay)) }
 {
     let mut requests = Requests::new(alloc);
