@@ -12,7 +12,10 @@ use Rattle.clock_money.specs.Price.{highest_price}
 use Rattle.clock_setup.specs.declared.setup.Product.{Product}
 use Rattle.clock_setup.specs.declared.setup.Bidder.{Bidder}
 use Rattle.clock_setup.specs.declared.fault.SetupFault.{SetupFault}
-use Rattle.clock_setup.specs.Limits.{SetupFields, IsWithin, is_within, IsName, is_name, IsToken, is_token, is_name_character, is_letter_or_digit, AreDistinct, is_distinct, IsProduct, IsBidder, IsSetup, IsOfFirstVersion, latest_version, most_products, most_bidders, most_units, most_supply, most_granule, most_eligibility, least_requirement, most_requirement, least_limit, most_limit}
+use Rattle.clock_setup.specs.Limits.{SetupFields, IsWithin, is_within, IsName, is_name, IsToken, is_token, is_name_character}
+use Rattle.clock_setup.specs.Limits.{is_letter_or_digit, AreDistinct, is_distinct, IsProduct}
+use Rattle.clock_setup.specs.Limits.{IsBidder, IsSetup, IsOfFirstVersion, latest_version, most_products, most_bidders, most_units, most_supply, most_granule}
+use Rattle.clock_setup.specs.Limits.{most_eligibility, least_requirement, most_requirement, least_limit, most_limit}
 use Rattle.clock_setup.specs.WithinLaws.{both_true, within_of_test, test_of_within}
 use Rattle.clock_setup.specs.Members.{number_at}
 use Rattle.clock_setup.specs.SetupShape.{fields_of}
