@@ -1,4 +1,4 @@
-use Rattle.std.proofs.Common.{◌≡◌, Some, None, ◌+◌, drop, sym, refl, ap, ◌∙◌, subst, arith}
+use Rattle.std.proofs.Common.{◌+◌, drop, sym, refl, ap, ◌∙◌, arith}
 use Rattle.std.proofs.iter.Next.{says_at}
 use Rattle.serde_json.specs.View.{view, items_view}
 use Rattle.clock_setup.specs.Members.{each}
