@@ -27,7 +27,14 @@ pub struct ListSource<'a> {
 impl<'a> Model for ListSource<'a> {
     ghost Value = { SourceState };
 
-    ghost view = { λ s. record { left = s.left.now; piece = s.piece; stop = s.stop; calls = s.calls; interruptions = s.interruptions; has_failed = s.has_failed } };
+    ghost view = { λ s. record {
+      left = s.left.now;
+      piece = s.piece;
+      stop = s.stop;
+      calls = s.calls;
+      interruptions = s.interruptions;
+      has_failed = s.has_failed;
+    } };
 
     ghost invariant = { λ s. 1 ≤ s.piece };
 }

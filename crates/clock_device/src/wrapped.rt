@@ -22,7 +22,8 @@ impl<R: Read> FromReader<R> {
     /// The reader, on which no read was made through this yet.
     pub fn new(reader: R) -> FromReader<R>
         ensures bytes { ⟦<FromReader<R> as Source>⟧.bytes_left result ≡ R.remaining reader }
-        ensures unread { IsUnread (⟦<FromReader<R> as Source>⟧.calls result) (⟦<FromReader<R> as Source>⟧.interruptions result) (⟦<FromReader<R> as Source>⟧.has_failed result) }
+        ensures unread { IsUnread (⟦<FromReader<R> as Source>⟧.calls result)
+            (⟦<FromReader<R> as Source>⟧.interruptions result) (⟦<FromReader<R> as Source>⟧.has_failed result) }
     {
         FromReader {
             reader,

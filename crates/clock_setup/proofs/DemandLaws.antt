@@ -1,11 +1,15 @@
 -- Laws of grids of demands and their totals.
-use Rattle.std.proofs.Common.{◌≡◌, ℕ, ◌+◌, ◌-◌, ◌*◌, ◌<◌, ◌≤◌, ◌≢◌, List, [], ◌∷◌, ◌++◌, length, take, drop, get_or, set, replicate, zip, zero, suc, All, refl, sym, ap, ◌∙◌, subst, arith, ⊎_elim}
-use Rattle.std.proofs.lemmas.List.{length-set, length-take-le, drop_more, take_more, set_at, set-set, append_assoc, get_or-set_same, get_or-set_other, get_or_past, get_or-replicate, get_or_default, length-replicate}
+use Rattle.std.proofs.Common.{◌≡◌, ℕ, ◌+◌, ◌-◌, ◌*◌, ◌<◌, ◌≤◌, ◌≢◌, List, [], ◌∷◌, ◌++◌, length, take, drop, get_or, set, replicate}
+use Rattle.std.proofs.Common.{zip, zero, suc, All, refl, sym, ap, ◌∙◌, subst, arith, ⊎_elim}
+use Rattle.std.proofs.lemmas.List.{length-set, length-take-le, drop_more, take_more, set_at, set-set, append_assoc, get_or-set_same}
+use Rattle.std.proofs.lemmas.List.{get_or-set_other, get_or_past, get_or-replicate, get_or_default, length-replicate}
+use Rattle.std.proofs.Math.Nat.{mul-zero}
+use Rattle.std.proofs.lemmas.List.Folds.{sum_by-replicate}
 use Rattle.std.proofs.lemmas.List.Sums.{sum_by-set, sum_by-le, sum_by-cons, get_or-le-sum_by}
 use Rattle.std.proofs.lemmas.List.Elements.{All-set, All-replicate}
 use Rattle.std.proofs.lemmas.Bool.{cases_lt, cases_eq}
 use Rattle.clock_setup.specs.declared.setup.Product.{Product}
-use Rattle.clock_setup.specs.Limits.{IsRow, most_bidders, most_supply}
+use Rattle.clock_setup.specs.Limits.{IsRow, most_products, most_bidders, most_supply}
 use Rattle.clock_setup.specs.Eligibility.{activity}
 use Rattle.clock_setup.specs.Demands.{total_of, demand_at, row_of, with_demand, no_demands, IsGrid, IsKeptGrid}
 
@@ -42,14 +46,14 @@ kept_with_demand grid totals b p v n kept h k low is =
     let same : total_of (with_demand grid b p v) p + demand_at grid b p ≡ total_of grid p + v = total-with_demand_same grid b p v h (omega arith) in
     record {
       small = record {
-        few_products = rw (length-set totals p n) kept.small.few_products;
-        few_bidders = rw (length-set grid b (set (row_of grid b) p v)) kept.small.few_bidders;
+        product_count = rw (length-set totals p n) kept.small.product_count;
+        bidder_count = rw (length-set grid b (set (row_of grid b) p v)) kept.small.bidder_count;
         same_length = rw (length-set totals p n) (All-set (λ row. length row ≡ length totals) grid b (set (row_of grid b) p v)
             (length-set (row_of grid b) p v ∙ row_length) kept.small.same_length);
         small = All-set (λ row. All (λ demand. demand ≤ most_supply) row) grid b (set (row_of grid b) p v)
             (All-set (λ demand. demand ≤ most_supply) (row_of grid b) p v low (kept.small.small b [] h)) kept.small.small;
       };
-      some_bidder = rw (length-set grid b (set (row_of grid b) p v)) kept.some_bidder;
+      has_bidder = rw (length-set grid b (set (row_of grid b) p v)) kept.has_bidder;
       kept = λ q j.
           let within : q < length totals = omega (arith, length-set totals p n) in
           ⊎_elim
@@ -61,17 +65,18 @@ kept_with_demand grid totals b p v n kept h k low is =
 -- a product of each row has a total
 pub in_totals : (grid : List (List ℕ)) (totals : List ℕ) (p : ℕ) → IsKeptGrid grid totals → All (λ row. p < length row) grid → p < length totals
 in_totals grid totals p kept wide =
-    let first : p < length (get_or grid 0 []) = wide 0 [] kept.some_bidder in
-    let same : length (get_or grid 0 []) ≡ length totals = kept.small.same_length 0 [] kept.some_bidder in
+    let first : p < length (get_or grid 0 []) = wide 0 [] kept.has_bidder in
+    let same : length (get_or grid 0 []) ≡ length totals = kept.small.same_length 0 [] kept.has_bidder in
     omega arith
 
 -- a total, less one demand and with another in its place
 pub total_after : (grid : List (List ℕ)) (totals : List ℕ) (b p v : ℕ) → IsKeptGrid grid totals → b < length grid → v ≤ most_supply
-    → ((total_of grid p - demand_at grid b p) + v + demand_at grid b p ≡ total_of grid p + v) × ((total_of grid p - demand_at grid b p) + v ≤ 1000000)
+    → ((total_of grid p - demand_at grid b p) + v + demand_at grid b p ≡ total_of grid p + v)
+    × ((total_of grid p - demand_at grid b p) + v ≤ (most_bidders + 1) * most_supply)
 total_after grid totals b p v kept h low =
     let most : total_of grid p ≤ length grid * most_supply = total_small grid p kept.small.small in
     let part : demand_at grid b p ≤ total_of grid p = demand-le-total grid b p h in
-    let few : length grid ≤ most_bidders = kept.small.few_bidders in
+    let few : length grid ≤ most_bidders = kept.small.bidder_count in
     (omega arith, omega arith)
 
 -- one more item of a list takes the place of another list's
@@ -108,6 +113,28 @@ no_demands_grid bidders products = (
   All-replicate (λ row. length row ≡ products) bidders (replicate products 0)
       (length-replicate {A = ℕ} products 0),
 )
+
+-- what the type of grids keeps of nobody's demands
+pub no_demands_kept : (bidders products : ℕ) → 1 ≤ bidders → bidders ≤ most_bidders → products ≤ most_products
+    → IsKeptGrid (no_demands bidders products) (replicate products 0)
+no_demands_kept bidders products first bidder_count product_count =
+    let rows : length (no_demands bidders products) ≡ bidders = length-replicate {A = List ℕ} bidders (replicate products 0) in
+    let wide : length {A = ℕ} (replicate products 0) ≡ products = length-replicate {A = ℕ} products 0 in
+    record {
+      small = record {
+        product_count = omega arith;
+        bidder_count = omega arith;
+        same_length = All-replicate (λ row. length row ≡ length {A = ℕ} (replicate products 0)) bidders (replicate products 0) refl;
+        small = All-replicate (λ row. All (λ demand. demand ≤ most_supply) row) bidders (replicate products 0)
+            (All-replicate (λ demand. demand ≤ most_supply) products 0 (omega arith));
+      };
+      has_bidder = omega arith;
+      kept = λ product within.
+          let none : get_or (replicate products 0) product 0 ≡ 0 = get_or-replicate {A = ℕ} products product 0 0 (omega arith) in
+          let total : total_of (no_demands bidders products) product ≡ bidders * get_or (replicate products 0) product 0 =
+          sum_by-replicate (λ row. get_or row product 0) bidders (replicate products 0) in
+          none ∙ sym (total ∙ ap (λ n. bidders * n) none ∙ mul-zero bidders);
+    }
 
 -- who demands nothing has no activity
 pub activity_zeros : (products : List Product) (n : ℕ) → activity products (replicate n 0) ≡ 0

@@ -12,11 +12,15 @@ use Rattle.clock_money.specs.Price.{highest_price}
 use Rattle.clock_setup.specs.declared.setup.Product.{Product}
 use Rattle.clock_setup.specs.declared.setup.Bidder.{Bidder}
 use Rattle.clock_setup.specs.declared.fault.SetupFault.{SetupFault}
-use Rattle.clock_setup.specs.Limits.{SetupFields, IsWithin, is_within, IsName, is_name, IsToken, is_token, is_name_character, is_letter_or_digit, AreDistinct, is_distinct, IsProduct, IsBidder, IsSetup, IsOfFirstVersion, latest_version, most_products, most_bidders, most_units, most_supply, most_granule, most_eligibility, least_requirement, most_requirement, least_limit, most_limit}
+use Rattle.clock_setup.specs.Limits.{SetupFields, IsWithin, is_within, IsName, is_name, IsToken, is_token, is_name_character}
+use Rattle.clock_setup.specs.Limits.{is_letter_or_digit, AreDistinct, is_distinct, IsProduct}
+use Rattle.clock_setup.specs.Limits.{IsBidder, IsSetup, IsOfFirstVersion, longest_name, shortest_token, longest_token, latest_version}
+use Rattle.clock_setup.specs.Limits.{most_products, most_bidders, most_units, most_supply, most_granule}
+use Rattle.clock_setup.specs.Limits.{most_eligibility, least_requirement, most_requirement, least_limit, most_limit}
 use Rattle.clock_setup.specs.WithinLaws.{both_true, within_of_test, test_of_within}
 use Rattle.clock_setup.specs.Members.{number_at}
 use Rattle.clock_setup.specs.SetupShape.{fields_of}
-use Rattle.clock_setup.proofs.FaultLaws.{passed, failed, both_pass}
+use Rattle.clock_setup.proofs.FaultLaws.{test_passed, passed, failed, both_pass}
 use Rattle.clock_setup.specs.Faults.{first_fault, in_turn}
 use Rattle.clock_setup.specs.SetupDocument.{product_checks, bidder_checks, setup_checks, has_distinct_names, has_distinct_tokens, setup_of}
 
@@ -40,13 +44,13 @@ each_passes checks P means i (x ∷ xs) h =
 
 name_of_test : (text : List ℕ) → is_name text ≡ true → IsName text
 name_of_test text h =
-    let both = and_parts (is_within 1 32 (length text)) (list_all is_name_character text) h in
-    (within_of_test 1 32 (length text) both.0, AllPass-from_list_all is_name_character text both.1)
+    let both = and_parts (is_within 1 longest_name (length text)) (list_all is_name_character text) h in
+    (within_of_test 1 longest_name (length text) both.0, AllPass-from_list_all is_name_character text both.1)
 
 token_of_test : (text : List ℕ) → is_token text ≡ true → IsToken text
 token_of_test text h =
-    let both = and_parts (is_within 16 64 (length text)) (list_all is_letter_or_digit text) h in
-    (within_of_test 16 64 (length text) both.0, AllPass-from_list_all is_letter_or_digit text both.1)
+    let both = and_parts (is_within shortest_token longest_token (length text)) (list_all is_letter_or_digit text) h in
+    (within_of_test shortest_token longest_token (length text) both.0, AllPass-from_list_all is_letter_or_digit text both.1)
 
 -- a text that does not pass, before texts of which none passes
 none_more : (b found : Bool) (test : List ℕ → Bool) (texts : List (List ℕ)) (P : Type 0) → (not found ≡ true → P) → not (b || found) ≡ true → (b ≡ false) × P
@@ -122,7 +126,11 @@ pub product_fault_first : (setup : SetupFields) (fault : SetupFault) → is_with
     → first_fault (setup_checks setup) ≡ Some fault
 unfolding setup_checks
 product_fault_first setup fault requirement limit operator product_count products =
-    rw (requirement, limit, operator, product_count) (failed (in_turn product_checks 0 setup.products) _ fault products)
+    test_passed _ _ _ requirement
+    ∙ test_passed _ _ _ limit
+    ∙ test_passed _ _ _ operator
+    ∙ test_passed _ _ _ product_count
+    ∙ failed (in_turn product_checks 0 setup.products) _ fault products
 
 -- the first fault of a set-up, where it is a bidder's
 pub bidder_fault_first : (setup : SetupFields) (fault : SetupFault) → is_within least_requirement most_requirement setup.requirement ≡ true
@@ -132,19 +140,25 @@ pub bidder_fault_first : (setup : SetupFields) (fault : SetupFault) → is_withi
     → first_fault (setup_checks setup) ≡ Some fault
 unfolding setup_checks
 bidder_fault_first setup fault requirement limit operator product_count products bidder_count bidders =
-    rw (requirement, limit, operator, product_count)
-    (passed (in_turn product_checks 0 setup.products) _ products ∙ rw bidder_count (failed (in_turn bidder_checks 0 setup.bidders) _ fault bidders))
+    test_passed _ _ _ requirement
+    ∙ test_passed _ _ _ limit
+    ∙ test_passed _ _ _ operator
+    ∙ test_passed _ _ _ product_count
+    ∙ passed (in_turn product_checks 0 setup.products) _ products
+    ∙ test_passed _ _ _ bidder_count
+    ∙ failed (in_turn bidder_checks 0 setup.bidders) _ fault bidders
 
 -- ---- the other way: what is within the limits passes every check
 
 test_of_name : (text : List ℕ) → IsName text → is_name text ≡ true
 test_of_name text h =
-    both_true (is_within 1 32 (length text)) (list_all is_name_character text) (test_of_within 1 32 (length text) h.0)
+    both_true (is_within 1 longest_name (length text)) (list_all is_name_character text) (test_of_within 1 longest_name (length text) h.0)
     (list_all-from_AllPass is_name_character text h.1)
 
 test_of_token : (text : List ℕ) → IsToken text → is_token text ≡ true
 test_of_token text h =
-    both_true (is_within 16 64 (length text)) (list_all is_letter_or_digit text) (test_of_within 16 64 (length text) h.0)
+    both_true (is_within shortest_token longest_token (length text)) (list_all is_letter_or_digit text)
+    (test_of_within shortest_token longest_token (length text) h.0)
     (list_all-from_AllPass is_letter_or_digit text h.1)
 
 no_any : (test : List ℕ → Bool) (texts : List (List ℕ)) → AllByRecursion (λ text. test text ≡ false) texts → not (list_any test texts) ≡ true
@@ -163,19 +177,19 @@ test_of_distinct texts h = test_by_distinct texts (IsDistinct-from_AllPairs byte
 checks_of_product : (i : ℕ) (product : Product) → IsProduct product → first_fault (product_checks i product) ≡ None
 unfolding product_checks
 checks_of_product i product h =
-    rw (
-      test_of_name product.name h.name,
-      test_of_within 1 most_units product.units h.units,
-      test_of_within 1 most_supply product.supply h.supply,
-      test_of_within 1 product.supply product.cap h.cap,
-      test_of_within 1 highest_price product.opening h.opening,
-      test_of_within 1 most_granule product.granule h.granule,
-    ) refl
+    test_passed _ _ _ (test_of_name product.name h.name)
+    ∙ test_passed _ _ _ (test_of_within 1 most_units product.units h.units)
+    ∙ test_passed _ _ _ (test_of_within 1 most_supply product.supply h.supply)
+    ∙ test_passed _ _ _ (test_of_within 1 product.supply product.cap h.cap)
+    ∙ test_passed _ _ _ (test_of_within 1 highest_price product.opening h.opening)
+    ∙ test_passed _ _ _ (test_of_within 1 most_granule product.granule h.granule)
 
 checks_of_bidder : (i : ℕ) (bidder : Bidder) → IsBidder bidder → first_fault (bidder_checks i bidder) ≡ None
 unfolding bidder_checks
 checks_of_bidder i bidder h =
-    rw (test_of_name bidder.name h.name, test_of_token bidder.token h.token, le-leb bidder.eligibility most_eligibility h.eligibility) refl
+    test_passed _ _ _ (test_of_name bidder.name h.name)
+    ∙ test_passed _ _ _ (test_of_token bidder.token h.token)
+    ∙ test_passed _ _ _ (le-leb bidder.eligibility most_eligibility h.eligibility)
 
 each_within : {X F : Type 0} (checks : ℕ → X → List (F × Bool)) (P : X → Type 0) → ((i : ℕ) (x : X) → P x → first_fault (checks i x) ≡ None)
     → (i : ℕ) (items : List X) → AllByRecursion P items → first_fault (in_turn checks i items) ≡ None
@@ -193,15 +207,15 @@ checks_of_setup setup h =
     (test_of_distinct (map (λ product. product.name) setup.products) h.product_names)
     (test_of_distinct (map (λ bidder. bidder.name) setup.bidders) h.bidder_names) in
     let tokens : has_distinct_tokens setup ≡ true = test_of_distinct (setup.operator ∷ map (λ bidder. bidder.token) setup.bidders) h.tokens in
-    rw (
-      test_of_within least_requirement most_requirement setup.requirement h.requirement,
-      test_of_within least_limit most_limit setup.limit h.limit,
-      test_of_token setup.operator h.operator,
-      test_of_within 1 most_products (length setup.products) h.product_count,
-    )
-    (passed (in_turn product_checks 0 setup.products) _ products
-    ∙ rw (test_of_within 1 most_bidders (length setup.bidders) h.bidder_count)
-    (passed (in_turn bidder_checks 0 setup.bidders) _ bidders ∙ rw (names, tokens) refl))
+    test_passed _ _ _ (test_of_within least_requirement most_requirement setup.requirement h.requirement)
+    ∙ test_passed _ _ _ (test_of_within least_limit most_limit setup.limit h.limit)
+    ∙ test_passed _ _ _ (test_of_token setup.operator h.operator)
+    ∙ test_passed _ _ _ (test_of_within 1 most_products (length setup.products) h.product_count)
+    ∙ passed (in_turn product_checks 0 setup.products) _ products
+    ∙ test_passed _ _ _ (test_of_within 1 most_bidders (length setup.bidders) h.bidder_count)
+    ∙ passed (in_turn bidder_checks 0 setup.bidders) _ bidders
+    ∙ test_passed _ _ _ names
+    ∙ test_passed _ _ _ tokens
 
 -- a document of the right shape whose set-up is within the limits means that set-up
 pub accepted : (value : Data) (setup : SetupFields) → number_at (codes "version") value ≡ Some setup.version → fields_of value ≡ Some setup

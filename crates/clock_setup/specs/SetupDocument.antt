@@ -9,10 +9,13 @@ use Rattle.serde_json.specs.Read.{read}
 use Rattle.clock_money.specs.Price.{highest_price}
 use Rattle.clock_setup.specs.declared.setup.Product.{Product}
 use Rattle.clock_setup.specs.declared.setup.Bidder.{Bidder}
-use Rattle.clock_setup.specs.declared.fault.Place.TheVariants.{Requirement, Limit, Operator, Products, Name, Units, Supply, Cap, Opening, Granule, Bidders, BidderName, Token, Eligibility}
+use Rattle.clock_setup.specs.declared.fault.Place.TheVariants.{Requirement, Limit, Operator, Products, Bidders}
+use Rattle.clock_setup.specs.declared.fault.Place.TheVariants.{Name, Units, Supply, Cap, Opening, Granule, BidderName, Token, Eligibility}
 use Rattle.clock_setup.specs.declared.fault.SetupFault.{SetupFault}
 use Rattle.clock_setup.specs.declared.fault.SetupFault.TheVariants.{NotJson, Shape, Version, Range, DuplicateName, DuplicateToken}
-use Rattle.clock_setup.specs.Limits.{SetupFields, is_within, is_name, is_token, is_distinct, most_products, most_bidders, most_units, most_supply, most_granule, most_eligibility, least_requirement, most_requirement, least_limit, most_limit, latest_version}
+use Rattle.clock_setup.specs.Limits.{SetupFields, is_within, is_name, is_token, is_distinct}
+use Rattle.clock_setup.specs.Limits.{latest_version, least_requirement, most_requirement, least_limit, most_limit, most_products, most_bidders}
+use Rattle.clock_setup.specs.Limits.{most_units, most_supply, most_granule, most_eligibility}
 use Rattle.clock_setup.specs.Members.{number_at}
 use Rattle.clock_setup.specs.SetupShape.{fields_of}
 use Rattle.clock_setup.specs.Faults.{first_fault, in_turn, unless, or_fault, ◌>>=◌}

@@ -7,7 +7,7 @@ use Rattle.serde_json.specs.Data.{Data}
 use Rattle.clock_setup.specs.Members.{number_at, text_at, items_at, has_members, each, ◌>>=◌}
 use Rattle.clock_setup.specs.declared.setup.Product.{Product}
 use Rattle.clock_setup.specs.declared.setup.Bidder.{Bidder}
-use Rattle.clock_setup.specs.Limits.{SetupFields}
+use Rattle.clock_setup.specs.Limits.{SetupFields, first_limit, first_granule}
 
 -- a number that documents have from version 2 on, and what it is in version 1
 abbrev pub added_number : ℕ → ℕ → List ℕ → Data → Option ℕ
@@ -25,8 +25,15 @@ product_of version value = do
   supply ← number_at (codes "supply") value
   cap ← number_at (codes "cap") value
   opening ← number_at (codes "opening") value
-  granule ← added_number version 1 (codes "granule") value
-  if has_members (key_count version 5) value then Some (record { name = name; units = units; supply = supply; cap = cap; opening = opening; granule = granule }) else None
+  granule ← added_number version first_granule (codes "granule") value
+  if has_members (key_count version 5) value then Some (record {
+    name = name;
+    units = units;
+    supply = supply;
+    cap = cap;
+    opening = opening;
+    granule = granule;
+  }) else None
 
 -- {"name":T,"token":T,"eligibility":N}
 unfoldable pub bidder_of : Data → Option Bidder
@@ -41,9 +48,16 @@ bidder_of value = do
 unfoldable pub fields_of : Data → Option SetupFields
 fields_of value = do
   version ← number_at (codes "version") value
-  limit ← added_number version 100 (codes "limit") value
+  limit ← added_number version first_limit (codes "limit") value
   requirement ← number_at (codes "requirement") value
   operator ← text_at (codes "operator") value
   products ← option_and_then (each (product_of version)) (items_at (codes "products") value)
   bidders ← option_and_then (each bidder_of) (items_at (codes "bidders") value)
-  if has_members (key_count version 5) value then Some (record { version = version; limit = limit; requirement = requirement; operator = operator; products = products; bidders = bidders }) else None
+  if has_members (key_count version 5) value then Some (record {
+    version = version;
+    limit = limit;
+    requirement = requirement;
+    operator = operator;
+    products = products;
+    bidders = bidders;
+  }) else None

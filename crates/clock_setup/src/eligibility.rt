@@ -31,7 +31,7 @@ pub fn next_eligibility(held: u64, activity: u64, requirement: u64) -> u64
 /// What [`activity`] is of a set-up with these products, where the set-up itself is not at hand.
 pub fn units_taken(products: &[Product], demands: &[u64]) -> u64
     requires limits { All IsProduct products.now }
-    requires few { length products.now ≤ most_products }
+    requires product_count { length products.now ≤ most_products }
     requires row { IsRow products.now demands.now }
     ensures exact { result ≡ eligibility.activity products.now demands.now }
     ensures most { result ≤ most_products * (most_units * most_supply) }

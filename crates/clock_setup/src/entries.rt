@@ -3,12 +3,12 @@ ghost use Rattle.serde_json.specs.View.{view, items_view};
 ghost use Rattle.clock_setup.specs.Faults.{IsRefusal, or_fault};
 ghost use Rattle.clock_setup.specs.Members as members;
 ghost use Rattle.clock_setup.specs.Members.{each};
-ghost use Rattle.clock_setup.specs.Limits.{IsOfFirstVersion};
+ghost use Rattle.clock_setup.specs.Limits.{IsOfFirstVersion, first_granule};
 ghost use Rattle.clock_setup.specs.SetupShape as shape;
 ghost use Rattle.clock_setup.specs.SetupShape.{product_of, bidder_of, fields_of};
 
 use crate::fault::SetupFault;
-use crate::members::{has_members, items_at, number_at, text_at};
+use crate::members::{each_of, has_members, items_at, number_at, text_at};
 use serde_json::Value;
 use std::alloc::{AllocError, AllocFailed, Global};
 use std::marker::Model;
@@ -107,7 +107,7 @@ fn has_keys(value: &Value, version: u64, in_first: usize) -> bool
 #[tactic(auto, unfolding(crate::specs::SetupShape::product_of))]
 fn product_entry(value: &Value, version: u64) -> Option<ProductEntry<'_>>
     ensures value { result ≡ product_of version (view value.now) }
-    ensures first_version { IfSome result (λ entry. version ≡ 1 → entry.granule ≡ 1) }
+    ensures first_version { IfSome result (λ entry. version ≡ 1 → entry.granule ≡ first_granule) }
 {
     let name = text_at(value, "name")?;
     let units = number_at(value, "units")?;
@@ -155,7 +155,7 @@ fn product_entries(
     version: u64,
 ) -> Result<Vec<ProductEntry<'_>>, SetupFault>
     ensures ok { IfOk result (λ entries. each (product_of version) (items_view items.now) ≡ Some entries.items) }
-    ensures first_version { IfOk result (λ entries. version ≡ 1 → All (λ entry. entry.granule ≡ 1) entries.items) }
+    ensures first_version { IfOk result (λ entries. version ≡ 1 → All (λ entry. entry.granule ≡ first_granule) entries.items) }
     ensures err { IfErr result (IsRefusal SetupFault.NoMemory
         (or_fault SetupFault.Shape (each (product_of version) (items_view items.now)))) }
 {
@@ -173,12 +173,7 @@ fn bidder_entries(alloc: Global, items: &[Value]) -> Result<Vec<BidderEntry<'_>>
     ensures err { IfErr result (IsRefusal SetupFault.NoMemory
         (or_fault SetupFault.Shape (each bidder_of (items_view items.now)))) }
 {
-    let mut entries = Vec::new(alloc);
-    for item in items {
-        let entry = bidder_entry(item).ok_or(SetupFault::Shape)?;
-        entries.push(entry)?;
-    }
-    Ok(entries)
+    each_of(alloc, items, bidder_entry)?.ok_or(SetupFault::Shape)
 }
 
 /// A set-up document of the right shape.

@@ -1,5 +1,5 @@
-ghost use Rattle.std.specs.Prelude.{◌≡◌, List, ℕ, ◌≤◌, ◌<◌, length, All, IfOk, slice_set};
-ghost use Rattle.clock_setup.specs.Limits.{most_supply};
+ghost use Rattle.std.specs.Prelude.{◌≡◌, List, ℕ, ◌*◌, ◌≤◌, ◌<◌, length, All, IfOk, slice_set};
+ghost use Rattle.clock_setup.specs.Limits.{most_bidders, most_products, most_supply};
 ghost use Rattle.clock_setup.specs.Demands.{total_of, demand_at, row_of, with_demand, no_demands};
 
 use crate::setup::Setup;
@@ -10,23 +10,35 @@ use std::marker::Model;
 /// Numbers of blocks or of bidding units: one for each product, each bidder or each change.
 pub type Amounts = Items<u64>;
 
+/// How many demands the bidders before one have, where each has one for each product.
+fn demands_before(bidder: usize, products: usize) -> usize
+    requires bidder { bidder ≤ most_bidders }
+    requires products { products ≤ most_products }
+    ensures count { result ≡ bidder * products }
+    ensures small { result ≤ most_bidders * most_products }
+{
+    bidder * products
+}
+
 /// A row of demands for each bidder, and in it the demand in blocks for each product. Contracts see the list of rows,
-/// and nothing of how it is kept. No demand is above 1,000 blocks.
+/// and nothing of how it is kept. No demand is above 1,000 blocks. All demands stand in one list, bidder by bidder, with
+/// the total of each product beside them.
 #[derive(Drop)]
 pub struct Grid {
-    rows: Vec<Amounts>,
+    bidders: usize,
+    demands: Amounts,
     totals: Amounts,
 }
 
 impl Model for Grid {
-    ghost use Rattle.std.specs.Prelude.{List, ℕ};
-    ghost use Rattle.clock_setup.specs.Demands.{IsKeptGrid};
+    ghost use Rattle.std.specs.Prelude.{List, ℕ, length};
+    ghost use Rattle.clock_setup.specs.Demands.{IsKeptGrid, rows_of};
 
     ghost Value = { List (List ℕ) };
 
-    ghost view = { λ a. a.rows.items };
+    ghost view = { λ a. rows_of a.bidders (length a.totals) a.demands };
 
-    ghost invariant = { λ a. IsKeptGrid a.rows.items a.totals };
+    ghost invariant = { λ a. IsKeptGrid (rows_of a.bidders (length a.totals) a.demands) a.totals };
 }
 
 impl Grid {
@@ -36,12 +48,11 @@ impl Grid {
     {
         let bidders = setup.bidders.as_slice().len();
         let products = setup.products.as_slice().len();
-        let totals = Amounts::zeros(alloc, products)?;
-        let mut rows = Vec::with_capacity(alloc, bidders)?;
-        for _bidder in 0..bidders {
-            rows.push(Amounts::zeros(alloc, products)?)?;
-        }
-        Ok(Grid { rows, totals })
+        Ok(Grid {
+            bidders,
+            demands: Amounts::zeros(alloc, demands_before(bidders, products))?,
+            totals: Amounts::zeros(alloc, products)?,
+        })
     }
 
     /// An equal grid.
@@ -49,7 +60,8 @@ impl Grid {
         ensures { IfOk result (λ copy. copy ≡ self.now) }
     {
         Ok(Grid {
-            rows: rows_copy(alloc, self.rows.as_slice())?,
+            bidders: self.bidders,
+            demands: self.demands.copy(alloc)?,
             totals: self.totals.copy(alloc)?,
         })
     }
@@ -68,7 +80,9 @@ impl Grid {
         requires { bidder < length self.now }
         ensures { result.now ≡ row_of self.now bidder }
     {
-        self.rows.as_slice()[bidder].as_slice()
+        let products = self.totals.as_slice().len();
+        let start = demands_before(bidder, products);
+        &self.demands.as_slice()[start..start + products]
     }
 
     /// The demand for a product over all bidders, in blocks. It is one read, no walk over the bidders. The product is
@@ -89,15 +103,15 @@ impl Grid {
         ensures { self.new ≡ with_demand self.old bidder product demand }
     {
         let total = self.total(product) - self.get(bidder, product) + demand;
+        let before = demands_before(bidder, self.totals.as_slice().len());
         self.totals.set(product, total);
-        let row = &mut self.rows[bidder];
-        row.set(product, demand);
+        self.demands.set(before + product, demand);
     }
 
     /// Changes a bidder's demands, and no others. There is one demand for each product, at most 1,000 blocks.
     pub fn set_row(&mut self, bidder: usize, demands: &[u64])
         requires bidder { bidder < length self.old }
-        requires each { All (λ row. length demands.now ≡ length row) self.old }
+        requires lengths { All (λ row. length demands.now ≡ length row) self.old }
         requires small { All (λ demand. demand ≤ most_supply) demands.now }
         ensures { self.new ≡ slice_set self.old bidder demands.now }
     {
@@ -105,15 +119,4 @@ impl Grid {
             self.set(bidder, product, *demand);
         }
     }
-}
-
-/// Equal rows.
-fn rows_copy(alloc: Global, rows: &[Amounts]) -> Result<Vec<Amounts>, NoMemory>
-    ensures { IfOk result (λ copy. copy.items ≡ rows.now) }
-{
-    let mut copy = Vec::with_capacity(alloc, rows.len())?;
-    for row in rows {
-        copy.push(row.copy(alloc)?)?;
-    }
-    Ok(copy)
 }

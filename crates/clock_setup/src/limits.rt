@@ -41,6 +41,15 @@ pub const LEAST_LIMIT: u64 = 100;
 /// The highest limit on the activity that a sheet asks for, in percent of the eligibility.
 pub const MOST_LIMIT: u64 = 140;
 
+/// The most characters of a name.
+const LONGEST_NAME: u64 = 32;
+
+/// The fewest characters of a token.
+const SHORTEST_TOKEN: u64 = 16;
+
+/// The most characters of a token.
+const LONGEST_TOKEN: u64 = 64;
+
 /// An ASCII letter or digit.
 fn is_letter_or_digit(byte: u8) -> bool
     ensures { result ≡ limits.is_letter_or_digit byte }
@@ -80,14 +89,15 @@ fn has_letters_and_digits(text: &[u8]) -> bool
 fn is_name(name: &str) -> bool
     ensures { result ≡ limits.is_name name.now }
 {
-    is_within(1, 32, name.len() as u64) && has_name_characters(name.as_bytes())
+    is_within(1, LONGEST_NAME, name.len() as u64) && has_name_characters(name.as_bytes())
 }
 
 /// A token has 16 to 64 letters and digits.
 pub(crate) fn is_token(token: &str) -> bool
     ensures { result ≡ limits.is_token token.now }
 {
-    is_within(16, 64, token.len() as u64) && has_letters_and_digits(token.as_bytes())
+    is_within(SHORTEST_TOKEN, LONGEST_TOKEN, token.len() as u64)
+        && has_letters_and_digits(token.as_bytes())
 }
 
 /// A product within its limits, or its first fault.

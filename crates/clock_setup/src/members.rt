@@ -1,9 +1,11 @@
 //! What a JSON value has: the value that bytes are, and under a key a number, a text, or the items of a list.
 //! `Value::get` gives the value under a key itself.
 
-ghost use Rattle.std.specs.Prelude.{◌≡◌, option_map, IfOk};
+ghost use Rattle.std.specs.Prelude.{◌≡◌, Option, option_map, IfOk};
 ghost use Rattle.serde_json.specs.View.{view, items_view};
 ghost use Rattle.clock_setup.specs.Members as members;
+ghost use Rattle.std.specs.Fn.{FnReturnsAt};
+ghost use Rattle.serde_json.specs.Data.{Data};
 ghost use Rattle.clock_setup.specs.Members.{each, number_from};
 ghost use Rattle.clock_setup.specs.SetupDocument.{json};
 
@@ -47,18 +49,37 @@ pub fn has_members(value: &Value, count: usize) -> bool
     }
 }
 
+/// What each item of a list is read as, in order, or none where an item is read as nothing.
+pub fn each_of<'v, T: Drop, F: Fn(&'v Value) -> Option<T>>(
+    alloc: Global,
+    items: &'v [Value],
+    read: F,
+) -> Result<Option<Vec<T>>, NoMemory>
+    requires { F.IsAlwaysCallable read }
+
+    // Where an item is read as what it means, the list is read as what all its items mean.
+    ensures { (meaning : Data → Option T)
+        → ((item : _) (known : Option T) → FnReturnsAt F.Fn read item known → known ≡ meaning (view item))
+        → IfOk result (λ list. option_map (λ known. known.items) list ≡ each meaning (items_view items.now)) }
+{
+    let mut list = Vec::new(alloc);
+    for item in items {
+        match read(item) {
+            Some(known) => list.push(known)?,
+            None => return Ok(None),
+        }
+    }
+    Ok(Some(list))
+}
+
 /// The numbers of a list, or none where an item is no whole number from 0 to 2^64 - 1.
 pub fn numbers_of(alloc: Global, items: &[Value]) -> Result<Option<Amounts>, NoMemory>
     ensures { IfOk result (λ numbers. numbers ≡ each number_from (items_view items.now)) }
 {
-    let mut numbers = Amounts::new(alloc);
-    for item in items {
-        match item.as_u64() {
-            Some(number) => numbers.push(number)?,
-            None => return Ok(None),
-        }
+    match each_of(alloc, items, Value::as_u64)? {
+        Some(numbers) => Ok(Some(Amounts::from_vec(numbers))),
+        None => Ok(None),
     }
-    Ok(Some(numbers))
 }
 
 /// The JSON value (RFC 8259) that the bytes are, or none.

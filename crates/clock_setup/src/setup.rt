@@ -65,9 +65,23 @@ impl Model for Setup {
 
     ghost Value = { SetupFields };
 
-    ghost view = { λ s. record { version = s.version; limit = s.limit; requirement = s.requirement; operator = s.operator; products = s.products; bidders = s.bidders } };
+    ghost view = { λ s. record {
+      version = s.version;
+      limit = s.limit;
+      requirement = s.requirement;
+      operator = s.operator;
+      products = s.products;
+      bidders = s.bidders;
+    } };
 
-    ghost invariant = { λ s. IsSetup (record { version = s.version; limit = s.limit; requirement = s.requirement; operator = s.operator; products = s.products; bidders = s.bidders }) };
+    ghost invariant = { λ s. IsSetup (record {
+      version = s.version;
+      limit = s.limit;
+      requirement = s.requirement;
+      operator = s.operator;
+      products = s.products;
+      bidders = s.bidders;
+    }) };
 }
 
 impl Product {

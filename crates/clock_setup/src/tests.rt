@@ -9,6 +9,7 @@ use crate::{
     SetupFault, products_copy, read_opening, read_setup, setup_of,
 };
 use clock_device::NoMemory;
+use clock_money::Price;
 use serde_json::Value;
 use std::alloc::Global;
 use std::test::Fail;
@@ -306,7 +307,7 @@ fn last_prices(alloc: Global, text: &str) -> Result<Option<(u64, u64)>, SetupFau
 
 #[test]
 fn opens_at_the_opening_prices(rt: HostRuntime) -> Result<(), Fail> {
-    for (text, price) in [(ONE_PRODUCT, 100), (PRICE_EDGES, 1_000_000_000_000)] {
+    for (text, price) in [(ONE_PRODUCT, 100), (PRICE_EDGES, Price::HIGHEST)] {
         assert_eq!(rt; last_prices(rt.alloc(), text)?, Some((price, price)));
     }
     Ok(())

@@ -9,4 +9,4 @@ loop-product-preserved c =
     let demands = c.args.demands.now in
     c.set.ensures
     ∙ ap (λ (grid : List (List ℕ)). with_demand grid c.args.bidder product (get_or demands product 0)) c.loop-product.invariant
-    ∙ row_more c.args.self.now c.args.bidder demands product c.requires.bidder c.loop-product-test.true (c.requires.each c.args.bidder [] c.requires.bidder)
+    ∙ row_more c.args.self.now c.args.bidder demands product c.requires.bidder c.loop-product-test.true (c.requires.lengths c.args.bidder [] c.requires.bidder)
