@@ -39,14 +39,14 @@ pub enum Step<'a> {
     /// A bidder has these bids in force, or none.
     InForce(u32, Option<&'a [Offer]>),
     /// A bidder's slip of a round: activity, eligibility and demands.
-    Slip(u32, u64, u64, u64, &'a [u64]),
+    Slip(u32, u64, u64, u64, &'a [u16]),
     /// The current round, and whether the auction has ended.
     Stands(u64, bool),
 }
 
 /// Takes the steps one after the other, on an auction of this set-up: once with the rescanned list
 /// and once with the event queue.
-pub fn play(rt: &impl Abort, alloc: Global, document: &[u8], steps: &[Step]) -> Result<(), Fail> {
+pub fn play(rt: &impl Abort, alloc: Global, document: &str, steps: &[Step]) -> Result<(), Fail> {
     play_with(rt, alloc, document, Plain, steps)?;
     play_with(rt, alloc, document, Woken, steps)
 }
@@ -55,11 +55,11 @@ pub fn play(rt: &impl Abort, alloc: Global, document: &[u8], steps: &[Step]) -> 
 fn play_with<P: Processor + Drop>(
     rt: &impl Abort,
     alloc: Global,
-    document: &[u8],
+    document: &str,
     processor: P,
     steps: &[Step],
 ) -> Result<(), Fail> {
-    let setup = read_setup(alloc, document)?;
+    let setup = read_setup(alloc, document.as_bytes())?;
     let mut house = House::new(alloc, setup, processor)?;
     for step in steps {
         take(rt, alloc, &mut house, step)?;
@@ -229,7 +229,7 @@ fn see_slip<P: Processor>(
     bidder: u32,
     round: u64,
     activity_and_eligibility: (u64, u64),
-    demands: &[u64],
+    demands: &[u16],
 ) -> Result<(), Fail> {
     assert!(rt; (bidder as usize) < house.setup().bidders.as_slice().len());
     let slip = house.slip(bidder, round).ok_or("no slip")?;

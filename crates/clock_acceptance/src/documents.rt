@@ -1,30 +1,30 @@
-//! The set-up documents that the tests begin with.
+//! The set-up documents that the examples of clock_setup lack.
 
-/// One product A of two blocks, and the bidders X and Y of eligibility 10.
-pub const ONE_PRODUCT: &[u8] =
-    b"{\"bidders\":[{\"eligibility\":10,\"name\":\"X\",\"token\":\"XXXXXXXXXXXXXXXX\"},{\"eligibility\":10,\"name\":\"Y\",\"token\":\"YYYYYYYYYYYYYYYY\"}],\"operator\":\"OPERATOROPERATOR\",\"products\":[{\"cap\":2,\"name\":\"A\",\"opening\":100,\"supply\":2,\"units\":1}],\"requirement\":95,\"version\":1}";
+use clock_setup::fixtures::{ACTIVITY_LIMIT, ONE_PRODUCT};
+use std::alloc::Global;
+use std::test::Fail;
 
-/// The same, opening at the highest price.
-pub const HIGHEST_OPENING: &[u8] =
-    b"{\"bidders\":[{\"eligibility\":10,\"name\":\"X\",\"token\":\"XXXXXXXXXXXXXXXX\"},{\"eligibility\":10,\"name\":\"Y\",\"token\":\"YYYYYYYYYYYYYYYY\"}],\"operator\":\"OPERATOROPERATOR\",\"products\":[{\"cap\":2,\"name\":\"A\",\"opening\":1000000000000,\"supply\":2,\"units\":1}],\"requirement\":95,\"version\":1}";
+/// Two products A and B of seven blocks each, the bidders X and Z of eligibility 10, and an activity limit of 125 percent.
+pub const SEVEN_BLOCKS: &str = r#"{
+    "version": 2, "requirement": 100, "limit": 125, "operator": "OPERATOROPERATOR",
+    "products": [
+        {"name": "A", "units": 1, "supply": 7, "cap": 7, "opening": 100, "granule": 1},
+        {"name": "B", "units": 1, "supply": 7, "cap": 7, "opening": 100, "granule": 1}
+    ],
+    "bidders": [
+        {"name": "X", "token": "XXXXXXXXXXXXXXXX", "eligibility": 10},
+        {"name": "Z", "token": "ZZZZZZZZZZZZZZZZ", "eligibility": 10}
+    ]
+}"#;
 
-/// The same, opening at the highest price that can be raised by one percent.
-pub const LAST_RAISE: &[u8] =
-    b"{\"bidders\":[{\"eligibility\":10,\"name\":\"X\",\"token\":\"XXXXXXXXXXXXXXXX\"},{\"eligibility\":10,\"name\":\"Y\",\"token\":\"YYYYYYYYYYYYYYYY\"}],\"operator\":\"OPERATOROPERATOR\",\"products\":[{\"cap\":2,\"name\":\"A\",\"opening\":990099009900,\"supply\":2,\"units\":1}],\"requirement\":95,\"version\":1}";
+/// One product of two blocks that opens at this price, and the bidders X and Y.
+pub fn opening_at(alloc: Global, price: u64) -> Result<String, Fail> {
+    let (head, tail) = ONE_PRODUCT.split_once("100").ok_or("no opening price")?;
+    Ok(format!(in alloc; "{head}{price}{tail}")?)
+}
 
-/// Two products A and B of two blocks each, and the bidders X, Y and Z of eligibility 2, 2 and 1.
-pub const TWO_PRODUCTS: &[u8] =
-    b"{\"bidders\":[{\"eligibility\":2,\"name\":\"X\",\"token\":\"XXXXXXXXXXXXXXXX\"},{\"eligibility\":2,\"name\":\"Y\",\"token\":\"YYYYYYYYYYYYYYYY\"},{\"eligibility\":1,\"name\":\"Z\",\"token\":\"ZZZZZZZZZZZZZZZZ\"}],\"operator\":\"OPERATOROPERATOR\",\"products\":[{\"cap\":2,\"name\":\"A\",\"opening\":100,\"supply\":2,\"units\":1},{\"cap\":2,\"name\":\"B\",\"opening\":100,\"supply\":2,\"units\":1}],\"requirement\":100,\"version\":1}";
-
-/// The same two products and three bidders in version 2, with granules of 25 and 1.
-pub const GRANULES_AND_INCREMENTS: &[u8] =
-    b"{\"bidders\":[{\"eligibility\":2,\"name\":\"X\",\"token\":\"XXXXXXXXXXXXXXXX\"},{\"eligibility\":2,\"name\":\"Y\",\"token\":\"YYYYYYYYYYYYYYYY\"},{\"eligibility\":1,\"name\":\"Z\",\"token\":\"ZZZZZZZZZZZZZZZZ\"}],\"limit\":100,\"operator\":\"OPERATOROPERATOR\",\"products\":[{\"cap\":2,\"granule\":25,\"name\":\"A\",\"opening\":100,\"supply\":2,\"units\":1},{\"cap\":2,\"granule\":1,\"name\":\"B\",\"opening\":100,\"supply\":2,\"units\":1}],\"requirement\":100,\"version\":2}";
-
-/// Two products A and B of four blocks of 2 units each, the bidders X and Z of eligibility 8, and
-/// an activity limit of 125 percent.
-pub const ACTIVITY_LIMIT: &[u8] =
-    b"{\"bidders\":[{\"eligibility\":8,\"name\":\"X\",\"token\":\"XXXXXXXXXXXXXXXX\"},{\"eligibility\":8,\"name\":\"Z\",\"token\":\"ZZZZZZZZZZZZZZZZ\"}],\"limit\":125,\"operator\":\"OPERATOROPERATOR\",\"products\":[{\"cap\":4,\"granule\":1,\"name\":\"A\",\"opening\":100,\"supply\":4,\"units\":2},{\"cap\":4,\"granule\":1,\"name\":\"B\",\"opening\":100,\"supply\":4,\"units\":2}],\"requirement\":100,\"version\":2}";
-
-/// The same with a limit of 100 percent.
-pub const NO_MORE_THAN_ELIGIBILITY: &[u8] =
-    b"{\"bidders\":[{\"eligibility\":8,\"name\":\"X\",\"token\":\"XXXXXXXXXXXXXXXX\"},{\"eligibility\":8,\"name\":\"Z\",\"token\":\"ZZZZZZZZZZZZZZZZ\"}],\"limit\":100,\"operator\":\"OPERATOROPERATOR\",\"products\":[{\"cap\":4,\"granule\":1,\"name\":\"A\",\"opening\":100,\"supply\":4,\"units\":2},{\"cap\":4,\"granule\":1,\"name\":\"B\",\"opening\":100,\"supply\":4,\"units\":2}],\"requirement\":100,\"version\":2}";
+/// The two products of four blocks, where a sheet may ask for so many percent of the eligibility from round 2 on.
+pub fn limited_to(alloc: Global, percent: u64) -> Result<String, Fail> {
+    let (head, tail) = ACTIVITY_LIMIT.split_once("125").ok_or("no limit")?;
+    Ok(format!(in alloc; "{head}{percent}{tail}")?)
+}

@@ -1,4 +1,4 @@
-//! Tests that cross crates: whole rounds, from set-up documents to sheets and slips.
+//! Tests that cross crates: whole rounds, from set-up documents to sheets and slips, and settlings with both processors.
 #![tactic(auto)]
 
 #[cfg(test)]
@@ -9,3 +9,9 @@ mod documents;
 mod refusals;
 #[cfg(test)]
 mod rounds;
+#[cfg(test)]
+mod settle;
+#[cfg(test)]
+mod settling;
+#[cfg(test)]
+mod sheets;

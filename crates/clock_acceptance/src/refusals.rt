@@ -2,10 +2,11 @@
 
 use crate::auction::Step::{Close, Holds, InForce, Lines, Put, RefusedClose, RefusedPut, Stands};
 use crate::auction::play;
-use crate::documents::{HIGHEST_OPENING, LAST_RAISE, ONE_PRODUCT};
+use crate::documents::opening_at;
 use clock_bids::BidFault;
 use clock_house::{CloseFault, PutFault};
 use clock_order::TieFault;
+use clock_setup::fixtures::ONE_PRODUCT;
 use std::test::Fail;
 
 const X: u32 = 0;
@@ -68,7 +69,8 @@ fn closing_refused_for_the_price_limit_keeps_the_sheets(rt: HostRuntime) -> Resu
         InForce(X, Some(&[(0, 2, HIGHEST)])),
         InForce(Y, Some(&[(0, 1, HIGHEST)])),
     ];
-    play(&rt, rt.alloc(), HIGHEST_OPENING, &steps)
+    let document = opening_at(rt.alloc(), HIGHEST)?;
+    play(&rt, rt.alloc(), document.as_str(), &steps)
 }
 
 #[test]
@@ -77,12 +79,17 @@ fn the_highest_price_can_be_the_last(rt: HostRuntime) -> Result<(), Fail> {
         Put(X, &[(0, 1, HIGHEST)]),
         Put(Y, &[(0, 1, HIGHEST)]),
         Close(1, &[]),
+        Lines(
+            1,
+            b"round 1\nA 1000000000000 1000000000000 1000000000000 - -\n",
+        ),
         Holds(X, 2, &[1]),
         Holds(Y, 2, &[1]),
         InForce(X, None),
         Stands(1, true),
     ];
-    play(&rt, rt.alloc(), HIGHEST_OPENING, &steps)
+    let document = opening_at(rt.alloc(), HIGHEST)?;
+    play(&rt, rt.alloc(), document.as_str(), &steps)
 }
 
 #[test]
@@ -97,7 +104,8 @@ fn the_price_limit_comes_in_later_rounds_too(rt: HostRuntime) -> Result<(), Fail
         Stands(2, false),
         InForce(X, Some(&[(0, 2, 999_999_999_999)])),
     ];
-    play(&rt, rt.alloc(), LAST_RAISE, &steps)
+    let document = opening_at(rt.alloc(), 990_099_009_900)?;
+    play(&rt, rt.alloc(), document.as_str(), &steps)
 }
 
 #[test]
@@ -117,5 +125,6 @@ fn refused_closings_have_their_first_fault(rt: HostRuntime) -> Result<(), Fail> 
         ),
         RefusedClose(1, 1, &[], CloseFault::PriceLimit(0)),
     ];
-    play(&rt, rt.alloc(), HIGHEST_OPENING, &steps)
+    let document = opening_at(rt.alloc(), HIGHEST)?;
+    play(&rt, rt.alloc(), document.as_str(), &steps)
 }

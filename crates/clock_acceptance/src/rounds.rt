@@ -4,11 +4,10 @@ use crate::auction::Step::{
     Close, CloseEach, Holds, Lines, Put, RefusedCloseEach, RefusedPut, Slip, Stands,
 };
 use crate::auction::{Step, play};
-use crate::documents::{
-    ACTIVITY_LIMIT, GRANULES_AND_INCREMENTS, NO_MORE_THAN_ELIGIBILITY, ONE_PRODUCT, TWO_PRODUCTS,
-};
+use crate::documents::{SEVEN_BLOCKS, limited_to};
 use clock_bids::BidFault;
 use clock_house::{CloseFault, PutFault};
+use clock_setup::fixtures::{ACTIVITY_LIMIT, GRANULES_AND_INCREMENTS, ONE_PRODUCT, TWO_PRODUCTS};
 use std::alloc::Global;
 use std::process::Abort;
 use std::test::Fail;
@@ -39,6 +38,18 @@ fn second_round(rt: &impl Abort, alloc: Global, steps: &[Step]) -> Result<(), Fa
     all.extend_from_slice(steps)?;
     all.push(Stands(2, true))?;
     play(rt, alloc, ONE_PRODUCT, all.as_slice())
+}
+
+#[test]
+fn demand_at_supply_ends_the_auction(rt: HostRuntime) -> Result<(), Fail> {
+    let steps = [
+        Put(X, &[(0, 1, 100)]),
+        Put(Y, &[(0, 1, 100)]),
+        Close(10, &[]),
+        Lines(1, b"round 1\nA 100 100 100 - -\n"),
+        Stands(1, true),
+    ];
+    play(&rt, rt.alloc(), ONE_PRODUCT, &steps)
 }
 
 #[test]
@@ -189,12 +200,25 @@ fn a_sheet_may_ask_for_activity_up_to_the_limit(rt: HostRuntime) -> Result<(), F
 }
 
 #[test]
+fn the_limit_is_rounded_down(rt: HostRuntime) -> Result<(), Fail> {
+    let steps = [
+        Put(X, &[(0, 7, 100), (1, 3, 100)]),
+        Put(SECOND, &[(0, 1, 100)]),
+        Close(10, &[]),
+        RefusedPut(X, 2, &[(0, 7, 110), (1, 6, 110)], OVER),
+        Put(X, &[(0, 7, 110), (1, 5, 110)]),
+    ];
+    play(&rt, rt.alloc(), SEVEN_BLOCKS, &steps)
+}
+
+#[test]
 fn without_a_higher_limit_the_eligibility_binds(rt: HostRuntime) -> Result<(), Fail> {
     let steps = [
         Put(X, &[(0, 4, 100)]),
         Put(SECOND, &[(0, 4, 100)]),
-        Close(10, &[]),
+        CloseEach(&[10, 10]),
         RefusedPut(X, 2, &[(0, 3, 104), (1, 2, 106)], OVER),
     ];
-    play(&rt, rt.alloc(), NO_MORE_THAN_ELIGIBILITY, &steps)
+    let document = limited_to(rt.alloc(), 100)?;
+    play(&rt, rt.alloc(), document.as_str(), &steps)
 }

@@ -1,5 +1,5 @@
 -- The rules on sheets and changes, computed on examples.
-use Rattle.std.specs.Prelude.{◌≡◌, ℕ, ◌<◌, List, [], ◌∷◌, Option, Some, None, length, refl, codes}
+use Rattle.std.specs.Prelude.{◌≡◌, ℕ, ◌-◌, ◌<◌, List, [], ◌∷◌, Option, Some, None, length, refl, codes}
 use Rattle.std.proofs.lemmas.Bool.{lt-leb}
 use Rattle.clock_setup.specs.Limits.{SetupFields, PublicSetup, public_setup}
 use Rattle.clock_setup.specs.declared.setup.Product.{Product}
@@ -11,7 +11,8 @@ use Rattle.clock_bids.specs.declared.sheet.BidFault.{BidFault}
 use Rattle.clock_bids.specs.declared.change.Change.{Change}
 use Rattle.clock_bids.specs.declared.change.Kind.{Kind}
 use Rattle.clock_bids.specs.declared.change.Kind.TheVariants.{Increase, Reduction}
-use Rattle.clock_bids.specs.declared.sheet.BidFault.TheVariants.{TooMany, UnknownProduct, PriceRange, OverCap, PriceOrder, MixedDirection, KeepPrice, OverActivity}
+use Rattle.clock_bids.specs.declared.sheet.BidFault.TheVariants.{TooMany, UnknownProduct, PriceRange, OverCap, PriceOrder}
+use Rattle.clock_bids.specs.declared.sheet.BidFault.TheVariants.{MixedDirection, KeepPrice, OverActivity}
 use Rattle.clock_bids.specs.Holding.{Holding, activity_limit as activity_limit_of}
 use Rattle.clock_bids.specs.Sheet.{most_bids, sheet_fault}
 use Rattle.clock_bids.specs.Changes.{changes_of_sheet}
@@ -62,28 +63,28 @@ over_activity = refl
 good_first_sheet : first one_product 10 (0 ∷ []) (bid 0 2 100 ∷ []) ≡ None
 good_first_sheet = refl
 
-abbrev change : Kind → ℕ → ℕ → ℕ → ℕ → Change
-change kind amount price above place = record {
-  bidder = 0;
-  product = 0;
+-- a change of a round from 100 to 110
+abbrev pub request : Kind → ℕ → ℕ → ℕ → ℕ → ℕ → Change
+request kind bidder product place amount price = record {
+  bidder = bidder;
+  product = product;
   place = place;
   kind = kind;
   amount = amount;
   price = price;
-  point =
-      record { above = above; span = 10 };
+  point = record { above = price - 100; span = 10 };
 }
 
-reductions_in_a_chain : changes_of_sheet prices (2 ∷ []) 0 (bid 0 1 103 ∷ bid 0 0 107 ∷ []) ≡ change Reduction 1 103 3 0 ∷ change Reduction 1 107 7 1 ∷ []
+reductions_in_a_chain : changes_of_sheet prices (2 ∷ []) 0 (bid 0 1 103 ∷ bid 0 0 107 ∷ []) ≡ request Reduction 0 0 0 1 103 ∷ request Reduction 0 0 1 1 107 ∷ []
 reductions_in_a_chain = refl
 
 kept_demand : changes_of_sheet prices (2 ∷ []) 0 (bid 0 2 110 ∷ []) ≡ []
 kept_demand = refl
 
-missing_bid : changes_of_sheet prices (2 ∷ []) 0 [] ≡ change Reduction 2 100 0 0 ∷ []
+missing_bid : changes_of_sheet prices (2 ∷ []) 0 [] ≡ request Reduction 0 0 0 2 100 ∷ []
 missing_bid = refl
 
-increases_in_a_chain : changes_of_sheet prices (0 ∷ []) 0 (bid 0 1 104 ∷ bid 0 2 110 ∷ []) ≡ change Increase 1 104 4 0 ∷ change Increase 1 110 10 1 ∷ []
+increases_in_a_chain : changes_of_sheet prices (0 ∷ []) 0 (bid 0 1 104 ∷ bid 0 2 110 ∷ []) ≡ request Increase 0 0 0 1 104 ∷ request Increase 0 0 1 1 110 ∷ []
 increases_in_a_chain = refl
 
 -- an activity limit of 125 percent, with products of four blocks of two units, and with others of seven blocks of one unit

@@ -1,5 +1,6 @@
 -- What a sheet without a fault is, and what it asks for.
-use Rattle.std.proofs.Common.{◌≡◌, ℕ, zero, suc, ◌+◌, ◌*◌, ◌<◌, ◌≤◌, List, [], ◌∷◌, ◌++◌, Bool, cond, map, length, take, inl, inr, refl, ap, sym, subst, ◌∙◌, arith, get_or, set, All}
+use Rattle.std.proofs.Common.{◌≡◌, ℕ, zero, suc, ◌+◌, ◌*◌, ◌<◌, ◌≤◌, List, [], ◌∷◌, ◌++◌, Bool, cond, map}
+use Rattle.std.proofs.Common.{length, take, inl, inr, refl, ap, sym, subst, ◌∙◌, arith, get_or, set, All}
 use Rattle.std.specs.Prelude.{Option, Some, None, nat_le, slice_index, zip}
 use Rattle.std.specs.List.{range_with_len}
 use Rattle.std.proofs.lemmas.Bool.{leb-true, ltb-true, le-leb, lt-leb, and_parts, cases_Bool, cases_eq}
@@ -18,7 +19,8 @@ use Rattle.clock_bids.specs.declared.sheet.Bid.{Bid}
 use Rattle.clock_bids.specs.declared.sheet.BidFault.{BidFault}
 use Rattle.clock_bids.specs.declared.sheet.BidFault.TheVariants.{TooMany, UnknownProduct, PriceRange, OverCap, OverActivity}
 use Rattle.clock_bids.specs.Holding.{Holding, activity_limit}
-use Rattle.clock_bids.specs.Sheet.{chain_of, last_quantity, asked_demands, most_bids, is_for_product, is_in_prices, is_within_cap, bid_checks, checks_of_bids, is_within_limit, sheet_fault, IsGoodSheet}
+use Rattle.clock_bids.specs.Sheet.{chain_of, last_quantity, asked_demands, most_bids, is_for_product, is_in_prices, is_within_cap}
+use Rattle.clock_bids.specs.Sheet.{bid_checks, checks_of_bids, is_within_limit, sheet_fault, IsGoodSheet}
 use Rattle.clock_bids.specs.Chains.{IsInRange, IsGoodChain, AreGoodChains, up, last_of, last_bids, step_checks, checks_by_last}
 use Rattle.clock_bids.proofs.Chains.{passes, chain_checks, good_chain-push, checks_by_last_of}
 use Rattle.clock_bids.proofs.Tables.{no_bid, chain_of-own, chain_of-other, last_bids-more, length-asked_demands}
@@ -27,7 +29,7 @@ use Rattle.clock_bids.proofs.Tables.{no_bid, chain_of-own, chain_of-other, last_
 pub good_chains-nil : (products : List Product) (prices : List PricePair) (demands : List ℕ) → AreGoodChains products prices demands []
 good_chains-nil products prices demands = record {
   known = λ k d within. absurd (omega (arith, within));
-  each = λ product known. record { in_range = λ k d within. absurd (omega (arith, within)); rising = tt; moves = up tt };
+  chains = λ product known. record { in_range = λ k d within. absurd (omega (arith, within)); rising = tt; moves = up tt };
 }
 
 -- the bid is for a product, and in range, where its first three checks pass
@@ -70,17 +72,17 @@ module _ (products : List Product) (prices : List PricePair) (demands : List ℕ
       AreGoodChains products prices demands (earlier ++ bid ∷ [])
   good_chains-push good none =
       let here : IsSoFarGood = so_far_good none in
-      let was : IsGoodChain pair (cap_of products bid.product) held chain = good.each bid.product here.known in
+      let was : IsGoodChain pair (cap_of products bid.product) held chain = good.chains bid.product here.known in
       let after : first_fault (step_checks (last_of chain) held pair.clock i bid) ≡ None =
       sym (checks_by_last_of pair (cap_of products bid.product) held chain bid i was) ∙ here.others in
       let own : IsGoodChain pair (cap_of products bid.product) held (chain ++ bid ∷ []) =
       good_chain-push pair (cap_of products bid.product) held chain bid i was here.in_range after in
       record {
         known = All-push (λ (b : Bid). b.product < length products) earlier bid good.known here.known;
-        each = λ product known. elim (cases_eq bid.product product) as (λ _. IsGoodAt product (chain_of product (earlier ++ bid ∷ []))) [
+        chains = λ product known. elim (cases_eq bid.product product) as (λ _. IsGoodAt product (chain_of product (earlier ++ bid ∷ []))) [
           | inl same ↦ subst (λ p. IsGoodAt p (chain_of p (earlier ++ bid ∷ []))) same
               (subst (λ list. IsGoodAt bid.product list) (sym (chain_of-own bid.product earlier bid refl)) own)
-          | inr differ ↦ subst (λ list. IsGoodAt product list) (sym (chain_of-other product earlier bid differ)) (good.each product known)
+          | inr differ ↦ subst (λ list. IsGoodAt product list) (sym (chain_of-other product earlier bid differ)) (good.chains product known)
         ];
       }
 
@@ -97,7 +99,7 @@ module _ (products : List Product) (prices : List PricePair) (demands : List ℕ
             (let known : bid.product < length products = ltb-true bid.product (length products) found in
             let last = get_or-map-range_with_len (λ product. last_of (chain_of product earlier)) 0 (length products)
             bid.product bid.product None known (omega arith) in
-            let others = checks_by_last_of pair (cap_of products bid.product) held chain bid i (good.each bid.product known) in
+            let others = checks_by_last_of pair (cap_of products bid.product) held chain bid i (good.chains bid.product known) in
             ap (λ rest. cond (is_for_product products bid)
             (cond (is_in_prices prices bid) (cond (is_within_cap products bid) rest (Some (OverCap i))) (Some (PriceRange i)))
             (Some (UnknownProduct i)))
@@ -122,8 +124,8 @@ module _ (setup : PublicSetup) (round : ℕ) (prices : List PricePair) (holding 
 
   -- a good sheet has few bids, none with a fault, and asks for no more activity than the limit
   pub record HasNoFault : Type 0 where
-    pub few : length bids ≤ most_bids
-    pub each : first_fault (checks_of_bids setup.products prices holding.demands bids) ≡ None
+    pub count : length bids ≤ most_bids
+    pub passed : first_fault (checks_of_bids setup.products prices holding.demands bids) ≡ None
     pub active : asked_activity ≤ activity_limit setup round holding.eligibility
 
   abbrev last_check : List (BidFault × Bool)
@@ -134,8 +136,8 @@ module _ (setup : PublicSetup) (round : ℕ) (prices : List PricePair) (holding 
       let few = passes TooMany (nat_le (length bids) most_bids) _ good in
       let parts = both_pass (checks_of_bids setup.products prices holding.demands bids) last_check few.1 in
       record {
-        few = leb-true (length bids) most_bids few.0;
-        each = parts.0;
+        count = leb-true (length bids) most_bids few.0;
+        passed = parts.0;
         active = leb-true asked_activity (activity_limit setup round holding.eligibility) (passes OverActivity _ None parts.1).0;
       }
 
@@ -183,7 +185,7 @@ pub good_sheet_chains : (setup : PublicSetup) (round : ℕ) (prices : List Price
     IsGoodSheet setup round prices holding bids →
     AreGoodChains setup.products prices holding.demands bids
 good_sheet_chains setup round prices holding bids good =
-    good_bids_chains setup.products prices holding.demands bids (no_sheet_fault setup round prices holding bids good).each
+    good_bids_chains setup.products prices holding.demands bids (no_sheet_fault setup round prices holding bids good).passed
 
 -- a good chain ends within the cap
 pub last_quantity-le : (prices : PricePair) (cap before : ℕ) (chain : List Bid) → before ≤ cap → All (IsInRange prices cap) chain →
@@ -201,7 +203,7 @@ asked_row products prices demands bids good = record {
   capped = λ product within. (let known : product < length products = omega (arith, within, length-asked_demands (length products) bids) in
       let is = get_or-map-range_with_len (λ p. last_quantity 0 (chain_of p bids)) 0 (length products) product product 0 known (omega arith) in
       let most = last_quantity-le (prices_at prices product) (cap_of products product) 0 (chain_of product bids) (omega arith)
-      (good.each product known).in_range in
+      (good.chains product known).in_range in
       omega (arith, is, most));
 }
 

@@ -1,5 +1,6 @@
 -- The changes of a good sheet can be settled: what each product's changes keep, they keep together.
-use Rattle.std.proofs.Common.{◌≡◌, ℕ, zero, suc, ◌+◌, ◌<◌, ◌≤◌, List, [], ◌∷◌, Bool, true, false, ◌&&◌, cond, length, ◌==◌, inl, inr, refl, ap, sym, subst, ◌∙◌, arith, get_or, All}
+use Rattle.std.proofs.Common.{◌≡◌, ℕ, zero, suc, ◌+◌, ◌<◌, ◌≤◌, List, [], ◌∷◌, Bool, true, false, ◌&&◌, cond}
+use Rattle.std.proofs.Common.{length, ◌==◌, inl, inr, refl, ap, sym, subst, ◌∙◌, arith, get_or, All}
 use Rattle.std.specs.Prelude.{nat_le, sum_by, slice_index}
 use Rattle.std.specs.List.{filter, flat_map, range_with_len, AllPairs}
 use Rattle.clock_money.specs.Point.{price_point}
@@ -98,12 +99,12 @@ module _ (owner item : ℕ) (pair : PricePair) (cap held most : ℕ) (changes : 
 
   by_way : (way : Kind) (blocks : ℕ) → held ≤ cap → AreSteps owner item 0 pair way blocks most changes → KeepsWithin way cap held blocks → Keeps
   by_way Increase blocks least steps within =
-      let ups = all_counted owner item 0 pair Increase changes steps.each in
-      let downs = other_kind owner item 0 pair Increase Reduction changes refl steps.each in
+      let ups = all_counted owner item 0 pair Increase changes steps.all in
+      let downs = other_kind owner item 0 pair Increase Reduction changes refl steps.all in
       record { raised = omega (arith, ups, steps.together, within); reduced = omega (arith, downs) }
   by_way Reduction blocks least steps within =
-      let ups = other_kind owner item 0 pair Reduction Increase changes refl steps.each in
-      let downs = all_counted owner item 0 pair Reduction changes steps.each in
+      let ups = other_kind owner item 0 pair Reduction Increase changes refl steps.all in
+      let downs = all_counted owner item 0 pair Reduction changes steps.all in
       record { raised = omega (arith, ups, least); reduced = omega (arith, downs, steps.together, within) }
 
   keeps : held ≤ cap → AreProductSteps owner item pair cap held most changes → Keeps
@@ -160,14 +161,14 @@ module _ (products : List Product) (prices : List PricePair) (demands : List ℕ
     IsItsStep item way = IsStep owner item 0 (prices_at prices item) way
 
     its_steps : (item : ℕ) (known : item < length products) → All (IsItsStep item (steps item known).way) (asks item)
-    its_steps item known = (steps item known).steps.each
+    its_steps item known = (steps item known).steps.all
 
     is_change : (item : ℕ) → item < length products → (way : Kind) (change : Change) → IsItsStep item way change → IsChangeOf products prices owner change
     is_change item known way change step = record {
       bidder = step.bidder;
       product = omega (arith, step.product, known);
-      some = step.some;
-      few = step.few;
+      least = step.least;
+      most = step.most;
       from_start = subst (λ p. (prices_at prices p).start ≤ change.price) (sym step.product) step.from_start;
       to_clock = subst (λ p. change.price ≤ (prices_at prices p).clock) (sym step.product) step.to_clock;
       point = subst (λ p. change.point ≡ price_point (prices_at prices p).start change.price (prices_at prices p).clock) (sym step.product) step.point;
@@ -269,11 +270,12 @@ module _ (products : List Product) (prices : List PricePair) (demands : List ℕ
           count (from + 1) n (omega (arith, within)),
         )
 
-    pub together : length bids ≤ most_bids → length products ≤ most_products → ((item : ℕ) → item < length products → slice_index demands item ≤ cap_of products item) →
+    pub together : length bids ≤ most_bids → length products ≤ most_products →
+        ((item : ℕ) → item < length products → slice_index demands item ≤ cap_of products item) →
         AreChangesOf products prices demands owner (flat_map asks (range_with_len 0 (length products)))
     together few_bids few_products capped = record {
-      few = omega (arith, count 0 (length products) (omega arith), length-filter-le (λ (bid : Bid). nat_le 0 bid.product) bids, few_bids, few_products);
-      each = each 0 (length products) (omega arith);
+      count = omega (arith, count 0 (length products) (omega arith), length-filter-le (λ (bid : Bid). nat_le 0 bid.product) bids, few_bids, few_products);
+      all = each 0 (length products) (omega arith);
       sorted = sorted 0 (length products) (omega arith);
       apart = pairs_weaker StandsBefore AreApart (λ a b before bidder product place. no_place_twice a b before product place)
           (flat_map asks (range_with_len 0 (length products))) (sorted 0 (length products) (omega arith));
@@ -301,7 +303,7 @@ module _ (setup : PublicSetup) (round : ℕ) (prices : List PricePair) (holding 
       let cap : ℕ = cap_of setup.products item in
       let before : ℕ = slice_index holding.demands item in
       let product : IsProduct (get_or setup.products item no_product) = limits item no_product known in
-      let chain : IsGoodChain pair cap before (chain_of item bids) = (good_sheet_chains setup round prices holding bids good).each item known in
+      let chain : IsGoodChain pair cap before (chain_of item bids) = (good_sheet_chains setup round prices holding bids good).chains item known in
       let up : pair.start < pair.clock = rising item (record { start = 0; clock = 0 }) (omega (arith, known, pairs_each)) in
       let held : before ≤ cap = row.capped item (omega (arith, known, row.each)) in
       product_steps owner item pair cap before (omega (arith, product.cap, product.supply)) held
@@ -312,5 +314,5 @@ module _ (setup : PublicSetup) (round : ℕ) (prices : List PricePair) (holding 
       subst (λ n. AreChangesOf setup.products prices holding.demands owner
       (flat_map (λ item. changes_of_product owner item (prices_at prices item) (slice_index holding.demands item) (chain_of item bids)) (range_with_len 0 n)))
       (sym pairs_each)
-      (together setup.products prices holding.demands owner bids sheet_steps (no_sheet_fault setup round prices holding bids good).few few
+      (together setup.products prices holding.demands owner bids sheet_steps (no_sheet_fault setup round prices holding bids good).count few
       (λ item known. row.capped item (omega (arith, known, row.each))))

@@ -1,5 +1,6 @@
 -- The changes of one product's chain: each leaves the demand in one direction, and together they lead from the demand held to the last quantity.
-use Rattle.std.proofs.Common.{◌≡◌, ℕ, suc, ◌+◌, ◌<◌, ◌≤◌, List, [], ◌∷◌, Bool, true, false, not, cond, map, length, ◌==◌, inl, inr, refl, ap, sym, subst, ◌∙◌, arith, All}
+use Rattle.std.proofs.Common.{◌≡◌, ℕ, suc, ◌+◌, ◌<◌, ◌≤◌, List, [], ◌∷◌, Bool, true, false, not, cond}
+use Rattle.std.proofs.Common.{map, length, ◌==◌, inl, inr, refl, ap, sym, subst, ◌∙◌, arith, All}
 use Rattle.std.specs.Prelude.{⊤, nat_lt, sum_by}
 use Rattle.std.specs.List.{filter, AllPairs}
 use Rattle.std.proofs.lemmas.Bool.{ltb-true, lt-ltb, le-ltb, eq-eqb, ne_eqb, cases_Bool}
@@ -78,22 +79,22 @@ pub record IsStep (owner item first : ℕ) (pair : PricePair) (way : Kind) (chan
   pub product : change.product ≡ item
   pub place : first ≤ change.place
   pub kind : change.kind ≡ way
-  pub some : 1 ≤ change.amount
-  pub few : change.amount ≤ most_supply
+  pub least : 1 ≤ change.amount
+  pub most : change.amount ≤ most_supply
   pub from_start : pair.start ≤ change.price
   pub to_clock : change.price ≤ pair.clock
   pub point : change.point ≡ price_point pair.start change.price pair.clock
 
 -- changes of one bidder and product, in a direction, at rising places from one on, for so many blocks together
 pub record AreSteps (owner item first : ℕ) (pair : PricePair) (way : Kind) (blocks most : ℕ) (changes : List Change) : Type 0 where
-  pub each : All (IsStep owner item first pair way) changes
+  pub all : All (IsStep owner item first pair way) changes
   pub placed : AllPairs (λ a b. a.place < b.place) changes
   pub together : sum_by (λ change. change.amount) changes ≡ blocks
   pub count : length changes ≤ most
 
 no_steps : (owner item first : ℕ) (pair : PricePair) (way : Kind) (most : ℕ) → AreSteps owner item first pair way 0 most []
 no_steps owner item first pair way most = record {
-  each = All-nil (IsStep owner item first pair way);
+  all = All-nil (IsStep owner item first pair way);
   placed = λ i j d before within. absurd (omega (arith, before, within));
   together = refl;
   count = omega arith;
@@ -106,8 +107,8 @@ later owner item first pair way change step = record {
   product = step.product;
   place = omega (arith, step.place);
   kind = step.kind;
-  some = step.some;
-  few = step.few;
+  least = step.least;
+  most = step.most;
   from_start = step.from_start;
   to_clock = step.to_clock;
   point = step.point;
@@ -117,11 +118,11 @@ one_more_step : (owner item first : ℕ) (pair : PricePair) (way : Kind) (blocks
     IsStep owner item first pair way change → change.place ≡ first →
     AreSteps owner item (first + 1) pair way blocks most changes → AreSteps owner item first pair way (change.amount + blocks) (most + 1) (change ∷ changes)
 one_more_step owner item first pair way blocks most change changes step at steps = record {
-  each = All-cons (IsStep owner item first pair way) change changes step
-      (All-weaker (IsStep owner item (first + 1) pair way) (IsStep owner item first pair way) (later owner item first pair way) changes steps.each);
+  all = All-cons (IsStep owner item first pair way) change changes step
+      (All-weaker (IsStep owner item (first + 1) pair way) (IsStep owner item first pair way) (later owner item first pair way) changes steps.all);
   placed = AllPairs-cons (λ (a b : Change). a.place < b.place) change changes
       (All-weaker (IsStep owner item (first + 1) pair way) (λ (b : Change). change.place < b.place) (λ one is. omega (arith, is.place, at))
-      changes steps.each) steps.placed;
+      changes steps.all) steps.placed;
   together = sum_by-cons (λ (one : Change). one.amount) change changes ∙ ap (λ n. change.amount + n) steps.together;
   count = omega (arith, steps.count);
 }
@@ -161,8 +162,8 @@ module _ (owner item : ℕ) (pair : PricePair) (cap : ℕ) (small : cap ≤ most
     product = refl;
     place = omega arith;
     kind = kind_is way from to on;
-    some = some_blocks way from to on;
-    few = omega (arith, small, least, most);
+    least = some_blocks way from to on;
+    most = omega (arith, small, least, most);
     from_start = low;
     to_clock = high;
     point = refl;
@@ -207,7 +208,7 @@ module _ (owner item : ℕ) (pair : PricePair) (cap held : ℕ) (small : cap ≤
   -- at most one more than there are bids, for where there is none
   more_room : (way : Kind) (blocks most : ℕ) (changes : List Change) → AreSteps owner item 0 pair way blocks most changes →
       AreSteps owner item 0 pair way blocks (most + 1) changes
-  more_room way blocks most changes steps = record { each = steps.each; placed = steps.placed; together = steps.together; count = omega (arith, steps.count) }
+  more_room way blocks most changes steps = record { all = steps.all; placed = steps.placed; together = steps.together; count = omega (arith, steps.count) }
 
   climbing : (chain : List Bid) → Climbs held chain → All (IsInRange pair cap) chain → last_quantity held chain ≤ cap →
       AreProductSteps owner item pair cap held (length chain + 1) (changes_of_chain owner item pair held chain)

@@ -1,5 +1,6 @@
 -- Tables with an entry for each product, made of the bids for it, and a further bid.
-use Rattle.std.proofs.Common.{◌≡◌, ℕ, ◌+◌, ◌<◌, List, [], ◌∷◌, ◌++◌, cond, map, length, ◌==◌, ◌-◌, replicate, take, zero, suc, inl, inr, refl, ap, sym, ◌∙◌, arith, get_or, set, append-nil}
+use Rattle.std.proofs.Common.{◌≡◌, ℕ, ◌+◌, ◌<◌, List, [], ◌∷◌, ◌++◌, cond, map, length, ◌==◌, ◌-◌, replicate}
+use Rattle.std.proofs.Common.{take, zero, suc, inl, inr, refl, ap, sym, ◌∙◌, arith, get_or, set, append-nil}
 use Rattle.std.specs.Prelude.{Some, None}
 use Rattle.std.specs.List.{range_with_len}
 use Rattle.std.proofs.lemmas.Bool.{eq-eqb, ne_eqb, cases_eq}

@@ -31,12 +31,13 @@ abbrev pub asked_of : Kind → ℕ → ℕ → List Change → ℕ
 asked_of kind bidder product changes =
     sum_by (λ change. if is_request_of kind bidder product change then change.amount else 0) changes
 
--- the change names the bidder and a product, asks for a block or more, up to the most that a product can have, and stands at a price from the product's start price to its clock price
+-- the change names the bidder and a product, asks for a block or more, up to the most that a product can have, and stands at a price from the
+-- product's start price to its clock price
 pub record IsChangeOf (products : List Product) (prices : List PricePair) (owner : ℕ) (change : Change) : Type 0 where
   pub bidder : change.bidder ≡ owner
   pub product : change.product < length products
-  pub some : 1 ≤ change.amount
-  pub few : change.amount ≤ most_supply
+  pub least : 1 ≤ change.amount
+  pub most : change.amount ≤ most_supply
   pub from_start : (prices_at prices change.product).start ≤ change.price
   pub to_clock : change.price ≤ (prices_at prices change.product).clock
   pub point : change.point ≡ price_point (prices_at prices change.product).start change.price (prices_at prices change.product).clock
@@ -61,8 +62,8 @@ pub record KeepWithinCap (products : List Product) (demands : List ℕ) (bidder 
 -- changes of one bidder, by rising product and place, in one direction for each product, which keep its demands within 0 and the caps: at most
 -- one for each bid, and one for each product without a bid
 pub record AreChangesOf (products : List Product) (prices : List PricePair) (demands : List ℕ) (bidder : ℕ) (changes : List Change) : Type 0 where
-  pub few : length changes ≤ most_bids + most_products
-  pub each : All (IsChangeOf products prices bidder) changes
+  pub count : length changes ≤ most_bids + most_products
+  pub all : All (IsChangeOf products prices bidder) changes
   pub sorted : AllPairs StandsBefore changes
   pub apart : AllPairs AreApart changes
   pub one_way : AllPairs GoOneWay changes

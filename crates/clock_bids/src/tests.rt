@@ -1,11 +1,9 @@
-//! Sheets and changes of small auctions.
+//! The changes that sheets of small auctions ask for.
 
 ghost use Rattle.std.specs.Prelude.{◌≡◌, ◌≤◌, ◌<◌, length, All, IsTrue};
 ghost use Rattle.clock_setup.specs.Limits.{IsRow};
 
-use crate::{
-    Bid, BidFault, Change, Changes, Kind, Own, Sheet, asked_demands, changes_of, check_sheet,
-};
+use crate::{Bid, BidFault, Change, Changes, Kind, Own, asked_demands, changes_of, check_sheet};
 use clock_device::NoMemory;
 use clock_money::{Point, Price};
 use clock_setup::fixtures::{ONE_PRODUCT, TWO_PRODUCTS};
@@ -14,48 +12,17 @@ use std::alloc::Global;
 use std::process::Abort;
 use std::test::Fail;
 
-/// Two products A and B of seven blocks each, and an activity limit of 125 percent.
-const SEVEN_BLOCKS: &str = r#"{
-    "version": 2, "requirement": 100, "limit": 125, "operator": "OPERATOROPERATOR",
-    "products": [
-        {"name": "A", "units": 1, "supply": 7, "cap": 7, "opening": 100, "granule": 1},
-        {"name": "B", "units": 1, "supply": 7, "cap": 7, "opening": 100, "granule": 1}
-    ],
-    "bidders": [
-        {"name": "X", "token": "XXXXXXXXXXXXXXXX", "eligibility": 10},
-        {"name": "Z", "token": "ZZZZZZZZZZZZZZZZ", "eligibility": 10}
-    ]
-}"#;
-
-/// A round of an auction in which each product has the same prices, and what a bidder holds.
+/// The second round of an auction, in which each product's prices go from 100 to 110, and what a bidder holds.
 #[derive(Clone, Copy)]
 struct Round<'a> {
     document: &'a str,
-    start: u64,
-    clock: u64,
     own: Own<'a>,
 }
 
-/// The first round of an auction, in which nothing is held.
-fn first<'a>(document: &'a str, eligibility: u64, demands: &'a [u64]) -> Round<'a> {
-    Round {
-        document,
-        start: 100,
-        clock: 100,
-        own: Own {
-            round: 1,
-            eligibility,
-            demands,
-        },
-    }
-}
-
-/// The second round, from 100 to 110.
+/// A bidder with this eligibility and these demands.
 fn second<'a>(document: &'a str, eligibility: u64, demands: &'a [u64]) -> Round<'a> {
     Round {
         document,
-        start: 100,
-        clock: 110,
         own: Own {
             round: 2,
             eligibility,
@@ -91,11 +58,11 @@ fn change(product: u32, place: u32, kind: Kind, amount: u64, price: u64) -> Chan
     }
 }
 
-/// The same prices for each product of a set-up.
-fn prices_of(alloc: Global, setup: &Setup, start: u64, clock: u64) -> Result<Prices, Fail> {
+/// The prices of each product of a set-up.
+fn prices_of(alloc: Global, setup: &Setup) -> Result<Prices, Fail> {
     let pair = PricePair {
-        start: Price::new(start).ok_or("start")?,
-        clock: Price::new(clock).ok_or("clock")?,
+        start: Price::new(100).ok_or("start")?,
+        clock: Price::new(110).ok_or("clock")?,
     };
     let mut prices = Prices::new(alloc);
     for _ in 0..setup.products.as_slice().len() {
@@ -146,31 +113,6 @@ fn are_known(setup: &Setup, bids: &[Bid]) -> bool
     bids.iter().all(|bid| bid.product < products)
 }
 
-/// Judges a sheet.
-fn judged(
-    rt: &impl Abort,
-    alloc: Global,
-    setup: &Setup,
-    prices: &Prices,
-    own: Own,
-    bids: &[Bid],
-) -> Result<Sheet, BidFault> {
-    assert!(rt; fits(setup, prices, own.demands));
-    check_sheet(alloc, setup, prices, own, bids)
-}
-
-/// The first fault of a sheet, or none.
-fn fault_in(
-    rt: &impl Abort,
-    alloc: Global,
-    round: &Round,
-    bids: &[Bid],
-) -> Result<Option<BidFault>, Fail> {
-    let setup = read_setup(alloc, round.document.as_bytes())?;
-    let prices = prices_of(alloc, &setup, round.start, round.clock)?;
-    Ok(judged(rt, alloc, &setup, &prices, round.own, bids).err())
-}
-
 /// The changes that the first bidder asks for by a sheet.
 fn asked_by(
     rt: &impl Abort,
@@ -210,7 +152,7 @@ fn asks_for(
     wanted: &[Change],
 ) -> Result<bool, Fail> {
     let setup = read_setup(alloc, round.document.as_bytes())?;
-    let prices = prices_of(alloc, &setup, round.start, round.clock)?;
+    let prices = prices_of(alloc, &setup)?;
     let changes = asked_by(rt, alloc, &setup, &prices, round.own, bids)?;
     Ok(changes.as_slice() == wanted)
 }
@@ -223,7 +165,7 @@ fn asks_without(
     wanted: &[Change],
 ) -> Result<bool, Fail> {
     let setup = read_setup(alloc, round.document.as_bytes())?;
-    let prices = prices_of(alloc, &setup, round.start, round.clock)?;
+    let prices = prices_of(alloc, &setup)?;
     let changes = asked_without(rt, alloc, &setup, &prices, round.own)?;
     Ok(changes.as_slice() == wanted)
 }
@@ -267,68 +209,6 @@ fn chains_of_two_products_may_be_interleaved(rt: HostRuntime) -> Result<(), Fail
         change(1, 1, Kind::Reduction, 1, 108),
     ];
     assert!(rt; asks_for(&rt, rt.alloc(), &round, &bids, &by_product)?);
-    Ok(())
-}
-
-#[test]
-fn a_sheet_is_refused_for_its_first_fault(rt: HostRuntime) -> Result<(), Fail> {
-    let alloc = rt.alloc();
-    let later = second(ONE_PRODUCT, 3, &[2]);
-    let opening = first(ONE_PRODUCT, 10, &[0]);
-    let both = [bid(0, 1, 100), bid(1, 1, 100)];
-    let narrow = first(TWO_PRODUCTS, 1, &[0, 0]);
-    let many = vec![in alloc; bid(0, 1, 100); 8193]?;
-    let sheets: [(Round, &[Bid], BidFault); 9] = [
-        (
-            later,
-            &[bid(0, 1, 103), bid(0, 2, 105)],
-            BidFault::MixedDirection(1),
-        ),
-        (later, &[bid(0, 2, 105)], BidFault::KeepPrice(0)),
-        (
-            later,
-            &[bid(0, 1, 103), bid(0, 0, 103)],
-            BidFault::PriceOrder(1),
-        ),
-        (opening, &[bid(1, 1, 100)], BidFault::UnknownProduct(0)),
-        (opening, &[bid(0, 1, 101)], BidFault::PriceRange(0)),
-        (opening, &[bid(0, 3, 100)], BidFault::OverCap(0)),
-        (
-            opening,
-            &[bid(0, 1, 100), bid(0, 2, 100)],
-            BidFault::PriceOrder(1),
-        ),
-        (opening, many.as_slice(), BidFault::TooMany),
-        (narrow, &both, BidFault::OverActivity),
-    ];
-    for (round, bids, fault) in sheets {
-        assert_eq!(rt; fault_in(&rt, alloc, &round, bids)?, Some(fault));
-    }
-    Ok(())
-}
-
-#[test]
-fn a_sheet_within_the_limits_is_accepted(rt: HostRuntime) -> Result<(), Fail> {
-    let alloc = rt.alloc();
-    let wide = first(TWO_PRODUCTS, 2, &[0, 0]);
-    let both = [bid(0, 1, 100), bid(1, 1, 100)];
-    assert_eq!(rt; fault_in(&rt, alloc, &wide, &both)?, None);
-    let opening = first(ONE_PRODUCT, 10, &[0]);
-    assert_eq!(rt; fault_in(&rt, alloc, &opening, &[bid(0, 0, 100)])?, None);
-    Ok(())
-}
-
-#[test]
-fn a_later_sheet_may_ask_for_activity_up_to_the_limit(rt: HostRuntime) -> Result<(), Fail> {
-    let alloc = rt.alloc();
-    let round = second(SEVEN_BLOCKS, 10, &[7, 3]);
-    let twelve = [bid(0, 7, 110), bid(1, 5, 110)];
-    assert_eq!(rt; fault_in(&rt, alloc, &round, &twelve)?, None);
-    let thirteen = [bid(0, 7, 110), bid(1, 6, 110)];
-    assert_eq!(rt;
-        fault_in(&rt, alloc, &round, &thirteen)?,
-        Some(BidFault::OverActivity)
-    );
     Ok(())
 }
 

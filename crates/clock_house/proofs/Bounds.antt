@@ -18,5 +18,5 @@ pub round_bounded : (products : List Product) (now : Standing) → length produc
 round_bounded products now few priced =
     let starts : sum_by (λ (pair : PricePair). pair.start) now.prices ≤ length now.prices * 1000000000000 =
     sum_by-le (λ (pair : PricePair). pair.start) 1000000000000 now.prices priced.highest in
-    let many : length now.prices * 1000000000000 ≤ 4096000000000000 = omega (arith, few, priced.each) in
+    let many : length now.prices * 1000000000000 ≤ 4096000000000000 = omega (arith, few, priced.pairs) in
     by_round now.round (λ later. omega (arith, priced.bounded later, starts, many))

@@ -1,5 +1,5 @@
 -- What a closing does to the commands that a house stands for.
-use Rattle.std.proofs.Common.{◌≡◌, ℕ, List, ◌∷◌, Bool, true, false, refl, ap, sym, subst, ◌∙◌}
+use Rattle.std.proofs.Common.{◌≡◌, ℕ, List, ◌∷◌, Bool, true, false, length, refl, ap, sym, subst, ◌∙◌}
 use Rattle.std.specs.Prelude.{Option, Some, None, Result, Ok, Err, ◌↔◌, IsNone, IsTrue, IfSome, IfOk, map, unwrap_or}
 use Rattle.clock_setup.specs.declared.prices.PricePair.{PricePair}
 use Rattle.clock_posting.specs.Posting.{next_pair}
@@ -15,6 +15,8 @@ use Rattle.clock_house.specs.History.{ClosedRound, history, closing_of, after_cl
 use Rattle.clock_house.specs.House.{HouseFields, StandsFor, IsFollowedBy, StandsStill, IsUnchanged, HasClosed, standing_in, open_round_in, closing_in}
 use Rattle.clock_house.specs.Prepared.{PreparedClosing, FitsClosing}
 use Rattle.clock_house.proofs.Closings.{IsClosing, closing_passed}
+use Rattle.std.proofs.lemmas.List.FromFn.{length-map-range_with_len}
+use Rattle.clock_house.proofs.InHouse.{in-many}
 use Rattle.clock_house.proofs.Kept.{stands_open}
 
 module _ (house : HouseFields) (limits : IsSetup house.setup) (round : ℕ) (increments : Increments) (ties : List Tie) (commands : List Command)
@@ -80,6 +82,14 @@ closed_number house round increments ties done e =
     let is : IsClosing (public_setup house.setup) (open_round_in house) round increments ties done =
     closing_passed (public_setup house.setup) (open_round_in house) round increments ties done e in
     (is.going, ap (λ (one : ClosedRound). one.sheet.round) is.made)
+
+-- an accepted closing has a slip for each bidder
+pub closed_slips : (house : HouseFields) (round : ℕ) (increments : Increments) (ties : List Tie) (done : ClosedRound) →
+    closing_in house round increments ties ≡ Ok done → length done.slips ≡ length house.setup.bidders
+closed_slips house round increments ties done e =
+    let is : IsClosing (public_setup house.setup) (open_round_in house) round increments ties done =
+    closing_passed (public_setup house.setup) (open_round_in house) round increments ties done e in
+    ap (λ (one : ClosedRound). length one.slips) is.made ∙ length-map-range_with_len _ 0 _ ∙ in-many house
 
 -- the prices that are kept for the next round are those that the lines show
 pub taken_prices : (next : Option (List PricePair)) (old : List PricePair) (lines : List Line) (ended : Bool) → ended ≡ false → (IsNone next ↔ IsTrue ended) →

@@ -3,11 +3,11 @@ use Rattle.std.proofs.Common.{◌≡◌, ℕ, zero, suc, ◌+◌, ◌<◌, List,
 use Rattle.std.specs.Prelude.{flat_map}
 use Rattle.std.specs.List.{range_with_len}
 use Rattle.std.proofs.lemmas.Grind.{flat_map-append}
-use Rattle.std.proofs.lemmas.List.{append-nil, length-map}
+use Rattle.std.proofs.lemmas.List.{append-nil, length-map, get_or-map}
 use Rattle.std.proofs.lemmas.List.FromFn.{length-map-range_with_len, get_or-map-range_with_len}
 use Rattle.clock_setup.specs.declared.prices.PricePair.{PricePair}
 use Rattle.clock_setup.specs.Limits.{SetupFields, IsRow, public_setup}
-use Rattle.clock_setup.specs.Demands.{IsGrid}
+use Rattle.clock_setup.specs.Demands.{IsGrid, row_of}
 use Rattle.clock_bids.specs.declared.sheet.Own.{Own}
 use Rattle.clock_bids.specs.declared.sheet.Bid.{Bid}
 use Rattle.clock_bids.specs.Holding.{holding_of}
@@ -17,7 +17,7 @@ use Rattle.clock_processor.specs.Board.{IsWithinEligibility}
 use Rattle.clock_house.specs.Standing.{Holding}
 use Rattle.clock_house.specs.Closing.{holding_at, bids_at}
 use Rattle.clock_house.specs.House.{HouseFields, holding_in, standing_in, open_round_in}
-use Rattle.clock_house.specs.Laws.{IsOpen, eligibilities_of}
+use Rattle.clock_house.specs.Laws.{IsOpen, eligibilities_of, grid_of}
 
 -- a range is longer by its next number
 pub range_more : (a n j : ℕ) → a + n ≡ j → range_with_len a (n + 1) ≡ range_with_len a n ++ j ∷ []
@@ -52,6 +52,18 @@ module _ (house : HouseFields) where
   pub in-held : (bidder : ℕ) → bidder < length house.setup.bidders → holding_at (open_round_in house).holdings bidder ≡ holding_in house bidder
   in-held bidder lt = get_or-map-range_with_len (holding_in house) 0 (length house.setup.bidders) bidder bidder
       (record { eligibility = 0; demands = [] }) lt (omega arith)
+
+  -- a row for each bidder is kept, and it is what the bidder holds
+  module _ (demands : List (List ℕ)) (kept : demands ≡ grid_of (open_round_in house)) (bidder : ℕ) (lt : bidder < length house.setup.bidders) where
+    pub kept_rows : bidder < length demands
+    kept_rows = omega (arith, lt, ap length kept, length-map (open_round_in house).holdings (λ (held : Holding). held.demands), in-many)
+
+    pub kept_row : row_of demands bidder ≡ (holding_in house bidder).demands
+    kept_row =
+        ap (λ (rows : List (List ℕ)). row_of rows bidder) kept
+        ∙ get_or-map (λ (held : Holding). held.demands) (open_round_in house).holdings bidder (record { eligibility = 0; demands = [] }) []
+        (omega (arith, lt, in-many))
+        ∙ ap (λ (held : Holding). held.demands) (in-held bidder lt)
 
   -- demands within the eligibilities are a grid
   pub within_grid : (grid : List (List ℕ)) → IsWithinEligibility house.setup.products (eligibilities_of (open_round_in house)) grid →

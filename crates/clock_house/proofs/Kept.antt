@@ -1,16 +1,18 @@
 -- What a house that stands for a list of commands keeps.
-use Rattle.std.proofs.Common.{◌≡◌, ℕ, zero, suc, ◌-◌, ◌≤◌, List, [], ◌∷◌, false, length, refl, ap, sym, subst, ◌∙◌, arith, All}
+use Rattle.std.proofs.Common.{◌≡◌, ℕ, zero, suc, ◌-◌, ◌≤◌, List, [], ◌∷◌, Bool, false, length, refl, ap, sym, subst, ◌∙◌, arith, All}
 use Rattle.std.specs.Prelude.{Option, Some, None, reverse, slice_get}
 use Rattle.std.proofs.lemmas.Option.{none-some, slice_get_within, get_or_from_slice_get}
 use Rattle.std.proofs.lemmas.List.Elements.{All-nil, All-cons, All-head, All-tail, All-append}
 use Rattle.std.proofs.lemmas.List.{reverse-reverse}
 use Rattle.std.proofs.lemmas.List.FromFn.{length-map-range_with_len}
-use Rattle.clock_setup.specs.Limits.{IsSetup, public_setup}
+use Rattle.clock_setup.specs.Limits.{SetupFields, IsSetup, public_setup}
+use Rattle.clock_setup.specs.declared.prices.PricePair.{PricePair}
 use Rattle.clock_bids.specs.declared.sheet.Bid.{Bid}
 use Rattle.clock_house.specs.Command.{Command}
 use Rattle.clock_house.specs.Closing.{OpenRound}
 use Rattle.clock_house.specs.History.{ClosedRound, round_at, history, standing, holding, for_each_bidder, open_round}
 use Rattle.clock_house.specs.House.{HouseFields, StandsFor, standing_in, open_round_in}
+use Rattle.clock_house.specs.Inside.{IsKept}
 use Rattle.clock_house.specs.Laws.{AreNumbered, IsSound, IsOpen}
 use Rattle.clock_house.proofs.Sound.{sound, open_sound}
 use Rattle.clock_house.proofs.Numbers.{numbered, reverse_cons}
@@ -23,6 +25,23 @@ module _ (house : HouseFields) (commands : List Command) (stands : StandsFor com
   -- it keeps a sheet or none for each bidder
   pub stands_sheets : length house.sheets ≡ length house.setup.bidders
   stands_sheets = ap length stands.sheets ∙ length-map-range_with_len _ 0 (length house.setup.bidders)
+
+-- what a house keeps is the same with other room for further rounds
+pub kept_items : (setup : SetupFields) (sheets : List (Option (List Bid))) (items like : List ClosedRound) (spare more : ℕ) (ended : Bool) (round : ℕ)
+    (prices : List PricePair) (demands : List (List ℕ)) → like ≡ items →
+    IsKept (record { setup = setup; closed = reverse items; sheets = sheets; spare = spare }) ended round prices demands →
+    IsKept (record { setup = setup; closed = reverse like; sheets = sheets; spare = more }) ended round prices demands
+kept_items setup sheets items like spare more ended round prices demands same kept =
+    subst (λ (list : List ClosedRound). IsKept (record { setup = setup; closed = reverse list; sheets = sheets; spare = more }) ended round prices demands)
+    (sym same)
+    (record {
+      commands = kept.commands;
+      stands = record { closed = kept.stands.closed; sheets = kept.stands.sheets };
+      ended_is = kept.ended_is;
+      round_is = kept.round_is;
+      prices_are = kept.prices_are;
+      demands_are = kept.demands_are;
+    })
 
 -- what is looked up by number among rounds in order is the round of that number
 pub found_round : (n : ℕ) (items : List ClosedRound) (found : Option ClosedRound) →
@@ -65,7 +84,7 @@ module _ (house : HouseFields) (limits : IsSetup house.setup) (commands : List C
   stands_sound =
       let P = λ (closed : List ClosedRound). IsSound house.setup (record { closed = closed; since = (history house.setup commands).since }) in
       let all : IsSound house.setup (history house.setup commands) = sound house.setup limits commands in
-      subst P (sym stands.closed) (record { numbered = all.numbered; held = all.held; priced = all.priced; supplied = all.supplied; few = all.few })
+      subst P (sym stands.closed) (record { numbered = all.numbered; within = all.within; priced = all.priced; supplied = all.supplied; count = all.count })
 
   -- what a closing goes by is that of the commands
   pub stands_open : open_round_in house ≡ open_round house.setup (history house.setup commands)

@@ -49,9 +49,9 @@ module _ (setup : PublicSetup) (now : OpenRound) (sound : IsOpen setup now) wher
   -- before the round
   pub before_within : IsWithinEligibility setup.products (eligibilities_of now) (grid_of now)
   before_within = within_by (grid_of now) (length-map now.holdings _)
-      (λ bidder lt. subst (IsRow setup.products) (sym (demands_at bidder lt)) (sound.held bidder lt).row)
+      (λ bidder lt. subst (IsRow setup.products) (sym (demands_at bidder lt)) (sound.within bidder lt).row)
       (λ bidder lt. subst (λ (row : List ℕ). activity setup.products row ≤ (holding_at now.holdings bidder).eligibility) (sym (demands_at bidder lt))
-      (sound.held bidder lt).within)
+      (sound.within bidder lt).within)
 
   -- what good sheets ask for in the first round
   asked_row : (bidder : ℕ) → bidder < length now.holdings → row_of (asked_grid setup.products now) bidder
@@ -73,7 +73,7 @@ module _ (setup : PublicSetup) (now : OpenRound) (sound : IsOpen setup now) wher
       AreChangesOf setup.products now.standing.prices (holding_at now.holdings bidder).demands bidder (requests_of now bidder)
   changes_at later bidder lt =
       good_sheet_changes setup now.standing.round now.standing.prices (holding_at now.holdings bidder) bidder (bids_at now.sheets bidder)
-      sound.few_products sound.limits sound.priced.each (sound.priced.rising later) (sound.held bidder lt).row (sound.good bidder lt)
+      sound.few_products sound.limits sound.priced.pairs (sound.priced.rising later) (sound.within bidder lt).row (sound.good bidder lt)
 
   abbrev pub all_requests : List Change
   all_requests = flat_map (requests_of now) (bidder_numbers now)
@@ -83,7 +83,7 @@ module _ (setup : PublicSetup) (now : OpenRound) (sound : IsOpen setup now) wher
   own_places later =
       apart_joined (requests_of now) (length now.holdings)
       (λ bidder lt. All-weaker (IsChangeOf setup.products now.standing.prices bidder) (λ (change : Change). change.bidder ≡ bidder) (λ change is. is.bidder)
-      (requests_of now bidder) (changes_at later bidder lt).each)
+      (requests_of now bidder) (changes_at later bidder lt).all)
       (λ bidder lt. (changes_at later bidder lt).apart) 0 (length now.holdings) (omega arith)
 
   -- each is made at a price of its product
@@ -91,8 +91,8 @@ module _ (setup : PublicSetup) (now : OpenRound) (sound : IsOpen setup now) wher
   priced_requests later =
       all_joined (requests_of now) (length now.holdings) (IsWithinPrices now.standing.prices) 0 (length now.holdings)
       (λ bidder from lt. All-weaker (IsChangeOf setup.products now.standing.prices bidder) (IsWithinPrices now.standing.prices)
-      (λ change is. record { product = omega (arith, is.product, sound.priced.each); from_start = is.from_start; to_clock = is.to_clock })
-      (requests_of now bidder) (changes_at later bidder lt).each)
+      (λ change is. record { product = omega (arith, is.product, sound.priced.pairs); from_start = is.from_start; to_clock = is.to_clock })
+      (requests_of now bidder) (changes_at later bidder lt).all)
       (omega arith)
 
   -- in whatever order, they can be settled
@@ -110,11 +110,11 @@ module _ (setup : PublicSetup) (now : OpenRound) (sound : IsOpen setup now) wher
     limits = sound.limits;
     few_products = sound.few_products;
     few_bidders = omega (arith, sound.few_bidders, length-map now.holdings (λ (holding : Holding). holding.demands));
-    held = before_within;
+    within = before_within;
   }
 
   -- after a later round
   pub settled_within : 2 ≤ now.standing.round → (list : List Change) → IsPermutation all_requests list →
       IsWithinEligibility setup.products (eligibilities_of now) (settlement setup.products now list).grid
   settled_within later list same =
-      (settled_board (new_board setup.products (eligibilities_of now) (grid_of now)) list before_board (can_settle later list same)).held
+      (settled_board (new_board setup.products (eligibilities_of now) (grid_of now)) list before_board (can_settle later list same)).within

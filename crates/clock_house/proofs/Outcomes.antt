@@ -1,5 +1,6 @@
 -- What the closing of an open round leaves is in order.
-use Rattle.std.proofs.Common.{◌≡◌, ℕ, zero, suc, ◌+◌, ◌<◌, ◌≤◌, ◌⊎◌, inl, inr, List, Bool, true, false, cond, refl, ap, sym, subst, ◌∙◌, arith, get_or, length, All, eq-eqb, ne_eqb}
+use Rattle.std.proofs.Common.{◌≡◌, ℕ, zero, suc, ◌+◌, ◌<◌, ◌≤◌, ◌⊎◌, inl, inr, List, Bool, true, false, cond}
+use Rattle.std.proofs.Common.{refl, ap, sym, subst, ◌∙◌, arith, get_or, length, All, eq-eqb, ne_eqb}
 use Rattle.std.specs.Prelude.{None, Any, map, sum_by, IsPermutation}
 use Rattle.std.specs.List.{range_with_len}
 use Rattle.std.proofs.lemmas.List.{length-map}
@@ -17,7 +18,8 @@ use Rattle.clock_order.specs.declared.ties.Tie.{Tie}
 use Rattle.clock_processor.specs.Board.{IsWithinEligibility}
 use Rattle.clock_processor.proofs.Supply.{settled_supplied}
 use Rattle.clock_posting.specs.declared.sheet.Line.{Line}
-use Rattle.clock_posting.specs.Posting.{has_ended, opening_posted, first_at_limit, next_price, next_prices, price_limit_fault, sheet_line, lines_of_round, next_pair, IsBetween, IsRising, IsAtClock}
+use Rattle.clock_posting.specs.Posting.{has_ended, opening_posted, first_at_limit, next_price, next_prices, price_limit_fault}
+use Rattle.clock_posting.specs.Posting.{sheet_line, lines_of_round, next_pair, IsBetween, IsRising, IsAtClock}
 use Rattle.clock_posting.specs.PostedPrice.{posted_prices, IsPriceRange, IsWithinPrices}
 use Rattle.clock_posting.proofs.Ranges.{all_in_range}
 use Rattle.clock_posting.proofs.Laws.{lines_between, lines_show, opening_between, opening_dollars}
@@ -51,8 +53,8 @@ first_or_later (suc (suc n)) some = inr (omega arith)
 
 -- posted prices of a round: one for each product, from 1 on, between start and clock price
 pub record ArePosted (products : List Product) (prices : List PricePair) (grid : List (List ℕ)) (posted : List ℕ) (increments : Increments) : Type 0 where
-  pub each : length posted ≡ length products
-  pub some : All (λ price. 1 ≤ price) posted
+  pub lengths : length posted ≡ length products
+  pub positive : All (λ price. 1 ≤ price) posted
   pub between : All IsBetween (lines_of_round products prices grid posted increments)
 
 module _ (setup : PublicSetup) (now : OpenRound) (sound : IsOpen setup now) (ties : List Tie) (first : 1 ≤ now.standing.round) where
@@ -76,8 +78,8 @@ module _ (setup : PublicSetup) (now : OpenRound) (sound : IsOpen setup now) (tie
   first_posted : (increments : Increments) → now.standing.prices ≡ opening_prices setup.products →
       ArePosted setup.products now.standing.prices (first_outcome setup.products now).grid (first_outcome setup.products now).posted increments
   first_posted increments opening = record {
-    each = length-map setup.products _;
-    some = opening_dollars setup.products sound.limits;
+    lengths = length-map setup.products _;
+    positive = opening_dollars setup.products sound.limits;
     between =
         subst (λ (prices : List PricePair). All IsBetween (lines_of_round setup.products prices (first_outcome setup.products now).grid
         (opening_posted setup.products) increments)) (sym opening)
@@ -92,11 +94,11 @@ module _ (setup : PublicSetup) (now : OpenRound) (sound : IsOpen setup now) (tie
       let end = settlement setup.products now (requests now ties) in
       let prices = now.standing.prices in
       record {
-        each = length-posted_prices setup.products prices (requests now ties) end.left end.grid;
-        some = posted_dollars setup.products prices (requests now ties) end.left end.grid sound.priced.each sound.priced.ordered
-            (priced_list later) sound.priced.some;
+        lengths = length-posted_prices setup.products prices (requests now ties) end.left end.grid;
+        positive = posted_dollars setup.products prices (requests now ties) end.left end.grid sound.priced.pairs sound.priced.ordered
+            (priced_list later) sound.priced.positive;
         between = lines_between setup.products prices end.grid (posted_prices setup.products prices (requests now ties) end.left end.grid) increments
-            (λ k lt. posted_between setup.products prices (requests now ties) end.left end.grid increments k sound.priced.each sound.priced.ordered
+            (λ k lt. posted_between setup.products prices (requests now ties) end.left end.grid increments k sound.priced.pairs sound.priced.ordered
             (priced_list later) lt);
       }
 
@@ -154,7 +156,7 @@ module _ (products : List Product) (now : Standing) (priced : HasSoundPrices pro
   shown = lines_show products now.prices grid posted increments going
 
   rising : All IsRising (map next_pair (lines_of_round products now.prices grid posted increments))
-  rising = subst (All IsRising) shown (next_rising products increments posted limit rise limits are.each are.some)
+  rising = subst (All IsRising) shown (next_rising products increments posted limit rise limits are.lengths are.positive)
 
   -- the sum of start prices, taken from the lines
   starts : sum_by (λ (line : Line). line.start) (lines_of_round products now.prices grid posted increments)
@@ -162,12 +164,12 @@ module _ (products : List Product) (now : Standing) (priced : HasSoundPrices pro
   starts =
       sum_by-map (λ (line : Line). line.start) (sheet_line products now.prices grid posted increments) (range_with_len 0 (length products))
       ∙ sym (sum_by-map (λ (pair : PricePair). pair.start) (prices_at now.prices) (range_with_len 0 (length products)))
-      ∙ ap (sum_by (λ (pair : PricePair). pair.start)) (map-get_or now.prices (length products) (record { start = 0; clock = 0 }) priced.each)
+      ∙ ap (sum_by (λ (pair : PricePair). pair.start)) (map-get_or now.prices (length products) (record { start = 0; clock = 0 }) priced.pairs)
 
   above_start : 2 ≤ now.round → All (λ (line : Line). line.start < line.clock) (lines_of_round products now.prices grid posted increments)
   above_start later =
       all_in_range (λ (line : Line). line.start < line.clock) (sheet_line products now.prices grid posted increments) (length products)
-      (λ k lt. priced.rising later k (record { start = 0; clock = 0 }) (omega (arith, lt, priced.each)))
+      (λ k lt. priced.rising later k (record { start = 0; clock = 0 }) (omega (arith, lt, priced.pairs)))
 
   sum_rises : 2 ≤ now.round → sum_by (λ (pair : PricePair). pair.start) now.prices < sum_by (λ (line : Line). line.posted)
       (lines_of_round products now.prices grid posted increments)
@@ -195,7 +197,7 @@ module _ (products : List Product) (now : Standing) (priced : HasSoundPrices pro
   next_some : All (λ (pair : PricePair). 1 ≤ pair.start) (map next_pair (lines_of_round products now.prices grid posted increments))
   next_some = subst (All (λ (pair : PricePair). 1 ≤ pair.start)) shown
       (all_in_range (λ (pair : PricePair). 1 ≤ pair.start) (next_price products increments posted) (length products)
-      (λ k lt. are.some k 0 (omega (arith, lt, are.each))))
+      (λ k lt. are.positive k 0 (omega (arith, lt, are.lengths))))
 
   next_highest : All (λ (pair : PricePair). pair.start ≤ highest_price) (map next_pair (lines_of_round products now.prices grid posted increments))
   next_highest =
@@ -226,10 +228,10 @@ module _ (products : List Product) (now : Standing) (priced : HasSoundPrices pro
       subst P (sym prices)
       (record {
         numbered = omega (arith, number);
-        each = long_lines;
+        pairs = long_lines;
         ordered = All-weaker IsRising IsPriceRange (λ pair is. omega (arith, is))
             (map next_pair (lines_of_round products now.prices grid posted increments)) rising;
-        some = next_some;
+        positive = next_some;
         highest = next_highest;
         rising = λ _. rising;
         bounded = λ _. bounded_next standing.round number some;

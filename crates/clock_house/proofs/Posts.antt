@@ -30,11 +30,11 @@ module _ (setup : PublicSetup) (now : OpenRound) (increments : Increments) (resu
   by_limit limit = unless (first_fault (fault_check close_faults.PriceLimit limit)) (closed_round setup now increments result)
 
   -- a posting and its slips
-  pub posts : (posting : Posting) (slips : List Slip) →
+  pub posts : (posting : Posting) (slips : List Slip) (grid : List (List ℕ)) →
       IsPosting now.standing.round setup.products now.standing.prices result.grid result.posted increments posting →
       slips ≡ slips_after setup now result.grid → IsConsistent posting →
-      AreResults (by_limit (price_limit_fault setup.products result.grid result.posted increments)) (record { posting = posting; slips = slips })
-  posts posting slips is are laws = record {
+      AreResults (by_limit (price_limit_fault setup.products result.grid result.posted increments)) (record { posting = posting; slips = slips; grid = grid })
+  posts posting slips grid is are laws = record {
     closes =
         ap by_limit is.possible
         ∙ ap (λ (sheet : RoundSheet). let round : ClosedRound = record { sheet = sheet; slips = slips_after setup now result.grid } in let done : Result

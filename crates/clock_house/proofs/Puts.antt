@@ -1,5 +1,6 @@
 -- What putting a sheet does to the commands that a house stands for.
-use Rattle.std.proofs.Common.{◌≡◌, ℕ, ◌<◌, inl, inr, List, ◌∷◌, Bool, true, false, ◌&&◌, ◌==◌, refl, ap, sym, subst, ◌∙◌, arith, get_or, set, length, eq-eqb, ne_eqb}
+use Rattle.std.proofs.Common.{◌≡◌, ℕ, ◌<◌, inl, inr, List, ◌∷◌, Bool, true, false, ◌&&◌, ◌==◌, refl}
+use Rattle.std.proofs.Common.{ap, sym, subst, ◌∙◌, arith, get_or, set, length, eq-eqb, ne_eqb}
 use Rattle.std.specs.Prelude.{Option, Some, None, is_none}
 use Rattle.std.proofs.lemmas.Bool.{cases_eq}
 use Rattle.std.proofs.lemmas.List.{get_or-set_same, get_or-set_other, length-set}

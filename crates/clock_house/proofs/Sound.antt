@@ -24,7 +24,8 @@ use Rattle.clock_house.specs.declared.fault.CloseFault.{CloseFault}
 use Rattle.clock_house.specs.Command.{Command, put, close, other}
 use Rattle.clock_house.specs.Standing.{Standing, Holding, first_holding, holding_after}
 use Rattle.clock_house.specs.Closing.{OpenRound, Outcome, holding_at, bids_at, outcome, closed_round, slip_after, bidder_numbers}
-use Rattle.clock_house.specs.History.{ClosedRound, Auction, standing, holding, bidder_at, slip_of, no_slip, sheet_in_force, open_round, closing_of, after_closing, history}
+use Rattle.clock_house.specs.History.{ClosedRound, Auction, standing, holding, bidder_at, slip_of, no_slip}
+use Rattle.clock_house.specs.History.{sheet_in_force, open_round, closing_of, after_closing, history}
 use Rattle.clock_house.specs.Laws.{IsWithinLimits, HasSoundPrices, AreNumbered, StaysSupplied, grid_after, IsSound, IsOpen, eligibilities_of}
 use Rattle.clock_house.proofs.Closings.{IsClosing, closing_passed}
 use Rattle.clock_house.proofs.Numbers.{numbered, round-closed}
@@ -64,9 +65,9 @@ module _ (setup : SetupFields) (limits : IsSetup setup) where
       let opening = λ (product : Product). let pair : PricePair = record { start = product.opening; clock = product.opening } in pair in
       record {
         numbered = omega arith;
-        each = length-map setup.products _;
+        pairs = length-map setup.products _;
         ordered = All-map (λ (pair : PricePair). pair.start ≤ pair.clock) opening setup.products (λ k d lt. omega arith);
-        some = All-map (λ (pair : PricePair). 1 ≤ pair.start) opening setup.products (λ k d lt. (limits.products k d lt).opening.0);
+        positive = All-map (λ (pair : PricePair). 1 ≤ pair.start) opening setup.products (λ k d lt. (limits.products k d lt).opening.0);
         highest = All-map (λ (pair : PricePair). pair.start ≤ 1000000000000) opening setup.products (λ k d lt. (limits.products k d lt).opening.1);
         rising = λ later. absurd (omega (arith, later));
         bounded = λ later. absurd (omega (arith, later));
@@ -105,7 +106,8 @@ module _ (setup : SetupFields) (limits : IsSetup setup) where
       limits = limits.products;
       few_products = limits.product_count.1;
       few_bidders = omega (arith, many, limits.bidder_count.1);
-      held = λ bidder lt. subst (IsWithinLimits setup.products) (sym (held_at bidder (omega (arith, lt, many)))) (sound.held bidder (omega (arith, lt, many)));
+      within = λ bidder lt. subst (IsWithinLimits setup.products) (sym (held_at bidder (omega (arith, lt, many))))
+          (sound.within bidder (omega (arith, lt, many)));
       priced = sound.priced going;
       good = λ bidder lt.
           subst (λ (held : Holding). IsGoodSheet (public_setup setup) (standing setup.products auction.closed).round
@@ -173,7 +175,7 @@ module _ (setup : SetupFields) (limits : IsSetup setup) where
       pub held_next : (bidder : ℕ) → bidder < length setup.bidders → IsWithinLimits setup.products (holding_after (slip_of bidder done))
       held_next bidder lt =
           let row : List ℕ = row_of (outcome setup.products (open_round setup auction) ties).grid bidder in
-          let before : IsWithinLimits setup.products (holding setup auction.closed bidder) = sound.held bidder lt in
+          let before : IsWithinLimits setup.products (holding setup auction.closed bidder) = sound.within bidder lt in
           let used : activity setup.products row ≤ (holding setup auction.closed bidder).eligibility =
           omega (
             arith,
@@ -232,11 +234,11 @@ module _ (setup : SetupFields) (limits : IsSetup setup) where
           IsSound setup (record { closed = done ∷ auction.closed; since = [] })
       sound_next all = record {
         numbered = all;
-        held = held_next;
+        within = held_next;
         priced = priced_after;
         supplied = AllPairs-cons (StaysSupplied setup.products) done auction.closed
             (supplied_all setup.products done auction.closed sound.supplied supplied_next) sound.supplied;
-        few = omega (
+        count = omega (
           arith,
           round_is is.going,
           round_bounded setup.products (standing setup.products auction.closed) limits.product_count.1
@@ -248,17 +250,17 @@ module _ (setup : SetupFields) (limits : IsSetup setup) where
   first_sound : IsSound setup (record { closed = []; since = [] })
   first_sound = record {
     numbered = tt;
-    held = first_held;
+    within = first_held;
     priced = λ going. first_priced;
     supplied = λ i j d before within. absurd (omega (arith, within));
-    few = omega arith;
+    count = omega arith;
   }
 
   -- commands that close nothing
   same_closed : (old new : Auction) → new.closed ≡ old.closed → IsSound setup old → IsSound setup new
   same_closed old new same sound =
       let P = λ (closed : List ClosedRound). IsSound setup (record { closed = closed; since = new.since }) in
-      subst P (sym same) (record { numbered = sound.numbered; held = sound.held; priced = sound.priced; supplied = sound.supplied; few = sound.few })
+      subst P (sym same) (record { numbered = sound.numbered; within = sound.within; priced = sound.priced; supplied = sound.supplied; count = sound.count })
 
   after_closing_sound : (auction : Auction) (round : ℕ) (increments : Increments) (ties : List Tie) (answer : Result ClosedRound CloseFault) →
       closing_of setup auction round increments ties ≡ answer →

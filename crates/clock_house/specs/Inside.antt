@@ -1,15 +1,16 @@
 -- What a house keeps inside, beside what contracts see of it.
---     IsKept house ended round prices nothing      the kept end, round, prices and empty row are those of the closed rounds
-use Rattle.std.specs.Prelude.{◌≡◌, ℕ, List, Bool, false, length, replicate}
+--     IsKept house ended round prices demands      the kept end, round, prices and demands are those of the closed rounds
+use Rattle.std.specs.Prelude.{◌≡◌, ℕ, List, Bool, false}
 use Rattle.clock_setup.specs.declared.prices.PricePair.{PricePair}
 use Rattle.clock_house.specs.Command.{Command}
-use Rattle.clock_house.specs.House.{HouseFields, StandsFor, standing_in}
+use Rattle.clock_house.specs.House.{HouseFields, StandsFor, standing_in, open_round_in}
+use Rattle.clock_house.specs.Laws.{grid_of}
 
 -- a house stands for some list of commands, and what it keeps for quick reading is what its closed rounds say; at the end there are no prices
-pub record IsKept (house : HouseFields) (ended : Bool) (round : ℕ) (prices : List PricePair) (nothing : List ℕ) : Type 0 where
+pub record IsKept (house : HouseFields) (ended : Bool) (round : ℕ) (prices : List PricePair) (demands : List (List ℕ)) : Type 0 where
   pub commands : List Command
   pub stands : StandsFor commands house
   pub ended_is : ended ≡ (standing_in house).ended
   pub round_is : round ≡ (standing_in house).round
   pub prices_are : ended ≡ false → prices ≡ (standing_in house).prices
-  pub nothing_is : nothing ≡ replicate (length house.setup.products) 0
+  pub demands_are : demands ≡ grid_of (open_round_in house)

@@ -15,6 +15,7 @@ use Rattle.clock_setup.specs.Eligibility.{activity}
 use Rattle.clock_bids.specs.Sheet.{IsGoodSheet}
 use Rattle.clock_posting.specs.Posting.{IsRising}
 use Rattle.clock_posting.specs.PostedPrice.{IsPriceRange}
+use Rattle.clock_house.specs.declared.slip.Slip.{Slip}
 use Rattle.clock_house.specs.Standing.{Standing, Holding}
 use Rattle.clock_house.specs.Closing.{OpenRound, holding_at, bids_at}
 use Rattle.clock_house.specs.History.{ClosedRound, Auction, standing, holding}
@@ -29,9 +30,9 @@ pub record IsWithinLimits (products : List Product) (holding : Holding) : Type 0
 -- start price; from then on some start price has risen in each round, so that the rounds are bounded
 pub record HasSoundPrices (products : List Product) (now : Standing) : Type 0 where
   pub numbered : 1 ≤ now.round
-  pub each : length now.prices ≡ length products
+  pub pairs : length now.prices ≡ length products
   pub ordered : All IsPriceRange now.prices
-  pub some : All (λ pair. 1 ≤ pair.start) now.prices
+  pub positive : All (λ pair. 1 ≤ pair.start) now.prices
   pub highest : All (λ pair. pair.start ≤ highest_price) now.prices
   pub rising : 2 ≤ now.round → All IsRising now.prices
   pub bounded : 2 ≤ now.round → now.round + length products ≤ 2 + sum_by (λ pair. pair.start) now.prices
@@ -46,9 +47,13 @@ AreNumbered bidders products [] = Unit {0}
 AreNumbered bidders products (round ∷ rounds) =
     (round.sheet.round ≡ suc (length rounds)) × (length round.slips ≡ bidders) × (length round.sheet.lines ≡ products) × AreNumbered bidders products rounds
 
+-- the demands on slips
+abbrev pub demands_of : List Slip → List (List ℕ)
+demands_of slips = map (λ slip. slip.demands) slips
+
 -- the demands after a closed round
 abbrev pub grid_after : ClosedRound → List (List ℕ)
-grid_after round = map (λ slip. slip.demands) round.slips
+grid_after round = demands_of round.slips
 
 -- a product whose total was at supply after the earlier round is at supply after the later one
 abbrev pub StaysSupplied : List Product → ClosedRound → ClosedRound → Type 0
@@ -59,17 +64,17 @@ StaysSupplied products later earlier =
 -- prices together allow, and two
 pub record IsSound (setup : SetupFields) (auction : Auction) : Type 0 where
   pub numbered : AreNumbered (length setup.bidders) (length setup.products) auction.closed
-  pub held : (bidder : ℕ) → bidder < length setup.bidders → IsWithinLimits setup.products (holding setup auction.closed bidder)
+  pub within : (bidder : ℕ) → bidder < length setup.bidders → IsWithinLimits setup.products (holding setup auction.closed bidder)
   pub priced : (standing setup.products auction.closed).ended ≡ false → HasSoundPrices setup.products (standing setup.products auction.closed)
   pub supplied : AllPairs (StaysSupplied setup.products) auction.closed
-  pub few : length auction.closed ≤ most_rounds
+  pub count : length auction.closed ≤ most_rounds
 
 -- an open round of a set-up: bidders within their limits, prices in order, and a good sheet of each bidder, as an empty one is
 pub record IsOpen (setup : PublicSetup) (now : OpenRound) : Type 0 where
   pub limits : All IsProduct setup.products
   pub few_products : length setup.products ≤ most_products
   pub few_bidders : length now.holdings ≤ most_bidders
-  pub held : (bidder : ℕ) → bidder < length now.holdings → IsWithinLimits setup.products (holding_at now.holdings bidder)
+  pub within : (bidder : ℕ) → bidder < length now.holdings → IsWithinLimits setup.products (holding_at now.holdings bidder)
   pub priced : HasSoundPrices setup.products now.standing
   pub good : (bidder : ℕ) → bidder < length now.holdings →
       IsGoodSheet setup now.standing.round now.standing.prices (holding_at now.holdings bidder) (bids_at now.sheets bidder)

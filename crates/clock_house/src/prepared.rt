@@ -40,14 +40,16 @@ pub struct Prepared {
 }
 
 impl Model for Prepared {
+    ghost use Rattle.std.specs.Prelude.{◌≡◌};
     ghost use Rattle.clock_posting.specs.Posting.{IsConsistent};
+    ghost use Rattle.clock_house.specs.Laws.{demands_of};
     ghost use Rattle.clock_house.specs.Prepared.{PreparedClosing, closed_by};
 
     ghost Value = { PreparedClosing };
 
     ghost view = { λ p. record { round = p.round; increments = p.increments; ties = p.ties; closed = closed_by p.results.posting p.results.slips } };
 
-    ghost invariant = { λ p. IsConsistent p.results.posting };
+    ghost invariant = { λ p. IsConsistent p.results.posting × (p.results.grid ≡ demands_of p.results.slips) };
 }
 
 impl Prepared {

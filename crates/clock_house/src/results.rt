@@ -10,11 +10,11 @@ ghost use Rattle.clock_house.specs.Closing as rules;
 ghost use Rattle.clock_house.specs.House.{standing_in, holding_in, open_round_in};
 ghost use Rattle.clock_house.specs.declared.fault.CloseFault.TheVariants as close_faults;
 ghost use Rattle.clock_house.specs.Prepared.{AreResults, posting_in, posting_of};
-ghost use Rattle.clock_house.specs.Laws.{eligibilities_of, grid_of};
+ghost use Rattle.clock_house.specs.Laws.{demands_of, eligibilities_of};
 
 use crate::fault::CloseFault;
 use crate::house::{House, bidder_count};
-use crate::slip::{Slip, Slips};
+use crate::slip::{Slip, Slips, blocks_of};
 use clock_bids::{Bid, Changes, asked_demands, bids_of, changes_of};
 use clock_device::NoMemory;
 use clock_order::{Ties, ordered};
@@ -22,13 +22,15 @@ use clock_posting::{Posting, post, post_first};
 use clock_processor::{Board, Processor};
 use clock_setup::{Amounts, Grid, Increments, Setup, activity, next_eligibility};
 
-/// What a round comes to: its sheet with the prices of the next round, and the slip of each bidder.
+/// What a round comes to: its sheet with the prices of the next round, the slip of each bidder, and all demands.
 #[derive(Drop)]
 pub(crate) struct Results {
     /// The round's sheet, and the next prices.
     pub(crate) posting: Posting,
     /// What each bidder is left with.
     pub(crate) slips: Slips,
+    /// The same demands for quick reading in the next round.
+    pub(crate) grid: Grid,
 }
 
 impl<P: Processor> House<P> {
@@ -44,6 +46,7 @@ impl<P: Processor> House<P> {
         ensures ok { IfOk result (AreResults (posting_in self.now increments.now ties.now)) }
         ensures err { IfErr result (IsRefusal close_faults.NoMemory
             (posting_in self.now increments.now ties.now)) }
+        ensures kept { IfOk result (λ results. results.grid ≡ demands_of results.slips) }
     {
         self.keeps();
         if self.round() == 1 {
@@ -64,12 +67,17 @@ impl<P: Processor> House<P> {
         ensures err { IfErr result (IsRefusal close_faults.NoMemory
             (posting_of self.now increments.now
             (rules.first_outcome self.now.setup.products (open_round_in self.now)))) }
+        ensures kept { IfOk result (λ results. results.grid ≡ demands_of results.slips) }
     {
         self.keeps();
         let grid = self.asked_grid()?;
         let posting = post_first(self.alloc(), self.setup(), &grid, increments)?;
         let slips = self.slips(&grid)?;
-        Ok(Results { posting, slips })
+        Ok(Results {
+            posting,
+            slips,
+            grid,
+        })
     }
 
     /// What a later round comes to: all bidders' requests are settled in their order.
@@ -85,13 +93,13 @@ impl<P: Processor> House<P> {
             (posting_of self.now increments.now
             (rules.later_outcome self.now.setup.products (open_round_in self.now)
             (rules.requests (open_round_in self.now) ties.now)))) }
+        ensures kept { IfOk result (λ results. results.grid ≡ demands_of results.slips) }
     {
         self.keeps();
         let changes = self.changes()?;
         let requests = ordered(self.alloc(), &changes, ties)?;
         let eligibilities = self.eligibilities()?;
-        let demands = self.demands()?;
-        let board = Board::new(self.alloc(), self.setup(), &eligibilities, &demands)?;
+        let board = Board::new(self.alloc(), self.setup(), &eligibilities, self.demands())?;
         let settled = self.processor().settle(self.alloc(), board, &requests)?;
         let posting = post(
             self.alloc(),
@@ -102,8 +110,13 @@ impl<P: Processor> House<P> {
             &settled,
             increments,
         )?;
-        let slips = self.slips(settled.grid())?;
-        Ok(Results { posting, slips })
+        let grid = settled.into_grid();
+        let slips = self.slips(&grid)?;
+        Ok(Results {
+            posting,
+            slips,
+            grid,
+        })
     }
 
     /// The demands that the sheets in force ask for.
@@ -144,7 +157,7 @@ impl<P: Processor> House<P> {
     /// How many bidders there are.
     fn bidders(&self) -> u32
         ensures count { result ≡ length self.now.setup.bidders }
-        ensures few { result ≤ most_bidders }
+        ensures most { result ≤ most_bidders }
     {
         bidder_count(self.setup())
     }
@@ -179,21 +192,9 @@ impl<P: Processor> House<P> {
     {
         let mut list = Amounts::new(self.alloc());
         for bidder in 0..self.bidders() {
-            list.push(self.own(bidder).eligibility)?;
+            list.push(self.eligibility(bidder))?;
         }
         Ok(list)
-    }
-
-    /// Each bidder's demands.
-    fn demands(&self) -> Result<Grid, NoMemory>
-        ensures { IfOk result (λ grid. grid ≡ grid_of (open_round_in self.now)) }
-    {
-        self.keeps();
-        let mut grid = Grid::zero(self.alloc(), self.setup())?;
-        for bidder in 0..self.bidders() {
-            grid.set_row(bidder as usize, self.own(bidder).demands);
-        }
-        Ok(grid)
     }
 
     /// Each bidder's slip after a round with these demands.
@@ -201,8 +202,9 @@ impl<P: Processor> House<P> {
         requires going { (standing_in self.now).ended ≡ false }
         requires within { IsWithinEligibility self.now.setup.products
             (eligibilities_of (open_round_in self.now)) grid.now }
-        ensures { IfOk result (λ slips. slips ≡ rules.slips_after (public_setup self.now.setup)
+        ensures slips { IfOk result (λ slips. slips ≡ rules.slips_after (public_setup self.now.setup)
             (open_round_in self.now) grid.now) }
+        ensures kept { IfOk result (λ slips. grid.now ≡ demands_of slips) }
     {
         let mut slips = Slips::new(self.alloc());
         for bidder in 0..self.bidders() {
@@ -227,7 +229,7 @@ impl<P: Processor> House<P> {
             round: own.round,
             activity: used,
             eligibility: next_eligibility(own.eligibility, used, requirement(self.setup())),
-            demands: Amounts::from_slice(self.alloc(), demands)?,
+            demands: blocks_of(self.alloc(), demands)?,
         })
     }
 }

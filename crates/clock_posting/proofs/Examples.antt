@@ -1,13 +1,13 @@
 -- Posted prices, sheets and price limits of small rounds, computed from their definitions.
-use Rattle.std.specs.Prelude.{◌≡◌, ℕ, ◌-◌, List, [], ◌∷◌, Option, Some, None, true, false, refl}
+use Rattle.std.specs.Prelude.{◌≡◌, ℕ, List, [], ◌∷◌, Option, Some, None, true, false, refl}
 use Rattle.clock_setup.specs.declared.increments.Increments.TheVariants.{Single, PerProduct}
 use Rattle.clock_setup.specs.declared.setup.Product.{Product}
 use Rattle.clock_setup.specs.declared.prices.PricePair.{PricePair}
 use Rattle.clock_setup.specs.Prices.{opening_prices}
 use Rattle.clock_setup.specs.Examples.{one_product, two_products, two_blocks}
 use Rattle.clock_bids.specs.declared.change.Change.{Change}
-use Rattle.clock_bids.specs.declared.change.Kind.{Kind}
 use Rattle.clock_bids.specs.declared.change.Kind.TheVariants.{Increase, Reduction}
+use Rattle.clock_bids.proofs.Examples.{request}
 use Rattle.clock_posting.specs.declared.sheet.Line.{Line}
 use Rattle.clock_posting.specs.Posting.{opening_posted, price_limit_fault, round_sheet}
 use Rattle.clock_posting.specs.PostedPrice.{posted_prices}
@@ -16,21 +16,10 @@ use Rattle.clock_posting.specs.PostedPrice.{posted_prices}
 abbrev second : PricePair
 second = record { start = 100; clock = 110 }
 
-abbrev change : Kind → ℕ → ℕ → ℕ → ℕ → Change
-change kind bidder product amount price = record {
-  bidder = bidder;
-  product = product;
-  place = 0;
-  kind = kind;
-  amount = amount;
-  price = price;
-  point = record { above = price - 100; span = 10 };
-}
-
 -- X and Y hold 2 and 1 of A; Y's drop of 1 at 100 is applied
 abbrev posted_of_one : ℕ → ℕ → List (List ℕ) → List ℕ
 posted_of_one price left grid =
-    posted_prices one_product.products (second ∷ []) (change Reduction 1 0 1 100 ∷ change Reduction 0 0 2 price ∷ []) (0 ∷ left ∷ []) grid
+    posted_prices one_product.products (second ∷ []) (request Reduction 1 0 0 1 100 ∷ request Reduction 0 0 0 2 price ∷ []) (0 ∷ left ∷ []) grid
 
 drop_without_room_is_not_posted : posted_of_one 103 2 ((2 ∷ []) ∷ (0 ∷ []) ∷ []) ≡ 100 ∷ []
 drop_without_room_is_not_posted = refl
@@ -38,12 +27,17 @@ drop_without_room_is_not_posted = refl
 drop_applied_in_part_is_posted : posted_of_one 103 1 ((1 ∷ []) ∷ (0 ∷ []) ∷ []) ≡ 103 ∷ []
 drop_applied_in_part_is_posted = refl
 
+the_highest_of_two_reductions_is_posted :
+    posted_prices one_product.products (second ∷ []) (request Reduction 0 0 0 1 104 ∷ request Reduction 1 0 0 1 102 ∷ []) (0 ∷ 0 ∷ [])
+    ((0 ∷ []) ∷ (0 ∷ []) ∷ []) ≡ 104 ∷ []
+the_highest_of_two_reductions_is_posted = refl
+
 no_reduction_posts_the_start_price : posted_prices one_product.products (second ∷ []) [] [] ((1 ∷ []) ∷ (1 ∷ []) ∷ []) ≡ 100 ∷ []
 no_reduction_posts_the_start_price = refl
 
 -- Y's reduction of A has room only once X's increase was applied, and counts with its own price
 abbrev in_turn : List Change
-in_turn = change Reduction 1 0 1 102 ∷ change Increase 0 0 1 104 ∷ change Reduction 0 1 1 106 ∷ []
+in_turn = request Reduction 1 0 0 1 102 ∷ request Increase 0 0 0 1 104 ∷ request Reduction 0 1 0 1 106 ∷ []
 
 kept_reduction_counts_with_its_own_price :
     posted_prices two_products.products (second ∷ second ∷ []) in_turn (0 ∷ 0 ∷ 0 ∷ []) ((1 ∷ 1 ∷ []) ∷ (1 ∷ 0 ∷ []) ∷ (0 ∷ 1 ∷ []) ∷ [])
@@ -55,7 +49,7 @@ abbrev goes_on : List (List ℕ)
 goes_on = (0 ∷ 2 ∷ []) ∷ (1 ∷ 0 ∷ []) ∷ (0 ∷ 1 ∷ []) ∷ []
 
 excess_demand_posts_the_clock_price :
-    posted_prices two_products.products (second ∷ second ∷ []) (change Reduction 1 0 1 100 ∷ []) (1 ∷ []) goes_on ≡ 100 ∷ 110 ∷ []
+    posted_prices two_products.products (second ∷ second ∷ []) (request Reduction 1 0 0 1 100 ∷ []) (1 ∷ []) goes_on ≡ 100 ∷ 110 ∷ []
 excess_demand_posts_the_clock_price = refl
 
 abbrev line : ℕ → Option ℕ → Option ℕ → Line

@@ -54,7 +54,7 @@ fn reduced_prices(
 ) -> Result<Items<Price>, NoMemory>
     requires changes { All (rules.IsWithinPrices prices.now) changes.now }
     requires left { length left.now ≡ length changes.now }
-    ensures each { IfOk result (λ highest. length highest ≡ length prices.now) }
+    ensures lengths { IfOk result (λ highest. length highest ≡ length prices.now) }
     ensures price { IfOk result (λ highest. (p : ℕ) → p < length prices.now → slice_index highest p
         ≡ rules.highest_or (prices_at prices.now p).start
         (rules.applied_prices changes.now left.now p)) }
@@ -68,7 +68,7 @@ fn reduced_prices(
 
 /// The start price of each product.
 fn start_prices(alloc: Global, prices: &[PricePair]) -> Result<Items<Price>, NoMemory>
-    ensures each { IfOk result (λ starts. length starts ≡ length prices.now) }
+    ensures lengths { IfOk result (λ starts. length starts ≡ length prices.now) }
     ensures price { IfOk result (λ starts. (p : ℕ) → p < length prices.now →
         slice_index starts p ≡ (prices_at prices.now p).start) }
 {
@@ -81,9 +81,9 @@ fn start_prices(alloc: Global, prices: &[PricePair]) -> Result<Items<Price>, NoM
 
 /// Takes the price of a change into account, where it is a reduction of which a part was applied.
 fn note(highest: &mut Items<Price>, prices: &[PricePair], change: &Change, left: u64)
-    requires each { length highest.old ≡ length prices.now }
+    requires lengths { length highest.old ≡ length prices.now }
     requires priced { rules.IsWithinPrices prices.now change.now }
-    ensures each { length highest.new ≡ length highest.old }
+    ensures lengths { length highest.new ≡ length highest.old }
     ensures price { (p : ℕ) → p < length highest.old → slice_index highest.new p
         ≡ (if rules.is_applied_reduction p change.now left
         then max (slice_index highest.old p) change.now.price else slice_index highest.old p) }

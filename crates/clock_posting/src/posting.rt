@@ -15,9 +15,6 @@ use clock_processor::Settled;
 use clock_setup::{Grid, Increments, OpeningPrices, Prices, Setup};
 use std::alloc::Global;
 
-#[cfg(test)]
-mod tests;
-
 /// What the closing of a round posts: its sheet, and the prices of the next round.
 #[derive(Drop)]
 pub struct Posting {
@@ -48,7 +45,7 @@ pub fn post_first(
     ensures ok { let products = setup.now.products in
         let posted = rules.opening_posted products in
         IfOk result (rules.IsPosting 1 products (opening_prices products) grid.now posted increments.now) }
-    ensures each { IfOk result
+    ensures lines { IfOk result
         (λ posting. length posting.sheet.lines ≡ length setup.now.products) }
     ensures err { let products = setup.now.products in
         let posted = rules.opening_posted products in
@@ -100,7 +97,7 @@ pub fn post(
         let end = settled.now in
         let posted = posted_prices products prices.now changes.now end.left end.grid in
         IfOk result (rules.IsPosting round products prices.now end.grid posted increments.now) }
-    ensures each { IfOk result
+    ensures lines { IfOk result
         (λ posting. length posting.sheet.lines ≡ length setup.now.products) }
     ensures err { let products = setup.now.products in
         let end = settled.now in

@@ -36,7 +36,7 @@ impl RoundEnd<'_> {
 
         ensures ok { IfOk result (rules.IsPosting self.now.round self.now.products.now self.now.prices.now self.now.grid.now
             self.now.posted.now self.now.increments.now) }
-        ensures each { IfOk result (λ posting. length posting.sheet.lines ≡ length self.now.products.now) }
+        ensures lines { IfOk result (λ posting. length posting.sheet.lines ≡ length self.now.products.now) }
         ensures err { IfErr result (IsFirstFault PostFault.NoMemory (rules.post_fault
             (rules.price_limit_fault self.now.products.now self.now.grid.now self.now.posted.now self.now.increments.now))) }
         ensures laws { IfOk result rules.IsConsistent }
@@ -74,7 +74,7 @@ impl RoundEnd<'_> {
         requires end { IsRoundEnd self.now.products.now self.now.prices.now self.now.grid.now self.now.posted.now self.now.increments.now }
         requires next { next.now ≡ rules.prices_after self.now.products.now self.now.grid.now self.now.posted.now self.now.increments.now }
         requires clocks { IfSome next.now (HasClocks self.now.products.now self.now.increments.now self.now.posted.now) }
-        ensures each { IfOk result (λ lines. length lines ≡ length self.now.products.now) }
+        ensures count { IfOk result (λ lines. length lines ≡ length self.now.products.now) }
         ensures exact { IfOk result (λ lines. lines ≡ rules.lines_of_round self.now.products.now self.now.prices.now self.now.grid.now
             self.now.posted.now self.now.increments.now) }
     {

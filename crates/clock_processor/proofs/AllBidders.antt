@@ -10,10 +10,12 @@ use Rattle.std.proofs.lemmas.Bool.{cases_lt}
 use Rattle.std.proofs.lemmas.List.Elements.{All-append, All-head, All-tail, All-weaker, All-nil}
 use Rattle.clock_setup.specs.declared.setup.Product.{Product}
 use Rattle.clock_setup.specs.declared.prices.PricePair.{PricePair}
+use Rattle.clock_setup.specs.Limits.{most_products, most_bidders}
 use Rattle.clock_setup.specs.Demands.{row_of}
 use Rattle.clock_bids.specs.declared.change.Change.{Change}
 use Rattle.clock_bids.specs.declared.change.Kind.{Kind}
 use Rattle.clock_bids.specs.declared.change.Kind.TheVariants.{Increase, Reduction}
+use Rattle.clock_bids.specs.Sheet.{most_bids}
 use Rattle.clock_bids.specs.Requests.{same_kind, is_request_of, asked_of, IsChangeOf, KeepWithinCap, AreChangesOf}
 use Rattle.clock_processor.specs.Board.{new_board}
 use Rattle.clock_processor.specs.Requests.{IsRequest, CanSettle}
@@ -109,19 +111,19 @@ module _ (requests_of : ℕ → List Change) (bidders : ℕ) where
 
 -- where each bidder's changes are such as its sheet asks for, all of them can be settled in any order
 module _ (products : List Product) (prices : List PricePair) (eligibilities : List ℕ) (grid : List (List ℕ)) (requests_of : ℕ → List Change)
-    (bidders : ℕ) (few : bidders ≤ 512)
+    (bidders : ℕ) (few : bidders ≤ most_bidders)
     (rows : length grid ≡ bidders) (each : length eligibilities ≡ bidders)
     (asked : (bidder : ℕ) → bidder < bidders → AreChangesOf products prices (row_of grid bidder) bidder (requests_of bidder)) where
   own_requests : (bidder : ℕ) → bidder < bidders → All (λ (change : Change). change.bidder ≡ bidder) (requests_of bidder)
   own_requests bidder lt =
       All-weaker (IsChangeOf products prices bidder) (λ (change : Change). change.bidder ≡ bidder) (λ change is. is.bidder)
-      (requests_of bidder) (asked bidder lt).each
+      (requests_of bidder) (asked bidder lt).all
 
   limited : (bidder : ℕ) → bidder < bidders → All (IsRequest (length eligibilities) (length products)) (requests_of bidder)
   limited bidder lt =
       All-weaker (IsChangeOf products prices bidder) (IsRequest (length eligibilities) (length products))
-      (λ change is. record { bidder = omega (arith, is.bidder, lt, each); product = is.product; some = is.some; few = is.few })
-      (requests_of bidder) (asked bidder lt).each
+      (λ change is. record { bidder = omega (arith, is.bidder, lt, each); product = is.product; least = is.least; most = is.most })
+      (requests_of bidder) (asked bidder lt).all
 
   pub can_settle_all : (list : List Change) → IsPermutation (flat_map requests_of (range_with_len 0 bidders)) list →
       CanSettle (new_board products eligibilities grid) list
@@ -130,11 +132,11 @@ module _ (products : List Product) (prices : List PricePair) (eligibilities : Li
       record {
         applied = refl;
         tests = refl;
-        few = omega (
+        count = omega (
           arith,
           few,
           length_permutation all list same,
-          length_all requests_of bidders 12288 0 bidders (λ bidder lt. (asked bidder lt).few) (omega arith),
+          length_all requests_of bidders (most_bids + most_products) 0 bidders (λ bidder lt. (asked bidder lt).count) (omega arith),
         );
         requests = All-permutation (IsRequest (length eligibilities) (length products)) all list same
             (All-all requests_of bidders (IsRequest (length eligibilities) (length products)) 0 bidders limited (omega arith));

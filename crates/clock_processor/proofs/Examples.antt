@@ -1,21 +1,10 @@
 -- Settling, computed on a small auction: two products A and B of two blocks, and the bidders X, Y and Z after their first round.
-use Rattle.std.specs.Prelude.{◌≡◌, ℕ, ◌-◌, List, [], ◌∷◌, refl}
+use Rattle.std.specs.Prelude.{◌≡◌, ℕ, List, [], ◌∷◌, refl}
 use Rattle.clock_setup.specs.Examples.{two_products}
 use Rattle.clock_bids.specs.declared.change.Change.{Change}
-use Rattle.clock_bids.specs.declared.change.Kind.{Kind}
 use Rattle.clock_bids.specs.declared.change.Kind.TheVariants.{Increase, Reduction}
+use Rattle.clock_bids.proofs.Examples.{request}
 use Rattle.clock_processor.specs.Settling.{Progress, settled}
-
-abbrev change : Kind → ℕ → ℕ → ℕ → ℕ → Change
-change kind bidder product amount price = record {
-  bidder = bidder;
-  product = product;
-  place = 0;
-  kind = kind;
-  amount = amount;
-  price = price;
-  point = record { above = price - 100; span = 10 };
-}
 
 -- X holds two of B, Y two of A and Z one of B
 abbrev before : List (List ℕ)
@@ -29,13 +18,13 @@ Ends changes grid left applied =
     ((ending changes).grid ≡ grid) × ((ending changes).left ≡ left) × ((ending changes).applied ≡ applied)
 
 abbrev y_reduces_a : Change
-y_reduces_a = change Reduction 1 0 1 102
+y_reduces_a = request Reduction 1 0 0 1 102
 
 abbrev x_raises_a : Change
-x_raises_a = change Increase 0 0 1 104
+x_raises_a = request Increase 0 0 0 1 104
 
 -- X's reduction has room at once, which makes room for its increase, and that for Y's reduction
-waiting_requests_are_applied_later : Ends (y_reduces_a ∷ x_raises_a ∷ change Reduction 0 1 1 106 ∷ [])
+waiting_requests_are_applied_later : Ends (y_reduces_a ∷ x_raises_a ∷ request Reduction 0 1 0 1 106 ∷ [])
     ((1 ∷ 1 ∷ []) ∷ (1 ∷ 0 ∷ []) ∷ (0 ∷ 1 ∷ []) ∷ []) (0 ∷ 0 ∷ 0 ∷ []) 3
 waiting_requests_are_applied_later = (refl, refl, refl)
 
@@ -45,5 +34,6 @@ no_request_without_room_is_applied = (refl, refl, refl)
 no_requests_change_nothing : Ends [] before [] 0
 no_requests_change_nothing = (refl, refl, refl)
 
-total_stops_at_supply : Ends (change Reduction 2 1 1 100 ∷ change Reduction 0 1 2 106 ∷ []) ((0 ∷ 2 ∷ []) ∷ (2 ∷ 0 ∷ []) ∷ (0 ∷ 0 ∷ []) ∷ []) (0 ∷ 2 ∷ []) 1
+total_stops_at_supply : Ends (request Reduction 2 1 0 1 100 ∷ request Reduction 0 1 0 2 106 ∷ [])
+    ((0 ∷ 2 ∷ []) ∷ (2 ∷ 0 ∷ []) ∷ (0 ∷ 0 ∷ []) ∷ []) (0 ∷ 2 ∷ []) 1
 total_stops_at_supply = (refl, refl, refl)

@@ -1,5 +1,6 @@
 -- What holds at the end of every settling.
-use Rattle.std.proofs.Common.{◌≡◌, ℕ, zero, suc, ◌+◌, ◌-◌, ◌<◌, ◌≤◌, inl, inr, List, [], ◌∷◌, Bool, true, false, cond, refl, ap, sym, subst, ◌∙◌, arith, get_or, set, length, take, All}
+use Rattle.std.proofs.Common.{◌≡◌, ℕ, zero, suc, ◌+◌, ◌-◌, ◌<◌, ◌≤◌, inl, inr, List, [], ◌∷◌, Bool, true, false}
+use Rattle.std.proofs.Common.{cond, refl, ap, sym, subst, ◌∙◌, arith, get_or, set, length, take, All}
 use Rattle.std.specs.Prelude.{Option, Some, None, nat_lt, zip, map, EachIndex, slice_index, slice_index_or}
 use Rattle.std.specs.List.{position_from}
 use Rattle.std.proofs.lemmas.Bool.{ltb-false}
@@ -10,7 +11,8 @@ use Rattle.clock_setup.specs.Demands.{total_of}
 use Rattle.clock_bids.specs.declared.change.Change.{Change}
 use Rattle.clock_processor.specs.Room.{room}
 use Rattle.clock_processor.specs.Board.{BoardFields, IsBoard, IsWithinEligibility, MayApply}
-use Rattle.clock_processor.specs.Settling.{Progress, next_by, first_with_room, room_at, with_application, with_admission, HasEnded, Settles, no_change, settled, start_of}
+use Rattle.clock_processor.specs.Settling.{Progress, next_by, first_with_room, room_at, with_application}
+use Rattle.clock_processor.specs.Settling.{with_admission, HasEnded, Settles, no_change, settled, start_of}
 use Rattle.clock_processor.specs.Requests.{IsRequest, CanSettle}
 use Rattle.clock_processor.specs.Settlement.{SettledFields, IsSettlement, IsProperEnd, end_of}
 use Rattle.clock_processor.specs.UnderWay.{StaysWithinCaps}
@@ -56,13 +58,13 @@ module _ (products : List Product) (eligibilities : List ℕ) (changes : List Ch
 
   -- each request has at most its amount left
   pub record IsLeft (left : List ℕ) : Type 0 where
-    pub each : length left ≡ length changes
+    pub lengths : length left ≡ length changes
     pub within : EachIndex changes (λ i. slice_index left i ≤ (slice_index_or changes i no_change).amount)
 
   -- less is left of one request
   left_reduced : (left : List ℕ) (i r : ℕ) → i < length left → IsLeft left → IsLeft (set left i (get_or left i 0 - r))
   left_reduced left i r lt was = record {
-    each = length-set left i (get_or left i 0 - r) ∙ was.each;
+    lengths = length-set left i (get_or left i 0 - r) ∙ was.lengths;
     within = λ k k_in. elim (same_or_not k i) as (λ _. get_or (set left i (get_or left i 0 - r)) k 0 ≤ (get_or changes k no_change).amount) [
       | inl same ↦
           let at : get_or (set left i (get_or left i 0 - r)) k 0 ≡ get_or left i 0 - r =
@@ -85,12 +87,12 @@ module _ (products : List Product) (eligibilities : List ℕ) (changes : List Ch
       settled_keep products eligibilities changes (λ s. IsLeft s.left)
       (λ s i chosen was. left_reduced s.left i (room_at products eligibilities changes s i) (has_room products eligibilities changes s i chosen).1 was)
       (λ s more was. was)
-      grid (record { each = length_amounts changes; within = λ i lt. omega (arith, amount_at changes i lt) })
+      grid (record { lengths = length_amounts changes; within = λ i lt. omega (arith, amount_at changes i lt) })
 
   pub settled_no_room : (grid : List (List ℕ)) (i : ℕ) → i < length changes →
       room_at products eligibilities changes (settled products eligibilities changes grid) i ≡ 0
   settled_no_room grid i lt = no_room (settled products eligibilities changes grid) (settled_ended products eligibilities changes grid)
-      (settled_left grid).each i lt
+      (settled_left grid).lengths i lt
 
   settled_admitted : (grid : List (List ℕ)) → (settled products eligibilities changes grid).admitted ≤ length changes
   settled_admitted grid =
@@ -125,7 +127,7 @@ proper_end board changes end is held =
     record {
       settles = subst (Settles board.products board.eligibilities changes (start_of board.products board.eligibilities changes board.grid))
           (sym is_end) (settled_settles board.products board.eligibilities changes board.grid);
-      each = left.each;
+      lengths = left.lengths;
       left = left.within;
       no_room = λ i lt.
           ap (λ grid. room board.products board.eligibilities grid (get_or changes i no_change) (get_or end.left i 0)) is.grid
@@ -136,7 +138,7 @@ proper_end board changes end is held =
         settled_supplied board.products board.eligibilities changes board.grid product,
         ap (λ grid. total_of grid product) is.grid,
       );
-      held = held;
+      within = held;
     }
 
 -- of the definition alone: from a board within its eligibilities, the settling ends within them
@@ -145,7 +147,7 @@ module _ (products : List Product) (eligibilities : List ℕ) (changes : List Ch
   -- the demands are within the eligibilities, and what is left keeps them within the caps
   record IsHeld (s : Progress) : Type 0 where
     is_board : IsBoard products eligibilities s.grid
-    each : length s.left ≡ length changes
+    lengths : length s.left ≡ length changes
     caps : StaysWithinCaps products s.grid changes s.left
 
   held_applied : (s : Progress) (i : ℕ) → first_with_room products eligibilities changes s ≡ Some i → IsHeld s →
@@ -155,19 +157,20 @@ module _ (products : List Product) (eligibilities : List ℕ) (changes : List Ch
       has_room products eligibilities changes s i chosen in
       let board : BoardFields = record { products = products; eligibilities = eligibilities; grid = s.grid; applied = 0; tests = 0 } in
       let may : MayApply board (get_or changes i no_change) (room_at products eligibilities changes s i) =
-      may_apply board changes s.left i found.0 was.each requests was.is_board was.caps found.2 in
+      may_apply board changes s.left i found.0 was.lengths requests was.is_board was.caps found.2 in
       record {
         is_board = board_applied board (get_or changes i no_change) (room_at products eligibilities changes s i) was.is_board may;
-        each = length-set s.left i (get_or s.left i 0 - room_at products eligibilities changes s i) ∙ was.each;
-        caps = caps_after board changes s.left i found.0 was.each requests was.is_board was.caps;
+        lengths = length-set s.left i (get_or s.left i 0 - room_at products eligibilities changes s i) ∙ was.lengths;
+        caps = caps_after board changes s.left i found.0 was.lengths requests was.is_board was.caps;
       }
 
   settled_held : (grid : List (List ℕ)) → IsBoard products eligibilities grid →
       StaysWithinCaps products grid changes (map (λ change. change.amount) changes) →
       IsBoard products eligibilities (settled products eligibilities changes grid).grid
   settled_held grid is caps =
-      (settled_keep products eligibilities changes IsHeld held_applied (λ s more was. record { is_board = was.is_board; each = was.each; caps = was.caps }) grid
-      (record { is_board = is; each = length_amounts changes; caps = caps })).is_board
+      (settled_keep products eligibilities changes IsHeld held_applied
+      (λ s more was. record { is_board = was.is_board; lengths = was.lengths; caps = was.caps }) grid
+      (record { is_board = is; lengths = length_amounts changes; caps = caps })).is_board
 
 pub settled_board : (board : BoardFields) (changes : List Change) → IsBoard board.products board.eligibilities board.grid → CanSettle board changes →
     IsBoard board.products board.eligibilities (settled board.products board.eligibilities changes board.grid).grid
@@ -180,4 +183,4 @@ pub held_at_end : (old new : BoardFields) (grid : List (List ℕ)) → (new.prod
 held_at_end old new grid terms same is =
     subst (λ products. IsWithinEligibility products old.eligibilities grid) terms.0
     (subst (λ eligibilities. IsWithinEligibility new.products eligibilities grid) terms.1
-    (subst (IsWithinEligibility new.products new.eligibilities) (sym same) is.held))
+    (subst (IsWithinEligibility new.products new.eligibilities) (sym same) is.within))

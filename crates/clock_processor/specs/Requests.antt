@@ -1,11 +1,14 @@
 -- The requests that a processor is given.
 --     IsRequest bidders products change      the request is of one of so many bidders and products, for 1 to 1,000 blocks
 --     AskWithinCaps products grid changes      applying all that is asked for keeps each demand within 0 and the cap
+--     most_requests      the most requests of a round
 --     CanSettle board changes      what a processor asks for
-use Rattle.std.specs.Prelude.{◌≡◌, ℕ, ◌<◌, ◌≤◌, List, length, All}
+use Rattle.std.specs.Prelude.{◌≡◌, ℕ, ◌+◌, ◌*◌, ◌<◌, ◌≤◌, List, length, All}
 use Rattle.clock_setup.specs.declared.setup.Product.{Product}
+use Rattle.clock_setup.specs.Limits.{most_products, most_bidders, most_supply}
 use Rattle.clock_setup.specs.Demands.{row_of}
 use Rattle.clock_bids.specs.declared.change.Change.{Change}
+use Rattle.clock_bids.specs.Sheet.{most_bids}
 use Rattle.clock_bids.specs.Requests.{KeepWithinCap}
 use Rattle.clock_processor.specs.Board.{BoardFields}
 
@@ -13,19 +16,23 @@ use Rattle.clock_processor.specs.Board.{BoardFields}
 pub record IsRequest (bidders products : ℕ) (change : Change) : Type 0 where
   pub bidder : change.bidder < bidders
   pub product : change.product < products
-  pub some : 1 ≤ change.amount
-  pub few : change.amount ≤ 1000
+  pub least : 1 ≤ change.amount
+  pub most : change.amount ≤ most_supply
 
 -- each bidder's increases of a product keep its demand within the cap, and its reductions are of what it holds
 abbrev pub AskWithinCaps : List Product → List (List ℕ) → List Change → Type 0
 AskWithinCaps products grid changes =
     (bidder product : ℕ) → bidder < length grid → product < length products → KeepWithinCap products (row_of grid bidder) bidder changes product
 
--- nothing was done on the board yet; there are at most 512 * (8,192 + 4,096) requests, each of the board's bidders and products; together they keep
+-- the most requests of a round: each bidder's bids, and its demands that no bid is for
+abbrev pub most_requests : ℕ
+most_requests = most_bidders * (most_bids + most_products)
+
+-- nothing was done on the board yet; there are no more requests than a round can have, each of the board's bidders and products; together they keep
 -- each demand within 0 and the cap
 pub record CanSettle (board : BoardFields) (changes : List Change) : Type 0 where
   pub applied : board.applied ≡ 0
   pub tests : board.tests ≡ 0
-  pub few : length changes ≤ 6291456
+  pub count : length changes ≤ most_requests
   pub requests : All (IsRequest (length board.eligibilities) (length board.products)) changes
   pub caps : AskWithinCaps board.products board.grid changes

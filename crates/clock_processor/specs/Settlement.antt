@@ -35,8 +35,8 @@ HasNoRoom board changes end place =
 -- of its former value and its supply, and every bidder's demands are within the caps and its eligibility
 pub record IsProperEnd (board : BoardFields) (changes : List Change) (end : SettledFields) : Type 0 where
   pub settles : Settles board.products board.eligibilities changes (start_of board.products board.eligibilities changes board.grid) (end_of changes end)
-  pub each : length end.left ≡ length changes
+  pub lengths : length end.left ≡ length changes
   pub left : EachIndex changes (λ place. slice_index end.left place ≤ (slice_index_or changes place no_change).amount)
   pub no_room : EachIndex changes (HasNoRoom board changes end)
   pub supply : (product : ℕ) → min (total_of board.grid product) (supply_of board.products product) ≤ total_of end.grid product
-  pub held : IsWithinEligibility board.products board.eligibilities end.grid
+  pub within : IsWithinEligibility board.products board.eligibilities end.grid

@@ -2,9 +2,9 @@
 --     progress_of board admitted left      how far a settling is, as the board and the rest show it
 --     left_of kind bidder product changes left      what a bidder's requests of one kind for a product have left together
 --     IsUnderWay board changes left admitted      what holds between the steps
-use Rattle.std.specs.Prelude.{◌≡◌, ℕ, ◌+◌, ◌<◌, ◌≤◌, List, if◌then◌else◌, length, sum, sum_by, zip, All}
+use Rattle.std.specs.Prelude.{◌≡◌, ℕ, ◌+◌, ◌*◌, ◌<◌, ◌≤◌, List, if◌then◌else◌, length, sum, sum_by, zip, All}
 use Rattle.clock_setup.specs.declared.setup.Product.{Product}
-use Rattle.clock_setup.specs.Limits.{cap_of}
+use Rattle.clock_setup.specs.Limits.{most_supply, cap_of}
 use Rattle.clock_setup.specs.Demands.{demand_at}
 use Rattle.clock_bids.specs.declared.change.Change.{Change}
 use Rattle.clock_bids.specs.declared.change.Kind.{Kind}
@@ -12,7 +12,7 @@ use Rattle.clock_bids.specs.declared.change.Kind.TheVariants.{Increase, Reductio
 use Rattle.clock_processor.specs.Board.{BoardFields}
 use Rattle.clock_processor.specs.Settling.{Progress}
 use Rattle.clock_bids.specs.Requests.{is_request_of}
-use Rattle.clock_processor.specs.Requests.{IsRequest}
+use Rattle.clock_processor.specs.Requests.{IsRequest, most_requests}
 
 -- how far a settling is, as the board and the rest show it
 abbrev pub progress_of : BoardFields → ℕ → List ℕ → Progress
@@ -43,7 +43,7 @@ StaysWithinCaps products grid changes left =
 -- what is left stays within the caps, and the counts have room for it
 pub record IsUnderWay (board : BoardFields) (changes : List Change) (left : List ℕ) (admitted : ℕ) : Type 0 where
   pub admitted_within : admitted ≤ length changes
-  pub each : length left ≡ length changes
+  pub lengths : length left ≡ length changes
   pub requests : All (IsRequest (length board.eligibilities) (length board.products)) changes
   pub caps : StaysWithinCaps board.products board.grid changes left
-  pub countable : board.applied + sum left ≤ 6291456000
+  pub countable : board.applied + sum left ≤ most_requests * most_supply

@@ -105,7 +105,7 @@ fn first_with_room(
 /// Applies the request at a place by its whole room.
 fn apply_at(board: &mut Board, changes: &[Change], left: &mut Amounts, place: usize)
     requires place { place < length changes.now }
-    requires each { length left.old ≡ length changes.now }
+    requires lengths { length left.old ≡ length changes.now }
     requires requests { All (IsRequest (length board.old.eligibilities) (length board.old.products)) changes.now }
     requires caps { StaysWithinCaps board.old.products board.old.grid changes.now left.old }
     requires is_board { IsBoard board.old.products board.old.eligibilities board.old.grid }

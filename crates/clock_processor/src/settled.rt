@@ -40,6 +40,13 @@ impl Settled {
         &self.grid
     }
 
+    /// The same demands, taken over and not copied.
+    pub fn into_grid(self) -> Grid
+        ensures { result ≡ self.grid }
+    {
+        self.grid
+    }
+
     /// What of each request was not applied, in blocks, in the order of the requests.
     pub fn left(&self) -> &[u64]
         ensures { result.now ≡ self.now.left }

@@ -1,5 +1,6 @@
 -- A queue stays one where its first request is applied and those that this may have made room for are made ready.
-use Rattle.std.proofs.Common.{◌≡◌, ℕ, ◌+◌, ◌-◌, ◌*◌, ◌<◌, ◌≤◌, List, [], ◌∷◌, ◌++◌, false, cond, refl, ap, sym, subst, ◌∙◌, inl, inr, arith, get_or, set, length, length-append, take, sum, All, ne_eqb}
+use Rattle.std.proofs.Common.{◌≡◌, ℕ, ◌+◌, ◌-◌, ◌*◌, ◌<◌, ◌≤◌, List, [], ◌∷◌, ◌++◌, false, cond, refl, ap, sym, subst}
+use Rattle.std.proofs.Common.{◌∙◌, inl, inr, arith, get_or, set, length, length-append, take, sum, All, ne_eqb}
 use Rattle.std.specs.Prelude.{count_by, ◌==◌}
 use Rattle.std.specs.List.{Contains}
 use Rattle.std.specs.List.Sorted.{IsPermutation}
@@ -22,7 +23,8 @@ use Rattle.clock_processor.proofs.Supply.{same_or_not}
 use Rattle.clock_processor.proofs.Apply.{may_apply, sum_after, under_way_applied}
 use Rattle.clock_queue.specs.declared.queue.Queue.{Queue}
 use Rattle.clock_queue.specs.Lines.{line_of, line_by, woken_line, woken_by, product_line, bidder_line, HasLines}
-use Rattle.clock_queue.specs.Queue.{IsQueue, IsTracked, IsWaiting, IsInLine, StaysWithinTests, SameTerms, line_at, count_in, room_in, with_first, progress, work}
+use Rattle.clock_queue.specs.Queue.{IsQueue, IsTracked, IsWaiting, IsInLine, StaysWithinTests, SameTerms}
+use Rattle.clock_queue.specs.Queue.{line_at, count_in, room_in, with_first, progress, work}
 use Rattle.clock_queue.specs.Bound.{most_of_one}
 use Rattle.clock_queue.proofs.Members.{Contains-cons_cases, Contains-first, Contains-rest, count_by_none}
 use Rattle.clock_queue.proofs.Counts.{line_most}
@@ -65,17 +67,17 @@ module _ (changes : List Change) (old : Queue) (first : ℕ) (is : IsQueue chang
   in_changes = omega (arith, is_admitted, is.under_way.admitted_within)
 
   pub in_left : first < length old.left
-  in_left = omega (arith, in_changes, is.under_way.each)
+  in_left = omega (arith, in_changes, is.under_way.lengths)
 
   request : IsRequest (length old.board.eligibilities) (length old.board.products) change
   request = is.under_way.requests first no_change in_changes
 
   in_grid : change.bidder < length old.board.grid
-  in_grid = omega (arith, request.bidder, is_board.held.bidders)
+  in_grid = omega (arith, request.bidder, is_board.within.bidders)
 
   in_row : change.product < length (row_of old.board.grid change.bidder)
   in_row =
-      let row : IsRow old.board.products (row_of old.board.grid change.bidder) = is_board.held.rows change.bidder [] in_grid in
+      let row : IsRow old.board.products (row_of old.board.grid change.bidder) = is_board.within.rows change.bidder [] in_grid in
       omega (arith, request.product, row.each)
 
   some_units : (p : ℕ) → p < length old.board.products → 0 < units_of old.board.products p
@@ -84,7 +86,7 @@ module _ (changes : List Change) (old : Queue) (first : ℕ) (is : IsQueue chang
       omega (arith, product.units)
 
   pub may_apply_first : MayApply old.board change amount
-  may_apply_first = may_apply old.board changes old.left first in_changes is.under_way.each is.under_way.requests is_board is.under_way.caps some
+  may_apply_first = may_apply old.board changes old.left first in_changes is.under_way.lengths is.under_way.requests is_board is.under_way.caps some
 
   pub woken_in : woken_at < length old.lines
   woken_in =
@@ -222,7 +224,7 @@ module _ (changes : List Change) (old : Queue) (first : ℕ) (is : IsQueue chang
     pub work_after : work changes after < work changes old
     work_after =
         let m : ℕ = most_of_one changes + 1 in
-        let less : sum after.left + amount ≡ sum old.left = sum_after old.board changes old.left first in_changes is.under_way.each
+        let less : sum after.left + amount ≡ sum old.left = sum_after old.board changes old.left first in_changes is.under_way.lengths
         is.under_way.requests is_board is.under_way.caps in
         let all : (sum after.left + amount) * m ≡ sum old.left * m = ap (λ n. n * m) less in
         let at_least : m * 1 ≤ m * amount = mul-le-mul_left m some in

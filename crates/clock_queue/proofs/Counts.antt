@@ -1,5 +1,6 @@
 -- No line has more requests than there are of one product or of one bidder.
-use Rattle.std.proofs.Common.{◌≡◌, ℕ, zero, suc, ◌+◌, ◌<◌, ◌≤◌, List, [], ◌∷◌, Bool, true, false, cond, refl, ap, subst, inl, inr, arith, get_or, length, eq-eqb, ne_eqb}
+use Rattle.std.proofs.Common.{◌≡◌, ℕ, zero, suc, ◌+◌, ◌<◌, ◌≤◌, List, [], ◌∷◌, Bool, true, false, cond}
+use Rattle.std.proofs.Common.{refl, ap, subst, inl, inr, arith, get_or, length, eq-eqb, ne_eqb}
 use Rattle.std.specs.Prelude.{max, count_by, ◌==◌}
 use Rattle.std.specs.List.{fold}
 use Rattle.std.proofs.lemmas.Bool.{cases_lt, eqb-true}
@@ -65,28 +66,25 @@ of_bidder changes i lt =
           no_change lt,
     )
 
--- a request in a product's line is of the product, one in a bidder's line of the bidder
-product_part : (kind : Kind) (b p product : ℕ) → cond (line_by kind b p == product_line product) 1 0 ≤ cond (p == product) 1 0
-product_part Increase b p product =
-    let none : (bidder_line b == product_line product) ≡ false = ne_eqb (bidder_line b) (product_line product) (λ e. omega (arith, e)) in
-    rw none (omega arith)
-product_part Reduction b p product = elim (same_or_not p product) as (λ _. cond (product_line p == product_line product) 1 0 ≤ cond (p == product) 1 0) [
-  | inl same ↦ (let one : (p == product) ≡ true = eq-eqb p product same in let both : (product_line p == product_line product) ≡ true = eq-eqb
-      (product_line p) (product_line product) (ap product_line same) in rw (one, both) (omega arith))
-  | inr differ ↦ (let none : (product_line p == product_line product) ≡ false = ne_eqb (product_line p) (product_line product)
-      (λ e. differ (omega (arith, e))) in rw none (omega arith))
+-- equal lines are those of equal numbers, where no two numbers have one line
+same_line : (line : ℕ → ℕ) → ((a b : ℕ) → line a ≡ line b → a ≡ b) → (a b : ℕ) → cond (line a == line b) 1 0 ≤ cond (a == b) 1 0
+same_line line apart a b = elim (same_or_not a b) as (λ _. cond (line a == line b) 1 0 ≤ cond (a == b) 1 0) [
+  | inl same ↦ (let one : (a == b) ≡ true = eq-eqb a b same in let both : (line a == line b) ≡ true = eq-eqb (line a) (line b) (ap line same) in
+      rw (one, both) (omega arith))
+  | inr differ ↦ (let none : (line a == line b) ≡ false = ne_eqb (line a) (line b) (λ e. differ (apart a b e)) in rw none (omega arith))
 ]
 
+other_line : (a b most : ℕ) → (a ≡ b → ⊥) → cond (a == b) 1 0 ≤ most
+other_line a b most differ = let none : (a == b) ≡ false = ne_eqb a b differ in rw none (omega arith)
+
+-- a request in a product's line is of the product, one in a bidder's line of the bidder
+product_part : (kind : Kind) (b p product : ℕ) → cond (line_by kind b p == product_line product) 1 0 ≤ cond (p == product) 1 0
+product_part Increase b p product = other_line (bidder_line b) (product_line product) (cond (p == product) 1 0) (λ e. omega (arith, e))
+product_part Reduction b p product = same_line product_line (λ a b e. omega (arith, e)) p product
+
 bidder_part : (kind : Kind) (b p bidder : ℕ) → cond (line_by kind b p == bidder_line bidder) 1 0 ≤ cond (b == bidder) 1 0
-bidder_part Reduction b p bidder =
-    let none : (product_line p == bidder_line bidder) ≡ false = ne_eqb (product_line p) (bidder_line bidder) (λ e. omega (arith, e)) in
-    rw none (omega arith)
-bidder_part Increase b p bidder = elim (same_or_not b bidder) as (λ _. cond (bidder_line b == bidder_line bidder) 1 0 ≤ cond (b == bidder) 1 0) [
-  | inl same ↦ (let one : (b == bidder) ≡ true = eq-eqb b bidder same in let both : (bidder_line b == bidder_line bidder) ≡ true = eq-eqb
-      (bidder_line b) (bidder_line bidder) (ap bidder_line same) in rw (one, both) (omega arith))
-  | inr differ ↦ (let none : (bidder_line b == bidder_line bidder) ≡ false = ne_eqb (bidder_line b) (bidder_line bidder)
-      (λ e. differ (omega (arith, e))) in rw none (omega arith))
-]
+bidder_part Reduction b p bidder = other_line (product_line p) (bidder_line bidder) (cond (b == bidder) 1 0) (λ e. omega (arith, e))
+bidder_part Increase b p bidder = same_line bidder_line (λ a b e. omega (arith, e)) b bidder
 
 by_kind : (kind : Kind) (b p : ℕ) (changes : List Change) → count_of_product changes p ≤ most_of_one changes → count_of_bidder changes b ≤ most_of_one changes →
     count_by (λ (change : Change). line_of change == line_by kind b p) changes ≤ most_of_one changes

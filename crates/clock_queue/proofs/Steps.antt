@@ -37,13 +37,13 @@ module _ (changes : List Change) (queue : Queue) where
       (with_application queue.board.products queue.board.eligibilities changes (progress queue) first)
   first_is_next first is least some =
       ap (next_by queue.board.products queue.board.eligibilities changes (progress queue))
-      (first_has_room queue.board changes queue.left queue.admitted is.under_way.admitted_within is.under_way.each first (is.ready 0 0 (omega arith))
+      (first_has_room queue.board changes queue.left queue.admitted is.under_way.admitted_within is.under_way.lengths first (is.ready 0 0 (omega arith))
       (none_before first is least) some)
 
   -- with none ready no admitted request has room
   none_ready : IsQueue changes queue → queue.ready ≡ [] → first_with_room queue.board.products queue.board.eligibilities changes (progress queue) ≡ None
   none_ready is none =
-      none_has_room queue.board changes queue.left queue.admitted is.under_way.admitted_within is.under_way.each
+      none_has_room queue.board changes queue.left queue.admitted is.under_way.admitted_within is.under_way.lengths
       (λ place lt. no_room_elsewhere changes queue place (is.tracked place lt)
       (λ here. none_in_nil place (subst (λ (list : List ℕ). Contains list place) none here)))
 
@@ -67,7 +67,8 @@ module _ (changes : List Change) (queue : Queue) where
 -- what is reached from what was reached
 module _ (products : List Product) (eligibilities : List ℕ) (changes : List Change) where
   further_by : (n : ℕ) (s t u : Progress) (o : Option Progress) →
-      ((v : Progress) → Reaches products eligibilities changes s v → after_steps products eligibilities changes n v ≡ u → Reaches products eligibilities changes s u) →
+      ((v : Progress) → Reaches products eligibilities changes s v → after_steps products eligibilities changes n v ≡ u →
+      Reaches products eligibilities changes s u) →
       Reaches products eligibilities changes s t → next products eligibilities changes t ≡ o →
       elim o [ None ↦ t | Some v ↦ after_steps products eligibilities changes n v ] ≡ u → Reaches products eligibilities changes s u
   further_by n s t u None later reached is at = subst (Reaches products eligibilities changes s) at reached

@@ -1,5 +1,6 @@
 -- A queue stays one where its ready requests change places, the next is admitted, or one without room waits.
-use Rattle.std.proofs.Common.{◌≡◌, ℕ, ◌+◌, ◌<◌, ◌≤◌, List, [], ◌∷◌, ◌++◌, Bool, cond, refl, ap, sym, subst, ◌∙◌, inl, inr, arith, get_or, set, length, take, All, eq-eqb}
+use Rattle.std.proofs.Common.{◌≡◌, ℕ, ◌+◌, ◌<◌, ◌≤◌, List, [], ◌∷◌, ◌++◌, Bool, cond, refl, ap, sym}
+use Rattle.std.proofs.Common.{subst, ◌∙◌, inl, inr, arith, get_or, set, length, take, All, eq-eqb}
 use Rattle.std.specs.Prelude.{count_by, ◌==◌}
 use Rattle.std.specs.List.{Contains}
 use Rattle.std.specs.List.Sorted.{IsPermutation}
@@ -43,7 +44,7 @@ module _ (changes : List Change) where
       record {
         under_way = record {
           admitted_within = omega (arith, more);
-          each = is.under_way.each;
+          lengths = is.under_way.lengths;
           requests = is.under_way.requests;
           caps = is.under_way.caps;
           countable = is.under_way.countable;

@@ -5,8 +5,6 @@
 mod lines;
 mod queue;
 mod ready;
-#[cfg(test)]
-mod tests;
 mod woken;
 
 pub use woken::Woken;

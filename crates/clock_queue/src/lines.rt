@@ -16,7 +16,7 @@ pub(crate) type Line = Items<usize>;
 #[derive(Drop)]
 pub(crate) struct Lines {
     alloc: Global,
-    held: Vec<Line>,
+    waiting: Vec<Line>,
 }
 
 impl Model for Lines {
@@ -24,7 +24,7 @@ impl Model for Lines {
 
     ghost Value = { List (List ℕ) };
 
-    ghost view = { λ a. a.held.items };
+    ghost view = { λ a. a.waiting.items };
 }
 
 impl Lines {
@@ -32,11 +32,11 @@ impl Lines {
     pub(crate) fn new(alloc: Global, count: usize) -> Result<Lines, NoMemory>
         ensures { IfOk result (λ new. new ≡ replicate count []) }
     {
-        let mut held = Vec::with_capacity(alloc, count)?;
+        let mut waiting = Vec::with_capacity(alloc, count)?;
         for _line in 0..count {
-            held.push(Line::new(alloc))?;
+            waiting.push(Line::new(alloc))?;
         }
-        Ok(Lines { alloc, held })
+        Ok(Lines { alloc, waiting })
     }
 
     /// Adds a place at the end of a line.
@@ -44,8 +44,8 @@ impl Lines {
         requires { line < length self.old }
         ensures { OnOk result (self.new ≡ slice_set self.old line (slice_index_or self.old line [] ++ place ∷ [])) }
     {
-        let waiting = &mut self.held[line];
-        waiting.push(place)
+        let places = &mut self.waiting[line];
+        places.push(place)
     }
 
     /// Takes all places out of a line.
@@ -54,7 +54,7 @@ impl Lines {
         ensures taken { result ≡ slice_index_or self.old line [] }
         ensures rest { self.new ≡ slice_set self.old line [] }
     {
-        mem::replace(&mut self.held[line], Line::new(self.alloc))
+        mem::replace(&mut self.waiting[line], Line::new(self.alloc))
     }
 }
 

@@ -117,7 +117,7 @@ impl Queue {
         requires counts { StaysWithinTests changes.now self.old }
         requires is_board { IsBoard self.old.board.products self.old.board.eligibilities self.old.board.grid }
         requires room { room ≡ room_in changes.now self.old place }
-        requires some { 0 < room }
+        requires positive { 0 < room }
         ensures queue { OnOk result (IsQueue changes.now (with_first place self.new)) }
         ensures counts { OnOk result (StaysWithinTests changes.now self.new) }
         ensures applied { OnOk result (progress self.new ≡ progress_with changes.now self.old place) }

@@ -7,7 +7,9 @@ ghost use Rattle.clock_house.specs.History.{bidder_at};
 ghost use Rattle.clock_views.specs.BidderPages.{account_value, bids_value, bid_value, sheet_or_null, accepted_value, accepted_bytes, slip_value};
 ghost use Rattle.clock_views.specs.Values.{list_of, IsPage, Adds, item_text};
 
-use crate::pieces::{push_comma_if, push_label, push_name, push_number, push_numbers, push_truth};
+use crate::pieces::{
+    push_blocks, push_comma_if, push_label, push_name, push_number, push_numbers, push_truth,
+};
 use clock_bids::{Bid, Own, Sheet};
 use clock_device::{NoMemory, Text};
 use clock_house::Slip;
@@ -169,7 +171,7 @@ pub fn push_slip_page(text: &mut Text, slip: &Slip) -> Result<(), NoMemory>
     ensures { OnOk result (Adds (compact_text (slip_value slip.now)) text.old text.new) }
 {
     push_number(text, b"{\"activity\":", slip.activity)?;
-    push_numbers(text, b",\"demands\":", slip.demands.as_slice())?;
+    push_blocks(text, b",\"demands\":", slip.demands.as_slice())?;
     push_number(text, b",\"eligibility\":", slip.eligibility)?;
     push_number(text, b",\"round\":", slip.round)?;
     push_label(text, b"}")?;

@@ -105,3 +105,16 @@ pub(crate) fn push_numbers(text: &mut Text, label: &[u8], numbers: &[u64]) -> Re
     text.push(b']')?;
     Ok(())
 }
+
+/// Adds a label and the array of numbers of blocks behind it.
+pub(crate) fn push_blocks(text: &mut Text, label: &[u8], blocks: &[u16]) -> Result<(), NoMemory>
+    ensures { OnOk result (Adds (label.now ++ compact_text (list_of whole blocks.now)) text.old text.new) }
+{
+    text.extend_from_slice(label)?;
+    text.push(b'[')?;
+    for (i, number) in blocks.iter().enumerate() {
+        push_item(text, i > 0, *number as u64)?;
+    }
+    text.push(b']')?;
+    Ok(())
+}

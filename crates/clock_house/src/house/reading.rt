@@ -62,7 +62,7 @@ impl<P> House<P> {
         self.holding_now(bidder)
     }
 
-    /// The same, read off the bidder's last slip or its row of the set-up.
+    /// The same, read off what is kept for the current round.
     fn holding_now(&self, bidder: u32) -> Own<'_>
         requires { bidder < length self.now.setup.bidders }
 
@@ -70,20 +70,21 @@ impl<P> House<P> {
         ensures eligibility { result.eligibility ≡ (holding_in self.now bidder).eligibility }
         ensures demands { result.demands.now ≡ (holding_in self.now bidder).demands }
     {
+        Own {
+            round: self.round,
+            eligibility: self.eligibility(bidder),
+            demands: self.demands.row(bidder as usize),
+        }
+    }
+
+    /// A bidder's eligibility, by its last slip or its row of the set-up.
+    pub(crate) fn eligibility(&self, bidder: u32) -> u64
+        requires { bidder < length self.now.setup.bidders }
+        ensures { result ≡ (holding_in self.now bidder).eligibility }
+    {
         match self.rounds.as_slice().last() {
-            Some(last) => {
-                let slip = slip_at(last, bidder);
-                Own {
-                    round: self.round,
-                    eligibility: slip.eligibility,
-                    demands: slip.demands.as_slice(),
-                }
-            }
-            None => Own {
-                round: self.round,
-                eligibility: eligibility_at(&self.setup, bidder),
-                demands: self.nothing.as_slice(),
-            },
+            Some(last) => slip_at(last, bidder).eligibility,
+            None => eligibility_at(&self.setup, bidder),
         }
     }
 
@@ -180,7 +181,7 @@ fn slip_at(closed: &ClosedRound, bidder: u32) -> &Slip
 /// The round of a number, where the rounds stand in order from round 1.
 fn closed_at(rounds: &[ClosedRound], round: u64) -> Option<&ClosedRound>
     ensures none { round ≡ 0 → option_copied result ≡ None }
-    ensures some { 1 ≤ round → option_copied result ≡ slice_get rounds.now (round - 1) }
+    ensures found { 1 ≤ round → option_copied result ≡ slice_get rounds.now (round - 1) }
 {
     if round == 0 {
         return None;

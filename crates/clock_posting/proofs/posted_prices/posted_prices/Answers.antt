@@ -7,4 +7,4 @@ pub returns : goal.returns
 returns c =
     let a = c.args in
     fill_by_all (posted_price a.products.now a.prices.now a.changes.now a.left.now a.grid.now) c.loop-i.posted (length a.products.now) 0
-    c.loop-i.invariant.each (λ k below. c.loop-i.invariant.so_far k (omega arith))
+    c.loop-i.invariant.lengths (λ k below. c.loop-i.invariant.so_far k (omega arith))

@@ -7,7 +7,7 @@ use Rattle.clock_posting.proofs.posted_prices.reduced_prices.Given as goal
 -- with the other changes each price becomes the highest of the start price and all applied ones
 abbrev pub invariant-loop-i : goal.invariant-loop-i
 invariant-loop-i l = record {
-  each : length l.highest ≡ length l.prices;
+  lengths : length l.highest ≡ length l.prices;
   rest : (p : ℕ) → p < length l.prices → fold max (get_or l.highest p 0) (applied_prices (drop l.i l.changes) (drop l.i l.left) p)
       ≡ fold max (prices_at l.prices p).start (applied_prices l.changes l.left p);
 }

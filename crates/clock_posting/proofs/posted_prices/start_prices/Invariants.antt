@@ -5,6 +5,6 @@ use Rattle.clock_posting.proofs.posted_prices.start_prices.Given as goal
 -- the start prices so far
 abbrev pub invariant-loop-pair : goal.invariant-loop-pair
 invariant-loop-pair l = record {
-  each : length l.starts ≡ l.pair-index;
+  lengths : length l.starts ≡ l.pair-index;
   price : (p : ℕ) → p < l.pair-index → get_or l.starts p 0 ≡ (prices_at l.prices p).start;
 }

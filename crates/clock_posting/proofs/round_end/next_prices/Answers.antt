@@ -29,7 +29,7 @@ loop-product-preserved c =
     let pair : item ≡ f product = λ k. record { start = start k; clock = unwrap_or (c.in-Some.ensures.exact k) 0 } in
     let rises : IsRising item = omega (arith, start, c.in-Some.ensures.above) in
     record {
-      each = ap length c.in_ok-push.ensures.ok ∙ length-append c.loop-product.next (item ∷ []) ∙ ap (λ n. n + 1) c.loop-product.invariant.each;
+      lengths = ap length c.in_ok-push.ensures.ok ∙ length-append c.loop-product.next (item ∷ []) ∙ ap (λ n. n + 1) c.loop-product.invariant.lengths;
       so_far = c.in_ok-push.ensures.ok
           ∙ ap (λ (xs : List PricePair). xs ++ item ∷ []) c.loop-product.invariant.so_far
           ∙ ap (λ (one : PricePair). map f (range_with_len 0 product) ++ one ∷ []) pair

@@ -7,7 +7,7 @@ use Rattle.clock_posting.proofs.round_end.next_prices.Given as goal
 -- the prices so far are the products' next ones and rise, and the first product that can't have any is among the others
 abbrev pub invariant-loop-product : goal.invariant-loop-product
 invariant-loop-product l = record {
-  each : length l.next ≡ l.product;
+  lengths : length l.next ≡ l.product;
   so_far : l.next ≡ map (next_price l.products l.increments l.posted) (range_with_len 0 l.product);
   clocks : map (next_clock l.products l.increments l.posted) (range_with_len 0 l.product) ≡ map (λ pair. Some pair.clock) l.next;
   rising : All IsRising l.next;

@@ -7,6 +7,6 @@ use Rattle.clock_processor.proofs.board.unused_of.Given as goal
 -- the unused eligibility of each bidder so far
 abbrev pub invariant-loop-bidder : goal.invariant-loop-bidder
 invariant-loop-bidder l = record {
-  each : length l.unused ≡ l.bidder;
+  lengths : length l.unused ≡ l.bidder;
   sums : (k : ℕ) → k < l.bidder → slice_index l.unused k + activity l.products (row_of l.grid k) ≡ slice_index l.eligibilities k;
 }

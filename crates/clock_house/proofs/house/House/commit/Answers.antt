@@ -4,12 +4,14 @@ use Rattle.std.specs.List.{range_with_len}
 use Rattle.std.proofs.lemmas.List.{reverse-append}
 use Rattle.clock_bids.specs.declared.sheet.Bid.{Bid}
 use Rattle.clock_house.specs.Command.{close}
-use Rattle.clock_house.specs.History.{ClosedRound, standing}
-use Rattle.clock_house.specs.House.{standing_in}
+use Rattle.clock_house.specs.Standing.{Holding}
+use Rattle.clock_house.specs.History.{ClosedRound, standing, holding, for_each_bidder}
+use Rattle.clock_house.specs.House.{HouseFields, standing_in}
 use Rattle.clock_house.specs.Prepared.{PreparedClosing, FitsClosing, closed_by}
 use Rattle.clock_house.proofs.Kept.{stands_sheets}
 use Rattle.clock_house.proofs.Bounds.{round_bounded}
-use Rattle.clock_house.proofs.Closes.{close-accepted, close-kept, closed_number, taken_prices}
+use Rattle.clock_house.proofs.Closes.{close-accepted, close-kept, closed_number, closed_slips, taken_prices}
+use Rattle.clock_house.proofs.Rows.{next_demands}
 use Rattle.clock_house.proofs.house.House.commit.Goals as goal
 
 pub round_after-self-inside-requires : goal.round_after-self-inside-requires
@@ -40,6 +42,7 @@ invariant_of-self g c =
     (closed_by c.prepared.inside.results.posting c.prepared.inside.results.slips ∷ []) in
     let none = c.clear.ensures ∙ ap (λ (n : ℕ). map (λ (bidder : ℕ). let sheet : Option (List Bid) = None in sheet) (range_with_len 0 n))
     (stands_sheets _ c.self.invariant.commands c.self.invariant.stands) in
+    let house : HouseFields = record { setup = c.self.inside.setup; closed = reverse c.self.inside.rounds.items; sheets = c.self.inside.sheets; spare = 0 } in
     record {
       commands = close asked.round asked.increments asked.ties ∷ c.self.invariant.commands;
       stands = close-accepted _ limits asked.round asked.increments asked.ties c.self.invariant.commands c.self.invariant.stands done _ _ _ fits added none;
@@ -47,9 +50,14 @@ invariant_of-self g c =
       round_is = c.round_after-self-inside.ensures ∙ sym (ap (λ (closed : List ClosedRound). (standing c.self.inside.setup.products closed).round) added);
       prices_are = λ going.
           c.take_prices.ensures
-          ∙ taken_prices posting.next c.self.inside.prices posting.sheet.lines posting.sheet.ended going c.prepared.invariant.end c.prepared.invariant.shown
+          ∙ taken_prices posting.next c.self.inside.prices posting.sheet.lines posting.sheet.ended going c.prepared.invariant.0.end c.prepared.invariant.0.shown
           ∙ sym (ap (λ (closed : List ClosedRound). (standing c.self.inside.setup.products closed).prices) added);
-      nothing_is = c.self.invariant.nothing_is;
+      demands_are =
+          c.prepared.invariant.1
+          ∙ next_demands c.self.inside.setup done (reverse c.self.inside.rounds.items)
+          (closed_slips house asked.round asked.increments asked.ties done fits)
+          ∙ sym (ap (λ (closed : List ClosedRound). map (λ (held : Holding). held.demands)
+          (for_each_bidder c.self.inside.setup (holding c.self.inside.setup closed))) added);
     }
 
 pub returns-clause-followed : goal.returns-clause-followed

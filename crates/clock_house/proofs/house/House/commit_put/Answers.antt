@@ -28,7 +28,7 @@ invariant_of-self g c =
       ended_is = c.self.invariant.ended_is;
       round_is = c.self.invariant.round_is;
       prices_are = c.self.invariant.prices_are;
-      nothing_is = c.self.invariant.nothing_is;
+      demands_are = c.self.invariant.demands_are;
     }
 
 pub returns-clause-followed : goal.returns-clause-followed

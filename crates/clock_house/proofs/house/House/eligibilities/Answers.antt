@@ -11,8 +11,8 @@ pub loop-bidder-preserved : goal.loop-bidder-preserved
 loop-bidder-preserved g c =
     let f = λ (bidder : ℕ). (holding_in c.args.self.now bidder).eligibility in
     c.in_ok-push.ensures.ok
-    ∙ ap (λ (xs : List ℕ). xs ++ c.own.result.eligibility ∷ []) c.loop-bidder.invariant
-    ∙ ap (λ (one : ℕ). map f (range_with_len 0 c.loop-bidder.bidder) ++ one ∷ []) c.own.ensures.eligibility
+    ∙ ap (λ (xs : List ℕ). xs ++ c.eligibility.result ∷ []) c.loop-bidder.invariant
+    ∙ ap (λ (one : ℕ). map f (range_with_len 0 c.loop-bidder.bidder) ++ one ∷ []) c.eligibility.ensures
     ∙ sym (map-range_with_len_more f 0 c.loop-bidder.bidder c.loop-bidder.bidder (omega arith))
 
 pub returns : goal.returns

@@ -1,39 +1,22 @@
-use Rattle.std.proofs.Common.{ap, sym, ◌∙◌, arith}
-use Rattle.clock_house.proofs.Kept.{stands_numbered}
-use Rattle.clock_house.proofs.Numbers.{newest_slips, last-reverse, holding-newest, holding-first}
+use Rattle.std.proofs.Common.{◌∙◌}
+use Rattle.std.specs.Prelude.{reverse}
+use Rattle.clock_house.specs.House.{HouseFields}
+use Rattle.clock_house.proofs.InHouse.{kept_rows, kept_row}
 use Rattle.clock_house.proofs.house.House.holding_now.Goals as goal
 
-pub slip_at-slip-requires : goal.slip_at-slip-requires
-slip_at-slip-requires g c =
-    let all = stands_numbered _ c.self.invariant.commands c.self.invariant.stands in
+pub row-requires : goal.row-requires
+row-requires g c =
+    let house : HouseFields = record { setup = c.self.inside.setup; closed = reverse c.self.inside.rounds.items; sheets = c.self.inside.sheets; spare = 0 } in
     let known = rw (← c.self.view_is) at c.requires in
-    let last = rw c.as_slice.ensures.value at c.in-Some.ensures.value in
-    let many = newest_slips _ _ _ c.in-Some.last.now all (sym (last-reverse c.self.inside.rounds.items) ∙ sym last) in
-    omega (arith, many, known)
+    kept_rows house c.self.inside.demands c.self.invariant.demands_are c.args.bidder known
 
-pub eligibility_at-requires : goal.eligibility_at-requires
-eligibility_at-requires g c = rw (← c.self.view_is) at c.requires
-
-pub returns-in-Some : goal.returns-in-Some
-returns-in-Some g c =
-    let last = rw c.as_slice.ensures.value at c.in-Some.ensures.value in
-    let newest = sym (last-reverse c.self.inside.rounds.items) ∙ sym last in
-    let held = holding-newest c.self.inside.setup c.args.bidder _ c.in-Some.last.now newest in
-    rw (← c.self.view_is)
-    (record {
-      round = c.self.invariant.round_is;
-      eligibility = ap (λ slip. slip.eligibility) c.slip_at-slip.ensures ∙ sym (ap (λ one. one.eligibility) held);
-      demands = c.as_slice-in-Some.ensures ∙ ap (λ slip. slip.demands) c.slip_at-slip.ensures ∙ sym (ap (λ one. one.demands) held);
-    })
-
-pub returns-in-None : goal.returns-in-None
-returns-in-None g c =
-    let last = rw c.as_slice.ensures.value at c.in-None.ensures.value in
-    let newest = sym (last-reverse c.self.inside.rounds.items) ∙ sym last in
-    let held = holding-first c.self.inside.setup c.args.bidder _ newest in
-    rw (← c.self.view_is)
-    (record {
-      round = c.self.invariant.round_is;
-      eligibility = c.eligibility_at.ensures ∙ sym (ap (λ one. one.eligibility) held);
-      demands = c.as_slice-in-None.ensures ∙ c.self.invariant.nothing_is ∙ sym (ap (λ one. one.demands) held);
-    })
+pub returns : goal.returns
+returns g c =
+    let house : HouseFields = record { setup = c.self.inside.setup; closed = reverse c.self.inside.rounds.items; sheets = c.self.inside.sheets; spare = 0 } in
+    let known = rw (← c.self.view_is) at c.requires in
+    let row = kept_row house c.self.inside.demands c.self.invariant.demands_are c.args.bidder known in
+    record {
+      round = rw (← c.self.view_is) c.self.invariant.round_is;
+      eligibility = c.eligibility.ensures;
+      demands = c.row.ensures ∙ (rw (← c.self.view_is) row);
+    }

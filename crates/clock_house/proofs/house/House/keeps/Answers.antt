@@ -8,7 +8,7 @@ pub returns-clause-sound : goal.returns-clause-sound
 returns-clause-sound g c = rw (← c.self.view_is) (λ commands. sound c.self.inside.setup c.keep.ensures commands)
 
 pub returns-clause-within : goal.returns-clause-within
-returns-clause-within g c = rw (← c.self.view_is) (stands_sound _ c.keep.ensures c.self.invariant.commands c.self.invariant.stands).held
+returns-clause-within g c = rw (← c.self.view_is) (stands_sound _ c.keep.ensures c.self.invariant.commands c.self.invariant.stands).within
 
 pub returns-clause-priced : goal.returns-clause-priced
 returns-clause-priced g c = rw (← c.self.view_is) (stands_sound _ c.keep.ensures c.self.invariant.commands c.self.invariant.stands).priced
@@ -17,7 +17,7 @@ pub returns-clause-going : goal.returns-clause-going
 returns-clause-going g c = rw (← c.self.view_is) (stands_going _ c.keep.ensures c.self.invariant.commands c.self.invariant.stands)
 
 pub returns-clause-rounds : goal.returns-clause-rounds
-returns-clause-rounds g c = rw (← c.self.view_is) (stands_sound _ c.keep.ensures c.self.invariant.commands c.self.invariant.stands).few
+returns-clause-rounds g c = rw (← c.self.view_is) (stands_sound _ c.keep.ensures c.self.invariant.commands c.self.invariant.stands).count
 
 pub returns-clause-sheets : goal.returns-clause-sheets
 returns-clause-sheets g c = rw (← c.self.view_is) (stands_sheets _ c.self.invariant.commands c.self.invariant.stands)

@@ -1,6 +1,7 @@
-use Rattle.std.proofs.Common.{[], ap, ◌∙◌, refl, replicate}
+use Rattle.std.proofs.Common.{[], ap, ◌∙◌, refl}
 use Rattle.std.specs.Prelude.{None, map}
 use Rattle.std.specs.List.{range_with_len}
+use Rattle.clock_house.proofs.Rows.{first_demands}
 use Rattle.clock_house.proofs.house.House.new.Goals as goal
 
 pub invariant_of-result : goal.invariant_of-result
@@ -12,5 +13,5 @@ invariant_of-result g c =
       ended_is = refl;
       round_is = refl;
       prices_are = λ going. c.in_ok-prices.ensures;
-      nothing_is = c.in_ok-nothing.ensures ∙ ap (λ n. replicate n 0) c.product_count.ensures;
+      demands_are = c.in_ok-demands.ensures ∙ first_demands c.args.setup;
     })

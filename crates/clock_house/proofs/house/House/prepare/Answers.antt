@@ -3,6 +3,7 @@ use Rattle.std.specs.Prelude.{reverse}
 use Rattle.std.proofs.lemmas.Result.{err_from_is_err_and}
 use Rattle.clock_house.specs.History.{ClosedRound}
 use Rattle.clock_house.specs.House.{closing_in}
+use Rattle.clock_house.proofs.Kept.{kept_items}
 use Rattle.clock_house.proofs.Closes.{closing_same, close-followed, close-kept}
 use Rattle.clock_house.proofs.house.House.prepare.Goals as goal
 
@@ -54,10 +55,16 @@ returns-in_err-results-clause-history g c =
     let refused = rw c.in_ok-ties.ensures.listed at c.in_err-results.ensures.err in
     rw (told.1, told.2)
     (λ commands stands other.
-    closing_same c.args.self.now c.keeps.ensures.limits c.args.round c.args.increments.now c.args.ties.now commands stands ∙ c.in_ok-ties.ensures.ok ∙ refused other)
+    closing_same c.args.self.now c.keeps.ensures.limits c.args.round c.args.increments.now c.args.ties.now commands stands
+    ∙ c.in_ok-ties.ensures.ok ∙ refused other)
 
 pub returns-clause-history : goal.returns-clause-history
 returns-clause-history g c =
     let closes = rw c.in_ok-ties.ensures.listed at c.in_ok-results.ensures.ok.closes in
     λ commands stands.
     closing_same c.args.self.now c.keeps.ensures.limits c.args.round c.args.increments.now c.args.ties.now commands stands ∙ c.in_ok-ties.ensures.ok ∙ closes
+
+pub invariant_of-self-2 : goal.invariant_of-self-2
+invariant_of-self-2 g c =
+    kept_items c.self.inside.setup c.self.inside.sheets c.self.inside.rounds.items c.reserve.new.self.items _ _ _ _ _ _ c.in_ok-reserve.ensures.items
+    c.self.invariant

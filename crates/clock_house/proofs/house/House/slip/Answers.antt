@@ -8,7 +8,7 @@ use Rattle.clock_house.proofs.house.House.slip.Goals as goal
 pub slip_at-requires : goal.slip_at-requires
 slip_at-requires g c =
     let all = stands_numbered _ c.self.invariant.commands c.self.invariant.stands in
-    let some = rw c.as_slice.ensures.value at c.in-Some.ensures.some in
+    let some = rw c.as_slice.ensures.value at c.in-Some.ensures.found in
     let found = found_round c.args.round c.self.inside.rounds.items (Some c.in-Some.closed.now) c.in-Some.ensures.none some in
     let whole = numbered_whole _ _ c.args.round _ c.in-Some.closed.now all found in
     let known = rw (← c.self.view_is) at c.requires in
@@ -16,20 +16,20 @@ slip_at-requires g c =
 
 pub returns-in-Some-clause-found : goal.returns-in-Some-clause-found
 returns-in-Some-clause-found g c =
-    let some = rw c.as_slice.ensures.value at c.in-Some.ensures.some in
+    let some = rw c.as_slice.ensures.value at c.in-Some.ensures.found in
     rw (← c.self.view_is)
     (ap Some c.slip_at.ensures ∙ ap (option_map (slip_of c.args.bidder))
     (sym (found_round c.args.round c.self.inside.rounds.items (Some c.in-Some.closed.now) c.in-Some.ensures.none some)))
 
 pub returns-in-None-clause-found : goal.returns-in-None-clause-found
 returns-in-None-clause-found g c =
-    let some = rw c.as_slice.ensures.value at c.in-None.ensures.some in
+    let some = rw c.as_slice.ensures.value at c.in-None.ensures.found in
     rw (← c.self.view_is)
     (ap (option_map (slip_of c.args.bidder)) (sym (found_round c.args.round c.self.inside.rounds.items None c.in-None.ensures.none some)))
 
 pub returns-in-Some-clause-seen : goal.returns-in-Some-clause-seen
 returns-in-Some-clause-seen g c =
-    let some = rw c.as_slice.ensures.value at c.in-Some.ensures.some in
+    let some = rw c.as_slice.ensures.value at c.in-Some.ensures.found in
     rw (← c.self.view_is)
     (λ commands stands.
     ap Some c.slip_at.ensures
@@ -39,7 +39,7 @@ returns-in-Some-clause-seen g c =
 
 pub returns-in-None-clause-seen : goal.returns-in-None-clause-seen
 returns-in-None-clause-seen g c =
-    let some = rw c.as_slice.ensures.value at c.in-None.ensures.some in
+    let some = rw c.as_slice.ensures.value at c.in-None.ensures.found in
     rw (← c.self.view_is)
     (λ commands stands.
     ap (option_map (slip_of c.args.bidder)) (sym (found_round c.args.round c.self.inside.rounds.items None c.in-None.ensures.none some))

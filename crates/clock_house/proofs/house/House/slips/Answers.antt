@@ -9,7 +9,9 @@ use Rattle.clock_house.specs.declared.slip.Slip.{Slip}
 use Rattle.clock_house.specs.Standing.{Holding}
 use Rattle.clock_house.specs.Closing.{holding_at, slip_after}
 use Rattle.clock_house.specs.House.{HouseFields, standing_in, open_round_in}
+use Rattle.clock_house.specs.Laws.{demands_of}
 use Rattle.clock_house.proofs.InHouse.{in-many, in-held}
+use Rattle.clock_house.proofs.Rows.{slips_demands}
 use Rattle.clock_house.proofs.house.House.slips.Goals as goal
 
 pub row-requires : goal.row-requires
@@ -63,9 +65,15 @@ loop-bidder-preserved g c =
     ∙ ap (λ (one : Slip). map f (range_with_len 0 c.loop-bidder.bidder) ++ one ∷ []) slip
     ∙ sym (map-range_with_len_more f 0 c.loop-bidder.bidder c.loop-bidder.bidder (omega arith))
 
-pub returns : goal.returns
-returns g c =
+pub returns-clause-slips : goal.returns-clause-slips
+returns-clause-slips g c =
     let done : c.loop-bidder.bidder ≡ length c.args.self.now.setup.bidders = omega arith in
     let f = λ (bidder : ℕ). slip_after (public_setup c.args.self.now.setup) (standing_in c.args.self.now).round
     (holding_at (open_round_in c.args.self.now).holdings bidder).eligibility (row_of c.args.grid.now bidder) in
     c.loop-bidder.invariant ∙ ap (λ (n : ℕ). map f (range_with_len 0 n)) (done ∙ sym (in-many c.args.self.now))
+
+pub returns-clause-kept : goal.returns-clause-kept
+returns-clause-kept g c =
+    slips_demands (public_setup c.args.self.now.setup) (open_round_in c.args.self.now) c.args.grid.now
+    (c.requires.within.bidders ∙ length-map (open_round_in c.args.self.now).holdings (λ (held : Holding). held.eligibility))
+    ∙ ap demands_of (sym (returns-clause-slips g c))

@@ -13,6 +13,6 @@ loop-product-preserved c =
     let more : map f (range_with_len 0 (product + 1)) ≡ map f (range_with_len 0 product) ++ f product ∷ [] =
     map-range_with_len_more f 0 product product (omega arith) in
     record {
-      each = grind (arith, common_steps);
+      lengths = grind (arith, common_steps);
       so_far = cc (c.in_ok-push.ensures.ok);
     }

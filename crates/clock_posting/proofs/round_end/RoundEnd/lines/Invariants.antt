@@ -6,7 +6,7 @@ use Rattle.clock_posting.proofs.round_end.RoundEnd.lines.Given as goal
 -- the lines of the products so far
 abbrev pub invariant-loop-product : goal.invariant-loop-product
 invariant-loop-product l = record {
-  each : length l.lines ≡ l.product;
+  lengths : length l.lines ≡ l.product;
   so_far : l.lines ≡ map (sheet_line l.self.products.now l.self.prices.now l.self.grid.now l.self.posted.now l.self.increments.now)
       (range_with_len 0 l.product);
 }

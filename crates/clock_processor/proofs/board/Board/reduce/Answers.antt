@@ -12,7 +12,7 @@ overflow_add-unused c =
     let product : c.args.product < length c.self.inside.products =
     subst (λ (board : BoardFields). c.args.product < length board.products) (sym c.self.view_is) c.requires.product in
     let held : c.args.amount ≤ demand_at c.self.inside.grid c.args.bidder c.args.product =
-    subst (λ (board : BoardFields). c.args.amount ≤ demand_at board.grid c.args.bidder c.args.product) (sym c.self.view_is) c.requires.held in
+    subst (λ (board : BoardFields). c.args.amount ≤ demand_at board.grid c.args.bidder c.args.product) (sym c.self.view_is) c.requires.most in
     let units = units_read c.self.inside.products c.as_slice.result.now c.args.product c.index-as_slice-product.result product
     c.as_slice.ensures c.index-as_slice-product.is in
     let within = unused_within c.self.inside.products c.self.inside.eligibilities c.self.inside.grid c.self.inside.unused c.args.bidder
@@ -31,7 +31,7 @@ invariant_of-self c =
     c.args.amount _ _ _ _ _ c.self.invariant
     (subst (λ (board : BoardFields). c.args.bidder < length board.eligibilities) (sym c.self.view_is) c.requires.bidder)
     (subst (λ (board : BoardFields). c.args.product < length board.products) (sym c.self.view_is) c.requires.product)
-    (subst (λ (board : BoardFields). c.args.amount ≤ demand_at board.grid c.args.bidder c.args.product) (sym c.self.view_is) c.requires.held)
+    (subst (λ (board : BoardFields). c.args.amount ≤ demand_at board.grid c.args.bidder c.args.product) (sym c.self.view_is) c.requires.most)
     (units_read c.self.inside.products c.as_slice.result.now c.args.product c.index-as_slice-product.result
     (subst (λ (board : BoardFields). c.args.product < length board.products) (sym c.self.view_is) c.requires.product) c.as_slice.ensures
     c.index-as_slice-product.is)

@@ -3,4 +3,4 @@ use Rattle.clock_queue.proofs.lines.Lines.new.Given as goal
 
 -- the lines so far
 abbrev pub invariant-loop-line : goal.invariant-loop-line
-invariant-loop-line l = l.held.items ≡ replicate l._line []
+invariant-loop-line l = l.waiting.items ≡ replicate l._line []

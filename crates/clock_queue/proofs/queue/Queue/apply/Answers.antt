@@ -35,7 +35,7 @@ some_room room r same some = subst (λ n. 0 < n) same some
 
 pub apply-requires : goal.apply-requires
 apply-requires c =
-    let some : 0 < room_in c.args.changes.now c.args.self.now c.args.place = some_room _ _ c.requires.room c.requires.some in
+    let some : 0 < room_in c.args.changes.now c.args.self.now c.args.place = some_room _ _ c.requires.room c.requires.positive in
     let lt : c.args.place < length c.args.changes.now =
     in_changes c.args.changes.now c.args.self.now c.args.place c.requires.queue c.requires.is_board some in
     subst (λ (n : ℕ). MayApply c.args.self.now.board c.index-changes-place.result n) (sym c.requires.room)
@@ -45,7 +45,7 @@ apply-requires c =
 
 pub wake-requires : goal.wake-requires
 wake-requires c =
-    let some : 0 < room_in c.args.changes.now c.args.self.now c.args.place = some_room _ _ c.requires.room c.requires.some in
+    let some : 0 < room_in c.args.changes.now c.args.self.now c.args.place = some_room _ _ c.requires.room c.requires.positive in
     let lt : c.args.place < length c.args.changes.now =
     in_changes c.args.changes.now c.args.self.now c.args.place c.requires.queue c.requires.is_board some in
     let read = get_or_read c.args.changes.now c.args.place c.index-changes-place-2.result lt c.index-changes-place-2.is no_change in
@@ -54,7 +54,7 @@ wake-requires c =
 
 pub returns : goal.returns
 returns c =
-    let some : 0 < room_in c.args.changes.now c.args.self.now c.args.place = some_room _ _ c.requires.room c.requires.some in
+    let some : 0 < room_in c.args.changes.now c.args.self.now c.args.place = some_room _ _ c.requires.room c.requires.positive in
     let lt : c.args.place < length c.args.changes.now =
     in_changes c.args.changes.now c.args.self.now c.args.place c.requires.queue c.requires.is_board some in
     let new : Queue = c.wake.new.self in

@@ -1,0 +1,195 @@
+//! Requests as data, and their settling by any processor.
+
+ghost use Rattle.std.specs.Prelude.{◌≡◌, ◌≤◌, ◌<◌, ℕ, length, All, IfOk, IsTrue};
+ghost use Rattle.clock_setup.specs.Limits.{most_supply};
+ghost use Rattle.clock_setup.specs.Demands.{IsGrid};
+ghost use Rattle.clock_bids.specs.Requests.{KeepWithinCap, asked_of, is_request_of};
+ghost use Rattle.clock_processor.specs.Board.{IsWithinEligibility};
+ghost use Rattle.clock_processor.specs.Requests.{AskWithinCaps, IsRequest};
+
+use clock_bids::{Change, Changes, Kind};
+use clock_device::NoMemory;
+use clock_money::Point;
+use clock_processor::{Board, Processor, Settled};
+use clock_setup::{Amounts, Grid, Product, Setup, read_setup};
+use std::alloc::Global;
+use std::test::Fail;
+
+/// A request: its kind, bidder, product, blocks and price.
+pub type Asked = (Kind, u32, u32, u64, u64);
+
+/// The requests in order, in a round from 100 to 110.
+fn requests(alloc: Global, asked: &[Asked]) -> Result<Changes, Fail> {
+    let mut changes = Changes::new(alloc);
+    for &(kind, bidder, product, amount, price) in asked {
+        let point = Point::of(100, price, 110).ok_or("no price of the round")?;
+        changes.push(Change {
+            bidder,
+            product,
+            place: 0,
+            kind,
+            amount,
+            price,
+            point,
+        })?;
+    }
+    Ok(changes)
+}
+
+/// What each bidder may demand, in bidding units.
+fn eligibilities(alloc: Global, setup: &Setup) -> Result<Amounts, NoMemory>
+    ensures { IfOk result (λ amounts. length amounts ≡ length setup.now.bidders) }
+{
+    let mut amounts = Amounts::new(alloc);
+    for bidder in setup.bidders.as_slice() {
+        amounts.push(bidder.eligibility)?;
+    }
+    Ok(amounts)
+}
+
+/// Whether a request is of this kind, bidder and product.
+fn is_of(change: &Change, kind: Kind, bidder: usize, product: usize) -> bool
+    ensures { result ≡ is_request_of kind bidder product change.now }
+{
+    let same = match (kind, change.kind) {
+        (Kind::Increase, Kind::Increase) => true,
+        (Kind::Increase, Kind::Reduction) => false,
+        (Kind::Reduction, Kind::Increase) => false,
+        (Kind::Reduction, Kind::Reduction) => true,
+    };
+    same && change.bidder as usize == bidder && change.product as usize == product
+}
+
+/// What a bidder's requests of one kind for a product ask for together.
+fn asked(changes: &[Change], kind: Kind, bidder: usize, product: usize) -> u64
+    requires count { length changes.now ≤ 100 }
+    requires small { All (λ change. change.amount ≤ most_supply) changes.now }
+    ensures { result ≡ asked_of kind bidder product changes.now }
+{
+    let mut blocks = 0;
+    for change in changes {
+        if is_of(change, kind, bidder, product) {
+            blocks += change.amount;
+        }
+    }
+    blocks
+}
+
+/// Whether each request is of a bidder and a product, for 1 to 1,000 blocks.
+fn are_requests(bidders: usize, products: usize, changes: &[Change]) -> bool
+    ensures { IsTrue result → All (IsRequest bidders products) changes.now }
+{
+    for change in changes {
+        let known = (change.bidder as usize) < bidders && (change.product as usize) < products;
+        if !known || change.amount < 1 || change.amount > 1000 {
+            return false;
+        }
+    }
+    true
+}
+
+/// Whether a bidder's requests keep its demands within 0 and the caps.
+fn row_keeps_caps(products: &[Product], demands: &[u64], bidder: usize, changes: &[Change]) -> bool
+    requires row { length demands.now ≡ length products.now }
+    requires count { length changes.now ≤ 100 }
+    requires small { All (λ change. change.amount ≤ most_supply) changes.now }
+    ensures { IsTrue result → ((product : ℕ) → product < length products.now
+        → KeepWithinCap products.now demands.now bidder changes.now product) }
+{
+    for (i, product) in products.iter().enumerate() {
+        let raised = asked(changes, Kind::Increase, bidder, i);
+        let reduced = asked(changes, Kind::Reduction, bidder, i);
+        if raised > product.cap || demands[i] > product.cap - raised || reduced > demands[i] {
+            return false;
+        }
+    }
+    true
+}
+
+/// Whether each bidder's requests do.
+fn keep_caps(setup: &Setup, grid: &Grid, changes: &[Change]) -> bool
+    requires grid { IsGrid (length setup.now.bidders) (length setup.now.products) grid.now }
+    requires count { length changes.now ≤ 100 }
+    requires small { All (λ change. change.amount ≤ most_supply) changes.now }
+    ensures { IsTrue result → AskWithinCaps setup.now.products grid.now changes.now }
+{
+    for bidder in 0..setup.bidders.as_slice().len() {
+        if !row_keeps_caps(setup.products.as_slice(), grid.row(bidder), bidder, changes) {
+            return false;
+        }
+    }
+    true
+}
+
+/// Whether the requests can be settled.
+fn can_settle(setup: &Setup, grid: &Grid, changes: &[Change]) -> bool
+    requires { IsGrid (length setup.now.bidders) (length setup.now.products) grid.now }
+    ensures count { IsTrue result → length changes.now ≤ 100 }
+    ensures requests { IsTrue result
+        → All (IsRequest (length setup.now.bidders) (length setup.now.products)) changes.now }
+    ensures caps { IsTrue result → AskWithinCaps setup.now.products grid.now changes.now }
+{
+    let bidders = setup.bidders.as_slice().len();
+    let products = setup.products.as_slice().len();
+    changes.len() <= 100
+        && are_requests(bidders, products, changes)
+        && keep_caps(setup, grid, changes)
+}
+
+/// Settles requests on the demands of a round.
+fn settle<P: Processor>(
+    alloc: Global,
+    processor: &P,
+    setup: &Setup,
+    eligibilities: &Amounts,
+    grid: &Grid,
+    asked: &[Asked],
+) -> Result<Settled, Fail>
+    requires bidders { length eligibilities.now ≡ length setup.now.bidders }
+    requires within { IsWithinEligibility setup.now.products eligibilities.now grid.now }
+    ensures { IfOk result
+        (λ settled. IsWithinEligibility setup.now.products eligibilities.now settled.grid) }
+{
+    let changes = requests(alloc, asked)?;
+    if !can_settle(setup, grid, changes.as_slice()) {
+        return Err("requests that cannot be settled".into());
+    }
+    let board = Board::new(alloc, setup, eligibilities, grid)?;
+    Ok(processor.settle(alloc, board, &changes)?)
+}
+
+/// The demands of all bidders, row by row.
+fn demands_of(alloc: Global, grid: &Grid, bidders: usize) -> Result<Amounts, NoMemory>
+    requires { bidders ≤ length grid.now }
+{
+    let mut demands = Amounts::new(alloc);
+    for bidder in 0..bidders {
+        demands.extend_from_slice(grid.row(bidder))?;
+    }
+    Ok(demands)
+}
+
+/// Settles first requests on no demands, and then others on what these came to. The demands are those at the end, row by
+/// row.
+pub fn settle_twice<P: Processor>(
+    alloc: Global,
+    processor: &P,
+    document: &str,
+    first: &[Asked],
+    second: &[Asked],
+) -> Result<(Amounts, Settled), Fail> {
+    let setup = read_setup(alloc, document.as_bytes())?;
+    let eligibilities = eligibilities(alloc, &setup)?;
+    let none = Grid::zero(alloc, &setup)?;
+    let begun = settle(alloc, processor, &setup, &eligibilities, &none, first)?;
+    let end = settle(
+        alloc,
+        processor,
+        &setup,
+        &eligibilities,
+        begun.grid(),
+        second,
+    )?;
+    let demands = demands_of(alloc, end.grid(), setup.bidders.as_slice().len())?;
+    Ok((demands, end))
+}

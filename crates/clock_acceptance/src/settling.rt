@@ -1,0 +1,148 @@
+//! Settlings: what requests come to, with the rescanned list and with the event queue.
+
+use crate::settle::{Asked, settle_twice};
+use clock_bids::Kind;
+use clock_processor::{Plain, Processor};
+use clock_queue::Woken;
+use clock_setup::fixtures::TWO_PRODUCTS;
+use std::alloc::{AllocError, Global};
+use std::process::Abort;
+use std::test::Fail;
+
+/// What a settling comes to: the demands row by row, what each request has left, and the applications.
+type End<'a> = (&'a [u64], &'a [u64], u64);
+
+/// X takes two of B, Y two of A and Z one of B.
+const FIRST: [Asked; 3] = [
+    (Kind::Increase, 0, 1, 2, 100),
+    (Kind::Increase, 1, 0, 2, 100),
+    (Kind::Increase, 2, 1, 1, 100),
+];
+
+const Y_REDUCES_A: Asked = (Kind::Reduction, 1, 0, 1, 102);
+
+const X_RAISES_A: Asked = (Kind::Increase, 0, 0, 1, 104);
+
+const X_REDUCES_B: Asked = (Kind::Reduction, 0, 1, 1, 106);
+
+const Z_DROPS_B: Asked = (Kind::Reduction, 2, 1, 1, 100);
+
+const X_DROPS_B: Asked = (Kind::Reduction, 0, 1, 2, 106);
+
+/// Settles requests after first ones, and asserts what they come to. The answer is how often a room was looked at.
+fn settles_with<P: Processor>(
+    rt: &impl Abort,
+    alloc: Global,
+    processor: &P,
+    document: &str,
+    requests: (&[Asked], &[Asked]),
+    end: End,
+) -> Result<u64, Fail> {
+    let (first, second) = requests;
+    let (demands, settled) = settle_twice(alloc, processor, document, first, second)?;
+    let (all, left, applied) = end;
+    assert_eq!(rt; demands.as_slice(), all);
+    assert_eq!(rt; settled.left(), left);
+    assert_eq!(rt; settled.applied(), applied);
+    Ok(settled.tests())
+}
+
+/// Does so with both processors. The answer is how often the event queue looked at a room.
+fn settles(
+    rt: &impl Abort,
+    alloc: Global,
+    document: &str,
+    requests: (&[Asked], &[Asked]),
+    end: End,
+) -> Result<u64, Fail> {
+    settles_with(rt, alloc, &Plain, document, requests, end)?;
+    settles_with(rt, alloc, &Woken, document, requests, end)
+}
+
+/// Does so on the two products, after the first requests.
+fn comes_to(rt: &impl Abort, alloc: Global, requests: &[Asked], end: End) -> Result<u64, Fail> {
+    settles(rt, alloc, TWO_PRODUCTS, (&FIRST, requests), end)
+}
+
+#[test]
+fn increase_waits_for_two_reductions(rt: HostRuntime) -> Result<(), Fail> {
+    let requests = [Y_REDUCES_A, X_RAISES_A, X_REDUCES_B];
+    let tests = comes_to(
+        &rt,
+        rt.alloc(),
+        &requests,
+        (&[1, 1, 1, 0, 0, 1], &[0, 0, 0], 3),
+    )?;
+    assert!(rt; tests <= 9);
+    Ok(())
+}
+
+#[test]
+fn requests_without_room_are_left(rt: HostRuntime) -> Result<(), Fail> {
+    let requests = [Y_REDUCES_A, X_RAISES_A];
+    comes_to(
+        &rt,
+        rt.alloc(),
+        &requests,
+        (&[0, 2, 2, 0, 0, 1], &[1, 1], 0),
+    )?;
+    comes_to(&rt, rt.alloc(), &[], (&[0, 2, 2, 0, 0, 1], &[], 0))?;
+    Ok(())
+}
+
+#[test]
+fn earlier_drop_takes_the_excess(rt: HostRuntime) -> Result<(), Fail> {
+    let requests = [Z_DROPS_B, X_DROPS_B];
+    comes_to(
+        &rt,
+        rt.alloc(),
+        &requests,
+        (&[0, 2, 2, 0, 0, 0], &[0, 2], 1),
+    )?;
+    Ok(())
+}
+
+/// A product of a hundred blocks of which each of a hundred bidders may hold one.
+fn document_of_a_hundred(alloc: Global) -> Result<String, AllocError> {
+    let mut text = String::from_str(alloc, r#"{"bidders":["#)?;
+    for bidder in 100..200 {
+        if bidder > 100 {
+            text.push_str(",")?;
+        }
+        let entry = format!(in alloc;
+            r#"{{"eligibility":1,"name":"B{bidder}","token":"TOKENTOKENTOK{bidder}"}}"#
+        )?;
+        text.push_str(entry.as_str())?;
+    }
+    text.push_str(r#"],"operator":"OPERATOROPERATOR","products":["#)?;
+    text.push_str(r#"{"cap":1,"name":"A","opening":100,"supply":100,"units":1}"#)?;
+    text.push_str(r#"],"requirement":100,"version":1}"#)?;
+    Ok(text)
+}
+
+/// A request of each of a hundred bidders for one block at 100.
+fn of_each(alloc: Global, kind: Kind) -> Result<Vec<Asked>, AllocError> {
+    let mut asked = Vec::new(alloc);
+    for bidder in 0..100 {
+        asked.push((kind, bidder, 0, 1, 100))?;
+    }
+    Ok(asked)
+}
+
+#[test]
+fn nobody_can_give_up_a_block_without_excess(rt: HostRuntime) -> Result<(), Fail> {
+    let document = document_of_a_hundred(rt.alloc())?;
+    let taken = of_each(rt.alloc(), Kind::Increase)?;
+    let given = of_each(rt.alloc(), Kind::Reduction)?;
+    let requests = (taken.as_slice(), given.as_slice());
+    let ones = [1; 100];
+    let tests = settles(
+        &rt,
+        rt.alloc(),
+        document.as_str(),
+        requests,
+        (&ones, &ones, 0),
+    )?;
+    assert!(rt; tests <= 100);
+    Ok(())
+}
