@@ -31,7 +31,8 @@ pub fn account_page(
 ) -> Result<Text, NoMemory>
     requires bidder { bidder < length setup.now.bidders }
     requires row { IsRow setup.now.products own.demands.now }
-    ensures { IfOk result (IsPage (account_value setup.now.products (bidder_at setup.now bidder).name own.entry.round (record { eligibility = own.entry.eligibility; demands = own.entry.demands.now }) ended)) }
+    ensures { IfOk result (IsPage (account_value setup.now.products (bidder_at setup.now bidder).name own.entry.round
+        (record { eligibility = own.entry.eligibility; demands = own.entry.demands.now }) ended)) }
 {
     let mut text = Text::new(alloc);
     push_account_page(&mut text, setup, bidder, own, ended)?;
@@ -48,7 +49,8 @@ pub fn push_account_page(
 ) -> Result<(), NoMemory>
     requires bidder { bidder < length setup.now.bidders }
     requires row { IsRow setup.now.products own.demands.now }
-    ensures { OnOk result (Adds (compact_text (account_value setup.now.products (bidder_at setup.now bidder).name own.entry.round (record { eligibility = own.entry.eligibility; demands = own.entry.demands.now }) ended)) text.old text.new) }
+    ensures { OnOk result (Adds (compact_text (account_value setup.now.products (bidder_at setup.now bidder).name own.entry.round
+        (record { eligibility = own.entry.eligibility; demands = own.entry.demands.now }) ended)) text.old text.new) }
 {
     push_number(text, b"{\"activity\":", activity(setup, own.demands))?;
     push_numbers(text, b",\"demands\":", own.demands)?;

@@ -3,7 +3,8 @@
 ghost use Rattle.std.specs.Prelude.{◌≡◌, length, zip, All, IfOk, OnOk};
 ghost use Rattle.serde_json.specs.Written.{compact_text};
 ghost use Rattle.clock_setup.specs.Limits.{IsProduct, public_setup};
-ghost use Rattle.clock_views.specs.PublicPages.{status_value, status_bytes, products_value, product_value, limit_text, line_value, sheet_value, from_version_2 as number_from_version_2};
+ghost use Rattle.clock_views.specs.PublicPages.{status_value, status_bytes, line_value, sheet_value};
+ghost use Rattle.clock_views.specs.PublicPages.{products_value, product_value, limit_text, from_version_2 as number_from_version_2};
 ghost use Rattle.clock_views.specs.Values.{list_of, IsPage, Adds, item_text};
 
 use crate::pieces::{
@@ -82,7 +83,8 @@ fn push_offer(
     products: &[Product],
 ) -> Result<(), NoMemory>
     requires { All IsProduct products.now }
-    ensures { OnOk result (Adds (compact_text (products_value (record { version = version; limit = limit; requirement = requirement; products = products.now }))) text.old text.new) }
+    ensures { OnOk result (Adds (compact_text (products_value
+        (record { version = version; limit = limit; requirement = requirement; products = products.now }))) text.old text.new) }
 {
     push_label(text, b"{")?;
     push_limit(text, from_version_2(version, limit))?;

@@ -224,11 +224,12 @@ fn version_2_has_an_increment_for_each_product(rt: HostRuntime) -> Result<(), Fa
     send_all(&rt, rt.alloc(), GRANULES_AND_INCREMENTS, VERSION_2)
 }
 
-/// The texts of two requests, the second cut short.
-fn two_texts(alloc: Global) -> Result<Items<Text>, Fail> {
+/// The texts of rows.
+fn texts_of(alloc: Global, rows: &str) -> Result<Items<Text>, Fail> {
     let mut texts = Items::new(alloc);
-    texts.push(Text::from_slice(alloc, b"GET /v1/status HTTP/1.1\r\n\r\n")?)?;
-    texts.push(Text::from_slice(alloc, b"GET /v1/status")?)?;
+    for row in rows.split('|') {
+        texts.push(Text::from_slice(alloc, row.as_bytes())?)?;
+    }
     Ok(texts)
 }
 
@@ -245,7 +246,8 @@ fn codes_of(alloc: Global, texts: &[Text]) -> Result<Items<Code>, Fail> {
 
 #[test]
 fn a_run_gives_a_reply_to_each_text(rt: HostRuntime) -> Result<(), Fail> {
-    let texts = two_texts(rt.alloc())?;
+    let rows = "GET /v1/status HTTP/1.1\r\n\r\n|GET /v1/status";
+    let texts = texts_of(rt.alloc(), rows)?;
     let codes = codes_of(rt.alloc(), texts.as_slice())?;
     assert_eq!(rt; codes.as_slice(), [Code::Done, Code::CutShort].as_slice());
     Ok(())

@@ -7,6 +7,7 @@ use crate::{Framing, Front, Head, Progress, frame};
 use clock_processor::Plain;
 use clock_setup::fixtures::ONE_PRODUCT;
 use std::alloc::Global;
+use std::process::Abort;
 use std::test::Fail;
 
 /// Texts, and what they are: `more` is needed, a code refuses them, or they have a method, a path, a token or `-`, and a body.
@@ -118,18 +119,18 @@ fn answer_in_two(
     Ok(String::from_utf8_lossy(alloc, reply.bytes())?)
 }
 
-#[test]
-fn a_text_in_pieces_is_answered_as_the_text(rt: HostRuntime) -> Result<(), Fail> {
-    let alloc = rt.alloc();
+/// Wherever a text is cut in two, its reply ends with a page.
+fn is_answered_in_two(rt: &impl Abort, alloc: Global, text: &[u8], page: &str) -> Result<(), Fail> {
     let mut front = opened(alloc, ONE_PRODUCT)?;
-    let text = STATUS.as_bytes();
     for count in 0..text.len() {
         let reply = answer_in_two(alloc, &mut front, text, count)?;
-        assert!(rt;
-            reply
-                .as_str()
-                .ends_with(r#"{"ended":false,"round":1,"version":1}"#)
-        );
+        assert!(rt; reply.as_str().ends_with(page));
     }
     Ok(())
+}
+
+#[test]
+fn a_text_in_pieces_is_answered_as_the_text(rt: HostRuntime) -> Result<(), Fail> {
+    let page = r#"{"ended":false,"round":1,"version":1}"#;
+    is_answered_in_two(&rt, rt.alloc(), STATUS.as_bytes(), page)
 }

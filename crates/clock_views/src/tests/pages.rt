@@ -1,7 +1,7 @@
 //! Pages of a set-up and of single values.
 
+use super::reads;
 use crate::{accepted_page, closed_page, products_page, status_page};
-use clock_device::Text;
 use clock_setup::fixtures::{GRANULES_AND_INCREMENTS, ONE_PRODUCT};
 use clock_setup::read_setup;
 use std::alloc::Global;
@@ -26,7 +26,8 @@ fn products_of_version_1(rt: HostRuntime) -> Result<(), Fail> {
 #[test]
 fn products_of_version_2_have_granules(rt: HostRuntime) -> Result<(), Fail> {
     let expected =
-        b"{\"limit\":100,\"products\":[{\"cap\":2,\"granule\":25,\"name\":\"A\",\"opening\":100,\"supply\":2,\"units\":1},{\"cap\":2,\"granule\":1,\"name\":\"B\",\"opening\":100,\"supply\":2,\"units\":1}],\"requirement\":100,\"version\":2}";
+        b"{\"limit\":100,\"products\":[{\"cap\":2,\"granule\":25,\"name\":\"A\",\"opening\":100,\"supply\":2,\"units\":1},\
+        {\"cap\":2,\"granule\":1,\"name\":\"B\",\"opening\":100,\"supply\":2,\"units\":1}],\"requirement\":100,\"version\":2}";
     offers(&rt, rt.alloc(), GRANULES_AND_INCREMENTS, expected)
 }
 
@@ -44,11 +45,6 @@ fn status_tells_the_version(rt: HostRuntime) -> Result<(), Fail> {
     let second = b"{\"ended\":false,\"round\":1,\"version\":2}";
     begins(&rt, rt.alloc(), ONE_PRODUCT, first)?;
     begins(&rt, rt.alloc(), GRANULES_AND_INCREMENTS, second)
-}
-
-/// A page is this text.
-fn reads(rt: &impl Abort, page: &Text, expected: &[u8]) {
-    assert!(rt; page.as_slice() == expected);
 }
 
 #[test]

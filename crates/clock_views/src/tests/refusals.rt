@@ -1,5 +1,6 @@
 //! Pages of refusals, with a place, with a round and with neither.
 
+use super::reads;
 use crate::{Code, Refusal, push_refusal_page, refusal_page};
 use clock_bids::BidFault;
 use clock_device::Text;
@@ -15,11 +16,6 @@ fn is_told(rt: &impl Abort, alloc: Global, refusal: Refusal, expected: &[u8]) ->
     push_refusal_page(&mut page, refusal)?;
     assert!(rt; page.as_slice() == expected);
     Ok(())
-}
-
-/// A page is this text.
-fn reads(rt: &impl Abort, page: &Text, expected: &[u8]) {
-    assert!(rt; page.as_slice() == expected);
 }
 
 #[test]

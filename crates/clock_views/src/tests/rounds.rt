@@ -1,6 +1,7 @@
 //! What the pages show of an auction of one product, in which X drops two blocks in the second round
 //! and Y keeps one, so that X's drop is applied in part.
 
+use super::reads;
 use crate::{account_page, bids_page, results_page, sheet_page, slip_page};
 use clock_bids::Bid;
 use clock_device::{NoMemory, Text};
@@ -110,18 +111,26 @@ fn sheet_of(
     Ok(sheet_page(alloc, house.setup(), sheet)?)
 }
 
-/// A page is this text.
-fn reads(rt: &impl Abort, page: &Text, expected: &[u8]) {
-    assert!(rt; page.as_slice() == expected);
-}
+/// X's account in the second round.
+const ACCOUNT: &[u8] =
+    b"{\"activity\":2,\"demands\":[2],\"eligibility\":3,\"ended\":false,\"name\":\"X\",\"round\":2}";
+
+/// X's slip of the second round, its sheet, and the results.
+const SLIP: &[u8] = b"{\"activity\":1,\"demands\":[1],\"eligibility\":2,\"round\":2}";
+
+const SHEET: &[u8] =
+    b"{\"ended\":true,\"products\":[{\"clock\":110,\"demand\":null,\"name\":\"A\",\"next\":null,\"posted\":103,\"start\":100}],\"round\":2}";
+
+const RESULTS: &[u8] =
+    b"{\"bidders\":[{\"demands\":[1],\"eligibility\":2,\"name\":\"X\"},{\"demands\":[1],\"eligibility\":2,\"name\":\"Y\"}],\"ended\":true,\"round\":2}";
 
 #[test]
-fn account_in_the_second_round(rt: HostRuntime) -> Result<(), Fail> {
+fn account_in_the_second_round_with_no_bids_in_force(rt: HostRuntime) -> Result<(), Fail> {
     let house = second_round(&rt, rt.alloc())?;
-    let page = account_of(&rt, rt.alloc(), &house, X)?;
-    let expected =
-        b"{\"activity\":2,\"demands\":[2],\"eligibility\":3,\"ended\":false,\"name\":\"X\",\"round\":2}";
-    reads(&rt, &page, expected);
+    let account = account_of(&rt, rt.alloc(), &house, X)?;
+    reads(&rt, &account, ACCOUNT);
+    let bids = bids_of(&rt, rt.alloc(), &house, X)?;
+    reads(&rt, &bids, b"{\"bids\":null,\"round\":2}");
     Ok(())
 }
 
@@ -142,35 +151,13 @@ fn bids_in_force(rt: HostRuntime) -> Result<(), Fail> {
 }
 
 #[test]
-fn no_bids_in_force(rt: HostRuntime) -> Result<(), Fail> {
-    let house = second_round(&rt, rt.alloc())?;
-    let page = bids_of(&rt, rt.alloc(), &house, X)?;
-    reads(&rt, &page, b"{\"bids\":null,\"round\":2}");
-    Ok(())
-}
-
-#[test]
-fn slip_and_sheet_of_the_second_round(rt: HostRuntime) -> Result<(), Fail> {
+fn slip_sheet_and_results_after_the_partial_drop(rt: HostRuntime) -> Result<(), Fail> {
     let house = ended(&rt, rt.alloc())?;
     let slip = slip_of(&rt, rt.alloc(), &house, X, 2)?;
-    reads(
-        &rt,
-        &slip,
-        b"{\"activity\":1,\"demands\":[1],\"eligibility\":2,\"round\":2}",
-    );
+    reads(&rt, &slip, SLIP);
     let sheet = sheet_of(&rt, rt.alloc(), &house, 2)?;
-    let expected =
-        b"{\"ended\":true,\"products\":[{\"clock\":110,\"demand\":null,\"name\":\"A\",\"next\":null,\"posted\":103,\"start\":100}],\"round\":2}";
-    reads(&rt, &sheet, expected);
-    Ok(())
-}
-
-#[test]
-fn results_after_the_partial_drop(rt: HostRuntime) -> Result<(), Fail> {
-    let house = ended(&rt, rt.alloc())?;
-    let page = results_page(rt.alloc(), &house)?;
-    let expected =
-        b"{\"bidders\":[{\"demands\":[1],\"eligibility\":2,\"name\":\"X\"},{\"demands\":[1],\"eligibility\":2,\"name\":\"Y\"}],\"ended\":true,\"round\":2}";
-    reads(&rt, &page, expected);
+    reads(&rt, &sheet, SHEET);
+    let results = results_page(rt.alloc(), &house)?;
+    reads(&rt, &results, RESULTS);
     Ok(())
 }
