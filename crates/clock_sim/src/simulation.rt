@@ -18,6 +18,9 @@ use clock_processor::Processor;
 use clock_queue::Woken;
 use std::alloc::Global;
 
+#[cfg(test)]
+mod tests;
+
 /// Plays an auction before its first request.
 fn played<P: Processor>(
     alloc: Global,
