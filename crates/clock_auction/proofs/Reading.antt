@@ -33,4 +33,7 @@ module _ (before mid : Option (List ℕ)) (document : List ℕ) (calls interrupt
   stopped (fault.Setup inner) fails document_after step = absurd step
   stopped (fault.Opening inner) fails document_after step = absurd step
   stopped (fault.PriceLimit product) fails document_after step = absurd step
+  stopped fault.File fails document_after step = absurd step
+  stopped fault.Bind fails document_after step = absurd step
   stopped fault.Output fails document_after step = absurd step
+  stopped fault.Accept fails document_after step = absurd step

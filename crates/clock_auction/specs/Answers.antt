@@ -17,6 +17,11 @@ use Rattle.clock_auction.specs.declared.words.Job.TheVariants as job
 use Rattle.clock_auction.specs.declared.fault.Fault.{Fault}
 use Rattle.clock_auction.specs.declared.fault.Fault.TheVariants as fault
 
+-- the set-up that was read, or its fault
+abbrev pub read_in : Result SetupFields SetupFault → Result SetupFields Fault
+read_in (Ok setup) = Ok setup
+read_in (Err inner) = Err (fault.Setup inner)
+
 -- the price lines of the set-up that was read
 abbrev pub prices_of : ℕ → Result SetupFields SetupFault → Result (List ℕ) Fault
 prices_of increment (Ok setup) = Ok (price_lines increment setup.products)

@@ -49,12 +49,15 @@ opening_words in_opening.NoMemory = codes "memory"
 
 -- a fault of a document has the document's words
 abbrev pub fault_words : Fault → List ℕ
+fault_words fault.File = codes "file"
 fault_words fault.Input = codes "input"
 fault_words fault.LongInput = codes "long_input"
 fault_words (fault.Setup inner) = setup_words inner
 fault_words (fault.Opening inner) = opening_words inner
 fault_words (fault.PriceLimit product) = codes "price_limit " ++ decimal product
+fault_words fault.Bind = codes "bind"
 fault_words fault.Output = codes "output"
+fault_words fault.Accept = codes "accept"
 fault_words fault.Memory = codes "memory"
 
 -- the whole line

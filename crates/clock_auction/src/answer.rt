@@ -1,5 +1,6 @@
 ghost use Rattle.std.specs.Prelude.{◌≡◌, ◌≢◌, ◌≤◌, Ok, Err, IfOk, IfErr};
-ghost use Rattle.clock_auction.specs.Answers.{answer_of};
+ghost use Rattle.clock_setup.specs.SetupDocument.{document_setup};
+ghost use Rattle.clock_auction.specs.Answers.{answer_of, read_in};
 ghost use Rattle.clock_auction.specs.Words.{IsJob};
 
 use crate::fault::Fault;
@@ -7,7 +8,7 @@ use crate::prices::prices_text;
 use crate::words::Job;
 use clock_device::Text;
 use clock_posting::{PostFault, post_first, sheet_lines};
-use clock_setup::{Increments, OpeningFault, SetupFault, read_opening, read_setup};
+use clock_setup::{Increments, OpeningFault, Setup, SetupFault, read_opening, read_setup};
 use std::alloc::Global;
 
 /// What the job prints of the document, or the document's fault.
@@ -22,17 +23,25 @@ pub fn answer(alloc: Global, job: Job, document: &[u8]) -> Result<Text, Fault>
     }
 }
 
+/// The set-up that a document means, or the document's fault.
+pub fn setup_in(alloc: Global, document: &[u8]) -> Result<Setup, Fault>
+    ensures ok { IfOk result (λ setup. document_setup document.now ≡ Ok setup) }
+    ensures err { IfErr result (λ fault. fault ≢ Fault.Memory → read_in (document_setup document.now) ≡ Err fault) }
+{
+    match read_setup(alloc, document) {
+        Ok(setup) => Ok(setup),
+        Err(SetupFault::NoMemory) => Err(Fault::Memory),
+        Err(fault) => Err(Fault::Setup(fault)),
+    }
+}
+
 fn prices_answer(alloc: Global, increment: u64, document: &[u8]) -> Result<Text, Fault>
     requires { IsJob (Job.Prices increment) }
     ensures ok { IfOk result (λ text. answer_of (Job.Prices increment) document.now ≡ Ok text) }
     ensures err { IfErr result (λ fault. fault ≢ Fault.Memory
         → answer_of (Job.Prices increment) document.now ≡ Err fault) }
 {
-    let setup = match read_setup(alloc, document) {
-        Ok(setup) => setup,
-        Err(SetupFault::NoMemory) => return Err(Fault::Memory),
-        Err(fault) => return Err(Fault::Setup(fault)),
-    };
+    let setup = setup_in(alloc, document)?;
     Ok(prices_text(alloc, &setup, increment)?)
 }
 

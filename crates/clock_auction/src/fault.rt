@@ -5,10 +5,12 @@ use clock_device::NoMemory;
 use clock_setup::{OpeningFault, SetupFault};
 use std::alloc::AllocError;
 
-/// Why a run printed nothing. The cases stand in the order in which they are looked at, want of
-/// memory aside, which stands in place of any other.
+/// Why a run ended before its end. The cases stand in the order in which they are looked at, want of
+/// memory aside, which stands in place of any other. `File`, `Bind` and `Accept` come in `serve` alone.
 #[derive(Clone, Copy, Debug, PartialEq, Eq)]
 pub enum Fault {
+    /// The file of the set-up could not be opened.
+    File,
     /// A read failed, or too many reads were made.
     Input,
     /// There are more bytes than the program reads.
@@ -19,8 +21,12 @@ pub enum Fault {
     Opening(OpeningFault),
     /// A product, by its number, can have no next clock price.
     PriceLimit(u64),
+    /// The port could not be listened on.
+    Bind,
     /// A write failed.
     Output,
+    /// A connection could not be taken.
+    Accept,
     /// There was no memory.
     Memory,
 }

@@ -21,12 +21,15 @@ fn write_words<W: Sink>(sink: &mut W, fault: Fault) -> Result<(), Failed>
     ensures failed { W.has_failed sink.new ≡ (W.has_failed sink.old || is_err result) }
 {
     match fault {
+        Fault::File => write_all(sink, b"file"),
         Fault::Input => write_all(sink, b"input"),
         Fault::LongInput => write_all(sink, b"long_input"),
         Fault::Setup(fault) => write_setup_words(sink, fault),
         Fault::Opening(fault) => write_opening_words(sink, fault),
         Fault::PriceLimit(product) => write_numbered(sink, "price_limit ", product),
+        Fault::Bind => write_all(sink, b"bind"),
         Fault::Output => write_all(sink, b"output"),
+        Fault::Accept => write_all(sink, b"accept"),
         Fault::Memory => write_all(sink, b"memory"),
     }
 }
