@@ -34,4 +34,6 @@ module _ (asked : Option Job) (job : Job) (asks : asked ≡ Some job) (reading :
   stopped_run fault.Memory run line = (stopped fault.Memory, refl, (run.0, run.1, line))
   stopped_run (fault.Setup inner) run line = (stopped (fault.Setup inner), refl, ((job, asks, run), line))
   stopped_run (fault.Opening inner) run line = (stopped (fault.Opening inner), refl, ((job, asks, run), line))
+  stopped_run (fault.Script inner) run line = (stopped (fault.Script inner), refl, ((job, asks, run), line))
+  stopped_run (fault.Simulation inner) run line = (stopped (fault.Simulation inner), refl, ((job, asks, run), line))
   stopped_run (fault.PriceLimit product) run line = (stopped (fault.PriceLimit product), refl, ((job, asks, run), line))

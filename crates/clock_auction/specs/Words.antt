@@ -15,7 +15,7 @@ use Rattle.clock_setup.specs.Increments.{IsIncrement}
 use Rattle.clock_setup.specs.Limits.{least_increment, most_increment}
 use Rattle.clock_auction.specs.declared.words.Job.{Job}
 use Rattle.clock_auction.specs.declared.words.Serving.{Serving}
-use Rattle.clock_auction.specs.declared.words.Job.TheVariants.{Prices, Opening}
+use Rattle.clock_auction.specs.declared.words.Job.TheVariants.{Prices, Opening, Replay}
 
 -- `--increment N`, within its limits, and 10 where it is not given
 abbrev pub increment_option : Rule
@@ -58,8 +58,8 @@ asks_for_a_command shape = record shape { no_binary_name = true; subcommand_requ
 -- the commands, one of which must be named
 abbrev pub grammar : App
 grammar =
-    with_subcommand (with_subcommand (with_subcommand (on_top asks_for_a_command (new_app (codes "clock_auction"))) prices_grammar.top)
-    (new_app (codes "opening")).top) serve_grammar.top
+    with_subcommand (with_subcommand (with_subcommand (with_subcommand (on_top asks_for_a_command (new_app (codes "clock_auction"))) prices_grammar.top)
+    (new_app (codes "opening")).top) (new_app (codes "replay")).top) serve_grammar.top
 
 -- no word stands for `prices --increment 10`
 abbrev pub given : List Text → List Text
@@ -80,7 +80,7 @@ abbrev pub job_named : Text → List Row → Option Job
 job_named name options =
     if bytes_eq name (codes "prices")
     then option_map Prices (number_of (codes "increment") least_increment most_increment options)
-    else (if bytes_eq name (codes "opening") then Some Opening else None)
+    else (if bytes_eq name (codes "opening") then Some Opening else (if bytes_eq name (codes "replay") then Some Replay else None))
 
 -- what the command that was met asks for
 abbrev pub job_met : Option (Text × List Row) → Option Job
@@ -129,3 +129,4 @@ job_of words = job_meant (given words)
 abbrev pub IsJob : Job → Type 0
 IsJob (Prices increment) = IsIncrement increment
 IsJob Opening = Unit {0}
+IsJob Replay = Unit {0}

@@ -9,6 +9,7 @@ use crate::words::Job;
 use clock_device::Text;
 use clock_posting::{PostFault, post_first, sheet_lines};
 use clock_setup::{Increments, OpeningFault, Setup, SetupFault, read_opening, read_setup};
+use clock_sim::{ScriptFault, SimFault, read_replay, report_text, simulate};
 use std::alloc::Global;
 
 /// What the job prints of the document, or the document's fault.
@@ -20,6 +21,7 @@ pub fn answer(alloc: Global, job: Job, document: &[u8]) -> Result<Text, Fault>
     match job {
         Job::Prices(increment) => prices_answer(alloc, increment, document),
         Job::Opening => opening_answer(alloc, document),
+        Job::Replay => replay_answer(alloc, document),
     }
 }
 
@@ -62,4 +64,22 @@ fn opening_answer(alloc: Global, document: &[u8]) -> Result<Text, Fault>
         Err(PostFault::NoMemory) => return Err(Fault::Memory),
     };
     Ok(sheet_lines(alloc, &opening.setup, &posting.sheet)?)
+}
+
+fn replay_answer(alloc: Global, document: &[u8]) -> Result<Text, Fault>
+    ensures ok { IfOk result (λ text. answer_of Job.Replay document.now ≡ Ok text) }
+    ensures err { IfErr result (λ fault. fault ≢ Fault.Memory
+        → answer_of Job.Replay document.now ≡ Err fault) }
+{
+    let replay = match read_replay(alloc, document) {
+        Ok(replay) => replay,
+        Err(ScriptFault::NoMemory) => return Err(Fault::Memory),
+        Err(fault) => return Err(Fault::Script(fault)),
+    };
+    let report = match simulate(alloc, &replay) {
+        Ok(report) => report,
+        Err(SimFault::NoMemory) => return Err(Fault::Memory),
+        Err(fault) => return Err(Fault::Simulation(fault)),
+    };
+    Ok(report_text(alloc, &report)?)
 }

@@ -5,7 +5,7 @@ ghost use Rattle.clap.specs.Simple.{on_top};
 ghost use Rattle.clap.specs.declared.builder.Command.TheViews.{out-Command};
 ghost use Rattle.clock_auction.specs.Words.{asks_for_a_command, grammar, needed_rule, number_rule, prices_grammar, serve_grammar};
 
-use crate::help::{OPENING_HELP, PRICES_HELP, PROGRAM_HELP, SERVE_HELP, number_help};
+use crate::help::{OPENING_HELP, PRICES_HELP, PROGRAM_HELP, REPLAY_HELP, SERVE_HELP, number_help};
 use clap::builder::ValueParser;
 use clap::error::ErrorKind;
 use clap::{Arg, Command, Error};
@@ -134,10 +134,14 @@ pub fn program<'a>(alloc: Global, helps: &'a NumberHelps) -> Result<Command<'a>,
     let opening = Command::new(alloc, "opening")
         .about("Prints the sheet of round 1")
         .after_help(OPENING_HELP);
+    let replay = Command::new(alloc, "replay")
+        .about("Plays an auction of scripted bidders and prints its rounds and what each won")
+        .after_help(REPLAY_HELP);
     Ok(
         program_alone(alloc)?
             .subcommand(prices)?
             .subcommand(opening)?
+            .subcommand(replay)?
             .subcommand(serve)?,
     )
 }

@@ -3,6 +3,7 @@ ghost use Rattle.clock_auction.specs.declared.fault.Fault.TheVariants.{Memory};
 
 use clock_device::NoMemory;
 use clock_setup::{OpeningFault, SetupFault};
+use clock_sim::{ScriptFault, SimFault};
 use std::alloc::AllocError;
 
 /// Why a run ended before its end. The cases stand in the order in which they are looked at, want of
@@ -19,8 +20,12 @@ pub enum Fault {
     Setup(SetupFault),
     /// The document is no opening.
     Opening(OpeningFault),
+    /// The document is no replay.
+    Script(ScriptFault),
     /// A product, by its number, can have no next clock price.
     PriceLimit(u64),
+    /// The replay did not come to its end.
+    Simulation(SimFault),
     /// The port could not be listened on.
     Bind,
     /// A write failed.

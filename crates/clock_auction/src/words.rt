@@ -17,6 +17,8 @@ pub enum Job {
     Prices(u64),
     /// The lines of round 1 for an opening document.
     Opening,
+    /// The report of a replay document.
+    Replay,
 }
 
 /// What `serve` is told.
@@ -64,6 +66,8 @@ fn job_in(matches: &ArgMatches) -> Option<Job>
         Some(Job::Prices(number_in(options, "increment", LEAST_INCREMENT, MOST_INCREMENT)?))
     } else if name == "opening" {
         Some(Job::Opening)
+    } else if name == "replay" {
+        Some(Job::Replay)
     } else {
         None
     }

@@ -13,4 +13,7 @@ returns-clause-shape c =
     let opened : app_of c.after_help-opening.result ≡ new_app (codes "opening") = search rules in
     let with_opening : app_of c.in_ok-subcommand-2.field-0 ≡ with_subcommand (with_subcommand alone prices_grammar.top) (new_app (codes "opening")).top =
     c.in_ok-subcommand-2.ensures.shape (search rules) ∙ ap₂ with_subcommand with_prices (ap top opened) in
-    c.in_ok-subcommand-3.ensures.shape (search rules) ∙ ap₂ with_subcommand with_opening (ap top c.in_ok-serve.ensures.shape)
+    let replayed : app_of c.after_help-replay.result ≡ new_app (codes "replay") = search rules in
+    c.in_ok-subcommand-4.ensures.shape (search rules)
+    ∙ ap₂ with_subcommand (c.in_ok-subcommand-3.ensures.shape (search rules) ∙ ap₂ with_subcommand with_opening (ap top replayed))
+    (ap top c.in_ok-serve.ensures.shape)
