@@ -16,9 +16,12 @@ returns-in_ok-write_pair-in-Refused-clause-bytes g c =
 pub returns-in_err-write_numbered-in-Closing-clause-bytes : goal.returns-in_err-write_numbered-in-Closing-clause-bytes
 returns-in_err-write_numbered-in-Closing-clause-bytes g c =
     rw c.in-Closing.is (first_failed _ _ _ (codes "closing " ++ decimal c.in-Closing.round) (codes " " ++ text_of c.in-Closing.code) _
-    c.from_residual-in-Closing.ensures.1 c.in_err-write_numbered-in-Closing.ensures.bytes)
+    c.from_residual-in_err-write_numbered-in-Closing.ensures.1 c.in_err-write_numbered-in-Closing.ensures.bytes)
 
 pub returns-in_ok-write_numbered-in-Closing-clause-bytes : goal.returns-in_ok-write_numbered-in-Closing-clause-bytes
 returns-in_ok-write_numbered-in-Closing-clause-bytes g c =
     rw c.in-Closing.is (both_written _ _ _ (codes "closing " ++ decimal c.in-Closing.round) (codes " " ++ text_of c.in-Closing.code) _
     c.in_ok-write_numbered-in-Closing.ensures.bytes c.write_code-in-Closing.ensures.bytes)
+
+pub returns-in-ClosingsSpent-clause-bytes : goal.returns-in-ClosingsSpent-clause-bytes
+returns-in-ClosingsSpent-clause-bytes g c = rw c.in-ClosingsSpent.is c.write_all.ensures.bytes
