@@ -3,3 +3,4 @@ mod Grammar
 mod Reading
 mod Outcomes
 mod Limited
+mod ServingLaws

@@ -47,7 +47,7 @@ module _ {E : Type 0} (gives : List ℕ → Result ℕ E → Type 0) (parses : (
       let few = le-leb n most (subst (λ (k : ℕ). k ≤ most) (sym parsed.1) accepted.3) in
       rw (enough, few) refl)
 
-  pub number_read : (text : Option (List ℕ)) (r : Option ℕ) → (text ≡ None → r ≡ None) → ((t : List ℕ) → text ≡ Some t → ReadsOne gives t r)
-      → within_limits least most r ≡ option_and_then (number_from least most) text
+  pub number_read : (text : Option (List ℕ)) (r : Option ℕ) → (text ≡ None → r ≡ None)
+      → ((t : List ℕ) → text ≡ Some t → ReadsOne gives t r) → within_limits least most r ≡ option_and_then (number_from least most) text
   number_read None r none some = rw (none refl) refl
   number_read (Some t) r none some = read_at t r (some t refl)

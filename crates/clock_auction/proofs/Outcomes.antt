@@ -1,5 +1,5 @@
 -- Each way in which a run can stop is one of the outcomes.
-use Rattle.std.proofs.Common.{◌≡◌, ℕ, List, [], Bool, Option, Some, Err, refl, inl, inr, arith}
+use Rattle.std.proofs.Common.{◌≡◌, ℕ, List, [], Bool, Option, Some, Err, refl, arith}
 use Rattle.clock_device.specs.Calls.{IsUnread, IsUnused}
 use Rattle.clock_auction.specs.Input.{IsReadingOf, Reading}
 use Rattle.clock_auction.specs.Output.{IsUntouched, Writing}
@@ -28,7 +28,12 @@ module _ (asked : Option Job) (job : Job) (asks : asked ≡ Some job) (reading :
   stopped_run fault.Input run line = (stopped fault.Input, refl, ((job, asks, run), line))
   stopped_run fault.LongInput run line = (stopped fault.LongInput, refl, ((job, asks, run), line))
   stopped_run fault.Output run line = (stopped fault.Output, refl, ((job, asks, run), line))
+  stopped_run fault.File run line = (stopped fault.File, refl, ((job, asks, run), line))
+  stopped_run fault.Bind run line = (stopped fault.Bind, refl, ((job, asks, run), line))
+  stopped_run fault.Accept run line = (stopped fault.Accept, refl, ((job, asks, run), line))
   stopped_run fault.Memory run line = (stopped fault.Memory, refl, (run.0, run.1, line))
   stopped_run (fault.Setup inner) run line = (stopped (fault.Setup inner), refl, ((job, asks, run), line))
   stopped_run (fault.Opening inner) run line = (stopped (fault.Opening inner), refl, ((job, asks, run), line))
+  stopped_run (fault.Script inner) run line = (stopped (fault.Script inner), refl, ((job, asks, run), line))
+  stopped_run (fault.Simulation inner) run line = (stopped (fault.Simulation inner), refl, ((job, asks, run), line))
   stopped_run (fault.PriceLimit product) run line = (stopped (fault.PriceLimit product), refl, ((job, asks, run), line))

@@ -32,5 +32,10 @@ module _ (before mid : Option (List ℕ)) (document : List ℕ) (calls interrupt
       ((document ++ step.0, took_at_last step.0 step.1, step.2), fails ∙ rw unfailed refl)
   stopped (fault.Setup inner) fails document_after step = absurd step
   stopped (fault.Opening inner) fails document_after step = absurd step
+  stopped (fault.Script inner) fails document_after step = absurd step
+  stopped (fault.Simulation inner) fails document_after step = absurd step
   stopped (fault.PriceLimit product) fails document_after step = absurd step
+  stopped fault.File fails document_after step = absurd step
+  stopped fault.Bind fails document_after step = absurd step
   stopped fault.Output fails document_after step = absurd step
+  stopped fault.Accept fails document_after step = absurd step

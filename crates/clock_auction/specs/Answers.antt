@@ -11,11 +11,23 @@ use Rattle.clock_setup.specs.declared.opening.Opening.{Opening}
 use Rattle.clock_setup.specs.declared.opening.OpeningFault.{OpeningFault}
 use Rattle.clock_posting.specs.Posting.{opening_posted, price_limit_fault, round_sheet}
 use Rattle.clock_posting.specs.SheetText.{sheet_text}
+use Rattle.clock_sim.specs.ReplayDocument.{document_replay}
+use Rattle.clock_sim.specs.Replays.{ReplayFields}
+use Rattle.clock_sim.specs.Reports.{ReportFields}
+use Rattle.clock_sim.specs.Rehearsal.{simulated}
+use Rattle.clock_sim.specs.ReportText.{report_text}
+use Rattle.clock_sim.specs.declared.fault.ScriptFault.{ScriptFault}
+use Rattle.clock_sim.specs.declared.sim_fault.SimFault.{SimFault}
 use Rattle.clock_auction.specs.PriceLines.{price_lines}
 use Rattle.clock_auction.specs.declared.words.Job.{Job}
 use Rattle.clock_auction.specs.declared.words.Job.TheVariants as job
 use Rattle.clock_auction.specs.declared.fault.Fault.{Fault}
 use Rattle.clock_auction.specs.declared.fault.Fault.TheVariants as fault
+
+-- the set-up that was read, or its fault
+abbrev pub read_in : Result SetupFields SetupFault → Result SetupFields Fault
+read_in (Ok setup) = Ok setup
+read_in (Err inner) = Err (fault.Setup inner)
 
 -- the price lines of the set-up that was read
 abbrev pub prices_of : ℕ → Result SetupFields SetupFault → Result (List ℕ) Fault
@@ -41,7 +53,18 @@ abbrev pub opening_lines_of : Result Opening OpeningFault → Result (List ℕ) 
 opening_lines_of (Ok opening) = first_round opening
 opening_lines_of (Err inner) = Err (fault.Opening inner)
 
+-- the report that was come to
+abbrev pub played : Result ReportFields SimFault → Result (List ℕ) Fault
+played (Ok report) = Ok (report_text report)
+played (Err inner) = Err (fault.Simulation inner)
+
+-- the report of the replay that was read
+abbrev pub replay_lines_of : Result ReplayFields ScriptFault → Result (List ℕ) Fault
+replay_lines_of (Ok replay) = played (simulated replay)
+replay_lines_of (Err inner) = Err (fault.Script inner)
+
 -- what the job answers to the document
 abbrev pub answer_of : Job → List ℕ → Result (List ℕ) Fault
 answer_of (job.Prices increment) document = prices_of increment (document_setup document)
 answer_of job.Opening document = opening_lines_of (document_opening document)
+answer_of job.Replay document = replay_lines_of (document_replay document)

@@ -7,6 +7,11 @@ use Rattle.clock_setup.specs.declared.fault.SetupFault.{SetupFault}
 use Rattle.clock_setup.specs.declared.fault.SetupFault.TheVariants as in_setup
 use Rattle.clock_setup.specs.declared.opening.OpeningFault.{OpeningFault}
 use Rattle.clock_setup.specs.declared.opening.OpeningFault.TheVariants as in_opening
+use Rattle.clock_sim.specs.declared.fault.ScriptFault.{ScriptFault}
+use Rattle.clock_sim.specs.declared.fault.ScriptFault.TheVariants as in_script
+use Rattle.clock_sim.specs.declared.sim_fault.SimFault.{SimFault}
+use Rattle.clock_sim.specs.declared.sim_fault.SimFault.TheVariants as in_simulation
+use Rattle.clock_views.specs.Codes.{text_of}
 use Rattle.clock_auction.specs.declared.fault.Fault.{Fault}
 use Rattle.clock_auction.specs.declared.fault.Fault.TheVariants as fault
 
@@ -47,14 +52,36 @@ opening_words (in_opening.Activity bidder) = codes "activity " ++ decimal bidder
 opening_words in_opening.Increment = codes "increment"
 opening_words in_opening.NoMemory = codes "memory"
 
+-- a fault of the set-up in a replay document has the set-up's words
+abbrev pub script_words : ScriptFault → List ℕ
+script_words in_script.NotJson = codes "not_json"
+script_words in_script.Shape = codes "shape"
+script_words (in_script.Setup inner) = setup_words inner
+script_words in_script.Scripts = codes "scripts"
+script_words (in_script.Limits bidder product) = codes "limits " ++ decimal bidder ++ (codes " " ++ decimal product)
+script_words in_script.NoMemory = codes "memory"
+
+-- a sheet or a closing that was refused is told with the code of its reply
+abbrev pub simulation_words : SimFault → List ℕ
+simulation_words (in_simulation.Refused bidder round code) =
+    codes "refused " ++ decimal bidder ++ (codes " " ++ decimal round) ++ (codes " " ++ text_of code)
+simulation_words (in_simulation.Closing round code) = codes "closing " ++ decimal round ++ (codes " " ++ text_of code)
+simulation_words in_simulation.ClosingsSpent = codes "closings_spent"
+simulation_words in_simulation.NoMemory = codes "memory"
+
 -- a fault of a document has the document's words
 abbrev pub fault_words : Fault → List ℕ
+fault_words fault.File = codes "file"
 fault_words fault.Input = codes "input"
 fault_words fault.LongInput = codes "long_input"
 fault_words (fault.Setup inner) = setup_words inner
 fault_words (fault.Opening inner) = opening_words inner
+fault_words (fault.Script inner) = script_words inner
 fault_words (fault.PriceLimit product) = codes "price_limit " ++ decimal product
+fault_words (fault.Simulation inner) = simulation_words inner
+fault_words fault.Bind = codes "bind"
 fault_words fault.Output = codes "output"
+fault_words fault.Accept = codes "accept"
 fault_words fault.Memory = codes "memory"
 
 -- the whole line

@@ -28,12 +28,7 @@ IsRunOf job reading output (Err fault.Output) =
 IsRunOf job reading output (Err fault.Input) = IsReadingOf reading (Err fault.Input) × IsUntouched output
 IsRunOf job reading output (Err fault.LongInput) = IsReadingOf reading (Err fault.LongInput) × IsUntouched output
 IsRunOf job reading output (Err fault.Memory) = IsReadingOf reading (Err fault.Memory) × IsUntouched output
-IsRunOf job reading output (Err (fault.Setup inner)) =
-    HasAnswer job reading (Err (fault.Setup inner)) × IsUntouched output
-IsRunOf job reading output (Err (fault.Opening inner)) =
-    HasAnswer job reading (Err (fault.Opening inner)) × IsUntouched output
-IsRunOf job reading output (Err (fault.PriceLimit product)) =
-    HasAnswer job reading (Err (fault.PriceLimit product)) × IsUntouched output
+IsRunOf job reading output (Err of_document) = HasAnswer job reading (Err of_document) × IsUntouched output
 
 -- how a run can end: its answer is printed, or it has a fault, or its words are refused
 pub data Outcome : Type 0 where

@@ -3,17 +3,19 @@
 --     grammar      the program's commands and options
 --     given words      the words, or those that stand for none
 --     job_of words      the job that the words ask for, where they are not refused
+--     serving_of words      what `serve` is told, where the words ask for it and are not refused
 use Rattle.std.specs.Prelude.{ℕ, true, List, [], ◌∷◌, Option, Some, None, codes, if◌then◌else◌, option_and_then, option_map}
 use Rattle.std.specs.Str.{bytes_eq}
 use Rattle.std.specs.Str.Parse.{digits_value, without_leading_plus}
-use Rattle.clap.specs.Words.{App, Kinds, Row, Rule, Shape, Text, fault_of, new_app, new_rule, one_of, subcommand_of, with_rule, with_subcommand}
+use Rattle.clap.specs.Words.{App, Kinds, Row, Rule, Shape, Text, fault_of, first_of, new_app, new_rule, one_of, subcommand_of, with_rule, with_subcommand}
 use Rattle.clap.specs.Simple.{on_top}
 use Rattle.clap.specs.ValueTests.{is_unsigned_in}
 use Rattle.clap.specs.declared.builder.value_parser.ValueParser.TheVariants as parser
 use Rattle.clock_setup.specs.Increments.{IsIncrement}
 use Rattle.clock_setup.specs.Limits.{least_increment, most_increment}
 use Rattle.clock_auction.specs.declared.words.Job.{Job}
-use Rattle.clock_auction.specs.declared.words.Job.TheVariants.{Prices, Opening}
+use Rattle.clock_auction.specs.declared.words.Serving.{Serving}
+use Rattle.clock_auction.specs.declared.words.Job.TheVariants.{Prices, Opening, Replay}
 
 -- `--increment N`, within its limits, and 10 where it is not given
 abbrev pub increment_option : Rule
@@ -27,15 +29,37 @@ increment_option = record (new_rule (codes "increment")) {
 abbrev pub prices_grammar : App
 prices_grammar = with_rule (new_app (codes "prices")) increment_option
 
+-- a port is a number of 16 bits other than 0
+abbrev pub most_port : ℕ
+most_port = 65535
+
+-- how many connections `serve` takes at most
+abbrev pub most_connections : ℕ
+most_connections = 1000000
+
+-- an option that must be given, as `--setup FILE`
+abbrev pub needed_rule : Text → Rule
+needed_rule name = record (new_rule name) { long = Some name; value_names = 1; required = true }
+
+-- the same with a number, which is 1 or more
+abbrev pub number_rule : Text → ℕ → Rule
+number_rule name most = record (needed_rule name) { parser = Some (parser.Unsigned 1 most) }
+
+-- `serve --setup FILE --port N --connections K`
+abbrev pub serve_grammar : App
+serve_grammar =
+    with_rule (with_rule (with_rule (new_app (codes "serve")) (needed_rule (codes "setup")))
+    (number_rule (codes "port") most_port)) (number_rule (codes "connections") most_connections)
+
 -- the words begin with a command, and not with the program's own name, or ask for help or the version
 abbrev pub asks_for_a_command : Shape → Shape
 asks_for_a_command shape = record shape { no_binary_name = true; subcommand_required = true; has_version = true }
 
--- the commands `prices` and `opening`, one of which must be named
+-- the commands, one of which must be named
 abbrev pub grammar : App
 grammar =
-    with_subcommand (with_subcommand (on_top asks_for_a_command (new_app (codes "clock_auction"))) prices_grammar.top)
-    (new_app (codes "opening")).top
+    with_subcommand (with_subcommand (with_subcommand (with_subcommand (on_top asks_for_a_command (new_app (codes "clock_auction"))) prices_grammar.top)
+    (new_app (codes "opening")).top) (new_app (codes "replay")).top) serve_grammar.top
 
 -- no word stands for `prices --increment 10`
 abbrev pub given : List Text → List Text
@@ -56,21 +80,46 @@ abbrev pub job_named : Text → List Row → Option Job
 job_named name options =
     if bytes_eq name (codes "prices")
     then option_map Prices (number_of (codes "increment") least_increment most_increment options)
-    else (if bytes_eq name (codes "opening") then Some Opening else None)
+    else (if bytes_eq name (codes "opening") then Some Opening else (if bytes_eq name (codes "replay") then Some Replay else None))
 
 -- what the command that was met asks for
 abbrev pub job_met : Option (Text × List Row) → Option Job
 job_met None = None
 job_met (Some met) = job_named met.0 met.1
 
--- the job, and none where the words may be refused
-abbrev pub unless_refused : Kinds → Option Job → Option Job
-unless_refused [] job = job
-unless_refused (kind ∷ kinds) job = None
+-- what `serve` is told: the file of the set-up, the port, and how many connections
+pub record ServingTold : Type 0 where
+  pub setup : Text
+  pub port : ℕ
+  pub connections : ℕ
+
+-- what its options tell
+abbrev pub serving_from : List Row → Option ServingTold
+serving_from options =
+    option_and_then (λ setup. option_and_then (λ port. option_map (λ connections. record { setup = setup; port = port; connections = connections })
+    (number_of (codes "connections") 1 most_connections options)) (number_of (codes "port") 1 most_port options)) (first_of (codes "setup") options)
+
+-- what the command that was met tells, where it is `serve`
+abbrev pub serving_met : Option (Text × List Row) → Option ServingTold
+serving_met None = None
+serving_met (Some met) = if bytes_eq met.0 (codes "serve") then serving_from met.1 else None
+
+-- the same as the code has it
+abbrev pub told : Serving → ServingTold
+told serving = record { setup = serving.setup.now; port = serving.port; connections = serving.connections }
+
+-- what is meant, and nothing where the words may be refused
+abbrev pub unless_refused : {A : Type 0} → Kinds → Option A → Option A
+unless_refused [] meant = meant
+unless_refused (kind ∷ kinds) meant = None
 
 -- the job that some words ask for, and none where clap refuses them
 abbrev pub job_meant : List Text → Option Job
 job_meant words = unless_refused (fault_of grammar words) (job_met (subcommand_of grammar words))
+
+-- what the words tell `serve`, and nothing where clap refuses them or they ask for another command
+abbrev pub serving_of : List Text → Option ServingTold
+serving_of words = unless_refused (fault_of grammar words) (serving_met (subcommand_of grammar words))
 
 -- the job that the words after the program's name ask for
 abbrev pub job_of : List Text → Option Job
@@ -80,3 +129,4 @@ job_of words = job_meant (given words)
 abbrev pub IsJob : Job → Type 0
 IsJob (Prices increment) = IsIncrement increment
 IsJob Opening = Unit {0}
+IsJob Replay = Unit {0}

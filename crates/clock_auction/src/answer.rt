@@ -1,5 +1,6 @@
 ghost use Rattle.std.specs.Prelude.{◌≡◌, ◌≢◌, ◌≤◌, Ok, Err, IfOk, IfErr};
-ghost use Rattle.clock_auction.specs.Answers.{answer_of};
+ghost use Rattle.clock_setup.specs.SetupDocument.{document_setup};
+ghost use Rattle.clock_auction.specs.Answers.{answer_of, read_in};
 ghost use Rattle.clock_auction.specs.Words.{IsJob};
 
 use crate::fault::Fault;
@@ -7,7 +8,8 @@ use crate::prices::prices_text;
 use crate::words::Job;
 use clock_device::Text;
 use clock_posting::{PostFault, post_first, sheet_lines};
-use clock_setup::{Increments, OpeningFault, SetupFault, read_opening, read_setup};
+use clock_setup::{Increments, OpeningFault, Setup, SetupFault, read_opening, read_setup};
+use clock_sim::{ScriptFault, SimFault, read_replay, report_text, simulate};
 use std::alloc::Global;
 
 /// What the job prints of the document, or the document's fault.
@@ -19,6 +21,19 @@ pub fn answer(alloc: Global, job: Job, document: &[u8]) -> Result<Text, Fault>
     match job {
         Job::Prices(increment) => prices_answer(alloc, increment, document),
         Job::Opening => opening_answer(alloc, document),
+        Job::Replay => replay_answer(alloc, document),
+    }
+}
+
+/// The set-up that a document means, or the document's fault.
+pub fn setup_in(alloc: Global, document: &[u8]) -> Result<Setup, Fault>
+    ensures ok { IfOk result (λ setup. document_setup document.now ≡ Ok setup) }
+    ensures err { IfErr result (λ fault. fault ≢ Fault.Memory → read_in (document_setup document.now) ≡ Err fault) }
+{
+    match read_setup(alloc, document) {
+        Ok(setup) => Ok(setup),
+        Err(SetupFault::NoMemory) => Err(Fault::Memory),
+        Err(fault) => Err(Fault::Setup(fault)),
     }
 }
 
@@ -28,11 +43,7 @@ fn prices_answer(alloc: Global, increment: u64, document: &[u8]) -> Result<Text,
     ensures err { IfErr result (λ fault. fault ≢ Fault.Memory
         → answer_of (Job.Prices increment) document.now ≡ Err fault) }
 {
-    let setup = match read_setup(alloc, document) {
-        Ok(setup) => setup,
-        Err(SetupFault::NoMemory) => return Err(Fault::Memory),
-        Err(fault) => return Err(Fault::Setup(fault)),
-    };
+    let setup = setup_in(alloc, document)?;
     Ok(prices_text(alloc, &setup, increment)?)
 }
 
@@ -53,4 +64,22 @@ fn opening_answer(alloc: Global, document: &[u8]) -> Result<Text, Fault>
         Err(PostFault::NoMemory) => return Err(Fault::Memory),
     };
     Ok(sheet_lines(alloc, &opening.setup, &posting.sheet)?)
+}
+
+fn replay_answer(alloc: Global, document: &[u8]) -> Result<Text, Fault>
+    ensures ok { IfOk result (λ text. answer_of Job.Replay document.now ≡ Ok text) }
+    ensures err { IfErr result (λ fault. fault ≢ Fault.Memory
+        → answer_of Job.Replay document.now ≡ Err fault) }
+{
+    let replay = match read_replay(alloc, document) {
+        Ok(replay) => replay,
+        Err(ScriptFault::NoMemory) => return Err(Fault::Memory),
+        Err(fault) => return Err(Fault::Script(fault)),
+    };
+    let report = match simulate(alloc, &replay) {
+        Ok(report) => report,
+        Err(SimFault::NoMemory) => return Err(Fault::Memory),
+        Err(fault) => return Err(Fault::Simulation(fault)),
+    };
+    Ok(report_text(alloc, &report)?)
 }

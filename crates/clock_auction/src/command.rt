@@ -15,14 +15,17 @@ use clap::error::ErrorKind;
 use clock_device::{Sink, Source, write_all};
 use std::alloc::Global;
 
+/// What is shown of good words that ask for `serve`, which is no command on streams.
+static NOT_HERE: &str = "error: `serve` is done by the program itself, and not over streams\n";
+
 /// One run of the program: does what the words after its name ask for, with a document from the
 /// reader, and answers the exit status.
 ///
 /// - 0: the writer has the whole text, and nothing is shown on `faults`.
 /// - 1: there was a fault. Its one line is shown on `faults`, and the writer has nothing, unless it
 ///   is the writer that failed.
-/// - 2: the words ask for nothing that the program does, or for help. What clap says of that is
-///   shown on `faults`, and nothing is read or written.
+/// - 2: the words ask for nothing that is done here, or for help. What clap says of that is shown on
+///   `faults`, and nothing is read or written. `serve` is not done here: the program's `main` takes it.
 ///
 /// At most 67,108,864 bytes are read, and one more to see that there are more, in at most
 /// 100,000,000 reads. A line that cannot be shown leaves the status as it is.
@@ -57,7 +60,10 @@ pub fn command<R: Source, W: Sink, F: Sink>(
                 1
             }
         },
-        Ok(None) => 2,
+        Ok(None) => {
+            let _ = write_all(faults, NOT_HERE.as_bytes());
+            2
+        }
         Err(error) => {
             if error.kind() == ErrorKind::OutOfMemory {
                 show_fault(Fault::Memory, faults);
@@ -100,7 +106,7 @@ fn run<R: Source, W: Sink>(
 }
 
 /// Shows the line of a fault, or a front of it where it cannot all be shown.
-fn show_fault<F: Sink>(fault: Fault, faults: &mut F)
+pub fn show_fault<F: Sink>(fault: Fault, faults: &mut F)
     requires { IsUnused (F.calls faults.old) (F.has_failed faults.old) }
     ensures { Shows
         (record { before = F.bytes_taken faults.old; after = F.bytes_taken faults.new; calls = F.calls faults.new; has_failed = F.has_failed faults.new })

@@ -1,21 +1,29 @@
 //! The commands and options of the program, as clap is told of them.
 ghost use Rattle.std.specs.Prelude.{◌≡◌, codes, false, IfOk, IfErr};
-ghost use Rattle.clap.specs.Words.{app_of, kind_of, new_app};
+ghost use Rattle.clap.specs.Words.{app_of, kind_of, new_app, rule_of};
 ghost use Rattle.clap.specs.Simple.{on_top};
 ghost use Rattle.clap.specs.declared.builder.Command.TheViews.{out-Command};
-ghost use Rattle.clock_auction.specs.Words.{asks_for_a_command, grammar, prices_grammar};
+ghost use Rattle.clock_auction.specs.Words.{asks_for_a_command, grammar, needed_rule, number_rule, prices_grammar, serve_grammar};
 
-use crate::help::{OPENING_HELP, PRICES_HELP, PROGRAM_HELP, number_help};
+use crate::help::{OPENING_HELP, PRICES_HELP, PROGRAM_HELP, REPLAY_HELP, SERVE_HELP, number_help};
 use clap::builder::ValueParser;
 use clap::error::ErrorKind;
 use clap::{Arg, Command, Error};
 use clock_money::{LEAST_INCREMENT, MOST_INCREMENT};
 use std::alloc::{AllocError, Global};
 
+/// The highest port.
+pub const MOST_PORT: u64 = 65_535;
+
+/// How many connections `serve` takes at most.
+pub const MOST_CONNECTIONS: u64 = 1_000_000;
+
 /// What is said of each number that an option takes.
 #[derive(Drop)]
 pub struct NumberHelps {
     increment: String,
+    port: String,
+    connections: String,
 }
 
 /// The texts for the limits that there are.
@@ -26,6 +34,13 @@ pub fn number_helps(alloc: Global) -> Result<NumberHelps, AllocError> {
             "By how many percent prices rise",
             LEAST_INCREMENT,
             MOST_INCREMENT,
+        )?,
+        port: number_help(alloc, "The port of 127.0.0.1", 1, MOST_PORT)?,
+        connections: number_help(
+            alloc,
+            "How many connections are served",
+            1,
+            MOST_CONNECTIONS,
         )?,
     })
 }
@@ -45,6 +60,52 @@ fn prices_command<'a>(alloc: Global, helps: &'a NumberHelps) -> Result<Command<'
         .about("Prints each product's opening price and next clock price")
         .after_help(PRICES_HELP);
     Ok(prices.arg(increment)?)
+}
+
+/// `--setup FILE`.
+fn setup_option<'a>(alloc: Global) -> Arg<'a>
+    ensures rule { rule_of result ≡ needed_rule (codes "setup") }
+    ensures local { result.global ≡ false }
+{
+    Arg::new(alloc, "setup")
+        .long("setup")
+        .value_name("FILE")
+        .required(true)
+        .help("The file of the set-up document")
+}
+
+/// An option of a number from 1 on.
+fn number_option<'a>(alloc: Global, name: &'a str, most: u64, help: &'a str) -> Arg<'a>
+    ensures rule { rule_of result ≡ number_rule name.now most }
+    ensures local { result.global ≡ false }
+{
+    Arg::new(alloc, name)
+        .long(name)
+        .value_name("N")
+        .required(true)
+        .value_parser(ValueParser::Unsigned(1, most))
+        .help(help)
+}
+
+/// `serve` and its options.
+fn serve_command<'a>(alloc: Global, helps: &'a NumberHelps) -> Result<Command<'a>, Error>
+    ensures shape { IfOk result (λ command. app_of command ≡ serve_grammar) }
+    ensures local { IfOk result (λ command. (out-Command command).has_globals ≡ false) }
+    ensures err { IfErr result (λ error. kind_of error ≡ ErrorKind.OutOfMemory) }
+{
+    let port = number_option(alloc, "port", MOST_PORT, helps.port.as_str());
+    let connections = number_option(
+        alloc,
+        "connections",
+        MOST_CONNECTIONS,
+        helps.connections.as_str(),
+    );
+    let serve = Command::new(alloc, "serve")
+        .about("Takes the bids and closings of an auction on a port of 127.0.0.1")
+        .after_help(SERVE_HELP);
+    let with_setup = serve.arg(setup_option(alloc))?;
+    let with_port = with_setup.arg(port)?;
+    Ok(with_port.arg(connections)?)
 }
 
 /// The program without its commands.
@@ -69,12 +130,18 @@ pub fn program<'a>(alloc: Global, helps: &'a NumberHelps) -> Result<Command<'a>,
     ensures err { IfErr result (λ error. kind_of error ≡ ErrorKind.OutOfMemory) }
 {
     let prices = prices_command(alloc, helps)?;
+    let serve = serve_command(alloc, helps)?;
     let opening = Command::new(alloc, "opening")
         .about("Prints the sheet of round 1")
         .after_help(OPENING_HELP);
+    let replay = Command::new(alloc, "replay")
+        .about("Plays an auction of scripted bidders and prints its rounds and what each won")
+        .after_help(REPLAY_HELP);
     Ok(
         program_alone(alloc)?
             .subcommand(prices)?
-            .subcommand(opening)?,
+            .subcommand(opening)?
+            .subcommand(replay)?
+            .subcommand(serve)?,
     )
 }

@@ -1,10 +1,13 @@
 ghost use Rattle.std.specs.Prelude.{◌≡◌, ◌++◌, ◌||◌, codes, decimal, is_err};
 ghost use Rattle.clock_device.specs.Streams.{WritesText};
-ghost use Rattle.clock_auction.specs.FaultLines.{fault_line, fault_words, opening_words, place_words, setup_words};
+ghost use Rattle.clock_auction.specs.FaultLines.{fault_line, fault_words, opening_words, place_words, script_words, setup_words, simulation_words};
+ghost use Rattle.clock_views.specs.Codes.{text_of};
 
 use crate::fault::Fault;
 use clock_device::{Failed, Sink, write_all, write_number};
 use clock_setup::{OpeningFault, Place, SetupFault};
+use clock_sim::{ScriptFault, SimFault};
+use clock_views::Code;
 
 /// Writes the line of a fault, `fault: WORDS` and a line feed. It takes no memory.
 pub fn write_fault<W: Sink>(sink: &mut W, fault: Fault) -> Result<(), Failed>
@@ -21,12 +24,17 @@ fn write_words<W: Sink>(sink: &mut W, fault: Fault) -> Result<(), Failed>
     ensures failed { W.has_failed sink.new ≡ (W.has_failed sink.old || is_err result) }
 {
     match fault {
+        Fault::File => write_all(sink, b"file"),
         Fault::Input => write_all(sink, b"input"),
         Fault::LongInput => write_all(sink, b"long_input"),
         Fault::Setup(fault) => write_setup_words(sink, fault),
         Fault::Opening(fault) => write_opening_words(sink, fault),
+        Fault::Script(fault) => write_script_words(sink, fault),
         Fault::PriceLimit(product) => write_numbered(sink, "price_limit ", product),
+        Fault::Simulation(fault) => write_simulation_words(sink, fault),
+        Fault::Bind => write_all(sink, b"bind"),
         Fault::Output => write_all(sink, b"output"),
+        Fault::Accept => write_all(sink, b"accept"),
         Fault::Memory => write_all(sink, b"memory"),
     }
 }
@@ -39,13 +47,42 @@ fn write_opening_words<W: Sink>(sink: &mut W, fault: OpeningFault) -> Result<(),
         OpeningFault::NotJson => write_all(sink, b"not_json"),
         OpeningFault::Shape => write_all(sink, b"shape"),
         OpeningFault::Setup(fault) => write_setup_words(sink, fault),
-        OpeningFault::Demand(bidder, product) => {
-            write_numbered(sink, "demand ", bidder)?;
-            write_numbered(sink, " ", product)
-        }
+        OpeningFault::Demand(bidder, product) => write_pair(sink, "demand ", bidder, product),
         OpeningFault::Activity(bidder) => write_numbered(sink, "activity ", bidder),
         OpeningFault::Increment => write_all(sink, b"increment"),
         OpeningFault::NoMemory => write_all(sink, b"memory"),
+    }
+}
+
+fn write_script_words<W: Sink>(sink: &mut W, fault: ScriptFault) -> Result<(), Failed>
+    ensures bytes { WritesText (W.bytes_taken sink.old) (W.bytes_taken sink.new) (script_words fault) result }
+    ensures failed { W.has_failed sink.new ≡ (W.has_failed sink.old || is_err result) }
+{
+    match fault {
+        ScriptFault::NotJson => write_all(sink, b"not_json"),
+        ScriptFault::Shape => write_all(sink, b"shape"),
+        ScriptFault::Setup(fault) => write_setup_words(sink, fault),
+        ScriptFault::Scripts => write_all(sink, b"scripts"),
+        ScriptFault::Limits(bidder, product) => write_pair(sink, "limits ", bidder, product),
+        ScriptFault::NoMemory => write_all(sink, b"memory"),
+    }
+}
+
+fn write_simulation_words<W: Sink>(sink: &mut W, fault: SimFault) -> Result<(), Failed>
+    ensures bytes { WritesText (W.bytes_taken sink.old) (W.bytes_taken sink.new) (simulation_words fault) result }
+    ensures failed { W.has_failed sink.new ≡ (W.has_failed sink.old || is_err result) }
+{
+    match fault {
+        SimFault::Refused(bidder, round, code) => {
+            write_pair(sink, "refused ", bidder, round)?;
+            write_code(sink, code)
+        }
+        SimFault::Closing(round, code) => {
+            write_numbered(sink, "closing ", round)?;
+            write_code(sink, code)
+        }
+        SimFault::ClosingsSpent => write_all(sink, b"closings_spent"),
+        SimFault::NoMemory => write_all(sink, b"memory"),
     }
 }
 
@@ -96,4 +133,22 @@ fn write_numbered<W: Sink>(sink: &mut W, word: &str, number: u64) -> Result<(), 
 {
     write_all(sink, word.as_bytes())?;
     write_number(sink, number)
+}
+
+/// Writes a word and two numbers.
+fn write_pair<W: Sink>(sink: &mut W, word: &str, first: u64, second: u64) -> Result<(), Failed>
+    ensures bytes { WritesText (W.bytes_taken sink.old) (W.bytes_taken sink.new) (word.now ++ decimal first ++ (codes " " ++ decimal second)) result }
+    ensures failed { W.has_failed sink.new ≡ (W.has_failed sink.old || is_err result) }
+{
+    write_numbered(sink, word, first)?;
+    write_numbered(sink, " ", second)
+}
+
+/// Writes a code after a space.
+fn write_code<W: Sink>(sink: &mut W, code: Code) -> Result<(), Failed>
+    ensures bytes { WritesText (W.bytes_taken sink.old) (W.bytes_taken sink.new) (codes " " ++ text_of code) result }
+    ensures failed { W.has_failed sink.new ≡ (W.has_failed sink.old || is_err result) }
+{
+    write_all(sink, b" ")?;
+    write_all(sink, code.text().as_bytes())
 }

@@ -32,6 +32,32 @@ Example:
   round 1
   A 100 100 100 3 110";
 
+/// Of `replay`.
+pub static REPLAY_HELP: &str = "\
+Reads from standard input a replay document: a set-up, a script for each bidder, and the closings in order.
+Prints each round as `opening` does, and then a line `won NAME D0 .. Dn PAY` for each bidder: how many
+blocks of each product it won, and what it pays for them in dollars.
+Answers with 0, or with 1 and a line as `fault: scripts`, `fault: limits 0 0`, `fault: refused 0 1 over_cap`,
+`fault: closing 1 increment`, `fault: closings_spent`.
+
+Example:
+  clock_auction replay < examples/rehearsal.json
+  round 1
+  North 1000 1000 1000 8 1100
+  ..
+  won Dogwood 1 0 2 2980";
+
+/// Of `serve`.
+pub static SERVE_HELP: &str = "\
+Reads a set-up document of version 1 or 2 from the file, and listens on 127.0.0.1 at the port.
+Prints `ready N` with the port, once it listens. Then it serves connections one after the other, with one
+request each, and ends after the last. A connection that fails ends alone. Nothing is kept on disk.
+Answers with 0, or with 1 and a line as `fault: file`, `fault: setup_shape`, `fault: bind`, `fault: accept`.
+
+Example:
+  clock_auction serve --setup examples/one_product.json --port 8105 --connections 100
+  ready 8105";
+
 /// What is said of a number that an option takes, with its limits.
 pub fn number_help(
     alloc: Global,

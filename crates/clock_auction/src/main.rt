@@ -1,4 +1,4 @@
-//! The program: reads a document on standard input and prints the lines that it asks for.
+//! The program: answers a document on standard input, or serves an auction on a port.
 #![tactic(auto)]
 
 ghost use Rattle.std.specs.Prelude.{◌≡◌, map, string_bytes, IfOk};
@@ -11,37 +11,62 @@ mod fault_lines;
 mod help;
 mod input;
 mod prices;
+mod serve;
+mod serving;
 #[cfg(test)]
 mod tests;
 mod words;
 
+use clap::error::ErrorKind;
 use clock_device::{FromReader, ToWriter};
-use command::command;
+use command::{command, show_fault};
+use commands::number_helps;
+use fault::Fault;
+use serve::serve;
 use std::alloc::{AllocError, Global};
 use std::process::ExitCode;
 use std::rt::Env;
 use std::{env, io};
+use words::serving_asked;
 
 /// Standard input is the document's, standard output the text's, and standard error the fault's.
 fn main(rt: HostRuntime) -> io::Result<ExitCode> {
     let status = match given_words(&rt) {
         Ok(words) => match texts_of(rt.alloc(), words.as_slice()) {
-            Ok(texts) => command(
-                rt.alloc(),
-                texts.as_slice(),
-                &mut FromReader::new(rt.stdin()),
-                &mut ToWriter::new(rt.stdout()),
-                &mut ToWriter::new(rt.stderr()),
-            ),
-            Err(AllocError) => memory_fault(&rt),
+            Ok(texts) => run(&rt, texts.as_slice()),
+            Err(AllocError) => fault_status(&rt, Fault::Memory),
         },
-        Err(error) if error.kind() == io::ErrorKind::OutOfMemory => memory_fault(&rt),
+        Err(error) if error.kind() == io::ErrorKind::OutOfMemory => {
+            fault_status(&rt, Fault::Memory)
+        }
         Err(_) => {
             let _ = rt.eprintln("error: a word is not UTF-8");
             2
         }
     };
     Ok(ExitCode::from(status))
+}
+
+/// Does what the words ask for, and answers the exit status. `serve` is done here, and all else by
+/// `command`.
+fn run(rt: &HostRuntime, words: &[&str]) -> u8 {
+    let Ok(helps) = number_helps(rt.alloc()) else {
+        return fault_status(rt, Fault::Memory);
+    };
+    match serving_asked(rt.alloc(), &helps, words) {
+        Ok(Some(serving)) => match serve(rt, &serving) {
+            Ok(()) => 0,
+            Err(fault) => fault_status(rt, fault),
+        },
+        Err(error) if error.kind() == ErrorKind::OutOfMemory => fault_status(rt, Fault::Memory),
+        _ => command(
+            rt.alloc(),
+            words,
+            &mut FromReader::new(rt.stdin()),
+            &mut ToWriter::new(rt.stdout()),
+            &mut ToWriter::new(rt.stderr()),
+        ),
+    }
 }
 
 /// The words after the program's name.
@@ -64,8 +89,8 @@ fn texts_of(alloc: Global, words: &[String]) -> Result<Vec<&str>, AllocError>
     Ok(texts)
 }
 
-/// Shows that the program's own words found no memory.
-fn memory_fault(rt: &impl Eprint) -> u8 {
-    let _ = rt.eprintln("fault: memory");
+/// Shows the line of a fault on standard error, and answers the status of a run that has one.
+fn fault_status(rt: &HostRuntime, fault: Fault) -> u8 {
+    show_fault(fault, &mut ToWriter::new(rt.stderr()));
     1
 }

@@ -3,7 +3,7 @@
 use crate::command::command;
 use clock_device::{ListSink, ListSource, NoMemory, Stop};
 use clock_setup::fixtures::ONE_PRODUCT;
-use std::alloc::Global;
+use std::alloc::{AllocError, Global};
 use std::process::Abort;
 use std::test::Fail;
 
@@ -41,7 +41,7 @@ struct Streams {
 /// Streams that never fail.
 const SOUND: Streams = Streams {
     read_stop: None,
-    room: 100,
+    room: 200,
     output_stop: None,
     fault_stop: None,
 };
@@ -114,6 +114,11 @@ fn a_document_has_a_fault(rt: HostRuntime) -> Result<(), Fail> {
         (["prices"].as_slice(), "", "fault: setup_not_json\n"),
         (["prices"].as_slice(), "{", "fault: setup_not_json\n"),
         (["opening"].as_slice(), "[]", "fault: shape\n"),
+        (
+            ["replay"].as_slice(),
+            r#"{"setup":{},"scripts":[],"closings":[]}"#,
+            "fault: setup_shape\n",
+        ),
     ] {
         assert_ends(
             &rt,
@@ -126,12 +131,85 @@ fn a_document_has_a_fault(rt: HostRuntime) -> Result<(), Fail> {
     Ok(())
 }
 
+/// A replay of the set-up of one product with these scripts and closings.
+fn replay_document(alloc: Global, scripts: &str, closings: &str) -> Result<String, AllocError> {
+    format!(in alloc;
+        "{{\"setup\":{ONE_PRODUCT},\"scripts\":[{scripts}],\"closings\":[{closings}]}}"
+    )
+}
+
+/// Scripts by which X leaves two blocks at 120 and 115, and Y one at 130.
+const SINCERE: &str =
+    r#"{"kind":"sincere","limits":[[120,115]]},{"kind":"sincere","limits":[[130]]}"#;
+
+/// Three closings, after which these scripts come to an end.
+const CLOSINGS: &str =
+    r#"{"increment":10,"ties":[]},{"increment":10,"ties":[]},{"increment":10,"ties":[]}"#;
+
+/// The report of these.
+const REPORT: &str =
+    "round 1\nA 100 100 100 3 110\nround 2\nA 100 110 110 3 121\nround 3\nA 110 121 115 - -\nwon X 1 115\nwon Y 1 115\n";
+
+/// Scripts and closings, and the fault that they have.
+const REPLAY_FAULTS: [(&str, &str, &str); 8] = [
+    ("{", CLOSINGS, "fault: not_json\n"),
+    ("1", CLOSINGS, "fault: shape\n"),
+    (
+        r#"{"kind":"literal","sheets":[]}"#,
+        CLOSINGS,
+        "fault: scripts\n",
+    ),
+    (
+        r#"{"kind":"sincere","limits":[[115,120]]},{"kind":"literal","sheets":[]}"#,
+        CLOSINGS,
+        "fault: limits 0 0\n",
+    ),
+    (
+        r#"{"kind":"literal","sheets":[[{"price":100,"product":0,"quantity":3}]]},{"kind":"literal","sheets":[]}"#,
+        CLOSINGS,
+        "fault: refused 0 1 over_cap\n",
+    ),
+    (
+        SINCERE,
+        r#"{"increment":51,"ties":[]}"#,
+        "fault: closing 1 increment\n",
+    ),
+    (
+        SINCERE,
+        r#"{"increment":10,"ties":[]},{"increment":10,"ties":[]}"#,
+        "fault: closings_spent\n",
+    ),
+    (
+        SINCERE,
+        r#"{"increments":[10],"ties":[]}"#,
+        "fault: shape\n",
+    ),
+];
+
+#[test]
+fn a_replay_has_a_report(rt: HostRuntime) -> Result<(), Fail> {
+    let document = replay_document(rt.alloc(), SINCERE, CLOSINGS)?;
+    let run = run(rt.alloc(), ["replay"].as_slice(), document.as_str(), &SOUND)?;
+    assert_ends(&rt, &run, 0, REPORT, "");
+    Ok(())
+}
+
+#[test]
+fn a_replay_has_a_fault(rt: HostRuntime) -> Result<(), Fail> {
+    for (scripts, closings, fault) in REPLAY_FAULTS {
+        let document = replay_document(rt.alloc(), scripts, closings)?;
+        let run = run(rt.alloc(), ["replay"].as_slice(), document.as_str(), &SOUND)?;
+        assert_ends(&rt, &run, 1, "", fault);
+    }
+    Ok(())
+}
+
 #[test]
 fn other_words_are_refused(rt: HostRuntime) -> Result<(), Fail> {
     for words in [
         ["prices", "--increment", "0"].as_slice(),
         ["prices", "--increment", "51"].as_slice(),
-        ["replay"].as_slice(),
+        ["repla"].as_slice(),
         ["serve", "--setup", "a", "--port", "1", "--connections", "1"].as_slice(),
         ["--help"].as_slice(),
         ["--version"].as_slice(),

@@ -1,10 +1,10 @@
 //! What the words after the program's name ask for.
-ghost use Rattle.std.specs.Prelude.{◌≡◌, ◌≢◌, ◌&&◌, if◌then◌else◌, nat_le, Some, None, map, IfSome, IfOk, IfErr};
+ghost use Rattle.std.specs.Prelude.{◌≡◌, ◌≢◌, ◌&&◌, if◌then◌else◌, nat_le, Some, None, map, option_map, IfSome, IfOk, IfErr};
 ghost use Rattle.clock_setup.specs.Limits.{IsWithin};
-ghost use Rattle.clap.specs.Words.{found_of, kind_of, rows_of, subcommand_rows_of};
-ghost use Rattle.clock_auction.specs.Words.{IsJob, job_meant, job_met, job_of, number_of};
+ghost use Rattle.clap.specs.Words.{first_of, found_of, kind_of, rows_of, subcommand_rows_of};
+ghost use Rattle.clock_auction.specs.Words.{IsJob, job_meant, job_met, job_of, number_of, serving_from, serving_met, serving_of, told};
 
-use crate::commands::{number_helps, program};
+use crate::commands::{MOST_CONNECTIONS, MOST_PORT, NumberHelps, number_helps, program};
 use clap::error::ErrorKind;
 use clap::{ArgMatches, Error};
 use clock_money::{LEAST_INCREMENT, MOST_INCREMENT};
@@ -17,6 +17,19 @@ pub enum Job {
     Prices(u64),
     /// The lines of round 1 for an opening document.
     Opening,
+    /// The report of a replay document.
+    Replay,
+}
+
+/// What `serve` is told.
+#[derive(Clone, Copy, Debug)]
+pub struct Serving<'a> {
+    /// The file of the set-up document.
+    pub setup: &'a str,
+    /// The port of 127.0.0.1.
+    pub port: u16,
+    /// How many connections are served.
+    pub connections: u64,
 }
 
 /// What a run without any word does.
@@ -53,6 +66,8 @@ fn job_in(matches: &ArgMatches) -> Option<Job>
         Some(Job::Prices(number_in(options, "increment", LEAST_INCREMENT, MOST_INCREMENT)?))
     } else if name == "opening" {
         Some(Job::Opening)
+    } else if name == "replay" {
+        Some(Job::Replay)
     } else {
         None
     }
@@ -83,4 +98,52 @@ pub fn job_asked(alloc: Global, words: &[&str]) -> Result<Option<Job>, Error>
     } else {
         job_in_words(alloc, words)
     }
+}
+
+/// The text that an option is given.
+fn text_in<'a>(options: &ArgMatches<'a>, name: &str) -> Option<&'a str>
+    ensures { option_map (λ text. text.now) result ≡ first_of name.now (rows_of (found_of options.now)) }
+{
+    options.get_str(name)
+}
+
+/// What the options of `serve` tell.
+fn serving_with<'a>(options: &ArgMatches<'a>) -> Option<Serving<'a>>
+    ensures { option_map told result ≡ serving_from (rows_of (found_of options.now)) }
+{
+    let setup = text_in(options, "setup")?;
+    let port = number_in(options, "port", 1, MOST_PORT)?;
+    let connections = number_in(options, "connections", 1, MOST_CONNECTIONS)?;
+    Some(Serving {
+        setup,
+        port: port as u16,
+        connections,
+    })
+}
+
+/// What the matches tell `serve`, where they name it.
+fn serving_in<'a>(matches: &ArgMatches<'a>) -> Option<Serving<'a>>
+    ensures { option_map told result ≡ serving_met (subcommand_rows_of matches.now) }
+{
+    let (name, options) = matches.subcommand()?;
+    if name == "serve" {
+        serving_with(options)
+    } else {
+        None
+    }
+}
+
+/// What the words tell `serve`, where they ask for it. An error's text says what is wrong with the
+/// words, or is the help that they ask for.
+pub fn serving_asked<'a>(
+    alloc: Global,
+    helps: &'a NumberHelps,
+    words: &'a [&'a str],
+) -> Result<Option<Serving<'a>>, Error>
+    ensures ok { IfOk result (λ serving. option_map told serving ≡ serving_of (map (λ word. word.now) words.entry.now)) }
+    ensures err { IfErr result (λ error. kind_of error ≢ ErrorKind.OutOfMemory
+        → serving_of (map (λ word. word.now) words.entry.now) ≡ None) }
+{
+    let matches = program(alloc, helps)?.try_get_matches_from(words)?;
+    Ok(serving_in(&matches))
 }

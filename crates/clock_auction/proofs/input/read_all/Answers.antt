@@ -1,4 +1,4 @@
-use Rattle.std.proofs.Common.{◌≡◌, ◌≤◌, refl, arith}
+use Rattle.std.proofs.Common.{refl, arith}
 use Rattle.std.proofs.lemmas.Result.{err_from_is_err_and}
 use Rattle.clock_auction.proofs.Reading.{stopped}
 use Rattle.clock_auction.proofs.input.read_all.Goals as goal

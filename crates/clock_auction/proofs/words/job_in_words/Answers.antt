@@ -1,16 +1,17 @@
 use Rattle.std.proofs.Common.{◌∙◌, ap, map}
 use Rattle.std.proofs.lemmas.Result.{err_from_is_err_and}
 use Rattle.clap.specs.Words.{kind_of}
-use Rattle.clock_auction.proofs.Grammar.{job_taken, job_refused}
+use Rattle.clock_auction.proofs.Grammar.{meant_as_taken, none_meant}
+use Rattle.clock_auction.specs.Words.{job_met}
 use Rattle.clock_auction.proofs.words.job_in_words.Goals as goal
 
 pub returns-in_err-matches-clause-err : goal.returns-in_err-matches-clause-err
 returns-in_err-matches-clause-err c =
     let p = err_from_is_err_and c.from_residual-in_err-matches.result c.from_residual-in_err-matches.ensures.1 in
-    rw p.1 (λ other. job_refused _ c.in_ok-program.ensures.shape (map (λ word. word.now) c.args.words.now)
+    rw p.1 (λ other. none_meant job_met _ c.in_ok-program.ensures.shape (map (λ word. word.now) c.args.words.now)
     c.in_err-matches.field-0.0 c.in_err-matches.ensures.kinds (λ memory. other (ap kind_of p.2 ∙ memory)))
 
 pub returns-clause-ok : goal.returns-clause-ok
 returns-clause-ok c =
-    c.job_in.ensures.met ∙ job_taken _ c.in_ok-program.ensures.shape (map (λ word. word.now) c.args.words.now) _
+    c.job_in.ensures.met ∙ meant_as_taken job_met _ c.in_ok-program.ensures.shape (map (λ word. word.now) c.args.words.now) _
     c.in_ok-matches.ensures.kinds (λ simple. (c.in_ok-matches.ensures.matches simple).1)

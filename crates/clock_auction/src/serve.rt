@@ -1,0 +1,51 @@
+//! `serve`: an auction on a port of this machine.
+use crate::answer::setup_in;
+use crate::fault::Fault;
+use crate::input::read_all;
+use crate::serving::{ServeFault, serve_on};
+use crate::words::Serving;
+use clock_device::{FromReader, Text};
+use clock_front::Front;
+use clock_queue::Woken;
+use std::alloc::Global;
+use std::fs::File;
+use std::io;
+use std::net::{Ipv4Addr, Net, TcpListener, TcpStream};
+use std::rt::Files;
+
+/// Serves an auction of the set-up in a file: listens on 127.0.0.1, prints `ready` and the port, and
+/// serves so many connections, one after the other. The first fault ends it.
+pub fn serve<R>(rt: &R, serving: &Serving) -> Result<(), Fault>
+where
+    R: Files + Print + Net<Listener = TcpListener, Stream = TcpStream> + Alloc<A = Global>,
+{
+    let document = file_bytes(rt, serving.setup)?;
+    let setup = setup_in(rt.alloc(), document.as_slice())?;
+    let mut front = Front::new(rt.alloc(), setup, Woken)?;
+    let listener = match TcpListener::bind(rt, (Ipv4Addr::LOCALHOST, serving.port)) {
+        Ok(listener) => listener,
+        Err(_) => return Err(Fault::Bind),
+    };
+    announce(rt, serving.port)?;
+    match serve_on(rt.alloc(), &mut front, &listener, serving.connections) {
+        Ok(()) => Ok(()),
+        Err(ServeFault::Accept) => Err(Fault::Accept),
+    }
+}
+
+/// All bytes of a file.
+fn file_bytes<R: Files + Alloc<A = Global>>(rt: &R, path: &str) -> Result<Text, Fault> {
+    match File::open(rt, path) {
+        Ok(file) => read_all(rt.alloc(), &mut FromReader::new(file)),
+        Err(error) if error.kind() == io::ErrorKind::OutOfMemory => Err(Fault::Memory),
+        Err(_) => Err(Fault::File),
+    }
+}
+
+/// Tells on standard output that connections are taken.
+fn announce<R: Print>(rt: &R, port: u16) -> Result<(), Fault> {
+    match println!(rt; "ready {port}") {
+        Ok(()) => Ok(()),
+        Err(_) => Err(Fault::Output),
+    }
+}
