@@ -126,11 +126,7 @@ pub product_fault_first : (setup : SetupFields) (fault : SetupFault) → is_with
     → first_fault (setup_checks setup) ≡ Some fault
 unfolding setup_checks
 product_fault_first setup fault requirement limit operator product_count products =
-    test_passed _ _ _ requirement
-    ∙ test_passed _ _ _ limit
-    ∙ test_passed _ _ _ operator
-    ∙ test_passed _ _ _ product_count
-    ∙ failed (in_turn product_checks 0 setup.products) _ fault products
+    rw (requirement, limit, operator, product_count) (failed (in_turn product_checks 0 setup.products) _ fault products)
 
 -- the first fault of a set-up, where it is a bidder's
 pub bidder_fault_first : (setup : SetupFields) (fault : SetupFault) → is_within least_requirement most_requirement setup.requirement ≡ true
@@ -140,13 +136,8 @@ pub bidder_fault_first : (setup : SetupFields) (fault : SetupFault) → is_withi
     → first_fault (setup_checks setup) ≡ Some fault
 unfolding setup_checks
 bidder_fault_first setup fault requirement limit operator product_count products bidder_count bidders =
-    test_passed _ _ _ requirement
-    ∙ test_passed _ _ _ limit
-    ∙ test_passed _ _ _ operator
-    ∙ test_passed _ _ _ product_count
-    ∙ passed (in_turn product_checks 0 setup.products) _ products
-    ∙ test_passed _ _ _ bidder_count
-    ∙ failed (in_turn bidder_checks 0 setup.bidders) _ fault bidders
+    rw (requirement, limit, operator, product_count)
+    (passed (in_turn product_checks 0 setup.products) _ products ∙ rw bidder_count (failed (in_turn bidder_checks 0 setup.bidders) _ fault bidders))
 
 -- ---- the other way: what is within the limits passes every check
 
