@@ -8,11 +8,15 @@ use clock_setup::fixtures::ONE_PRODUCT;
 use std::alloc::Global;
 use std::io::{self, Read, Write};
 use std::net::{Ipv4Addr, Shutdown, SocketAddr, TcpListener, TcpStream};
+use std::process::Abort;
 use std::test::Fail;
 
 const PUT: &str =
     "PUT /v1/me/bids HTTP/1.1\r\nauthorization: Bearer XXXXXXXXXXXXXXXX\r\ncontent-length: 59\r\n\r\n\
 {\"bids\":[{\"price\":100,\"product\":0,\"quantity\":2}],\"round\":1}";
+
+/// Its first bytes.
+const BEGINNING: &str = "PUT /v1/me";
 
 const STATUS: &str = "GET /v1/status HTTP/1.1\r\n\r\n";
 
@@ -47,14 +51,25 @@ fn heard(alloc: Global, mut stream: TcpStream) -> io::Result<Vec<u8>> {
     Ok(bytes)
 }
 
+/// Asserts that a client hears this and no more.
+fn assert_hears(
+    rt: &(impl Abort + Alloc<A = Global>),
+    stream: TcpStream,
+    reply: &str,
+) -> io::Result<()> {
+    let bytes = heard(rt.alloc(), stream)?;
+    assert_eq!(rt; bytes.as_slice(), reply.as_bytes());
+    Ok(())
+}
+
 /// An auction of one product.
 fn opened(alloc: Global) -> Result<Front<Woken>, Fault> {
     let setup = setup_in(alloc, ONE_PRODUCT.as_bytes())?;
     Ok(Front::new(alloc, setup, Woken)?)
 }
 
-/// Takes so many connections, and answers whether each was taken.
-fn served(alloc: Global, listener: &TcpListener, connections: u64) -> Result<bool, Fault> {
+/// Serves so many connections, and answers whether each could be taken.
+fn all_are_served(alloc: Global, listener: &TcpListener, connections: u64) -> Result<bool, Fault> {
     let mut front = opened(alloc)?;
     Ok(serve_on(alloc, &mut front, listener, connections).is_ok())
 }
@@ -64,13 +79,13 @@ fn connections_are_served_in_turn(rt: HostRuntime) -> Result<(), Fail> {
     let listener = any_port(&rt)?;
     let address = listener.local_addr()?;
     let whole = client(&rt, address, PUT)?;
-    let cut = client(&rt, address, &PUT[..10])?;
+    let cut = client(&rt, address, BEGINNING)?;
     cut.shutdown(Shutdown::Write)?;
     let status = client(&rt, address, STATUS)?;
-    assert!(rt; served(rt.alloc(), &listener, 3)?);
-    for (stream, reply) in [(whole, ACCEPTED), (cut, CUT_SHORT), (status, FIRST_ROUND)] {
-        assert_eq!(rt; heard(rt.alloc(), stream)?.as_slice(), reply.as_bytes());
-    }
+    assert!(rt; all_are_served(rt.alloc(), &listener, 3)?);
+    assert_hears(&rt, whole, ACCEPTED)?;
+    assert_hears(&rt, cut, CUT_SHORT)?;
+    assert_hears(&rt, status, FIRST_ROUND)?;
     Ok(())
 }
 
@@ -79,12 +94,9 @@ fn a_client_that_is_gone_ends_alone(rt: HostRuntime) -> Result<(), Fail> {
     let listener = any_port(&rt)?;
     let address = listener.local_addr()?;
     drop(client(&rt, address, PUT)?);
-    drop(client(&rt, address, "")?);
+    drop(client(&rt, address, BEGINNING)?);
     let status = client(&rt, address, STATUS)?;
-    assert!(rt; served(rt.alloc(), &listener, 3)?);
-    assert_eq!(rt;
-        heard(rt.alloc(), status)?.as_slice(),
-        FIRST_ROUND.as_bytes()
-    );
+    assert!(rt; all_are_served(rt.alloc(), &listener, 3)?);
+    assert_hears(&rt, status, FIRST_ROUND)?;
     Ok(())
 }
