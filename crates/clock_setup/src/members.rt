@@ -11,6 +11,7 @@ ghost use Rattle.clock_setup.specs.SetupDocument.{json};
 
 use crate::grid::Amounts;
 use clock_device::NoMemory;
+use clock_scan::is_blank;
 use serde_json::Value;
 use std::alloc::Global;
 
@@ -87,6 +88,10 @@ pub fn numbers_of(alloc: Global, items: &[Value]) -> Result<Option<Amounts>, NoM
 pub fn read_value(alloc: Global, bytes: &[u8]) -> Result<Option<Value>, NoMemory>
     ensures { IfOk result (λ value. option_map view value ≡ json bytes.now) }
 {
+    // White space alone needs no reader, which would look for the place of an error that nobody is shown.
+    if is_blank(bytes) {
+        return Ok(None);
+    }
     match Value::from_slice(alloc, bytes) {
         Ok(value) => Ok(Some(value)),
         Err(error) => {

@@ -8,3 +8,6 @@ returns-in-Ok c = let ok = c.in-Ok.ensures.ok in sym (json_value _ _ ok.0 ok.1)
 pub returns-else-is_memory : goal.returns-else-is_memory
 returns-else-is_memory c =
     sym (no_json _ (c.in-Err.ensures.err (λ is. (let bad = c.is_memory.ensures.1 is in cc))))
+
+pub returns-then-is_blank : goal.returns-then-is_blank
+returns-then-is_blank c = sym (no_json _ (λ _. c.is_blank.ensures c.if-is_blank.true))

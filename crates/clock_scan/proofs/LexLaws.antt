@@ -1,0 +1,188 @@
+-- Laws of lexemes: a byte's, and the tokens that it begins.
+use Rattle.std.proofs.Common.{◌≡◌, ℕ, ◌+◌, ◌-◌, ◌<◌, ◌≤◌, ◌^◌, ◌||◌, true, false, List, [], ◌∷◌, ◌++◌, length, take, drop, get_or, decimal, append_assoc, refl, sym, ap, ap₂, ◌∙◌, arith}
+use Rattle.std.proofs.lemmas.Bool.{true≢false, false≢true}
+use Rattle.std.proofs.lemmas.List.{drop_more, drop_all, get_or-drop, take_all, take-append-le}
+use Rattle.std.proofs.lemmas.Fmt.{decimal-digits_value}
+use Rattle.std.proofs.lemmas.Str.Parse.{numerals_by_value, tells_digits}
+use Rattle.std.proofs.lemmas.Str.{digit_value_digit}
+use Rattle.std.specs.Char.{digit_value}
+use Rattle.std.specs.Str.Parse.{AllDigits, digits_value}
+use Rattle.json.specs.Token.{key, begin_object, end_object, begin_array, end_array, number, string}
+use Rattle.json.specs.Text as text
+use Rattle.json.specs.Text.{content}
+use Rattle.json.specs.Print.{escape, escape_byte}
+use Rattle.json.proofs.Printed.Strings.{content-escape, lex-escape}
+use Rattle.json.specs.Word.{is_operator, is_space, ends_word}
+use Rattle.json.specs.Lex as lexer
+use Rattle.json.specs.Lex.{Class, Lexeme, Place, may_begin, may_close, token, comma, colon, class, lex, lex_byte, between, punctuate}
+use Rattle.json.specs.Align.{is_blank}
+use Rattle.clock_scan.specs.Left.{place_of}
+use Rattle.clock_scan.specs.declared.place.Place as kinds
+use Rattle.clock_scan.specs.declared.place.Place.TheVariants as ours
+use Rattle.json.proofs.Printed.Numbers.{lex-number}
+use Rattle.json.proofs.Printed.Decimals.{IsNumber-decimal}
+
+pub at_byte : (bytes : List ℕ) (i c : ℕ) → i < length bytes → get_or bytes i 0 ≡ c → drop i bytes ≡ c ∷ drop (i + 1) bytes
+at_byte bytes i c lt is = drop_more bytes i 0 lt ∙ ap (λ x. x ∷ drop (i + 1) bytes) is
+
+blank : (c : Class) (x : ℕ) (xs : List ℕ) → is_blank c ≡ true → lex_byte between c x xs (λ m. lex m xs) ≡ lex between xs
+blank lexer.quote x xs h = absurd (false≢true h)
+blank lexer.backslash x xs h = absurd (false≢true h)
+blank lexer.operator x xs h = absurd (false≢true h)
+blank lexer.space x xs h = refl
+blank lexer.other x xs h = absurd (false≢true h)
+
+pub space_at : (bytes : List ℕ) (i : ℕ) → i < length bytes → is_blank (class (get_or bytes i 0)) ≡ true → lex between (drop (i + 1) bytes) ≡ lex between (drop i bytes)
+unfolding lex
+space_at bytes i lt h = sym (ap (lex between) (at_byte bytes i _ lt refl) ∙ blank _ (get_or bytes i 0) (drop (i + 1) bytes) h)
+
+module _ (bytes : List ℕ) (i : ℕ) (lt : i < length bytes) where
+  pub comma_at : get_or bytes i 0 ≡ 44 → lex between (drop i bytes) ≡ comma ∷ lex between (drop (i + 1) bytes)
+  unfolding lex
+  comma_at is = ap (lex between) (at_byte bytes i _ lt is)
+
+  pub colon_at : get_or bytes i 0 ≡ 58 → lex between (drop i bytes) ≡ colon ∷ lex between (drop (i + 1) bytes)
+  unfolding lex
+  colon_at is = ap (lex between) (at_byte bytes i _ lt is)
+
+  pub open_brace_at : get_or bytes i 0 ≡ 123 → lex between (drop i bytes) ≡ token begin_object ∷ lex between (drop (i + 1) bytes)
+  unfolding lex
+  open_brace_at is = ap (lex between) (at_byte bytes i _ lt is)
+
+  pub close_brace_at : get_or bytes i 0 ≡ 125 → lex between (drop i bytes) ≡ token end_object ∷ lex between (drop (i + 1) bytes)
+  unfolding lex
+  close_brace_at is = ap (lex between) (at_byte bytes i _ lt is)
+
+  pub open_bracket_at : get_or bytes i 0 ≡ 91 → lex between (drop i bytes) ≡ token begin_array ∷ lex between (drop (i + 1) bytes)
+  unfolding lex
+  open_bracket_at is = ap (lex between) (at_byte bytes i _ lt is)
+
+  pub close_bracket_at : get_or bytes i 0 ≡ 93 → lex between (drop i bytes) ≡ token end_array ∷ lex between (drop (i + 1) bytes)
+  unfolding lex
+  close_bracket_at is = ap (lex between) (at_byte bytes i _ lt is)
+
+-- ---- quoted bytes
+
+escape-append : (xs ys : List ℕ) → escape (xs ++ ys) ≡ escape xs ++ escape ys
+escape-append [] ys = refl
+escape-append (x ∷ xs) ys = ap (λ r. escape_byte x ++ r) (escape-append xs ys) ∙ sym (append_assoc (escape_byte x) (escape xs) (escape ys))
+
+-- one plain byte more
+pub escape-push : (xs : List ℕ) (x : ℕ) → escape xs ≡ xs → escape_byte x ≡ x ∷ [] → escape (xs ++ x ∷ []) ≡ xs ++ x ∷ []
+escape-push xs x plain one = escape-append xs (x ∷ []) ∙ ap₂ (λ r s. r ++ (s ++ [])) plain one
+
+lex-quoted : (s rest : List ℕ) → escape s ≡ s → lex between (34 ∷ (s ++ 34 ∷ rest)) ≡ token (string s) ∷ lex between rest
+unfolding lex
+lex-quoted s rest plain =
+    ap₂ (λ o ls. token (lexer.string_token o) ∷ ls) (ap (λ e. content text.plain (e ++ 34 ∷ rest)) (sym plain) ∙ content-escape s rest)
+    (ap (λ e. lex lexer.in_string (e ++ 34 ∷ rest)) (sym plain) ∙ lex-escape s rest)
+
+-- plain bytes between two quotes
+pub quoted_at : (bytes s : List ℕ) (at end : ℕ) → at < length bytes → get_or bytes at 0 ≡ 34 → drop (at + 1) bytes ≡ s ++ drop end bytes → escape s ≡ s
+    → end < length bytes → get_or bytes end 0 ≡ 34 → lex between (drop at bytes) ≡ token (string s) ∷ lex between (drop (end + 1) bytes)
+quoted_at bytes s at end here opens is plain there closes =
+    ap (lex between) (at_byte bytes at 34 here opens ∙ ap (λ r. 34 ∷ r) (is ∙ ap (λ r. s ++ r) (at_byte bytes end 34 there closes)))
+    ∙ lex-quoted s (drop (end + 1) bytes) plain
+
+-- ---- numbers
+
+pub AllDigits-push : (ds : List ℕ) (d : ℕ) → AllDigits 10 ds → digit_value d < 10 → AllDigits 10 (ds ++ d ∷ [])
+AllDigits-push [] d h k = (k, tt)
+AllDigits-push (c ∷ ds) d h k = (h.0, AllDigits-push ds d h.1 k)
+
+pub lex-digits : (ds rest : List ℕ) (n : ℕ) → AllDigits 10 ds → digits_value 10 ds ≡ n → n < 2 ^ 64 → 0 < length ds → (get_or ds 0 0 ≡ 48 → length ds ≡ 1) → ends_word rest ≡ true
+    → lex between (ds ++ rest) ≡ token (number (decimal n)) ∷ lex between rest
+lex-digits ds rest n digits is small some lead ended =
+    let written : decimal n ≡ ds = ap decimal (sym is) ∙ decimal-digits_value (numerals_by_value _ tells_digits) ds digits some lead (omega (arith, is, small)) in
+    ap (λ s. lex between (s ++ rest)) (sym written) ∙ lex-number (decimal n) rest (IsNumber-decimal n small) ended
+
+-- ---- what a place lets begin or close
+
+object_begins : (p : Place) (ls ms : List Lexeme) → may_begin p ≡ true → ls ≡ token begin_object ∷ ms → punctuate p ls ≡ begin_object ∷ punctuate lexer.fresh ms
+unfolding punctuate
+object_begins lexer.fresh ls ms h is = ap (punctuate lexer.fresh) is
+object_begins lexer.after_value ls ms h is = absurd (false≢true h)
+object_begins lexer.after_comma ls ms h is = ap (punctuate lexer.after_comma) is
+object_begins lexer.after_key ls ms h is = absurd (false≢true h)
+
+array_begins : (p : Place) (ls ms : List Lexeme) → may_begin p ≡ true → ls ≡ token begin_array ∷ ms → punctuate p ls ≡ begin_array ∷ punctuate lexer.fresh ms
+unfolding punctuate
+array_begins lexer.fresh ls ms h is = ap (punctuate lexer.fresh) is
+array_begins lexer.after_value ls ms h is = absurd (false≢true h)
+array_begins lexer.after_comma ls ms h is = ap (punctuate lexer.after_comma) is
+array_begins lexer.after_key ls ms h is = absurd (false≢true h)
+
+pub object_closes : (p : Place) (ls ms : List Lexeme) → may_close p ≡ true → ls ≡ token end_object ∷ ms → punctuate p ls ≡ end_object ∷ punctuate lexer.after_value ms
+unfolding punctuate
+object_closes lexer.fresh ls ms h is = ap (punctuate lexer.fresh) is
+object_closes lexer.after_value ls ms h is = ap (punctuate lexer.after_value) is
+object_closes lexer.after_comma ls ms h is = absurd (false≢true h)
+object_closes lexer.after_key ls ms h is = absurd (false≢true h)
+
+pub array_closes : (p : Place) (ls ms : List Lexeme) → may_close p ≡ true → ls ≡ token end_array ∷ ms → punctuate p ls ≡ end_array ∷ punctuate lexer.after_value ms
+unfolding punctuate
+array_closes lexer.fresh ls ms h is = ap (punctuate lexer.fresh) is
+array_closes lexer.after_value ls ms h is = ap (punctuate lexer.after_value) is
+array_closes lexer.after_comma ls ms h is = absurd (false≢true h)
+array_closes lexer.after_key ls ms h is = absurd (false≢true h)
+
+pub number_begins : (p : Place) (ls ms : List Lexeme) (s : List ℕ) → may_begin p ≡ true → ls ≡ token (number s) ∷ ms → punctuate p ls ≡ number s ∷ punctuate lexer.after_value ms
+unfolding punctuate
+number_begins lexer.fresh ls ms s h is = ap (punctuate lexer.fresh) is
+number_begins lexer.after_value ls ms s h is = absurd (false≢true h)
+number_begins lexer.after_comma ls ms s h is = ap (punctuate lexer.after_comma) is
+number_begins lexer.after_key ls ms s h is = absurd (false≢true h)
+
+pub text_begins : (p : Place) (ls ms : List Lexeme) (s : List ℕ) → may_begin p ≡ true → ls ≡ token (string s) ∷ ms → lexer.begins_colon ms ≡ false → punctuate p ls ≡ string s ∷ punctuate lexer.after_value ms
+unfolding punctuate
+text_begins lexer.fresh ls ms s h is next = ap (punctuate lexer.fresh) is ∙ rw next refl
+text_begins lexer.after_value ls ms s h is next = absurd (false≢true h)
+text_begins lexer.after_comma ls ms s h is next = ap (punctuate lexer.after_comma) is ∙ rw next refl
+text_begins lexer.after_key ls ms s h is next = absurd (false≢true h)
+
+pub key_begins : (p : Place) (ls ms : List Lexeme) (s : List ℕ) → may_begin p ≡ true → ls ≡ token (string s) ∷ colon ∷ ms → punctuate p ls ≡ key s ∷ punctuate lexer.fresh ms
+unfolding punctuate
+key_begins lexer.fresh ls ms s h is = ap (punctuate lexer.fresh) is
+key_begins lexer.after_value ls ms s h is = absurd (false≢true h)
+key_begins lexer.after_comma ls ms s h is = ap (punctuate lexer.after_comma) is
+key_begins lexer.after_key ls ms s h is = absurd (false≢true h)
+
+pub comma_follows : (ls ms : List Lexeme) → ls ≡ comma ∷ ms → punctuate lexer.after_value ls ≡ punctuate lexer.after_comma ms
+unfolding punctuate
+comma_follows ls ms is = ap (punctuate lexer.after_value) is
+
+pub nothing_left : (place : kinds.Place) (ls : List Lexeme) → may_begin (place_of place) ≡ false → ls ≡ [] → punctuate (place_of place) ls ≡ []
+unfolding punctuate
+nothing_left ours.Fresh ls h is = absurd (true≢false h)
+nothing_left ours.AfterValue ls h is = ap (punctuate lexer.after_value) is
+nothing_left ours.AfterComma ls h is = absurd (true≢false h)
+
+pub at_end : (bytes : List ℕ) (i : ℕ) → length bytes ≤ i → lex between (drop i bytes) ≡ []
+unfolding lex
+at_end bytes i past = ap (lex between) (drop_all i bytes past)
+
+pub object_begins_at : (p : Place) (bytes : List ℕ) (start at : ℕ) → may_begin p ≡ true → lex between (drop at bytes) ≡ lex between (drop start bytes) → at < length bytes → get_or bytes at 0 ≡ 123
+    → punctuate p (lex between (drop start bytes)) ≡ begin_object ∷ punctuate lexer.fresh (lex between (drop (at + 1) bytes))
+object_begins_at p bytes start at may same lt is = object_begins p _ _ may (sym same ∙ open_brace_at bytes at lt is)
+
+pub array_begins_at : (p : Place) (bytes : List ℕ) (start at : ℕ) → may_begin p ≡ true → lex between (drop at bytes) ≡ lex between (drop start bytes) → at < length bytes → get_or bytes at 0 ≡ 91
+    → punctuate p (lex between (drop start bytes)) ≡ begin_array ∷ punctuate lexer.fresh (lex between (drop (at + 1) bytes))
+array_begins_at p bytes start at may same lt is = array_begins p _ _ may (sym same ∙ open_bracket_at bytes at lt is)
+
+-- ---- digits
+
+pub digit_is : (d : ℕ) → 48 ≤ d → d ≤ 57 → digit_value d ≡ d - 48
+digit_is d low high = omega (arith, digit_value_digit d (low, high))
+
+pub first_of : (bytes ds : List ℕ) (at end : ℕ) → drop at bytes ≡ ds ++ drop end bytes → 0 < length ds → get_or ds 0 0 ≡ get_or bytes at 0
+first_of bytes [] at end is some = absurd (omega arith)
+first_of bytes (d ∷ ds) at end is some = ap (λ l. get_or l 0 0) (sym is) ∙ get_or-drop at bytes 0 0 ∙ ap (λ i. get_or bytes i 0) (omega arith)
+
+pub ends_at : (bytes : List ℕ) (i : ℕ) → i < length bytes → (is_operator (get_or bytes i 0) || is_space (get_or bytes i 0)) ≡ true → ends_word (drop i bytes) ≡ true
+ends_at bytes i lt h = ap ends_word (at_byte bytes i _ lt refl) ∙ h
+
+-- the bytes between two places
+pub taken : (bytes s : List ℕ) (at end : ℕ) → drop (at + 1) bytes ≡ s ++ drop end bytes → at + 1 + length s ≡ end → s ≡ take (end - (at + 1)) (drop (at + 1) bytes)
+taken bytes s at end is size =
+    let count : end - (at + 1) ≡ length s = omega (arith, size) in
+    sym (ap₂ (λ n l. take n l) count is ∙ take-append-le (length s) s (drop end bytes) (omega arith) ∙ take_all (length s) s (omega arith))

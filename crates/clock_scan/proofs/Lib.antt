@@ -1,0 +1,4 @@
+mod LexLaws
+mod Turns
+mod FieldLaws
+pub mod Steps

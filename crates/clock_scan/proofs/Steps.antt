@@ -1,0 +1,145 @@
+-- Laws of reading: a list item by item, an object member by member, and the whole text.
+use Rattle.std.proofs.Common.{◌≡◌, ℕ, suc, ◌-◌, ◌<◌, ◌≤◌, ◌^◌, true, List, [], ◌∷◌, ◌++◌, length, decimal, map, Option, Some, None, refl, sym, ap, ◌∙◌, subst, arith}
+use Rattle.json.specs.Token.{Token}
+use Rattle.json.specs.Lex.{lex, between, tokens, punctuate, fresh}
+use Rattle.json.specs.Json as json
+use Rattle.json.specs.Json.{after_end_array, read_key, parse_map}
+use Rattle.json.proofs.Grammar.{left, skip_value-shorter, value_is}
+use Rattle.serde_json.specs.Data.{Data, Items, item, array, object, string, Members, no_members, put}
+use Rattle.serde_json.specs.Read.{of_json, converted, read}
+use Rattle.serde_json.proofs.Numbers.{number_of-decimal}
+use Rattle.clock_scan.specs.Reading.{whole, items_before, items_of, Fields, members_of, with_field, is_field, Reads, HasItems, HasMembers, AddsMember}
+use Rattle.clock_scan.proofs.Turns.{converted_some, item_read, items_over, member_read, members_over, object_read, array_read, last, last_read}
+use Rattle.clock_scan.proofs.FieldLaws.{put_in}
+
+-- ---- single values
+
+pub number_reads : (n : ℕ) (old new : List Token) → n < 2 ^ 64 → old ≡ Token.number (decimal n) ∷ new → Reads 0 old (whole n) new
+number_reads n old new small is = λ depth _. ap (converted of_json) (ap (json.value depth) is ∙ value_is depth _) ∙ rw (number_of-decimal n small)
+
+pub text_reads : (s : List ℕ) (old new : List Token) → old ≡ Token.string s ∷ new → Reads 0 old (string s) new
+text_reads s old new is = λ depth _. ap (converted of_json) (ap (json.value depth) is ∙ value_is depth _)
+
+-- a value that reads at few levels reads at more
+pub reads_deeper : (few levels : ℕ) (old : List Token) (d : Data) (new : List Token) → few ≤ levels → Reads few old d new → Reads levels old d new
+reads_deeper few levels old d new h reads = λ depth enough. reads depth (omega (arith, h, enough))
+
+-- a value takes at least one token
+pub reads_shorter : (levels : ℕ) (old : List Token) (d : Data) (new : List Token) → Reads levels old d new → length new < length old
+reads_shorter levels old d new reads =
+    let j = converted_some of_json (json.value levels old) d new (reads levels (omega arith)) in
+    skip_value-shorter levels old new (ap left j.1)
+
+never : {P : Type 0} (j : json.Json) (r : List Token) → ◌≡◌ {A = Option (json.Json × List Token)} None (Some (j, r)) → P
+never j r e = absurd (cc)
+
+not_closed : (depth : ℕ) (old : List Token) (j : json.Json) (r : List Token) → json.value depth old ≡ Some (j, r) → after_end_array old ≡ None
+not_closed depth [] j r e = refl
+not_closed depth (Token.begin_object ∷ ts) j r e = refl
+not_closed depth (Token.end_object ∷ ts) j r e = refl
+not_closed depth (Token.begin_array ∷ ts) j r e = refl
+not_closed depth (Token.end_array ∷ ts) j r e = never j r (sym (value_is depth (Token.end_array ∷ ts)) ∙ e)
+not_closed depth (Token.key s ∷ ts) j r e = refl
+not_closed depth (Token.string s ∷ ts) j r e = refl
+not_closed depth (Token.number s ∷ ts) j r e = refl
+not_closed depth (Token.boolean b ∷ ts) j r e = refl
+not_closed depth (Token.null ∷ ts) j r e = refl
+not_closed depth (Token.bad ∷ ts) j r e = refl
+
+reads_open : (levels : ℕ) (old : List Token) (d : Data) (new : List Token) → Reads levels old d new → after_end_array old ≡ None
+reads_open levels old d new reads =
+    let j = converted_some of_json (json.value levels old) d new (reads levels (omega arith)) in
+    not_closed levels old j.0 new j.1
+
+-- ---- lists
+
+none_before : (r : Option (Items × List Token)) → r ≡ parse_map (items_before []) r
+none_before None = refl
+none_before (Some p) = refl
+
+items_push : (values : List Data) (d : Data) (rest : Items) → items_before values (item d rest) ≡ items_before (values ++ d ∷ []) rest
+items_push [] d rest = refl
+items_push (v ∷ values) d rest = ap (item v) (items_push values d rest)
+
+one_more : (values : List Data) (d : Data) (r : Option (Items × List Token)) → parse_map (items_before values) (parse_map (item d) r) ≡ parse_map (items_before (values ++ d ∷ [])) r
+one_more values d None = refl
+one_more values d (Some p) = ap (λ ds. Some (ds, p.1)) (items_push values d p.0)
+
+pub items_start : (levels : ℕ) (old : List Token) → HasItems levels old [] old
+unfolding HasItems
+items_start levels old = (length old, omega arith, λ depth _. none_before _)
+
+pub items_next : (levels : ℕ) (start old new : List Token) (values : List Data) (d : Data) → HasItems levels start values old → Reads levels old d new
+    → HasItems levels start (values ++ d ∷ []) new
+unfolding HasItems
+items_next levels start old new values d has reads =
+    let shorter = reads_shorter levels old d new reads in (
+      has.0 - 1,
+      omega (arith, has.1, shorter),
+      λ depth enough. has.2 depth enough
+          ∙ ap (parse_map (items_before values)) (item_read (json.value depth) has.0 old new d (omega (arith, has.1, shorter)) (reads_open levels old d new reads) (reads depth enough))
+          ∙ one_more values d _,
+    )
+
+map-push : {A : Type 0} (f : A → Data) (xs : List A) (x : A) → map f (xs ++ x ∷ []) ≡ map f xs ++ f x ∷ []
+map-push f [] x = refl
+map-push f (y ∷ xs) x = ap (λ r. f y ∷ r) (map-push f xs x)
+
+-- one item more of a list of values of one kind
+pub items_push_next : {A : Type 0} (levels : ℕ) (data_of : A → Data) (start old new : List Token) (xs : List A) (x : A) → HasItems levels start (map data_of xs) old
+    → Reads levels old (data_of x) new → HasItems levels start (map data_of (xs ++ x ∷ [])) new
+items_push_next levels data_of start old new xs x has reads =
+    subst (λ values. HasItems levels start values new) (sym (map-push data_of xs x)) (items_next levels start old new (map data_of xs) (data_of x) has reads)
+
+pub items_end : (levels : ℕ) (first start old new : List Token) (values : List Data) → first ≡ Token.begin_array ∷ start → HasItems levels start values old
+    → old ≡ Token.end_array ∷ new → Reads (suc levels) first (array (items_of values)) new
+unfolding HasItems
+items_end levels first start old new values opened has closed = λ depth enough.
+    let less : suc (depth - 1) ≡ depth = omega (arith, enough) in
+    let inside = has.2 (depth - 1) (omega (arith, enough))
+    ∙ ap (parse_map (items_before values)) (items_over (json.value (depth - 1)) has.0 old new has.1 (ap after_end_array closed)) in
+    subst (λ n. converted of_json (json.value n first) ≡ Some (array (items_of values), new)) less (array_read (depth - 1) first start new (items_of values) opened inside)
+
+-- ---- objects
+
+pub members_start : (levels : ℕ) (old : List Token) → HasMembers levels old no_members old
+unfolding HasMembers
+members_start levels old = (length old, omega arith, λ depth _. refl)
+
+pub members_next : (levels : ℕ) (start old value new : List Token) (found : Members) (name : List ℕ) (d : Data) → HasMembers levels start found old
+    → old ≡ Token.key name ∷ value → Reads levels value d new → HasMembers levels start (put name d found) new
+unfolding HasMembers
+members_next levels start old value new found name d has named reads =
+    let shorter = reads_shorter levels value d new reads in
+    let size : length old ≡ suc (length value) = ap length named in (
+      has.0 - 1,
+      omega (arith, has.1, shorter, size),
+      λ depth enough. has.2 depth enough
+          ∙ member_read (json.value depth) found has.0 name old value new d (omega (arith, has.1, size)) (ap read_key named) (reads depth enough),
+    )
+
+pub members_end : (levels : ℕ) (first start old new : List Token) (found : Members) → first ≡ Token.begin_object ∷ start → HasMembers levels start found old
+    → old ≡ Token.end_object ∷ new → Reads (suc levels) first (object found) new
+unfolding HasMembers
+members_end levels first start old new found opened has closed = λ depth enough.
+    let less : suc (depth - 1) ≡ depth = omega (arith, enough) in
+    let inside = has.2 (depth - 1) (omega (arith, enough)) ∙ members_over (json.value (depth - 1)) found has.0 old new has.1 (ap read_key closed) in
+    subst (λ n. converted of_json (json.value n first) ≡ Some (object found, new)) less (object_read (depth - 1) first start new found opened inside)
+
+-- a member under one of the keys
+pub adds_member : (levels : ℕ) (old value new : List Token) (fields : Fields) (name : List ℕ) (d : Data) → old ≡ Token.key name ∷ value → Reads levels value d new
+    → is_field name fields ≡ true → AddsMember levels old fields new (with_field name d fields)
+adds_member levels old value new fields name d named reads known = λ start has.
+    subst (λ ms. HasMembers levels start ms new) (put_in name d fields known) (members_next levels start old value new (members_of fields) name d has named reads)
+
+-- ---- the whole text
+
+-- one value, and nothing behind it
+pub text_is : (levels : ℕ) (text : List ℕ) (ts new : List Token) (d : Data) → levels ≤ 127 → ts ≡ tokens text → Reads levels ts d new → new ≡ [] → read text ≡ Some d
+text_is levels text ts new d enough is reads ended =
+    ap (λ t. last (json.value 127 t)) (sym is) ∙ last_read (json.value 127 ts) d (reads 127 enough ∙ ap (λ rest. Some (d, rest)) ended)
+
+-- no token at all
+pub blank_is : (text : List ℕ) → lex between text ≡ [] → read text ≡ None
+unfolding punctuate
+blank_is text blank = ap (λ ls. last (json.value 127 (punctuate fresh ls))) blank ∙ ap last (value_is 127 [])

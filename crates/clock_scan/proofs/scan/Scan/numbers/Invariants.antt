@@ -1,0 +1,9 @@
+use Rattle.std.proofs.Common.{length, map, ◌≤◌}
+use Rattle.clock_scan.specs.Reading.{whole, HasItems}
+use Rattle.clock_scan.proofs.scan.Scan.numbers.Given as goal
+
+abbrev pub invariant-items : goal.invariant-items
+invariant-items l = HasItems 0 l.initial.self (map whole l.list.items) l.self × (length l.self ≤ length l.initial.self)
+
+abbrev pub decreases-items : goal.decreases-items
+decreases-items l = length l.self

@@ -1,0 +1,15 @@
+//! JSON texts read byte by byte, without a tree of values, where they have the shape that is wanted. What is read is what
+//! `serde_json` reads; where nothing is read, nothing is said of the text.
+#![tactic(auto)]
+
+mod lists;
+mod place;
+mod scan;
+mod stop;
+#[cfg(test)]
+mod tests;
+mod words;
+
+pub use scan::Scan;
+pub use stop::Stop;
+pub use words::{is_blank, is_key, is_text};

@@ -1,0 +1,29 @@
+ghost use Rattle.std.specs.Prelude.{◌≡◌};
+ghost use Rattle.json.specs.Lex.{may_begin, may_close};
+ghost use Rattle.clock_scan.specs.Left.{place_of};
+
+/// What may stand next.
+#[derive(Clone, Copy, Drop)]
+pub(crate) enum Place {
+    Fresh,
+    AfterValue,
+    AfterComma,
+}
+
+impl Place {
+    /// Whether a value or a key may begin here.
+    #[inline(always)]
+    pub(crate) fn may_begin(self) -> bool
+        ensures { result ≡ may_begin (place_of self) }
+    {
+        matches!(self, Place::Fresh | Place::AfterComma)
+    }
+
+    /// Whether a bracket or a brace may close here.
+    #[inline(always)]
+    pub(crate) fn may_close(self) -> bool
+        ensures { result ≡ may_close (place_of self) }
+    {
+        matches!(self, Place::Fresh | Place::AfterValue)
+    }
+}

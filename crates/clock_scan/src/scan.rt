@@ -1,0 +1,172 @@
+//! A text read mark by mark.
+ghost use Rattle.std.specs.Prelude.{◌≡◌, ◌∷◌, [], ◌<◌, ◌^◌, length, IsTrue, IfSome};
+ghost use Rattle.std.specs.Bool.{MatchBool};
+ghost use Rattle.json.specs.Token.{begin_array, begin_object, end_array, end_object, key as key_token};
+ghost use Rattle.json.specs.Lex.{tokens};
+ghost use Rattle.serde_json.specs.Data.{string};
+ghost use Rattle.clock_scan.specs.Left.{left};
+ghost use Rattle.clock_scan.specs.Reading.{whole, Reads};
+
+use crate::place::Place;
+use crate::words::{after_space, after_value, byte_at, ends_text, number_at, quoted};
+use std::marker::Model;
+
+/// A text that is being read. Contracts see the tokens that are still to come. A call that reads nothing may leave it
+/// anywhere, except that where nothing closes it stays as it is.
+#[derive(Drop)]
+pub struct Scan<'a> {
+    bytes: &'a [u8],
+    at: usize,
+    place: Place,
+}
+
+impl<'a> Model for Scan<'a> {
+    ghost use Rattle.std.specs.Prelude.{List, drop};
+    ghost use Rattle.json.specs.Token.{Token, tokens_code};
+    ghost use Rattle.clock_scan.specs.Left.{left};
+
+    ghost Value = { List Token };
+
+    ghost coded = { tokens_code };
+
+    ghost view = { λ s. left s.place (drop s.at s.bytes.now) };
+}
+
+impl<'a> Scan<'a> {
+    /// The text from its first byte on.
+    pub fn new(bytes: &'a [u8]) -> Scan<'a>
+        ensures { result ≡ tokens bytes.now }
+    {
+        Scan {
+            bytes,
+            at: 0,
+            place: Place::Fresh,
+        }
+    }
+
+    /// Passes a brace that opens.
+    #[inline(always)]
+    pub fn opens_object(&mut self) -> bool
+        ensures { IsTrue result → self.old ≡ begin_object ∷ self.new }
+    {
+        let at = after_space(self.bytes, self.at);
+        if !self.place.may_begin() || byte_at(self.bytes, at) != b'{' {
+            return false;
+        }
+        self.at = at + 1;
+        self.place = Place::Fresh;
+        true
+    }
+
+    /// Passes a bracket that opens.
+    #[inline(always)]
+    pub fn opens_array(&mut self) -> bool
+        ensures { IsTrue result → self.old ≡ begin_array ∷ self.new }
+    {
+        let at = after_space(self.bytes, self.at);
+        if !self.place.may_begin() || byte_at(self.bytes, at) != b'[' {
+            return false;
+        }
+        self.at = at + 1;
+        self.place = Place::Fresh;
+        true
+    }
+
+    /// Passes a brace that closes.
+    #[inline(always)]
+    pub fn closes_object(&mut self) -> bool
+        ensures { MatchBool result (self.old ≡ end_object ∷ self.new) (self.new ≡ self.old) }
+    {
+        let at = after_space(self.bytes, self.at);
+        if !self.place.may_close() || byte_at(self.bytes, at) != b'}' {
+            return false;
+        }
+        let (place, at) = after_value(self.bytes, at + 1);
+        self.at = at;
+        self.place = place;
+        true
+    }
+
+    /// Passes a bracket that closes.
+    #[inline(always)]
+    pub fn closes_array(&mut self) -> bool
+        ensures { MatchBool result (self.old ≡ end_array ∷ self.new) (self.new ≡ self.old) }
+    {
+        let at = after_space(self.bytes, self.at);
+        if !self.place.may_close() || byte_at(self.bytes, at) != b']' {
+            return false;
+        }
+        let (place, at) = after_value(self.bytes, at + 1);
+        self.at = at;
+        self.place = place;
+        true
+    }
+
+    /// Reads a key with no escape in it, and its colon.
+    #[inline(always)]
+    pub fn key(&mut self) -> Option<&'a [u8]>
+        ensures { IfSome result (λ key. self.old ≡ key_token key.now ∷ self.new) }
+    {
+        let at = after_space(self.bytes, self.at);
+        if !self.place.may_begin() {
+            return None;
+        }
+        let (key, at) = quoted(self.bytes, at)?;
+        let at = after_space(self.bytes, at);
+        if byte_at(self.bytes, at) != b':' {
+            return None;
+        }
+        self.at = at + 1;
+        self.place = Place::Fresh;
+        Some(key)
+    }
+
+    /// Reads a number below 10^19 that is written in digits alone.
+    #[inline(always)]
+    pub fn number(&mut self) -> Option<u64>
+        ensures value { IfSome result (λ n. Reads 0 self.old (whole n) self.new) }
+        ensures shorter { IfSome result (λ _. length self.new < length self.old) }
+    {
+        let at = after_space(self.bytes, self.at);
+        if !self.place.may_begin() {
+            return None;
+        }
+        let (n, at) = number_at(self.bytes, at)?;
+        let (place, at) = after_value(self.bytes, at);
+        self.at = at;
+        self.place = place;
+        Some(n)
+    }
+
+    /// Reads a text with no escape in it.
+    #[inline(always)]
+    pub fn text(&mut self) -> Option<&'a str>
+        ensures value { IfSome result (λ text. Reads 0 self.old (string text.now) self.new) }
+        ensures shorter { IfSome result (λ _. length self.new < length self.old) }
+    {
+        let at = after_space(self.bytes, self.at);
+        if !self.place.may_begin() {
+            return None;
+        }
+        let (bytes, at) = quoted(self.bytes, at)?;
+        let Ok(text) = str::from_utf8(bytes) else {
+            return None;
+        };
+        let next = after_space(self.bytes, at);
+        if !ends_text(byte_at(self.bytes, next)) {
+            return None;
+        }
+        let (place, at) = after_value(self.bytes, at);
+        self.at = at;
+        self.place = place;
+        Some(text)
+    }
+
+    /// Whether nothing follows.
+    #[inline(always)]
+    pub fn ends(&self) -> bool
+        ensures { IsTrue result → self.now ≡ [] }
+    {
+        !self.place.may_begin() && after_space(self.bytes, self.at) >= self.bytes.len()
+    }
+}

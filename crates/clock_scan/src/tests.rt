@@ -1,0 +1,81 @@
+use crate::{Scan, Stop, is_blank};
+use std::alloc::Global;
+use std::test::Fail;
+
+/// The number of the rows, and the sum of their numbers; or 9 and what stopped the reading.
+fn rows_of(alloc: Global, text: &[u8]) -> (usize, u64) {
+    let mut scan = Scan::new(text);
+    match scan.rows(alloc) {
+        Ok(rows) => {
+            let mut sum = 0u64;
+            for row in rows.as_slice() {
+                for number in row.as_slice() {
+                    sum = sum.wrapping_add(*number);
+                }
+            }
+            (rows.len(), sum)
+        }
+        Err(Stop::Unusual) => (9, 0),
+        Err(Stop::NoMemory) => (9, 1),
+    }
+}
+
+/// How long the key and the text of an object with one member are, where it is the whole text.
+fn member_of(text: &[u8]) -> Option<(usize, usize)> {
+    let mut scan = Scan::new(text);
+    if !scan.opens_object() {
+        return None;
+    }
+    let key = scan.key()?.len();
+    let value = scan.text()?.len();
+    if !scan.closes_object() || !scan.ends() {
+        return None;
+    }
+    Some((key, value))
+}
+
+#[test]
+fn rows_of_numbers(rt: HostRuntime) -> Result<(), Fail> {
+    let alloc = rt.alloc();
+    let rows: [(&[u8], (usize, u64)); 9] = [
+        (b"[[1,2],[ 3 ]\n,[]]", (3, 6)),
+        (b" [ ] ", (0, 0)),
+        (b"[[9999999999999999999]]", (1, 9_999_999_999_999_999_999)),
+        (b"[[10000000000000000000]]", (9, 0)),
+        (b"[[01]]", (9, 0)),
+        (b"[[1.0]]", (9, 0)),
+        (b"[[-1]]", (9, 0)),
+        (b"[[1,],[2]]", (9, 0)),
+        (b"[[1][2]]", (9, 0)),
+    ];
+    for (text, shown) in rows.iter() {
+        assert_eq!(rt; rows_of(alloc, text), *shown);
+    }
+    Ok(())
+}
+
+#[test]
+fn members_with_texts(rt: HostRuntime) -> Result<(), Fail> {
+    let rows: [(&[u8], Option<(usize, usize)>); 7] = [
+        (b"{\"name\":\"P1\"}", Some((4, 2))),
+        (b" {\"\" : \"a b\" }\t", Some((0, 3))),
+        (b"{\"name\":\"P\\n\"}", None),
+        (b"{\"na\\u006de\":\"P\"}", None),
+        (b"{\"name\":\"P\"} 1", None),
+        (b"{\"name\":\"P\":1}", None),
+        (b"{\"name\" \"P\"}", None),
+    ];
+    for (text, shown) in rows.iter() {
+        assert_eq!(rt; member_of(text), *shown);
+    }
+    Ok(())
+}
+
+#[test]
+fn blank_texts(rt: HostRuntime) -> Result<(), Fail> {
+    assert!(rt; is_blank(b""));
+    assert!(rt; is_blank(b" \n\t\r "));
+    assert!(rt; !is_blank(b"  0"));
+    assert!(rt; !is_blank(b"\x0b"));
+    Ok(())
+}

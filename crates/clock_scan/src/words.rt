@@ -1,0 +1,177 @@
+//! Bytes of a text as lexemes: white space, commas, quoted words and numbers.
+ghost use Rattle.std.specs.Prelude.{◌≡◌, ℕ, List, ◌∷◌, [], ◌<◌, ◌^◌, ◌||◌, true, false, None, IsTrue, drop, length, get_or, decimal, IfSome};
+ghost use Rattle.std.specs.Str.{IsUtf8};
+ghost use Rattle.json.specs.Token.{number, string};
+ghost use Rattle.json.specs.Lex.{lex, between, token, class, begins_colon, after_value as past_value, punctuate};
+ghost use Rattle.json.specs.Word.{is_operator, is_space as is_blank_byte};
+ghost use Rattle.json.specs.Align.{is_blank as is_blank_class};
+ghost use Rattle.json.specs.Print.{escape_byte};
+ghost use Rattle.serde_json.specs.Read.{read};
+ghost use Rattle.clock_scan.specs.Left.{left};
+
+use crate::place::Place;
+
+/// The byte there, or 0 past the end.
+#[inline(always)]
+pub(crate) fn byte_at(bytes: &[u8], at: usize) -> u8
+    ensures value { result ≡ get_or bytes.now at 0 }
+    ensures within { 0 < result → at < length bytes.now }
+{
+    if at < bytes.len() { bytes[at] } else { 0 }
+}
+
+#[inline(always)]
+fn is_space(byte: u8) -> bool
+    ensures { result ≡ is_blank_class (class byte) }
+{
+    (byte == b' ') | (byte == b'\t') | (byte == b'\n') | (byte == b'\r')
+}
+
+/// Where the white space ends that is there.
+#[inline(always)]
+pub(crate) fn after_space(bytes: &[u8], start: usize) -> usize
+    ensures { lex between (drop result bytes.now) ≡ lex between (drop start bytes.now) }
+{
+    let mut at = start;
+    'space: while at < bytes.len() {
+        if !is_space(bytes[at]) {
+            break;
+        }
+        at += 1;
+    }
+    at
+}
+
+/// Whether a text has nothing but white space. It is then no JSON.
+pub fn is_blank(bytes: &[u8]) -> bool
+    ensures { IsTrue result → read bytes.now ≡ None }
+{
+    after_space(bytes, 0) >= bytes.len()
+}
+
+/// Whether the bytes of a text are UTF-8, as those of JSON are.
+pub fn is_text(bytes: &[u8]) -> bool
+    ensures { IsTrue result → IsUtf8 bytes.now }
+{
+    simdutf8::basic::from_utf8(bytes).is_ok()
+}
+
+/// Whether a key is a word.
+#[inline(always)]
+pub fn is_key(key: &[u8], word: &str) -> bool
+    ensures { IsTrue result → key.now ≡ word.now }
+{
+    key == word.as_bytes()
+}
+
+/// Passes the comma that may follow a value.
+#[inline(always)]
+pub(crate) fn after_value(bytes: &[u8], start: usize) -> (Place, usize)
+    ensures { left result.0 (drop result.1 bytes.now)
+        ≡ punctuate past_value (lex between (drop start bytes.now)) }
+{
+    let at = after_space(bytes, start);
+    if byte_at(bytes, at) == b',' {
+        (Place::AfterComma, at + 1)
+    } else {
+        (Place::AfterValue, at)
+    }
+}
+
+/// Whether a byte stands for itself between quotes.
+#[inline(always)]
+fn is_plain(byte: u8) -> bool
+    ensures { IsTrue result → escape_byte byte ≡ byte ∷ [] }
+{
+    if byte < b' ' || byte == b'"' {
+        return false;
+    }
+    if byte == b'\\' {
+        return false;
+    }
+    true
+}
+
+/// The bytes that are quoted there, with no escape among them, and where they end.
+#[inline(always)]
+pub(crate) fn quoted(bytes: &[u8], at: usize) -> Option<(&[u8], usize)>
+    ensures { IfSome result (λ r. lex between (drop at bytes.now)
+        ≡ token (string r.0.now) ∷ lex between (drop r.1 bytes.now)) }
+{
+    if byte_at(bytes, at) != b'"' {
+        return None;
+    }
+    let start = at + 1;
+    let mut end = start;
+    'text: while end < bytes.len() {
+        if !is_plain(bytes[end]) {
+            break;
+        }
+        end += 1;
+    }
+    if byte_at(bytes, end) != b'"' {
+        return None;
+    }
+    Some((&bytes[start..end], end + 1))
+}
+
+/// Whether a byte behind a quoted text leaves it a text, and makes no key of it.
+#[inline(always)]
+pub(crate) fn ends_text(byte: u8) -> bool
+    ensures mark { IsTrue result → (rest : List ℕ) → begins_colon (lex between (byte ∷ rest)) ≡ false }
+    ensures something { IsTrue result → 0 < byte }
+{
+    if byte == b',' {
+        return true;
+    }
+    if byte == b'}' {
+        return true;
+    }
+    if byte == b']' {
+        return true;
+    }
+    false
+}
+
+#[inline(always)]
+fn ends_number(byte: u8) -> bool
+    ensures { result ≡ true → (is_operator byte || is_blank_byte byte) ≡ true }
+{
+    matches!(byte, b',' | b'}' | b']' | b' ' | b'\n' | b'\r' | b'\t')
+}
+
+#[inline(always)]
+fn has_leading_zero(first: u8, count: usize) -> bool
+    ensures { result ≡ false → first ≡ 48 → count ≡ 1 }
+{
+    first == b'0' && count != 1
+}
+
+/// The number there in its digits, with no zero before them, below 10^19, and where it ends.
+#[inline(always)]
+pub(crate) fn number_at(bytes: &[u8], at: usize) -> Option<(u64, usize)>
+    ensures small { IfSome result (λ r. r.0 < 2 ^ 64) }
+    ensures value { IfSome result (λ r. lex between (drop at bytes.now)
+        ≡ token (number (decimal r.0)) ∷ lex between (drop r.1 bytes.now)) }
+{
+    let mut end = at;
+    let mut value = 0u64;
+    'digits: while end < bytes.len() {
+        let byte = bytes[end];
+        if byte < b'0' || byte > b'9' {
+            break;
+        }
+        if value >= 1_000_000_000_000_000_000 {
+            return None;
+        }
+        value = value * 10 + (byte - b'0') as u64;
+        end += 1;
+    }
+    if end == at || has_leading_zero(bytes[at], end - at) {
+        return None;
+    }
+    if end == bytes.len() || !ends_number(bytes[end]) {
+        return None;
+    }
+    Some((value, end))
+}
