@@ -19,12 +19,12 @@ use Rattle.clock_sim.specs.Replays.{ReplayFields}
 use Rattle.clock_sim.specs.declared.script.Script.{Script}
 use Rattle.clock_sim.specs.declared.closing.Closing.{Closing}
 use Rattle.clock_sim.specs.ScriptedRequests.{scripted_put, scripted_close}
-use Rattle.clock_sim.specs.Steps.{IsTold, ComesTo, MakesStep}
+use Rattle.clock_sim.specs.Steps.{IsTold, ComesTo, MakesStep, IsLeft, MakesWay}
 
-abbrev Texts : Type 0
+abbrev pub Texts : Type 0
 Texts = List (List ℕ)
 
-abbrev Step : Type 0
+abbrev pub Step : Type 0
 Step = Texts → Result Texts SimFault
 
 -- ---- one request
@@ -149,12 +149,6 @@ no_further first second old new fault one = record {
 }
 
 -- ---- steps on their way
-
--- the rest of the steps give what the whole gives
-pub record IsLeft (rest : Step) (answer : Result Texts SimFault) (house : HouseFields) : Type 0 where
-  pub texts : Texts
-  pub stands : StandsForTexts texts house
-  pub same : rest texts ≡ answer
 
 pub record IsOnWay (whole rest : Step) (initial now : HouseFields) : Type 0 where
   pub setup : now.setup ≡ initial.setup
