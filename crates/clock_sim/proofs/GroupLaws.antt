@@ -24,9 +24,9 @@ use Rattle.clock_sim.specs.declared.sim_fault.SimFault.{SimFault}
 use Rattle.clock_sim.specs.declared.sim_fault.SimFault.TheVariants.{NoMemory}
 use Rattle.clock_sim.specs.Rehearsal.{if_done, after_request, after_request_if, after_put, after_puts, rounds_after}
 use Rattle.clock_sim.specs.ScriptedRequests.{scripted_put}
-use Rattle.clock_sim.specs.Groups.{ClosesNoRound, text_in, after_group, StandFrom, AreApart, IsGroup}
+use Rattle.clock_sim.specs.Groups.{ClosesNoRound, text_in, after_group, with_request, StandFrom, AreApart, IsGroup}
 use Rattle.clock_sim.specs.Steps.{ComesTo, MakesStep, IsLeft, MakesWay}
-use Rattle.clock_sim.proofs.StepLaws.{Texts, Step, IsOnWay, begins, goes_on, stops, ends}
+use Rattle.clock_sim.proofs.StepLaws.{Texts, Step, IsOnWay, and_then, goes_on, stops, ends}
 
 -- ---- one connection has changed
 
@@ -161,20 +161,22 @@ bodies_done whole group i initial now done past before =
 
 -- ---- one more waits
 
+ended_ok : (answer : Result Texts SimFault) → answer >>= (λ sent. Ok sent) ≡ answer
+ended_ok (Ok sent) = refl
+ended_ok (Err fault) = refl
+
+in_order : (answer : Result Texts SimFault) (first second third : Step) → ((sent : Texts) → first sent ≡ second sent >>= third)
+    → answer >>= first ≡ answer >>= second >>= third
+in_order (Ok sent) first second third same = same sent
+in_order (Err fault) first second third same = refl
+
 -- the requests of a group and one more
 pub with_one : (setup : SetupFields) (group : List Waiting) (one : Waiting) (texts : Texts)
     → after_group setup (group ++ one ∷ []) texts ≡ after_group setup group texts >>= one_step setup one
-with_one setup [] one texts = alone (one_step setup one texts)
-  where
-    alone : (answer : Result Texts SimFault) → answer >>= (λ sent. Ok sent) ≡ answer
-    alone (Ok sent) = refl
-    alone (Err fault) = refl
-with_one setup (first ∷ group) one texts = behind (one_step setup first texts)
-  where
-    behind : (answer : Result Texts SimFault)
-        → answer >>= after_group setup (group ++ one ∷ []) ≡ answer >>= after_group setup group >>= one_step setup one
-    behind (Ok sent) = with_one setup group one sent
-    behind (Err fault) = refl
+with_one setup [] one texts = ended_ok (one_step setup one texts)
+with_one setup (first ∷ group) one texts =
+    in_order (one_step setup first texts) (after_group setup (group ++ one ∷ [])) (after_group setup group) (one_step setup one)
+    (λ sent. with_one setup group one sent)
 
 -- no request waits
 pub empty_group : (connections : ConnectionFields) (group : List Waiting) → length group ≡ 0 → IsGroup connections group
@@ -272,6 +274,10 @@ whole_way whole setup group old new (Ok done) made none = record {
 }
 whole_way whole setup group old new (Err fault) made none = record { setup = made.setup; comes = made.comes }
 
+on_ok : {T : Type 0} (P : Type 0) (result : Result T SimFault) → P → OnOk result P
+on_ok P (Ok done) is = is
+on_ok P (Err fault) is = tt
+
 -- nothing is made
 pub same_way : {T : Type 0} (whole : Step) (old : HouseFields) (done : T) → MakesWay whole whole old old (Ok done)
 same_way whole old done = record { setup = refl; comes = λ texts stands. record { texts = texts; stands = stands; same = refl } }
@@ -295,6 +301,52 @@ first_stops first left second last old new fault one = record {
   comes = λ texts stands other. ap (λ (answer : Result Texts SimFault). answer >>= second) (one.comes texts stands other);
 }
 
+-- the requests of a group are sent, and then one more
+pub sent_after : {U T : Type 0} (group waiting : List Waiting) (bidder round : ℕ) (text : List ℕ) (old mid new : HouseFields) (done : U) (result : Result T SimFault)
+    → MakesStep (after_group old.setup group) old mid (Ok done) → length waiting ≡ 0
+    → MakesStep (λ texts. after_request mid.setup texts (Some bidder) round text) mid new result
+    → MakesWay (with_request old.setup group bidder round text) (after_group old.setup waiting) old new result
+sent_after group waiting bidder round text old mid new done result one none two =
+    whole_way (with_request old.setup group bidder round text) old.setup waiting old new result
+    (and_then (after_group old.setup group) (λ texts. after_request old.setup texts (Some bidder) round text) old mid new done result one
+    (subst (λ (setup : SetupFields). MakesStep (λ texts. after_request setup texts (Some bidder) round text) mid new result) one.setup two))
+    (on_ok (length waiting ≡ 0) result none)
+
+-- one of them is refused
+pub refused_before : {U T : Type 0} (group : List Waiting) (rest : Step) (bidder round : ℕ) (text : List ℕ) (old new : HouseFields) (fault : SimFault)
+    → MakesStep {T = U} (after_group old.setup group) old new (Err fault)
+    → MakesWay {T = T} (with_request old.setup group bidder round text) rest old new (Err fault)
+refused_before group rest bidder round text old new fault one = record {
+  setup = one.setup;
+  comes = λ texts stands other.
+      ap (λ (answer : Result Texts SimFault). answer >>= (λ sent. after_request old.setup sent (Some bidder) round text)) (one.comes texts stands other);
+}
+
+-- there is room, and then one more waits
+pub waits_after : {U T : Type 0} (group between waiting : List Waiting) (bidder round : ℕ) (text : List ℕ) (old mid new : HouseFields) (done : U) (result : Result T SimFault)
+    → MakesWay (after_group old.setup group) (after_group old.setup between) old mid (Ok done)
+    → MakesWay (with_request mid.setup between bidder round text) (after_group mid.setup waiting) mid new result
+    → MakesWay (with_request old.setup group bidder round text) (after_group old.setup waiting) old new result
+waits_after group between waiting bidder round text old mid new done result one two =
+    two_ways (after_group old.setup group) (after_group old.setup between) (λ sent. after_request old.setup sent (Some bidder) round text)
+    (after_group old.setup waiting) old mid new done result one
+    (subst (λ (setup : SetupFields). MakesWay (with_request setup between bidder round text) (after_group setup waiting) mid new result) one.setup two)
+
+-- one more waits
+pub one_waits : {T : Type 0} (group waiting : List Waiting) (one : Waiting) (text : List ℕ) (old new : HouseFields) (done : T) → new ≡ old
+    → waiting ≡ group ++ one ∷ [] → text_in one ≡ text
+    → MakesWay (with_request old.setup group one.bidder one.round text) (after_group old.setup waiting) old new (Ok done)
+one_waits group waiting one text old new done same is reads = record {
+  setup = ap (λ (house : HouseFields). house.setup) same;
+  comes = λ texts stands. record {
+    texts = texts;
+    stands = subst (StandsForTexts texts) (sym same) stands;
+    same =
+        ap (λ (list : List Waiting). after_group old.setup list texts) is ∙ with_one old.setup group one texts
+        ∙ ap (λ (bytes : List ℕ). with_request old.setup group one.bidder one.round bytes texts) reads;
+  };
+}
+
 -- ---- a sheet waits
 
 if_ok : (code : Code) (done next : Texts) (fault : SimFault) → if_done code done fault ≡ Ok next → next ≡ done
@@ -305,9 +357,9 @@ sent_text : (setup : SetupFields) (texts next : Texts) (sender : Option ℕ) (ro
 unfolding after_request
 sent_text setup texts next sender round text is = if_ok _ (text ∷ texts) next _ is
 
-parted : (first : Result Texts SimFault) (then : Step) (end : Texts) → first >>= then ≡ Ok end → (next : Texts) × (first ≡ Ok next) × (then next ≡ Ok end)
-parted (Ok next) then end is = (next, refl, is)
-parted (Err fault) then end is = absurd (cc)
+parted : (first : Result Texts SimFault) (second : Step) (end : Texts) → first >>= second ≡ Ok end → (next : Texts) × (first ≡ Ok next) × (second next ≡ Ok end)
+parted (Ok next) second end is = (next, refl, is)
+parted (Err fault) second end is = absurd (cc)
 
 -- the requests of a group close no round
 group_closes_none : (setup : SetupFields) (group : List Waiting) (texts end : Texts) → All (λ one. ClosesNoRound (text_in one)) group
@@ -340,15 +392,11 @@ module _ (old : HouseFields) (group : List Waiting) (bidder : ℕ) (script : Scr
       texts = texts;
       stands = stands;
       same =
-          sym (then_ok (after_group old.setup group texts))
+          sym (ended_ok (after_group old.setup group texts))
           ∙ ap (λ (put : Option (List ℕ)). after_group old.setup group texts >>= (λ sent. given old.closed sent put)) (sym none)
           ∙ put_after texts stands (after_group old.setup group texts) refl;
     };
   }
-    where
-      then_ok : (answer : Result Texts SimFault) → answer >>= (λ sent. Ok sent) ≡ answer
-      then_ok (Ok sent) = refl
-      then_ok (Err fault) = refl
 
   -- the sheet is given as this text
   pub put_waits : {T : Type 0} (new : HouseFields) (rest : Step) (text : List ℕ) (round : ℕ) (result : Result T SimFault)
@@ -439,11 +487,7 @@ last_sent {T = T} whole scripts group i initial now new result past before made 
       let P : Result Texts SimFault → Type 0 = λ answer. MatchResult result (λ (_ : T). ComesTo answer new) (IsRefusal NoMemory answer) in
       let same : after_group now.setup group way.texts ≡ whole texts =
       ap (λ (setup : SetupFields). after_group setup group way.texts) before.setup
-      ∙ sym (then_ok (after_group initial.setup group way.texts))
+      ∙ sym (ended_ok (after_group initial.setup group way.texts))
       ∙ ap (λ (rest : List Script). then_puts initial.setup group i rest way.texts) (sym (drop_all i scripts past)) ∙ way.same in
       subst P same (made.comes way.texts way.stands);
 }
-  where
-    then_ok : (answer : Result Texts SimFault) → answer >>= (λ sent. Ok sent) ≡ answer
-    then_ok (Ok sent) = refl
-    then_ok (Err fault) = refl

@@ -1,7 +1,6 @@
 -- A sheet closes no round: a text that begins with the method PUT asks for no closing.
 use Rattle.std.proofs.Common.{◌≡◌, ℕ, suc, Bool, true, false, cond, List, [], ◌∷◌, ◌++◌, take, length, Option, Some, None, Result, Ok, Err, codes, decimal, refl, sym, ◌∙◌, ap, subst}
 use Rattle.std.specs.Prelude.{option_map, if◌then◌else◌}
-use Rattle.httparse.specs.Grammar.{RequestHead}
 use Rattle.clock_setup.specs.Limits.{SetupFields}
 use Rattle.clock_bids.specs.declared.sheet.Bid.{Bid}
 use Rattle.clock_house.specs.Command.{Command}
@@ -34,42 +33,31 @@ use Rattle.clock_sim.specs.ScriptedRequests.{scripted_put, scripted_sheet}
 abbrev begun : List ℕ → List ℕ
 begun rest = 80 ∷ 85 ∷ 84 ∷ 32 ∷ rest
 
-abbrev IsPut : RequestHead → Type 0
-IsPut head = head.method ≡ codes "PUT"
-
-first_word : (lines : List (List ℕ)) → IsPut (head_from (onto_first 80 (onto_first 85 (onto_first 84 (onto_first 32 lines)))))
+first_word : (lines : List (List ℕ)) → (head_from (onto_first 80 (onto_first 85 (onto_first 84 (onto_first 32 lines))))).method ≡ codes "PUT"
 first_word [] = refl
 first_word (line ∷ lines) = refl
 
-begun_lines : (rest : List ℕ) → IsPut (head_from (lines_of (begun rest)))
+begun_lines : (rest : List ℕ) → (head_from (lines_of (begun rest))).method ≡ codes "PUT"
 begun_lines rest = first_word (lines_of rest)
-
-abbrev IsPutHead : Result RequestHead Code → Type 0
-IsPutHead (Err fault) = Unit {0}
-IsPutHead (Ok head) = IsPut head
 
 abbrev IsPutKnown : Result (Head × ℕ) Code → Type 0
 IsPutKnown (Err fault) = Unit {0}
 IsPutKnown (Ok read) = read.0.method ≡ codes "PUT"
 
-tested : (long loose good : Bool) (head : RequestHead) → IsPut head
-    → IsPutHead (if long then Err LongHead else (if loose then Err BadHead else or_bad_head (if good then Some head else None)))
-tested true loose good head is = tt
-tested false true good head is = tt
-tested false false true head is = is
-tested false false false head is = tt
+with_length : (lines : List (List ℕ)) (count : Result ℕ Code) → (head_from lines).method ≡ codes "PUT" → IsPutKnown (and_length (head_from lines) count)
+with_length lines (Err fault) is = tt
+with_length lines (Ok n) is = is
 
-begun_head : (rest : List ℕ) → IsPutHead (ended_head (begun rest))
+tested : (long loose good : Bool) (lines : List (List ℕ)) → (head_from lines).method ≡ codes "PUT"
+    → IsPutKnown (length_read (if long then Err LongHead else (if loose then Err BadHead else or_bad_head (if good then Some (head_from lines) else None))))
+tested true loose good lines is = tt
+tested false true good lines is = tt
+tested false false true lines is = with_length lines _ is
+tested false false false lines is = tt
+
+begun_head : (rest : List ℕ) → IsPutKnown (length_read (ended_head (begun rest)))
 unfolding head_of
-begun_head rest = tested _ _ _ (head_from (lines_of (begun rest))) (begun_lines rest)
-
-with_length : (head : RequestHead) (count : Result ℕ Code) → IsPut head → IsPutKnown (and_length head count)
-with_length head (Err fault) is = tt
-with_length head (Ok n) is = is
-
-read_on : (read : Result RequestHead Code) → IsPutHead read → IsPutKnown (length_read read)
-read_on (Err fault) is = tt
-read_on (Ok head) is = with_length head _ is
+begun_head rest = tested _ _ _ (lines_of (begun rest)) (begun_lines rest)
 
 -- ---- what the text is
 
@@ -97,7 +85,7 @@ behind found = option_map suc (option_map suc (option_map suc (option_map suc fo
 
 at_end : (rest : List ℕ) (found : Option ℕ) → IsPutFraming (framed (known_with_end (behind found) (begun rest)) (begun rest))
 at_end rest None = ended_or_not (begun rest) _
-at_end rest (Some n) = in_head (begun rest) _ _ _ (read_on (ended_head (begun (take n rest))) (begun_head (take n rest)))
+at_end rest (Some n) = in_head (begun rest) _ _ _ (begun_head (take n rest))
 
 begun_framing : (rest : List ℕ) → IsPutFraming (framing (begun rest))
 unfolding framing known

@@ -1,6 +1,7 @@
 -- Requests of a group, which are sent over connections that stand at once.
 --     ClosesNoRound text      whatever was sent before, the text closes no round
 --     text_in one, after_group setup group texts      the text of a request, and the requests of a group, answered one after the other
+--     with_request setup group bidder round text texts, with_put setup group bidder script texts      and then one more of a bidder
 --     StandFrom place connections group text      from a place on, each connection stands with these bytes
 --     AreApart group      no two of the connections are one
 --     IsGroup connections group      the requests wait, each over a connection of its own, over which nothing has come yet
@@ -10,8 +11,9 @@ use Rattle.clock_setup.specs.Faults.{◌>>=◌}
 use Rattle.clock_front.specs.Pieces.{needs_more}
 use Rattle.clock_front.specs.Hubs.{ConnectionFields, text_of}
 use Rattle.clock_sim.specs.declared.groups.Waiting.{Waiting}
+use Rattle.clock_sim.specs.declared.script.Script.{Script}
 use Rattle.clock_sim.specs.declared.sim_fault.SimFault.{SimFault}
-use Rattle.clock_sim.specs.Rehearsal.{rounds_after, after_request}
+use Rattle.clock_sim.specs.Rehearsal.{rounds_after, after_request, after_put}
 
 -- the closed rounds are those before
 abbrev pub ClosesNoRound : List ℕ → Type 0
@@ -25,6 +27,15 @@ text_in one = one.head ++ one.body
 abbrev pub after_group : SetupFields → List Waiting → List (List ℕ) → Result (List (List ℕ)) SimFault
 after_group setup [] texts = Ok texts
 after_group setup (one ∷ group) texts = after_request setup texts (Some one.bidder) one.round (text_in one) >>= after_group setup group
+
+-- the requests of a group, and then one more of a bidder
+abbrev pub with_request : SetupFields → List Waiting → ℕ → ℕ → List ℕ → List (List ℕ) → Result (List (List ℕ)) SimFault
+with_request setup group bidder round text texts =
+    after_group setup group texts >>= (λ sent. after_request setup sent (Some bidder) round text)
+
+-- the requests of a group, and then the sheet that a bidder's script gives, if any
+abbrev pub with_put : SetupFields → List Waiting → ℕ → Script → List (List ℕ) → Result (List (List ℕ)) SimFault
+with_put setup group bidder script texts = after_group setup group texts >>= after_put setup bidder script
 
 -- from a place on, each connection stands with these bytes
 abbrev pub StandFrom : ℕ → ConnectionFields → List Waiting → (ℕ → Waiting → List ℕ) → Type 0

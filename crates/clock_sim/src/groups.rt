@@ -2,9 +2,7 @@
 
 ghost use Rattle.std.specs.Prelude.{◌≡◌, ◌++◌, Some, true, false, nat_le, length, OnOk, OnErr};
 ghost use Rattle.clock_front.specs.Pieces.{needs_more};
-ghost use Rattle.clock_setup.specs.Faults.{◌>>=◌};
-ghost use Rattle.clock_sim.specs.Groups.{IsGroup, StandFrom, AreApart, ClosesNoRound, after_group};
-ghost use Rattle.clock_sim.specs.Rehearsal as rules;
+ghost use Rattle.clock_sim.specs.Groups.{IsGroup, StandFrom, AreApart, ClosesNoRound, after_group, with_request};
 ghost use Rattle.clock_sim.specs.RequestTexts.{whole_text};
 ghost use Rattle.clock_sim.specs.Steps.{MakesStep, MakesWay};
 
@@ -12,7 +10,7 @@ use crate::request_texts::RequestText;
 use crate::sending::{send, send_body};
 use crate::sim_fault::SimFault;
 use clock_device::Text;
-use clock_front::{Conn, Framing, Hub, frame};
+use clock_front::{Conn, Framing, Hub, HubFault, frame};
 use clock_processor::Processor;
 use std::alloc::Global;
 
@@ -40,7 +38,7 @@ fn needs_body(head: &[u8]) -> bool
 }
 
 /// The head of each request of a group comes, in order.
-fn feed_heads<P: Processor>(hub: &mut Hub<P>, group: &[Waiting]) -> Result<(), SimFault>
+fn feed_heads<P: Processor>(hub: &mut Hub<P>, group: &[Waiting]) -> Result<(), HubFault>
     requires { IsGroup hub.old.connections group.now }
     ensures house { hub.new.house ≡ hub.old.house }
     ensures heads { OnOk result (StandFrom 0 hub.new.connections group.now (λ k one. one.head)) }
@@ -98,8 +96,7 @@ fn join<P: Processor>(
     requires closes { ClosesNoRound (whole_text request.now) }
     ensures group { OnOk result (IsGroup hub.new.connections group.new.items) }
     ensures way { MakesWay
-        (λ texts. after_group hub.old.house.setup group.old.items texts
-        >>= (λ sent. rules.after_request hub.old.house.setup sent (Some bidder) round (whole_text request.now)))
+        (with_request hub.old.house.setup group.old.items bidder round (whole_text request.now))
         (after_group hub.old.house.setup group.new.items) hub.old.house hub.new.house result }
 {
     let head = Text::from_slice(alloc, request.head())?;
@@ -141,8 +138,7 @@ pub(crate) fn take_turn<P: Processor>(
     requires closes { ClosesNoRound (whole_text request.now) }
     ensures group { OnOk result (IsGroup hub.new.connections group.new.items) }
     ensures way { MakesWay
-        (λ texts. after_group hub.old.house.setup group.old.items texts
-        >>= (λ sent. rules.after_request hub.old.house.setup sent (Some bidder) round (whole_text request.now)))
+        (with_request hub.old.house.setup group.old.items bidder round (whole_text request.now))
         (after_group hub.old.house.setup group.new.items) hub.old.house hub.new.house result }
 {
     if needs_body(request.head()) {

@@ -4,8 +4,7 @@ ghost use Rattle.std.specs.Prelude.{◌≡◌, ◌<◌, length, true, All, OnOk}
 ghost use Rattle.clock_house.specs.House.{standing_in};
 ghost use Rattle.clock_sim.specs.Rehearsal as rules;
 ghost use Rattle.clock_sim.specs.Replays.{IsScript};
-ghost use Rattle.clock_setup.specs.Faults.{◌>>=◌};
-ghost use Rattle.clock_sim.specs.Groups.{IsGroup, after_group};
+ghost use Rattle.clock_sim.specs.Groups.{IsGroup, after_group, with_put};
 ghost use Rattle.clock_sim.specs.Steps.{MakesStep, MakesWay};
 
 use crate::closing::Closing;
@@ -39,7 +38,7 @@ fn put_scripted<P: Processor>(
     requires group { IsGroup hub.old.connections group.old.items }
     ensures group { OnOk result (IsGroup hub.new.connections group.new.items) }
     ensures way { MakesWay
-        (λ texts. after_group hub.old.house.setup group.old.items texts >>= rules.after_put hub.old.house.setup bidder script.now)
+        (with_put hub.old.house.setup group.old.items bidder script.now)
         (after_group hub.old.house.setup group.new.items) hub.old.house hub.new.house result }
 {
     let round = current_round(hub);
