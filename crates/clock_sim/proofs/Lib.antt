@@ -9,3 +9,4 @@ mod SincereExamples
 pub mod PutLaws
 pub mod SendLaws
 pub mod GroupLaws
+pub mod TurnLaws

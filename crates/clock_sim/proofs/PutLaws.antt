@@ -9,11 +9,12 @@ use Rattle.clock_house.specs.declared.closed_round.ClosedRound.{ClosedRound}
 use Rattle.clock_views.specs.declared.code.Code.{Code}
 use Rattle.clock_views.specs.declared.code.Code.TheVariants.{LongHead, BadHead}
 use Rattle.clock_front.specs.Scans.{head_length}
-use Rattle.clock_front.specs.Heads.{onto_first, lines_of, head_from, head_of}
+use Rattle.clock_front.specs.Heads.{same_bytes, onto_first, lines_of, head_from, head_of}
 use Rattle.clock_front.specs.Framing.{Head, Framing, Known, framed, framing, known, known_with_end, known_with_head, known_with_body, ended_head, or_bad_head, length_read, and_length, head_limit}
 use Rattle.clock_front.specs.Framing as framed_as
 use Rattle.clock_front.specs.Requests.{Ask, ask_of, ask_by_route, ask_of_page, request_of}
 use Rattle.clock_front.specs.Requests as asked
+use Rattle.clock_front.specs.Bodies.{put_body}
 use Rattle.clock_front.specs.Routes.{page_of, has_method}
 use Rattle.clock_front.specs.Outcomes.{command_of}
 use Rattle.clock_front.specs.Askers.{asker}
@@ -24,7 +25,7 @@ use Rattle.clock_front.specs.declared.tokens.Asker.{Asker}
 use Rattle.clock_front.specs.declared.tokens.Asker.TheVariants.{Nobody, Operator, Bidder}
 use Rattle.clock_sim.specs.declared.script.Script.{Script}
 use Rattle.clock_sim.specs.Groups.{ClosesNoRound}
-use Rattle.clock_sim.specs.RequestTexts.{put_text, put_body}
+use Rattle.clock_sim.specs.RequestTexts.{put_text}
 use Rattle.clock_sim.specs.ScriptedRequests.{scripted_put, scripted_sheet}
 
 -- ---- the method of a head
@@ -102,45 +103,45 @@ abbrev Leaves : SetupFields → Command → Type 0
 Leaves setup command = (auction : Auction) → (after_command setup auction command).closed ≡ auction.closed
 
 leaves : (setup : SetupFields) (sender : Asker) (ask : Ask) → IsNoClosing ask → Leaves setup (command_of setup sender ask)
-leaves setup Nobody ask no = λ auction. refl
-leaves setup (Bidder b) (asked.turned_away code) no = λ auction. refl
-leaves setup (Bidder b) (asked.no_method page) no = λ auction. refl
-leaves setup (Bidder b) asked.status no = λ auction. refl
-leaves setup (Bidder b) asked.products no = λ auction. refl
-leaves setup (Bidder b) (asked.sheet segment) no = λ auction. refl
-leaves setup (Bidder b) asked.account no = λ auction. refl
-leaves setup (Bidder b) asked.bids no = λ auction. refl
-leaves setup (Bidder b) (asked.put (Ok body)) no = λ auction. refl
-leaves setup (Bidder b) (asked.put (Err fault)) no = λ auction. refl
-leaves setup (Bidder b) (asked.slip segment) no = λ auction. refl
-leaves setup (Bidder b) (asked.close body) no = absurd no
-leaves setup (Bidder b) asked.results no = λ auction. refl
-leaves setup Operator (asked.turned_away code) no = λ auction. refl
-leaves setup Operator (asked.no_method page) no = λ auction. refl
-leaves setup Operator asked.status no = λ auction. refl
-leaves setup Operator asked.products no = λ auction. refl
-leaves setup Operator (asked.sheet segment) no = λ auction. refl
-leaves setup Operator asked.account no = λ auction. refl
-leaves setup Operator asked.bids no = λ auction. refl
-leaves setup Operator (asked.put body) no = λ auction. refl
-leaves setup Operator (asked.slip segment) no = λ auction. refl
-leaves setup Operator (asked.close body) no = absurd no
-leaves setup Operator asked.results no = λ auction. refl
+leaves setup Nobody ask free = λ auction. refl
+leaves setup (Bidder b) (asked.turned_away code) free = λ auction. refl
+leaves setup (Bidder b) (asked.no_method page) free = λ auction. refl
+leaves setup (Bidder b) asked.status free = λ auction. refl
+leaves setup (Bidder b) asked.products free = λ auction. refl
+leaves setup (Bidder b) (asked.sheet segment) free = λ auction. refl
+leaves setup (Bidder b) asked.account free = λ auction. refl
+leaves setup (Bidder b) asked.bids free = λ auction. refl
+leaves setup (Bidder b) (asked.put (Ok body)) free = λ auction. refl
+leaves setup (Bidder b) (asked.put (Err fault)) free = λ auction. refl
+leaves setup (Bidder b) (asked.slip segment) free = λ auction. refl
+leaves setup (Bidder b) (asked.close body) free = absurd free
+leaves setup (Bidder b) asked.results free = λ auction. refl
+leaves setup Operator (asked.turned_away code) free = λ auction. refl
+leaves setup Operator (asked.no_method page) free = λ auction. refl
+leaves setup Operator asked.status free = λ auction. refl
+leaves setup Operator asked.products free = λ auction. refl
+leaves setup Operator (asked.sheet segment) free = λ auction. refl
+leaves setup Operator asked.account free = λ auction. refl
+leaves setup Operator asked.bids free = λ auction. refl
+leaves setup Operator (asked.put body) free = λ auction. refl
+leaves setup Operator (asked.slip segment) free = λ auction. refl
+leaves setup Operator (asked.close body) free = absurd free
+leaves setup Operator asked.results free = λ auction. refl
 
 if_method : (has : Bool) (page : Page) (ask : Ask) → IsNoClosing ask → IsNoClosing (if has then ask else asked.no_method page)
-if_method true page ask no = no
-if_method false page ask no = tt
+if_method true page ask free = free
+if_method false page ask free = tt
 
-put_or_bids : (is : Bool) (put bids : Ask) → IsNoClosing put → IsNoClosing bids → IsNoClosing (if is then put else bids)
-put_or_bids true put bids no other = no
-put_or_bids false put bids no other = other
+put_or_bids : (is : Bool) (one other : Ask) → IsNoClosing one → IsNoClosing other → IsNoClosing (if is then one else other)
+put_or_bids true one other free same = free
+put_or_bids false one other free same = same
 
 of_page : (page : Page) (head : Head) (body : List ℕ) → head.method ≡ codes "PUT" → IsNoClosing (ask_by_route (Some page) head body)
 of_page Status head body is = if_method _ Status asked.status tt
 of_page Products head body is = if_method _ Products asked.products tt
 of_page Sheet head body is = if_method _ Sheet (ask_of_page Sheet head body) tt
 of_page Account head body is = if_method _ Account asked.account tt
-of_page Bids head body is = if_method _ Bids (ask_of_page Bids head body) (put_or_bids _ _ _ tt tt)
+of_page Bids head body is = if_method _ Bids (ask_of_page Bids head body) (put_or_bids (same_bytes (codes "PUT") head.method) (asked.put (put_body body)) asked.bids tt tt)
 of_page Slip head body is = if_method _ Slip (ask_of_page Slip head body) tt
 of_page Close head body is =
     let none : has_method Close head.method ≡ false = ap (λ (method : List ℕ). has_method Close method) is in

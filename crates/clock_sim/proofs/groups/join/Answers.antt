@@ -4,7 +4,8 @@ use Rattle.clock_front.specs.Pieces.{needs_more}
 use Rattle.clock_front.specs.declared.connections.Conn.{Conn}
 use Rattle.clock_sim.specs.declared.groups.Waiting.{Waiting}
 use Rattle.clock_sim.specs.Groups.{ClosesNoRound, IsGroup}
-use Rattle.clock_sim.proofs.GroupLaws.{joined_group, one_waits}
+use Rattle.clock_sim.proofs.GroupLaws.{joined_group}
+use Rattle.clock_sim.proofs.TurnLaws.{one_waits}
 use Rattle.clock_sim.proofs.groups.join.Goals as goal
 
 abbrev waiting : ℕ → ℕ → Conn → List ℕ → List ℕ → Waiting

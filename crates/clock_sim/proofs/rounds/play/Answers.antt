@@ -40,14 +40,14 @@ returns-then-ended-clause-step g c =
     let i = c.loop-closing.closing-index in
     let whole = rehearsed setup scripts closings in
     let over : (standing_in c.play_round.new.hub.house).ended ≡ true =
-    ap (λ (house : HouseFields). (standing_in house).ended) (sym c.house.ensures) ∙ sym c.ended.ensures.is ∙ c.if-ended.true in
+    ap (λ (house : HouseFields). (standing_in house).ended) (sym (c.house.ensures ∙ c.front.ensures)) ∙ sym c.ended.ensures.is ∙ c.if-ended.true in
     ends_there whole (rehearsed setup scripts (drop (i + 1) closings)) c.args.hub.now.house c.play_round.new.hub.house _
     (round_played whole scripts closings i c.closing-item.result c.args.hub.now.house c.loop-closing.hub.house c.play_round.new.hub.house _ c.loop-closing-test.true
     c.closing-item.is c.loop-closing.invariant c.in_ok-play_round.ensures) over
 
 pub returns-then-ended-clause-ended : goal.returns-then-ended-clause-ended
 returns-then-ended-clause-ended g c =
-    ap (λ (house : HouseFields). (standing_in house).ended) (sym c.house.ensures) ∙ sym c.ended.ensures.is ∙ c.if-ended.true
+    ap (λ (house : HouseFields). (standing_in house).ended) (sym (c.house.ensures ∙ c.front.ensures)) ∙ sym c.ended.ensures.is ∙ c.if-ended.true
 
 pub loop-closing-preserved : goal.loop-closing-preserved
 loop-closing-preserved g c =
@@ -57,7 +57,7 @@ loop-closing-preserved g c =
     let i = c.loop-closing.closing-index in
     let whole = rehearsed setup scripts closings in
     let going : (standing_in c.play_round.new.hub.house).ended ≡ false =
-    ap (λ (house : HouseFields). (standing_in house).ended) (sym c.house.ensures) ∙ sym c.ended.ensures.is ∙ c.if-ended.false in
+    ap (λ (house : HouseFields). (standing_in house).ended) (sym (c.house.ensures ∙ c.front.ensures)) ∙ sym c.ended.ensures.is ∙ c.if-ended.false in
     goes_past whole (rehearsed setup scripts (drop (i + 1) closings)) c.args.hub.now.house c.play_round.new.hub.house
     (round_played whole scripts closings i c.closing-item.result c.args.hub.now.house c.loop-closing.hub.house c.play_round.new.hub.house _ c.loop-closing-test.true
     c.closing-item.is c.loop-closing.invariant c.in_ok-play_round.ensures) going

@@ -1,16 +1,19 @@
-use Rattle.std.proofs.Common.{[], length, ap, refl, sym, ◌∙◌, subst, arith}
+use Rattle.std.proofs.Common.{◌≡◌, length, ap, refl, sym, ◌∙◌, subst, arith}
 use Rattle.std.proofs.lemmas.Result.{err_from_is_err_and}
 use Rattle.clock_setup.specs.Limits.{SetupFields}
 use Rattle.clock_sim.specs.declared.script.Script.{Script}
 use Rattle.clock_sim.specs.Replays.{IsScript}
 use Rattle.clock_sim.specs.Rehearsal.{after_puts}
-use Rattle.clock_sim.proofs.GroupLaws.{empty_group, first_turn, turn_over, turn_refused, last_sent}
+use Rattle.clock_sim.proofs.GroupLaws.{empty_group}
+use Rattle.clock_sim.proofs.TurnLaws.{first_turn, turn_over, turn_refused, last_sent}
 use Rattle.clock_sim.proofs.rounds.put_all.Goals as goal
 
 pub loop-bidder-init : goal.loop-bidder-init
 loop-bidder-init g c =
     let old = c.args.hub.now in
-    (first_turn old.house.setup [] c.args.scripts.now old.house refl refl, empty_group old.connections [] refl)
+    let group = c.new-group.result.items in
+    let none : length group ≡ 0 = ap length c.new-group.ensures.items in
+    (first_turn old.house.setup group c.args.scripts.now old.house refl none, empty_group old.connections group none)
 
 pub put_scripted-requires-clause-known : goal.put_scripted-requires-clause-known
 put_scripted-requires-clause-known g c =

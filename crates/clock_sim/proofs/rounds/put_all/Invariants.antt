@@ -2,7 +2,7 @@ use Rattle.std.proofs.Common.{drop}
 use Rattle.clock_sim.specs.Groups.{IsGroup}
 use Rattle.clock_sim.specs.Rehearsal.{after_puts}
 use Rattle.clock_sim.proofs.StepLaws.{IsOnWay}
-use Rattle.clock_sim.proofs.GroupLaws.{then_puts}
+use Rattle.clock_sim.proofs.TurnLaws.{then_puts}
 use Rattle.clock_sim.proofs.rounds.put_all.Given as goal
 
 -- the requests that wait are sent, and the bidders that are left put their sheets

@@ -4,7 +4,7 @@ use Rattle.clock_sim.specs.Groups.{after_group, with_put}
 use Rattle.clock_sim.specs.RequestTexts.{whole_text}
 use Rattle.clock_sim.proofs.StepLaws.{puts_text, puts_none}
 use Rattle.clock_sim.proofs.PutLaws.{scripted_closes_none}
-use Rattle.clock_sim.proofs.GroupLaws.{no_memory_way, none_put, put_waits}
+use Rattle.clock_sim.proofs.TurnLaws.{no_memory_way, none_put, put_waits}
 use Rattle.clock_sim.proofs.rounds.put_scripted.Goals as goal
 
 pub returns-in_err-puts-clause-way : goal.returns-in_err-puts-clause-way

@@ -18,4 +18,4 @@ returns-clause-ok g c =
     let house = c.args.hub.now.house in
     let replay : ReplayFields = record { setup = house.setup; scripts = c.args.scripts.now; closings = c.args.closings.now } in
     reported replay house.setup house c.play.new.hub.house refl refl c.requires.first _ c.in_ok-play.ensures.step
-    ∙ ap Ok (sym (c.in_ok-final_report.ensures ∙ ap (λ (house : HouseFields). report_of house.setup house.closed) c.house.ensures))
+    ∙ ap Ok (sym (c.in_ok-final_report.ensures ∙ ap (λ (house : HouseFields). report_of house.setup house.closed) (c.house.ensures ∙ c.front.ensures)))
