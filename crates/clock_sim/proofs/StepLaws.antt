@@ -19,12 +19,12 @@ use Rattle.clock_sim.specs.Replays.{ReplayFields}
 use Rattle.clock_sim.specs.declared.script.Script.{Script}
 use Rattle.clock_sim.specs.declared.closing.Closing.{Closing}
 use Rattle.clock_sim.specs.ScriptedRequests.{scripted_put, scripted_close}
-use Rattle.clock_sim.specs.Steps.{IsTold, ComesTo, MakesStep}
+use Rattle.clock_sim.specs.Steps.{IsTold, ComesTo, MakesStep, IsLeft, MakesWay}
 
-abbrev Texts : Type 0
+abbrev pub Texts : Type 0
 Texts = List (List ℕ)
 
-abbrev Step : Type 0
+abbrev pub Step : Type 0
 Step = Texts → Result Texts SimFault
 
 -- ---- one request
@@ -83,35 +83,6 @@ out_of_memory step old new same = record { setup = same; comes = λ texts stands
 
 -- ---- the requests of a round
 
--- a bidder whose script gives no sheet puts none
-pub nothing_put : {T : Type 0} (old : HouseFields) (bidder : ℕ) (script : Script) (done : T) → scripted_put old.setup old.closed bidder script ≡ None
-    → MakesStep (after_put old.setup bidder script) old old (Ok done)
-nothing_put old bidder script done none = record {
-  setup = refl;
-  comes = λ texts stands. record {
-    texts = texts;
-    is =
-        ap (λ (closed : List ClosedRound). after_request_if old.setup texts (Some bidder) (standing old.setup.products closed).round (scripted_put old.setup closed bidder script)) (sym stands.closed)
-        ∙ ap (λ (put : Option (List ℕ)). after_request_if old.setup texts (Some bidder) (standing_in old).round put) none;
-    stands = stands;
-  };
-}
-
--- the sheet that a script gives is put
-pub sheet_put : {T : Type 0} (old new : HouseFields) (bidder : ℕ) (script : Script) (text : List ℕ) (round : ℕ) (result : Result T SimFault)
-    → scripted_put old.setup old.closed bidder script ≡ Some text → round ≡ (standing_in old).round
-    → MakesStep (λ texts. after_request old.setup texts (Some bidder) round text) old new result → MakesStep (after_put old.setup bidder script) old new result
-sheet_put old new bidder script text round result puts at sent = record {
-  setup = sent.setup;
-  comes = λ texts stands.
-      let P : Result Texts SimFault → Type 0 = λ answer. MatchResult result (λ _. ComesTo answer new) (IsRefusal NoMemory answer) in
-      let same : after_request old.setup texts (Some bidder) round text ≡ after_put old.setup bidder script texts =
-      ap (λ (k : ℕ). after_request old.setup texts (Some bidder) k text) at
-      ∙ ap (λ (put : Option (List ℕ)). after_request_if old.setup texts (Some bidder) (standing_in old).round put) (sym puts)
-      ∙ ap (λ (closed : List ClosedRound). after_request_if old.setup texts (Some bidder) (standing old.setup.products closed).round (scripted_put old.setup closed bidder script)) stands.closed in
-      subst P same (sent.comes texts stands);
-}
-
 -- the operator closes the round
 pub round_closed : {T : Type 0} (old new : HouseFields) (closing : Closing) (text : List ℕ) (round : ℕ) (result : Result T SimFault)
     → text ≡ scripted_close old.setup old.closed closing → round ≡ (standing_in old).round
@@ -149,12 +120,6 @@ no_further first second old new fault one = record {
 }
 
 -- ---- steps on their way
-
--- the rest of the steps give what the whole gives
-pub record IsLeft (rest : Step) (answer : Result Texts SimFault) (house : HouseFields) : Type 0 where
-  pub texts : Texts
-  pub stands : StandsForTexts texts house
-  pub same : rest texts ≡ answer
 
 pub record IsOnWay (whole rest : Step) (initial now : HouseFields) : Type 0 where
   pub setup : now.setup ≡ initial.setup
@@ -263,42 +228,6 @@ pub puts_none : (house old : HouseFields) (bidder : ℕ) (script : Script) (puts
 puts_none house old bidder script puts written same gives no_sheet =
     let P : HouseFields → Type 0 = λ now. scripted_put now.setup now.closed bidder script ≡ None in
     subst P same (gives ∙ ap (λ (b : Bool). if b then Some written else None) no_sheet)
-
--- ---- bidder after bidder
-
-next_script : (scripts : List Script) (i : ℕ) (script : Script) → i < length scripts → script ≡ get_or scripts i script → drop i scripts ≡ script ∷ drop (i + 1) scripts
-next_script scripts i script below is = drop_more scripts i script below ∙ ap (λ (one : Script). one ∷ drop (i + 1) scripts) (sym is)
-
-before_put : (whole : Step) (scripts : List Script) (i : ℕ) (script : Script) (initial now : HouseFields) → i < length scripts → script ≡ get_or scripts i script
-    → IsOnWay whole (after_puts initial.setup i (drop i scripts)) initial now
-    → IsOnWay whole (λ texts. after_put initial.setup i script texts >>= after_puts initial.setup (i + 1) (drop (i + 1) scripts)) initial now
-before_put whole scripts i script initial now below is before =
-    let P : List Script → Type 0 = λ rest. IsOnWay whole (after_puts initial.setup i rest) initial now in
-    subst P (next_script scripts i script below is) before
-
-pub next_put : {U : Type 0} (whole : Step) (scripts : List Script) (i : ℕ) (script : Script) (initial now next : HouseFields) (done : U)
-    → i < length scripts → script ≡ get_or scripts i script
-    → IsOnWay whole (after_puts initial.setup i (drop i scripts)) initial now → MakesStep (after_put now.setup i script) now next (Ok done)
-    → IsOnWay whole (after_puts initial.setup (i + 1) (drop (i + 1) scripts)) initial next
-next_put whole scripts i script initial now next done below is before made =
-    goes_on whole (after_put initial.setup i script) (after_puts initial.setup (i + 1) (drop (i + 1) scripts)) initial now next done
-    (before_put whole scripts i script initial now below is before)
-    (subst (λ (setup : SetupFields). MakesStep (after_put setup i script) now next (Ok done)) before.setup made)
-
-pub refused_put : {U T : Type 0} (whole : Step) (scripts : List Script) (i : ℕ) (script : Script) (initial now next : HouseFields) (fault : SimFault)
-    → i < length scripts → script ≡ get_or scripts i script
-    → IsOnWay whole (after_puts initial.setup i (drop i scripts)) initial now → MakesStep {T = U} (after_put now.setup i script) now next (Err fault)
-    → MakesStep {T = T} whole initial next (Err fault)
-refused_put {U = U} {T = T} whole scripts i script initial now next fault below is before made =
-    stops {U = U} {T = T} whole (after_put initial.setup i script) (after_puts initial.setup (i + 1) (drop (i + 1) scripts)) initial now next fault
-    (before_put whole scripts i script initial now below is before)
-    (subst (λ (setup : SetupFields). MakesStep {T = U} (after_put setup i script) now next (Err fault)) before.setup made)
-
-pub all_put : {T : Type 0} (whole : Step) (scripts : List Script) (i : ℕ) (initial now : HouseFields) (done : T) → length scripts ≤ i
-    → IsOnWay whole (after_puts initial.setup i (drop i scripts)) initial now → MakesStep whole initial now (Ok done)
-all_put whole scripts i initial now done past before =
-    let P : List Script → Type 0 = λ rest. IsOnWay whole (after_puts initial.setup i rest) initial now in
-    ends whole (after_puts initial.setup i []) initial now done (subst P (drop_all i scripts past) before) (λ texts. refl)
 
 -- ---- round after round
 
