@@ -58,11 +58,17 @@ close_fields found =
     ∷ (codes "ties", option_map ties_data found.ties)
     ∷ []
 
--- what is found of a closing when it is whole
-abbrev pub found_of : ℕ → Increments → List Tie → FoundClose
-found_of round (Single increment) ties = record { increment = Some increment; increments = None; round = Some round; ties = Some ties }
-found_of round (PerProduct increments) ties = record { increment = None; increments = Some increments; round = Some round; ties = Some ties }
+-- the increment for all products, where there is one
+abbrev pub single_of : Increments → Option ℕ
+single_of (Single increment) = Some increment
+single_of (PerProduct increments) = None
+
+-- the increments of each product, where there are such
+abbrev pub listed_of : Increments → Option (List ℕ)
+listed_of (Single increment) = None
+listed_of (PerProduct increments) = Some increments
 
 -- a closing as a value
 abbrev pub close_data : CloseBody → Data
-close_data body = object (members_of (close_fields (found_of body.round body.increments body.ties)))
+close_data body =
+    object (members_of (close_fields (record { increment = single_of body.increments; increments = listed_of body.increments; round = Some body.round; ties = Some body.ties })))

@@ -3,7 +3,7 @@ ghost use Rattle.std.specs.Prelude.{◌≡◌, [], ◌<◌, length, Ok, IfSome, 
 ghost use Rattle.clock_scan.specs.Reading.{Reads, AddsMember, members_of};
 ghost use Rattle.serde_json.specs.Data.{object};
 ghost use Rattle.clock_front.specs.CloseBodies as bodies;
-ghost use Rattle.clock_front.specs.QuickBodies.{tie_data, ties_data, close_fields, close_data};
+ghost use Rattle.clock_front.specs.QuickBodies.{tie_data, ties_data, close_fields, single_of, listed_of, close_data};
 
 use crate::body_words::{is_key, is_text};
 use crate::close_body::CloseBody;
@@ -23,6 +23,20 @@ struct FoundClose {
     increments: Option<Items<u64>>,
     round: Option<u64>,
     ties: Option<Items<Tie>>,
+}
+
+/// The increments, where they were found in one form and not in both.
+fn one_form(single: Option<u64>, listed: Option<Items<u64>>) -> Option<Increments>
+    ensures single { IfSome result (λ increments. single ≡ single_of increments) }
+    ensures listed { IfSome result (λ increments. listed ≡ listed_of increments) }
+{
+    let Some(increments) = listed else {
+        return Some(Increments::Single(single?));
+    };
+    if single.is_some() {
+        return None;
+    }
+    Some(Increments::PerProduct(increments))
 }
 
 /// The tie number that is next.
@@ -98,33 +112,16 @@ impl FoundClose {
         Err(Stop::Unusual)
     }
 
-    /// The closing, where all of it was found, and one form of increments.
+    /// The closing, where all of it was found.
     fn body(self) -> Option<CloseBody>
         ensures { IfSome result (λ body. object (members_of (close_fields self)) ≡ close_data body) }
     {
-        match self {
-            FoundClose {
-                increment: Some(increment),
-                increments: None,
-                round: Some(round),
-                ties: Some(ties),
-            } => Some(CloseBody {
-                round,
-                increments: Increments::Single(increment),
-                ties,
-            }),
-            FoundClose {
-                increment: None,
-                increments: Some(increments),
-                round: Some(round),
-                ties: Some(ties),
-            } => Some(CloseBody {
-                round,
-                increments: Increments::PerProduct(increments),
-                ties,
-            }),
-            _ => None,
-        }
+        let increments = one_form(self.increment, self.increments)?;
+        Some(CloseBody {
+            round: self.round?,
+            increments,
+            ties: self.ties?,
+        })
     }
 }
 
@@ -147,7 +144,10 @@ fn close(alloc: Global, scan: &mut Scan<'_>, room: usize) -> Result<CloseBody, S
     if !scan.ends() {
         return Err(Stop::Unusual);
     }
-    found.body().ok_or(Stop::Unusual)
+    let Some(body) = found.body() else {
+        return Err(Stop::Unusual);
+    };
+    Ok(body)
 }
 
 /// What the body of a closing means, where it is read byte by byte.

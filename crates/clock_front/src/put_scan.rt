@@ -151,6 +151,16 @@ impl FoundPut {
         }
         Err(Stop::Unusual)
     }
+
+    /// The sheet, where all of it was found.
+    fn body(self) -> Option<PutBody>
+        ensures { IfSome result (λ body. object (members_of (put_fields self)) ≡ put_data body) }
+    {
+        Some(PutBody {
+            round: self.round?,
+            bids: self.bids?,
+        })
+    }
 }
 
 /// The sheet that is next, where nothing follows it.
@@ -167,17 +177,13 @@ fn put(alloc: Global, scan: &mut Scan<'_>, room: usize) -> Result<PutBody, Stop>
     'members: while !scan.closes_object() {
         found.read_member(alloc, scan, room)?;
     }
-    let FoundPut {
-        round: Some(round),
-        bids: Some(bids),
-    } = found
-    else {
-        return Err(Stop::Unusual);
-    };
     if !scan.ends() {
         return Err(Stop::Unusual);
     }
-    Ok(PutBody { round, bids })
+    let Some(body) = found.body() else {
+        return Err(Stop::Unusual);
+    };
+    Ok(body)
 }
 
 /// What the body of a sheet means, where it is read byte by byte.
