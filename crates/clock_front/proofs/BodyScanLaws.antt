@@ -1,9 +1,10 @@
 -- What is read quickly of a body is what the body means.
-use Rattle.std.proofs.Common.{◌≡◌, ℕ, ◌<◌, true, List, [], ◌∷◌, map, Option, Some, None, option_map, Result, Ok, Err, IfOk, IfSome, refl, sym, ap, ◌∙◌, subst, arith}
+use Rattle.std.proofs.Common.{◌≡◌, ℕ, true, List, [], ◌∷◌, map, Option, Some, None, option_map, Result, Ok, Err}
+use Rattle.std.proofs.Common.{IfOk, IfSome, refl, ap, ◌∙◌, subst, arith}
 use Rattle.std.specs.Str.{IsUtf8}
 use Rattle.json.specs.Token.{Token, key as key_token}
 use Rattle.json.specs.Lex.{tokens}
-use Rattle.serde_json.specs.Data.{Data, Items, item}
+use Rattle.serde_json.specs.Data.{Data}
 use Rattle.clock_setup.specs.Faults.{or_fault}
 use Rattle.clock_setup.specs.Members.{each, number_from, ◌>>=◌}
 use Rattle.clock_setup.proofs.JsonLaws.{json_value}
@@ -19,7 +20,7 @@ use Rattle.clock_front.specs.declared.close_body.CloseBody.{CloseBody}
 use Rattle.clock_front.specs.declared.body_fault.BodyFault.TheVariants.{Shape}
 use Rattle.clock_front.specs.Bodies.{bid_of, put_of, put_body, meant_by}
 use Rattle.clock_front.specs.CloseBodies.{tie_of, close_of, close_body}
-use Rattle.clock_front.specs.QuickBodies.{bid_data, bids_data, put_data, tie_data, ties_data, close_data}
+use Rattle.clock_front.specs.QuickBodies.{bid_data, put_data, tie_data, close_data}
 
 -- a member of some fields, where it is one of them
 pub added : {A : Type 0} (fields_of : A → Fields) (levels : ℕ) (old value new : List Token) (fields : Fields) (name : List ℕ) (d : Data) (found : Option A)
@@ -60,17 +61,21 @@ each_means meaning data_of means (x ∷ xs) =
 
 put_means : (body : PutBody) → put_of (put_data body) ≡ Some body
 unfolding put_of
-put_means body = ap (λ o. o >>= λ bids. Some (record { round = body.round; bids = bids })) (each_means bid_of bid_data bid_means body.bids)
+put_means body =
+    ap (λ o. o >>= λ bids. Some (record { round = body.round; bids = bids })) (each_means bid_of bid_data bid_means body.bids)
 
-close_means_at : (round : ℕ) (increments : Increments) (ties : List Tie)
-    → close_of (close_data (record { round = round; increments = increments; ties = ties })) ≡ Some (record { round = round; increments = increments; ties = ties })
+abbrev closing : ℕ → List Tie → Increments → CloseBody
+closing round ties increments = record { round = round; increments = increments; ties = ties }
+
+close_means : (round : ℕ) (increments : Increments) (ties : List Tie)
+    → close_of (close_data (closing round ties increments)) ≡ Some (closing round ties increments)
 unfolding close_of
-close_means_at round (Single increment) ties =
-    ap (λ o. o >>= λ known. Some (record { round = round; increments = Single increment; ties = known })) (each_means tie_of tie_data tie_means ties)
-close_means_at round (PerProduct increments) ties =
-    ap (λ o. option_map PerProduct o >>= λ listed. (each tie_of (items_of (map tie_data ties)) >>= λ known. Some (record { round = round; increments = listed; ties = known })))
+close_means round (Single increment) ties =
+    ap (λ o. o >>= λ known. Some (closing round known (Single increment))) (each_means tie_of tie_data tie_means ties)
+close_means round (PerProduct increments) ties =
+    ap (λ o. option_map PerProduct o >>= λ listed. (each tie_of (items_of (map tie_data ties)) >>= λ known. Some (closing round known listed)))
     (each_means number_from whole number_means increments)
-    ∙ ap (λ o. o >>= λ known. Some (record { round = round; increments = PerProduct increments; ties = known })) (each_means tie_of tie_data tie_means ties)
+    ∙ ap (λ o. o >>= λ known. Some (closing round known (PerProduct increments))) (each_means tie_of tie_data tie_means ties)
 
 -- ---- what the bytes mean
 
@@ -88,4 +93,4 @@ unfolding close_body
 close_meant text ts (Err stop) utf8 is reads = tt
 close_meant text ts (Ok body) utf8 is reads =
     ap (meant_by close_of) (json_value text (close_data body) utf8 (text_is 3 text ts [] (close_data body) (omega arith) is reads refl))
-    ∙ ap (or_fault Shape) (close_means_at body.round body.increments body.ties)
+    ∙ ap (or_fault Shape) (close_means body.round body.increments body.ties)

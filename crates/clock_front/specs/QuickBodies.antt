@@ -68,7 +68,10 @@ abbrev pub listed_of : Increments → Option (List ℕ)
 listed_of (Single increment) = None
 listed_of (PerProduct increments) = Some increments
 
+-- what is found of a whole closing
+abbrev pub found_of : CloseBody → FoundClose
+found_of body = record { increment = single_of body.increments; increments = listed_of body.increments; round = Some body.round; ties = Some body.ties }
+
 -- a closing as a value
 abbrev pub close_data : CloseBody → Data
-close_data body =
-    object (members_of (close_fields (record { increment = single_of body.increments; increments = listed_of body.increments; round = Some body.round; ties = Some body.ties })))
+close_data body = object (members_of (close_fields (found_of body)))

@@ -5,11 +5,10 @@ ghost use Rattle.serde_json.specs.Data.{object};
 ghost use Rattle.clock_front.specs.CloseBodies as bodies;
 ghost use Rattle.clock_front.specs.QuickBodies.{tie_data, ties_data, close_fields, single_of, listed_of, close_data};
 
-use crate::body_words::{is_key, is_text};
 use crate::close_body::CloseBody;
 use clock_device::Items;
 use clock_order::Tie;
-use clock_scan::{Scan, Stop};
+use clock_scan::{Scan, Stop, is_key, is_text};
 use clock_setup::Increments;
 use std::alloc::Global;
 

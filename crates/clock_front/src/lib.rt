@@ -13,7 +13,6 @@ ghost use Rattle.clock_front.specs.Isolation as isolation;
 mod arriving;
 mod asked;
 mod body_fault;
-mod body_words;
 mod changes;
 mod close_body;
 mod close_scan;

@@ -5,11 +5,10 @@ ghost use Rattle.serde_json.specs.Data.{object};
 ghost use Rattle.clock_front.specs.Bodies as bodies;
 ghost use Rattle.clock_front.specs.QuickBodies.{bid_fields, bid_data, bids_data, put_fields, put_data};
 
-use crate::body_words::{is_key, is_text};
 use crate::put_body::PutBody;
 use clock_bids::Bid;
 use clock_device::Items;
-use clock_scan::{Scan, Stop};
+use clock_scan::{Scan, Stop, is_key, is_text};
 use std::alloc::Global;
 
 /// How many bytes a bid and its comma take at least.

@@ -12,4 +12,4 @@ mod words;
 
 pub use scan::Scan;
 pub use stop::Stop;
-pub use words::is_blank;
+pub use words::{is_blank, is_key, is_text};

@@ -1,5 +1,6 @@
 //! Bytes of a text as lexemes: white space, commas, quoted words and numbers.
 ghost use Rattle.std.specs.Prelude.{◌≡◌, ℕ, List, ◌∷◌, [], ◌<◌, ◌^◌, ◌||◌, true, false, None, IsTrue, drop, length, get_or, decimal, IfSome};
+ghost use Rattle.std.specs.Str.{IsUtf8};
 ghost use Rattle.json.specs.Token.{number, string};
 ghost use Rattle.json.specs.Lex.{lex, between, token, class, begins_colon, after_value as past_value, punctuate};
 ghost use Rattle.json.specs.Word.{is_operator, is_space as is_blank_byte};
@@ -46,6 +47,21 @@ pub fn is_blank(bytes: &[u8]) -> bool
     ensures { IsTrue result → read bytes.now ≡ None }
 {
     after_space(bytes, 0) >= bytes.len()
+}
+
+/// Whether the bytes of a text are UTF-8, as those of JSON are.
+pub fn is_text(bytes: &[u8]) -> bool
+    ensures { IsTrue result → IsUtf8 bytes.now }
+{
+    simdutf8::basic::from_utf8(bytes).is_ok()
+}
+
+/// Whether a key is a word.
+#[inline(always)]
+pub fn is_key(key: &[u8], word: &str) -> bool
+    ensures { IsTrue result → key.now ≡ word.now }
+{
+    key == word.as_bytes()
 }
 
 /// Passes the comma that may follow a value.

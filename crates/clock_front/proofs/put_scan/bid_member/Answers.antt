@@ -1,4 +1,3 @@
-use Rattle.std.proofs.Common.{length, ap, arith}
 use Rattle.clock_scan.specs.Reading.{whole}
 use Rattle.clock_front.specs.QuickBodies.{bid_fields}
 use Rattle.clock_front.proofs.BodyScanLaws.{added}
