@@ -78,7 +78,7 @@ fn feed_together<P: Processor>(
 ) -> anyhow::Result<u64> {
     let conns = connect_all(alloc, hub, texts.len())?;
     let mut others = 0u64;
-    for place in (0..longest(texts)).step_by(size) {
+    for place in (0..longest(texts)).step_by(size.max(1)) {
         others = others.saturating_add(feed_turn(hub, conns.as_slice(), texts, place, size)?);
     }
     Ok(others)
@@ -93,7 +93,7 @@ fn feed_all<P: Processor>(
     together: usize,
 ) -> anyhow::Result<u64> {
     let mut others = 0u64;
-    for some in texts.chunks(together) {
+    for some in texts.chunks(together.max(1)) {
         others = others.saturating_add(feed_together(alloc, hub, some, size)?);
     }
     Ok(others)
@@ -117,8 +117,8 @@ fn play<R: Print + Clock, P: Processor>(
 ) -> anyhow::Result<()> {
     let parts = parts_of(alloc, group)?;
     if let [name, size, together, texts @ ..] = parts.as_slice() {
-        let size = size.parse::<usize>()?.max(1);
-        let together = together.parse::<usize>()?.max(1);
+        let size = size.parse::<usize>()?;
+        let together = together.parse::<usize>()?;
         let begin = Instant::now(rt)?;
         let others = feed_all(alloc, hub, texts, size, together)?;
         let spent = begin.elapsed(rt)?;
