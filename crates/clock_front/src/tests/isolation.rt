@@ -1,4 +1,6 @@
 //! One bidder's replies in two runs in which it sees the same.
+mod in_pieces;
+
 use super::requests::{fields_of, opened, reply_of, text_of};
 use crate::Front;
 use clock_processor::Plain;

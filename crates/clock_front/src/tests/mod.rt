@@ -1,8 +1,11 @@
 mod answers;
 mod bodies;
+mod endless;
 mod framing;
 mod heads;
 mod isolation;
+mod pieces;
 mod replies;
 mod requests;
 mod routes;
+mod streams;
