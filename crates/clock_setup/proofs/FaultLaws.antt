@@ -3,11 +3,6 @@ use Rattle.std.proofs.Common.{◌≡◌, ℕ, ◌+◌, ◌<◌, ◌≤◌, Bool,
 use Rattle.std.proofs.lemmas.List.{drop_more, drop_all}
 use Rattle.clock_setup.specs.Faults.{first_fault, in_turn}
 
--- where a check passes, the rest decide
-pub test_passed : {F : Type 0} (fault : F) (test : Bool) (rest : List (F × Bool)) → test ≡ true → first_fault ((fault, test) ∷ rest) ≡ first_fault rest
-test_passed fault true rest h = refl
-test_passed fault false rest h = cc
-
 -- where the first checks pass, the rest decide
 pub passed : {F : Type 0} (checks rest : List (F × Bool)) → first_fault checks ≡ None → first_fault (checks ++ rest) ≡ first_fault rest
 passed [] rest h = refl

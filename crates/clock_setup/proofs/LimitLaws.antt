@@ -20,7 +20,7 @@ use Rattle.clock_setup.specs.Limits.{most_eligibility, least_requirement, most_r
 use Rattle.clock_setup.specs.WithinLaws.{both_true, within_of_test, test_of_within}
 use Rattle.clock_setup.specs.Members.{number_at}
 use Rattle.clock_setup.specs.SetupShape.{fields_of}
-use Rattle.clock_setup.proofs.FaultLaws.{test_passed, passed, failed, both_pass}
+use Rattle.clock_setup.proofs.FaultLaws.{passed, failed, both_pass}
 use Rattle.clock_setup.specs.Faults.{first_fault, in_turn}
 use Rattle.clock_setup.specs.SetupDocument.{product_checks, bidder_checks, setup_checks, has_distinct_names, has_distinct_tokens, setup_of}
 
@@ -168,19 +168,19 @@ test_of_distinct texts h = test_by_distinct texts (IsDistinct-from_AllPairs byte
 checks_of_product : (i : ℕ) (product : Product) → IsProduct product → first_fault (product_checks i product) ≡ None
 unfolding product_checks
 checks_of_product i product h =
-    test_passed _ _ _ (test_of_name product.name h.name)
-    ∙ test_passed _ _ _ (test_of_within 1 most_units product.units h.units)
-    ∙ test_passed _ _ _ (test_of_within 1 most_supply product.supply h.supply)
-    ∙ test_passed _ _ _ (test_of_within 1 product.supply product.cap h.cap)
-    ∙ test_passed _ _ _ (test_of_within 1 highest_price product.opening h.opening)
-    ∙ test_passed _ _ _ (test_of_within 1 most_granule product.granule h.granule)
+    rw (
+      test_of_name product.name h.name,
+      test_of_within 1 most_units product.units h.units,
+      test_of_within 1 most_supply product.supply h.supply,
+      test_of_within 1 product.supply product.cap h.cap,
+      test_of_within 1 highest_price product.opening h.opening,
+      test_of_within 1 most_granule product.granule h.granule,
+    ) refl
 
 checks_of_bidder : (i : ℕ) (bidder : Bidder) → IsBidder bidder → first_fault (bidder_checks i bidder) ≡ None
 unfolding bidder_checks
 checks_of_bidder i bidder h =
-    test_passed _ _ _ (test_of_name bidder.name h.name)
-    ∙ test_passed _ _ _ (test_of_token bidder.token h.token)
-    ∙ test_passed _ _ _ (le-leb bidder.eligibility most_eligibility h.eligibility)
+    rw (test_of_name bidder.name h.name, test_of_token bidder.token h.token, le-leb bidder.eligibility most_eligibility h.eligibility) refl
 
 each_within : {X F : Type 0} (checks : ℕ → X → List (F × Bool)) (P : X → Type 0) → ((i : ℕ) (x : X) → P x → first_fault (checks i x) ≡ None)
     → (i : ℕ) (items : List X) → AllByRecursion P items → first_fault (in_turn checks i items) ≡ None
@@ -198,15 +198,15 @@ checks_of_setup setup h =
     (test_of_distinct (map (λ product. product.name) setup.products) h.product_names)
     (test_of_distinct (map (λ bidder. bidder.name) setup.bidders) h.bidder_names) in
     let tokens : has_distinct_tokens setup ≡ true = test_of_distinct (setup.operator ∷ map (λ bidder. bidder.token) setup.bidders) h.tokens in
-    test_passed _ _ _ (test_of_within least_requirement most_requirement setup.requirement h.requirement)
-    ∙ test_passed _ _ _ (test_of_within least_limit most_limit setup.limit h.limit)
-    ∙ test_passed _ _ _ (test_of_token setup.operator h.operator)
-    ∙ test_passed _ _ _ (test_of_within 1 most_products (length setup.products) h.product_count)
-    ∙ passed (in_turn product_checks 0 setup.products) _ products
-    ∙ test_passed _ _ _ (test_of_within 1 most_bidders (length setup.bidders) h.bidder_count)
-    ∙ passed (in_turn bidder_checks 0 setup.bidders) _ bidders
-    ∙ test_passed _ _ _ names
-    ∙ test_passed _ _ _ tokens
+    rw (
+      test_of_within least_requirement most_requirement setup.requirement h.requirement,
+      test_of_within least_limit most_limit setup.limit h.limit,
+      test_of_token setup.operator h.operator,
+      test_of_within 1 most_products (length setup.products) h.product_count,
+    )
+    (passed (in_turn product_checks 0 setup.products) _ products
+    ∙ rw (test_of_within 1 most_bidders (length setup.bidders) h.bidder_count)
+    (passed (in_turn bidder_checks 0 setup.bidders) _ bidders ∙ rw (names, tokens) refl))
 
 -- a document of the right shape whose set-up is within the limits means that set-up
 pub accepted : (value : Data) (setup : SetupFields) → number_at (codes "version") value ≡ Some setup.version → fields_of value ≡ Some setup
