@@ -1,15 +1,15 @@
 //! Sources that never end.
 ghost use Rattle.std.specs.Prelude.{None, false};
+ghost use Rattle.clock_device.specs.Calls.{IsUnread};
 
 use super::requests::opened;
+use super::texts::LONG_HEAD;
 use crate::{StreamFault, serve_stream};
-use clock_device::{ListSink, Source, Stop};
+use clock_device::{ListSink, Source, Stop, Text};
 use clock_setup::fixtures::ONE_PRODUCT;
 use clock_views::Code;
+use std::alloc::Global;
 use std::test::Fail;
-
-const LONG_HEAD: &[u8] = b"HTTP/1.1 431 Request Header Fields Too Large\r\nconnection: close\r\n\
-    content-length: 33\r\ncontent-type: application/json\r\n\r\n{\"code\":\"long_head\",\"status\":431}";
 
 /// A source that gives a space at each read.
 #[derive(Drop)]
@@ -57,26 +57,35 @@ impl Source for Interrupted {
     }
 }
 
+/// How a source is served, and what was written.
+fn serve<R: Source>(
+    alloc: Global,
+    source: &mut R,
+) -> Result<(Result<Code, StreamFault>, Text), Fail>
+    requires { IsUnread (R.calls source.old) (R.interruptions source.old) (R.has_failed source.old) }
+{
+    let mut front = opened(alloc, ONE_PRODUCT)?;
+    let mut sink = ListSink::new(alloc, 1024, 1024, None)?;
+    let answer = serve_stream(alloc, &mut front, source, &mut sink);
+    Ok((answer, Text::from_slice(alloc, sink.bytes())?))
+}
+
 #[test]
 fn spaces_without_end_are_too_long_a_head(rt: HostRuntime) -> Result<(), Fail> {
-    let mut front = opened(rt.alloc(), ONE_PRODUCT)?;
     let mut source = Spaces { calls: 0 };
-    let mut sink = ListSink::new(rt.alloc(), 1024, 1024, None)?;
-    let answer = serve_stream(rt.alloc(), &mut front, &mut source, &mut sink);
+    let (answer, written) = serve(rt.alloc(), &mut source)?;
     assert_eq!(rt; answer, Ok(Code::LongHead));
     assert_eq!(rt; source.calls, 16_384);
-    assert_eq!(rt; sink.bytes(), LONG_HEAD);
+    assert_eq!(rt; written.as_slice(), LONG_HEAD.as_bytes());
     Ok(())
 }
 
 #[test]
 fn interruptions_without_end_use_all_reads_up(rt: HostRuntime) -> Result<(), Fail> {
-    let mut front = opened(rt.alloc(), ONE_PRODUCT)?;
     let mut source = Interrupted { calls: 0 };
-    let mut sink = ListSink::new(rt.alloc(), 1024, 1024, None)?;
-    let answer = serve_stream(rt.alloc(), &mut front, &mut source, &mut sink);
+    let (answer, written) = serve(rt.alloc(), &mut source)?;
     assert_eq!(rt; answer, Err(StreamFault::Read));
     assert_eq!(rt; source.calls, 2_000_000);
-    assert_eq!(rt; sink.bytes(), b"".as_slice());
+    assert!(rt; written.as_slice().is_empty());
     Ok(())
 }

@@ -151,13 +151,18 @@ fn opened_for(alloc: Global, public: &str, bidders: &str) -> Result<Front<Plain>
     opened(alloc, document.as_str())
 }
 
-/// The reply to the request of a row.
-fn reply_to(alloc: Global, front: &mut Front<Plain>, row: &str) -> Result<String, Fail> {
+/// The text of the request of a row.
+fn text_of_row(alloc: Global, row: &str) -> Result<String, Fail> {
     let fields = fields_of(alloc, row)?;
     let &[line, who, body] = fields.as_slice() else {
         return Err("a row has three fields")?;
     };
-    let text = text_of(alloc, line, who, body)?;
+    text_of(alloc, line, who, body)
+}
+
+/// The reply to the request of a row.
+fn reply_to(alloc: Global, front: &mut Front<Plain>, row: &str) -> Result<String, Fail> {
+    let text = text_of_row(alloc, row)?;
     reply_of(alloc, front, text.as_str())
 }
 

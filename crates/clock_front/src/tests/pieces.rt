@@ -1,20 +1,20 @@
 //! Requests in pieces over connections that stand at once.
-use super::requests::opened;
-use crate::{Conn, Event, EventReplies, Fed, Hub, HubFault, Reply, run_events};
-use clock_device::Text;
+use super::events::{connected, piece, push_byte};
+use super::hubs;
+use super::hubs::{fed, finished, opened_hub, shown};
+use super::requests::setup_of;
+use super::texts::{BIDS_OF_Y, PUT, STATUS};
+use crate::{Conn, Event, EventReplies, Hub, HubFault, run_events};
 use clock_processor::Plain;
 use clock_setup::fixtures::ONE_PRODUCT;
-use clock_setup::read_setup;
 use std::alloc::Global;
 use std::test::Fail;
 
-/// A sheet of one bid, whole.
-const PUT: &str =
-    "PUT /v1/me/bids HTTP/1.1\r\nauthorization: Bearer XXXXXXXXXXXXXXXX\r\ncontent-length: 59\r\n\r\n{\"bids\":[{\"price\":100,\"product\":0,\"quantity\":2}],\"round\":1}";
-
-const STATUS: &str = "GET /v1/status HTTP/1.1\r\n\r\n";
-
 const STATUS_PAGE: &str = r#"200 {"ended":false,"round":1,"version":1}"#;
+
+const CUT_SHORT: &str = r#"400 {"code":"cut_short","status":400}"#;
+
+const UNKNOWN: &str = "no such connection";
 
 /// The texts of three connections.
 const TEXTS: [&str; 3] = [PUT, STATUS, "PUT /v1/me"];
@@ -26,28 +26,11 @@ const IN_ORDER_OF_COMPLETION: &str = r#"1 200 {"ended":false,"round":1,"version"
 3 200 {"bids":null,"round":1}
 "#;
 
-const BIDS_OF_Y: &[u8] =
-    b"GET /v1/me/bids HTTP/1.1\r\nauthorization: Bearer YYYYYYYYYYYYYYYY\r\n\r\n";
-
-/// A byte of a text, as an event.
-fn byte_at(alloc: Global, number: u64, text: &str, place: usize) -> Result<Option<Event>, Fail> {
-    match text.as_bytes().get(place) {
-        Some(byte) => {
-            let mut piece = Text::new(alloc);
-            piece.push(*byte)?;
-            Ok(Some(Event::Piece(number, piece)))
-        }
-        None => Ok(None),
-    }
-}
-
 /// The byte of each text at a place, in turn.
 fn push_bytes(alloc: Global, events: &mut Vec<Event>, place: usize) -> Result<(), Fail> {
     let mut number = 0;
     for text in TEXTS {
-        if let Some(event) = byte_at(alloc, number, text, place)? {
-            events.push(event)?;
-        }
+        push_byte(alloc, events, number, text.as_bytes(), place)?;
         number += 1;
     }
     Ok(())
@@ -55,24 +38,19 @@ fn push_bytes(alloc: Global, events: &mut Vec<Event>, place: usize) -> Result<()
 
 /// Three connections get their texts one byte at a time in turn, and the last one ends. Then Y asks for its bids.
 fn in_single_bytes(alloc: Global) -> Result<Vec<Event>, Fail> {
-    let mut events = Vec::new(alloc);
-    for _ in 0..3 {
-        events.push(Event::Connect)?;
-    }
+    let mut events = connected(alloc, 3)?;
     for place in 0..PUT.len() {
         push_bytes(alloc, &mut events, place)?;
     }
     events.push(Event::Finish(2))?;
     events.push(Event::Connect)?;
-    events.push(Event::Piece(3, Text::from_slice(alloc, BIDS_OF_Y)?))?;
+    events.push(piece(alloc, 3, BIDS_OF_Y.as_bytes())?)?;
     Ok(events)
 }
 
-/// The status of a reply, and its page.
-fn shown(alloc: Global, reply: &Reply) -> Result<String, Fail> {
-    let text = String::from_utf8_lossy(alloc, reply.bytes())?;
-    let page = text.as_str().split('\n').last().unwrap_or("");
-    Ok(format!(in alloc; "{} {page}", reply.code().status())?)
+/// The replies to events.
+fn replies_to(alloc: Global, events: &[Event]) -> Result<EventReplies, Fail> {
+    Ok(run_events(alloc, setup_of(alloc, ONE_PRODUCT)?, Plain, events)?)
 }
 
 /// The number of each reply, its status and its page.
@@ -86,90 +64,74 @@ fn all_shown(alloc: Global, replies: &EventReplies) -> Result<String, Fail> {
     Ok(all)
 }
 
-/// The replies to events.
-fn replies_to(alloc: Global, events: &[Event]) -> Result<String, Fail> {
-    let setup = read_setup(alloc, ONE_PRODUCT.as_bytes())?;
-    let replies = run_events(alloc, setup, Plain, events)?;
-    all_shown(alloc, &replies)
-}
-
 #[test]
 fn three_connections_in_single_bytes(rt: HostRuntime) -> Result<(), Fail> {
-    let alloc = rt.alloc();
-    let events = in_single_bytes(alloc)?;
-    let told = replies_to(alloc, events.as_slice())?;
+    let events = in_single_bytes(rt.alloc())?;
+    let replies = replies_to(rt.alloc(), events.as_slice())?;
+    let told = all_shown(rt.alloc(), &replies)?;
     assert_eq!(rt; told.as_str(), IN_ORDER_OF_COMPLETION);
     Ok(())
 }
 
-/// What a piece has led to: the reply, or a word.
-fn fed(alloc: Global, hub: &mut Hub<Plain>, conn: Conn, piece: &str) -> Result<String, Fail> {
-    match hub.feed(conn, piece.as_bytes()) {
-        Ok(Fed::More) => Ok(String::from_str(alloc, "more")?),
-        Ok(Fed::Reply(reply)) => shown(alloc, &reply),
-        Err(fault) => Ok(format!(in alloc; "{fault}")?),
-    }
-}
-
-/// A connection of which no reply was asked for.
-fn connected(hub: &mut Hub<Plain>) -> Result<Conn, HubFault> {
-    hub.connect()
-}
-
-fn opened_hub(alloc: Global) -> Result<Hub<Plain>, Fail> {
-    Ok(Hub::new(alloc, opened(alloc, ONE_PRODUCT)?))
-}
-
-/// What a connection past so many is answered.
-fn next_after(hub: &mut Hub<Plain>, count: usize) -> Result<Result<Conn, HubFault>, Fail> {
+/// So many connections more.
+fn connect_all(hub: &mut Hub<Plain>, count: usize) -> Result<(), HubFault> {
     for _ in 0..count {
-        connected(hub)?;
+        hubs::connected(hub)?;
     }
-    Ok(connected(hub))
+    Ok(())
 }
 
 #[test]
 fn no_more_than_256_stand(rt: HostRuntime) -> Result<(), Fail> {
     let mut hub = opened_hub(rt.alloc())?;
-    assert!(rt; next_after(&mut hub, 255)?.is_ok());
-    assert_eq!(rt; connected(&mut hub), Err(HubFault::Full));
+    connect_all(&mut hub, 256)?;
+    assert_eq!(rt; hubs::connected(&mut hub), Err(HubFault::Full));
     Ok(())
 }
 
+/// What the connections are told that are asked for in turn, as one after the other gets a text or its input ends.
+const STEPS: [(usize, &str, &str); 11] = [
+    (0, "connect", "connected"),
+    (0, STATUS, STATUS_PAGE),
+    (0, STATUS, UNKNOWN),
+    (1, "connect", "connected"),
+    (1, "", "more"),
+    (1, "GET", "more"),
+    (1, "end", CUT_SHORT),
+    (1, "end", UNKNOWN),
+    (2, "connect", "connected"),
+    (1, STATUS, UNKNOWN),
+    (2, STATUS, STATUS_PAGE),
+];
+
+/// One more connection, which is kept.
+fn kept(alloc: Global, hub: &mut Hub<Plain>, conns: &mut Vec<Conn>) -> Result<String, Fail> {
+    conns.push(hubs::connected(hub)?)?;
+    Ok(String::from_str(alloc, "connected")?)
+}
+
+/// What a connection is told at a step.
+fn told_at(
+    alloc: Global,
+    hub: &mut Hub<Plain>,
+    conns: &mut Vec<Conn>,
+    number: usize,
+    step: &str,
+) -> Result<String, Fail> {
+    match (conns.as_slice().get(number), step) {
+        (None, _) => kept(alloc, hub, conns),
+        (Some(conn), "end") => finished(alloc, hub, *conn),
+        (Some(conn), text) => fed(alloc, hub, *conn, text.as_bytes()),
+    }
+}
+
 #[test]
-fn a_reply_ends_its_connection(rt: HostRuntime) -> Result<(), Fail> {
-    let alloc = rt.alloc();
-    let mut hub = opened_hub(alloc)?;
-    let conn = connected(&mut hub)?;
-    assert_eq!(rt; fed(alloc, &mut hub, conn, STATUS)?.as_str(), STATUS_PAGE);
-    assert_eq!(rt;
-        fed(alloc, &mut hub, conn, STATUS)?.as_str(),
-        "no such connection"
-    );
-    Ok(())
-}
-
-/// The slot of a request that was cut short is used again: what its old connection and the new one are answered.
-fn slot_used_again(alloc: Global) -> Result<(String, String), Fail> {
-    let mut hub = opened_hub(alloc)?;
-    let old = connected(&mut hub)?;
-    fed(alloc, &mut hub, old, "GET")?;
-    ended(&mut hub, old)?;
-    let new = connected(&mut hub)?;
-    let by_old = fed(alloc, &mut hub, old, STATUS)?;
-    Ok((by_old, fed(alloc, &mut hub, new, STATUS)?))
-}
-
-/// The reply where the input has ended.
-fn ended(hub: &mut Hub<Plain>, conn: Conn) -> Result<Reply, HubFault> {
-    hub.finish(conn)
-}
-
-#[test]
-fn a_slot_is_used_again(rt: HostRuntime) -> Result<(), Fail> {
-    let alloc = rt.alloc();
-    let (by_old, by_new) = slot_used_again(alloc)?;
-    assert_eq!(rt; by_old.as_str(), "no such connection");
-    assert_eq!(rt; by_new.as_str(), STATUS_PAGE);
+fn a_connection_is_gone_with_its_reply(rt: HostRuntime) -> Result<(), Fail> {
+    let mut hub = opened_hub(rt.alloc())?;
+    let mut conns = Vec::new(rt.alloc());
+    for (number, step, expected) in STEPS {
+        let told = told_at(rt.alloc(), &mut hub, &mut conns, number, step)?;
+        assert_eq!(rt; told.as_str(), expected, "{number} {step}");
+    }
     Ok(())
 }

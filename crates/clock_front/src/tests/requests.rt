@@ -64,7 +64,7 @@ fn lines_of(status: &str) -> (&'static str, &'static str) {
 }
 
 /// The bytes of a reply with a status and a page.
-fn reply_with(alloc: Global, status: &str, page: &str) -> Result<String, Fail> {
+pub(super) fn reply_with(alloc: Global, status: &str, page: &str) -> Result<String, Fail> {
     let (first, last) = lines_of(status);
     Ok(format!(in alloc;
         "HTTP/1.1 {status}\r\n{first}connection: close\r\ncontent-length: {}\r\ncontent-type: application/json\r\n{last}\r\n{page}",

@@ -1,112 +1,119 @@
 //! One request over one stream, whose reads and writes bring little, fail or are interrupted.
 ghost use Rattle.std.specs.Prelude.{◌≤◌};
 
-use super::requests::opened;
-use crate::{StreamFault, serve_stream};
+use super::requests::{opened, reply_of};
+use super::texts::{ACCEPTED, BIDS_OF_X, NO_SHEET, PUT, SHEET};
+use crate::{Front, StreamFault, serve_stream};
 use clock_device::{ListSink, ListSource, Stop, Text};
+use clock_processor::Plain;
 use clock_setup::fixtures::ONE_PRODUCT;
 use clock_views::Code;
 use std::alloc::Global;
 use std::process::Abort;
 use std::test::Fail;
 
-/// The 147 bytes of a sheet that X puts.
-const PUT: &[u8] = b"PUT /v1/me/bids HTTP/1.1\r\nauthorization: Bearer XXXXXXXXXXXXXXXX\r\n\
-    content-length: 59\r\n\r\n{\"bids\":[{\"price\":100,\"product\":0,\"quantity\":2}],\"round\":1}";
-
-const REPLY: &[u8] = b"HTTP/1.1 200 OK\r\nconnection: close\r\n\
-    content-length: 36\r\ncontent-type: application/json\r\n\r\n{\"accepted\":true,\"bids\":1,\"round\":1}";
-
-const CUT_SHORT: &[u8] = b"HTTP/1.1 400 Bad Request\r\nconnection: close\r\n\
-    content-length: 33\r\ncontent-type: application/json\r\n\r\n{\"code\":\"cut_short\",\"status\":400}";
-
-/// X's question for its sheet, and the page while none is in force.
-const GET: &[u8] = b"GET /v1/me/bids HTTP/1.1\r\nauthorization: Bearer XXXXXXXXXXXXXXXX\r\n\r\n";
-
-const NO_SHEET: &[u8] = b"{\"bids\":null,\"round\":1}";
-
-/// The page while that sheet is in force: the body of the request.
-const SHEET: &[u8] = b"{\"bids\":[{\"price\":100,\"product\":0,\"quantity\":2}],\"round\":1}";
-
-/// How a stream was served.
+/// How a text is served by reads and writes of so many bytes at most, one of which may stop: what is answered and written, and
+/// whether X's sheet is in force then.
 #[derive(Drop)]
-struct Served {
+struct Row<'a> {
+    text: &'a [u8],
+    piece: usize,
+    read: Option<(u64, Stop)>,
+    write: Option<u64>,
     answer: Result<Code, StreamFault>,
-    written: Text,
+    written: &'a [u8],
     has_sheet: bool,
-    has_none: bool,
+    ghost some: { 1 ≤ piece },
 }
 
-/// Serves a text by reads and writes of so many bytes at most, one of which may stop.
+/// Serves the text of a row, and tells what was written.
 fn serve(
     alloc: Global,
-    text: &[u8],
-    piece: usize,
-    read_stop: Option<(u64, Stop)>,
-    write_stop: Option<u64>,
-) -> Result<Served, Fail>
+    front: &mut Front<Plain>,
+    row: &Row<'_>,
+) -> Result<(Result<Code, StreamFault>, Text), Fail> {
+    let mut source = ListSource::new(row.text, row.piece, row.read);
+    let mut sink = ListSink::new(alloc, 1024, row.piece, row.write)?;
+    let answer = serve_stream(alloc, front, &mut source, &mut sink);
+    Ok((answer, Text::from_slice(alloc, sink.bytes())?))
+}
+
+/// Whether X's sheet is in force, by its page.
+fn has_sheet(alloc: Global, front: &mut Front<Plain>) -> Result<bool, Fail> {
+    let reply = reply_of(alloc, front, BIDS_OF_X)?;
+    if !reply.as_str().ends_with(NO_SHEET) && !reply.as_str().ends_with(SHEET) {
+        return Err("another sheet")?;
+    }
+    Ok(reply.as_str().ends_with(SHEET))
+}
+
+/// Serves the text of a row, and compares.
+fn compare(rt: &impl Abort, alloc: Global, row: &Row<'_>) -> Result<(), Fail> {
+    let mut front = opened(alloc, ONE_PRODUCT)?;
+    let (answer, written) = serve(alloc, &mut front, row)?;
+    assert_eq!(rt; answer, row.answer);
+    assert_eq!(rt; written.as_slice(), row.written);
+    assert_eq!(rt; has_sheet(alloc, &mut front)?, row.has_sheet);
+    Ok(())
+}
+
+/// The sheet is put, by reads of so many bytes.
+fn put(piece: usize, read: Option<(u64, Stop)>) -> Row<'static>
     requires { 1 ≤ piece }
 {
-    let mut front = opened(alloc, ONE_PRODUCT)?;
-    let mut source = ListSource::new(text, piece, read_stop);
-    let mut sink = ListSink::new(alloc, 1024, piece, write_stop)?;
-    let answer = serve_stream(alloc, &mut front, &mut source, &mut sink);
-    Ok(Served {
-        answer,
-        written: Text::from_slice(alloc, sink.bytes())?,
-        has_sheet: front.answer(GET).bytes().ends_with(SHEET),
-        has_none: front.answer(GET).bytes().ends_with(NO_SHEET),
-    })
+    Row {
+        text: PUT.as_bytes(),
+        piece,
+        read,
+        write: None,
+        answer: Ok(Code::Done),
+        written: ACCEPTED.as_bytes(),
+        has_sheet: true,
+    }
 }
 
-/// Compares how a stream was served with what is expected.
-fn compare(
-    rt: &impl Abort,
-    served: &Served,
-    answer: Result<Code, StreamFault>,
-    written: &[u8],
-    has_sheet: bool,
-) {
-    assert_eq!(rt; served.answer, answer);
-    assert_eq!(rt; served.written.as_slice(), written);
-    assert_eq!(rt; served.has_sheet, has_sheet);
-    assert_eq!(rt; served.has_none, !has_sheet);
+/// A read fails, and nothing happens.
+fn unread(piece: usize, read: u64) -> Row<'static>
+    requires { 1 ≤ piece }
+{
+    Row {
+        text: PUT.as_bytes(),
+        piece,
+        read: Some((read, Stop::Failed)),
+        write: None,
+        answer: Err(StreamFault::Read),
+        written: b"",
+        has_sheet: false,
+    }
 }
 
-#[test]
-fn a_sheet_is_put_over_a_stream(rt: HostRuntime) -> Result<(), Fail> {
-    let served = serve(rt.alloc(), PUT, 1024, None, None)?;
-    compare(&rt, &served, Ok(Code::Done), REPLY, true);
-    Ok(())
+/// A write of one byte fails, with the sheet in force.
+fn unwritten(write: usize) -> Row<'static>
+    requires { write ≤ 139 }
+{
+    Row {
+        text: PUT.as_bytes(),
+        piece: 1,
+        read: None,
+        write: Some(write as u64),
+        answer: Err(StreamFault::Write(Code::Done)),
+        written: &ACCEPTED.as_bytes()[..write],
+        has_sheet: true,
+    }
 }
 
-#[test]
-fn a_reader_fails_after_100_bytes(rt: HostRuntime) -> Result<(), Fail> {
-    let served = serve(rt.alloc(), PUT, 100, Some((1, Stop::Failed)), None)?;
-    compare(&rt, &served, Err(StreamFault::Read), b"", false);
-    Ok(())
-}
-
-#[test]
-fn a_writer_that_fails_leaves_the_sheet_in_force(rt: HostRuntime) -> Result<(), Fail> {
-    let served = serve(rt.alloc(), PUT, 1024, None, Some(0))?;
-    compare(&rt, &served, Err(StreamFault::Write(Code::Done)), b"", true);
-    Ok(())
-}
-
-/// The bytes decide the request after read 146, so read 147 is never made.
+/// In single bytes the request is decided by read 146, so read 147 is never made.
 #[test]
 fn no_read_is_made_once_the_request_is_decided(rt: HostRuntime) -> Result<(), Fail> {
-    let served = serve(rt.alloc(), PUT, 1, Some((147, Stop::Failed)), None)?;
-    compare(&rt, &served, Ok(Code::Done), REPLY, true);
-    Ok(())
+    compare(&rt, rt.alloc(), &put(1024, None))?;
+    compare(&rt, rt.alloc(), &put(1, Some((147, Stop::Failed))))
 }
 
 #[test]
-fn a_reader_fails_at_each_of_its_reads(rt: HostRuntime) -> Result<(), Fail> {
+fn a_failed_read_changes_nothing(rt: HostRuntime) -> Result<(), Fail> {
+    compare(&rt, rt.alloc(), &unread(100, 1))?;
     for read in 0..147 {
-        let served = serve(rt.alloc(), PUT, 1, Some((read, Stop::Failed)), None)?;
-        compare(&rt, &served, Err(StreamFault::Read), b"", false);
+        compare(&rt, rt.alloc(), &unread(1, read))?;
     }
     Ok(())
 }
@@ -114,32 +121,15 @@ fn a_reader_fails_at_each_of_its_reads(rt: HostRuntime) -> Result<(), Fail> {
 #[test]
 fn an_interrupted_read_is_tried_again(rt: HostRuntime) -> Result<(), Fail> {
     for read in 0..147 {
-        let served = serve(rt.alloc(), PUT, 1, Some((read, Stop::Interrupted)), None)?;
-        compare(&rt, &served, Ok(Code::Done), REPLY, true);
+        compare(&rt, rt.alloc(), &put(1, Some((read, Stop::Interrupted))))?;
     }
     Ok(())
 }
 
 #[test]
-fn a_writer_fails_at_each_of_its_writes(rt: HostRuntime) -> Result<(), Fail> {
-    for write in 0..REPLY.len() {
-        let served = serve(rt.alloc(), PUT, 1, None, Some(write as u64))?;
-        compare(
-            &rt,
-            &served,
-            Err(StreamFault::Write(Code::Done)),
-            &REPLY[..write],
-            true,
-        );
-    }
-    Ok(())
-}
-
-#[test]
-fn each_beginning_of_a_request_is_cut_short(rt: HostRuntime) -> Result<(), Fail> {
-    for count in 0..PUT.len() {
-        let served = serve(rt.alloc(), &PUT[..count], 100, None, None)?;
-        compare(&rt, &served, Ok(Code::CutShort), CUT_SHORT, false);
+fn a_failed_write_leaves_the_sheet_in_force(rt: HostRuntime) -> Result<(), Fail> {
+    for write in 0..ACCEPTED.len() {
+        compare(&rt, rt.alloc(), &unwritten(write))?;
     }
     Ok(())
 }
