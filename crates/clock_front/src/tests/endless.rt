@@ -2,13 +2,15 @@
 ghost use Rattle.std.specs.Prelude.{None, false};
 ghost use Rattle.clock_device.specs.Calls.{IsUnread};
 
-use super::requests::opened;
+use super::requests::on_front;
 use super::texts::LONG_HEAD;
-use crate::{StreamFault, serve_stream};
+use crate::{Front, StreamFault, serve_stream};
 use clock_device::{ListSink, Source, Stop, Text};
+use clock_processor::Plain;
 use clock_setup::fixtures::ONE_PRODUCT;
 use clock_views::Code;
 use std::alloc::Global;
+use std::process::Abort;
 use std::test::Fail;
 
 /// A source that gives a space at each read.
@@ -60,32 +62,52 @@ impl Source for Interrupted {
 /// How a source is served, and what was written.
 fn serve<R: Source>(
     alloc: Global,
+    front: &mut Front<Plain>,
     source: &mut R,
 ) -> Result<(Result<Code, StreamFault>, Text), Fail>
     requires { IsUnread (R.calls source.old) (R.interruptions source.old) (R.has_failed source.old) }
 {
-    let mut front = opened(alloc, ONE_PRODUCT)?;
     let mut sink = ListSink::new(alloc, 1024, 1024, None)?;
-    let answer = serve_stream(alloc, &mut front, source, &mut sink);
+    let answer = serve_stream(alloc, front, source, &mut sink);
     Ok((answer, Text::from_slice(alloc, sink.bytes())?))
 }
 
-#[test]
-fn spaces_without_end_are_too_long_a_head(rt: HostRuntime) -> Result<(), Fail> {
+fn serve_spaces(rt: &impl Abort, alloc: Global, front: &mut Front<Plain>) -> Result<(), Fail> {
     let mut source = Spaces { calls: 0 };
-    let (answer, written) = serve(rt.alloc(), &mut source)?;
+    let (answer, written) = serve(alloc, front, &mut source)?;
     assert_eq!(rt; answer, Ok(Code::LongHead));
     assert_eq!(rt; source.calls, 16_384);
     assert_eq!(rt; written.as_slice(), LONG_HEAD.as_bytes());
     Ok(())
 }
 
-#[test]
-fn interruptions_without_end_use_all_reads_up(rt: HostRuntime) -> Result<(), Fail> {
+fn serve_interruptions(
+    rt: &impl Abort,
+    alloc: Global,
+    front: &mut Front<Plain>,
+) -> Result<(), Fail> {
     let mut source = Interrupted { calls: 0 };
-    let (answer, written) = serve(rt.alloc(), &mut source)?;
+    let (answer, written) = serve(alloc, front, &mut source)?;
     assert_eq!(rt; answer, Err(StreamFault::Read));
     assert_eq!(rt; source.calls, 2_000_000);
     assert!(rt; written.as_slice().is_empty());
     Ok(())
+}
+
+#[test]
+fn spaces_without_end_are_too_long_a_head(rt: HostRuntime) -> Result<(), Fail> {
+    on_front(
+        rt.alloc(),
+        ONE_PRODUCT,
+        |front| serve_spaces(&rt, rt.alloc(), front),
+    )
+}
+
+#[test]
+fn interruptions_without_end_use_all_reads_up(rt: HostRuntime) -> Result<(), Fail> {
+    on_front(
+        rt.alloc(),
+        ONE_PRODUCT,
+        |front| serve_interruptions(&rt, rt.alloc(), front),
+    )
 }

@@ -1,6 +1,6 @@
 //! Truncated and malicious texts: over whole bytes, over a stream and over a connection the reply is the same.
-use super::hubs::{connected, opened_hub};
-use super::requests::{fields_of, opened, reply_with};
+use super::hubs::{connected, on_hub};
+use super::requests::{fields_of, on_front, reply_with};
 use super::texts::{ACCEPTED, BIDS_OF_X, CUT_SHORT, LONG_HEAD, NO_SHEET, PUT, SHEET};
 use crate::{Conn, Fed, Front, Hub, serve_stream};
 use clock_device::{ListSink, ListSource, Text};
@@ -93,31 +93,28 @@ fn by_hub(alloc: Global, hub: &mut Hub<Plain>, text: &[u8]) -> Result<Text, Fail
     finished(alloc, hub, conn)
 }
 
-/// What a text and X's question for its bids are told, where they come whole.
-fn whole(alloc: Global, text: &[u8]) -> Result<(Text, Text), Fail> {
-    let mut front = opened(alloc, ONE_PRODUCT)?;
-    let reply = by_answer(alloc, &mut front, text)?;
-    Ok((reply, by_answer(alloc, &mut front, BIDS_OF_X.as_bytes())?))
-}
-
-/// The same over streams.
-fn streamed(alloc: Global, text: &[u8]) -> Result<(Text, Text), Fail> {
-    let mut front = opened(alloc, ONE_PRODUCT)?;
-    let reply = by_stream(alloc, &mut front, text)?;
-    Ok((reply, by_stream(alloc, &mut front, BIDS_OF_X.as_bytes())?))
-}
-
-/// The same over connections.
-fn in_pieces(alloc: Global, text: &[u8]) -> Result<(Text, Text), Fail> {
-    let mut hub = opened_hub(alloc)?;
-    let reply = by_hub(alloc, &mut hub, text)?;
-    Ok((reply, by_hub(alloc, &mut hub, BIDS_OF_X.as_bytes())?))
-}
-
-/// Compares both replies.
+/// Compares a reply, and X's page of its bids behind it.
 fn compare(rt: &impl Abort, told: &(Text, Text), reply: &[u8], page: &str) {
     assert_eq!(rt; told.0.as_slice(), reply);
     assert!(rt; told.1.as_slice().ends_with(page.as_bytes()));
+}
+
+/// The reply to a text that comes whole, and the one to X's question for its bids.
+fn whole(alloc: Global, front: &mut Front<Plain>, text: &[u8]) -> Result<(Text, Text), Fail> {
+    let reply = by_answer(alloc, front, text)?;
+    Ok((reply, by_answer(alloc, front, BIDS_OF_X.as_bytes())?))
+}
+
+/// The same over streams.
+fn streamed(alloc: Global, front: &mut Front<Plain>, text: &[u8]) -> Result<(Text, Text), Fail> {
+    let reply = by_stream(alloc, front, text)?;
+    Ok((reply, by_stream(alloc, front, BIDS_OF_X.as_bytes())?))
+}
+
+/// The same over connections.
+fn in_pieces(alloc: Global, hub: &mut Hub<Plain>, text: &[u8]) -> Result<(Text, Text), Fail> {
+    let reply = by_hub(alloc, hub, text)?;
+    Ok((reply, by_hub(alloc, hub, BIDS_OF_X.as_bytes())?))
 }
 
 /// However a text comes, its reply and X's page of its bids are these.
@@ -128,9 +125,12 @@ fn is_told(
     reply: &str,
     page: &str,
 ) -> Result<(), Fail> {
-    compare(rt, &whole(alloc, text)?, reply.as_bytes(), page);
-    compare(rt, &streamed(alloc, text)?, reply.as_bytes(), page);
-    compare(rt, &in_pieces(alloc, text)?, reply.as_bytes(), page);
+    let told = on_front(alloc, ONE_PRODUCT, |front| whole(alloc, front, text))?;
+    compare(rt, &told, reply.as_bytes(), page);
+    let told = on_front(alloc, ONE_PRODUCT, |front| streamed(alloc, front, text))?;
+    compare(rt, &told, reply.as_bytes(), page);
+    let told = on_hub(alloc, |hub| in_pieces(alloc, hub, text))?;
+    compare(rt, &told, reply.as_bytes(), page);
     Ok(())
 }
 
@@ -156,13 +156,8 @@ fn malicious_texts_are_refused(rt: HostRuntime) -> Result<(), Fail> {
 #[test]
 fn each_beginning_of_a_request_is_cut_short(rt: HostRuntime) -> Result<(), Fail> {
     for count in 0..147 {
-        is_told(
-            &rt,
-            rt.alloc(),
-            &PUT.as_bytes()[..count],
-            CUT_SHORT,
-            NO_SHEET,
-        )?;
+        let text = PUT.as_bytes().get(..count).unwrap_or(b"more");
+        is_told(&rt, rt.alloc(), text, CUT_SHORT, NO_SHEET)?;
     }
     Ok(())
 }

@@ -6,9 +6,15 @@ use clock_setup::fixtures::ONE_PRODUCT;
 use std::alloc::Global;
 use std::test::Fail;
 
-/// A hub of the one product, with no connection.
-pub(super) fn opened_hub(alloc: Global) -> Result<Hub<Plain>, Fail> {
-    Ok(Hub::new(alloc, opened(alloc, ONE_PRODUCT)?))
+/// What is done with a hub of the one product, which has no connection. No other function of the tests lets a hub go.
+pub(super) fn on_hub<T, F: FnOnce(&mut Hub<Plain>) -> Result<T, Fail>>(
+    alloc: Global,
+    act: F,
+) -> Result<T, Fail>
+    requires { F.IsAlwaysCallable act }
+{
+    let mut hub = Hub::new(alloc, opened(alloc, ONE_PRODUCT)?);
+    act(&mut hub)
 }
 
 /// One more connection.

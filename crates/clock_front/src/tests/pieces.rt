@@ -1,13 +1,14 @@
 //! Requests in pieces over connections that stand at once.
 use super::events::{connected, piece, push_byte};
 use super::hubs;
-use super::hubs::{fed, finished, opened_hub, shown};
+use super::hubs::{fed, finished, on_hub, shown};
 use super::requests::setup_of;
 use super::texts::{BIDS_OF_Y, PUT, STATUS};
 use crate::{Conn, Event, EventReplies, Hub, HubFault, run_events};
 use clock_processor::Plain;
 use clock_setup::fixtures::ONE_PRODUCT;
 use std::alloc::Global;
+use std::process::Abort;
 use std::test::Fail;
 
 const STATUS_PAGE: &str = r#"200 {"ended":false,"round":1,"version":1}"#;
@@ -28,10 +29,8 @@ const IN_ORDER_OF_COMPLETION: &str = r#"1 200 {"ended":false,"round":1,"version"
 
 /// The byte of each text at a place, in turn.
 fn push_bytes(alloc: Global, events: &mut Vec<Event>, place: usize) -> Result<(), Fail> {
-    let mut number = 0;
-    for text in TEXTS {
-        push_byte(alloc, events, number, text.as_bytes(), place)?;
-        number += 1;
+    for (number, text) in TEXTS.iter().enumerate() {
+        push_byte(alloc, events, number as u64, text.as_bytes(), place)?;
     }
     Ok(())
 }
@@ -81,12 +80,16 @@ fn connect_all(hub: &mut Hub<Plain>, count: usize) -> Result<(), HubFault> {
     Ok(())
 }
 
+/// So many stand, and no further one.
+fn is_full_at(rt: &impl Abort, hub: &mut Hub<Plain>, count: usize) -> Result<(), Fail> {
+    connect_all(hub, count)?;
+    assert_eq!(rt; hubs::connected(hub), Err(HubFault::Full));
+    Ok(())
+}
+
 #[test]
 fn no_more_than_256_stand(rt: HostRuntime) -> Result<(), Fail> {
-    let mut hub = opened_hub(rt.alloc())?;
-    connect_all(&mut hub, 256)?;
-    assert_eq!(rt; hubs::connected(&mut hub), Err(HubFault::Full));
-    Ok(())
+    on_hub(rt.alloc(), |hub| is_full_at(&rt, hub, 256))
 }
 
 /// What the connections are told that are asked for in turn, as one after the other gets a text or its input ends.
@@ -125,13 +128,17 @@ fn told_at(
     }
 }
 
-#[test]
-fn a_connection_is_gone_with_its_reply(rt: HostRuntime) -> Result<(), Fail> {
-    let mut hub = opened_hub(rt.alloc())?;
-    let mut conns = Vec::new(rt.alloc());
+/// Takes all steps.
+fn take_steps(rt: &impl Abort, alloc: Global, hub: &mut Hub<Plain>) -> Result<(), Fail> {
+    let mut conns = Vec::new(alloc);
     for (number, step, expected) in STEPS {
-        let told = told_at(rt.alloc(), &mut hub, &mut conns, number, step)?;
+        let told = told_at(alloc, hub, &mut conns, number, step)?;
         assert_eq!(rt; told.as_str(), expected, "{number} {step}");
     }
     Ok(())
+}
+
+#[test]
+fn a_connection_is_gone_with_its_reply(rt: HostRuntime) -> Result<(), Fail> {
+    on_hub(rt.alloc(), |hub| take_steps(&rt, rt.alloc(), hub))
 }

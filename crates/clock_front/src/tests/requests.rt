@@ -17,6 +17,19 @@ pub(super) fn opened(alloc: Global, document: &str) -> Result<Front<Plain>, Fail
     Ok(Front::new(alloc, setup, Plain)?)
 }
 
+/// What is done with a front of a set-up. No other function of the tests lets a front go, since each that does so proves it
+/// anew.
+pub(super) fn on_front<T, F: FnOnce(&mut Front<Plain>) -> Result<T, Fail>>(
+    alloc: Global,
+    document: &str,
+    act: F,
+) -> Result<T, Fail>
+    requires { F.IsAlwaysCallable act }
+{
+    let mut front = opened(alloc, document)?;
+    act(&mut front)
+}
+
 /// The fields of a row, with `|` between two.
 pub(super) fn fields_of(alloc: Global, row: &str) -> Result<Vec<&str>, Fail> {
     Ok(row.split('|').collect(alloc)?)

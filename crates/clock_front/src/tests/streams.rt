@@ -1,7 +1,7 @@
 //! One request over one stream, whose reads and writes bring little, fail or are interrupted.
 ghost use Rattle.std.specs.Prelude.{◌≤◌};
 
-use super::requests::{opened, reply_of};
+use super::requests::{on_front, reply_of};
 use super::texts::{ACCEPTED, BIDS_OF_X, NO_SHEET, PUT, SHEET};
 use crate::{Front, StreamFault, serve_stream};
 use clock_device::{ListSink, ListSource, Stop, Text};
@@ -47,14 +47,23 @@ fn has_sheet(alloc: Global, front: &mut Front<Plain>) -> Result<bool, Fail> {
     Ok(reply.as_str().ends_with(SHEET))
 }
 
-/// Serves the text of a row, and compares.
-fn compare(rt: &impl Abort, alloc: Global, row: &Row<'_>) -> Result<(), Fail> {
-    let mut front = opened(alloc, ONE_PRODUCT)?;
-    let (answer, written) = serve(alloc, &mut front, row)?;
+/// Compares how the text of a row is served.
+fn served_as(
+    rt: &impl Abort,
+    alloc: Global,
+    front: &mut Front<Plain>,
+    row: &Row<'_>,
+) -> Result<(), Fail> {
+    let (answer, written) = serve(alloc, front, row)?;
     assert_eq!(rt; answer, row.answer);
     assert_eq!(rt; written.as_slice(), row.written);
-    assert_eq!(rt; has_sheet(alloc, &mut front)?, row.has_sheet);
+    assert_eq!(rt; has_sheet(alloc, front)?, row.has_sheet);
     Ok(())
+}
+
+/// The same with a front of its own.
+fn compare(rt: &impl Abort, alloc: Global, row: &Row<'_>) -> Result<(), Fail> {
+    on_front(alloc, ONE_PRODUCT, |front| served_as(rt, alloc, front, row))
 }
 
 /// The sheet is put, by reads of so many bytes.
@@ -88,16 +97,14 @@ fn unread(piece: usize, read: u64) -> Row<'static>
 }
 
 /// A write of one byte fails, with the sheet in force.
-fn unwritten(write: usize) -> Row<'static>
-    requires { write ≤ 139 }
-{
+fn unwritten(write: usize) -> Row<'static> {
     Row {
         text: PUT.as_bytes(),
         piece: 1,
         read: None,
         write: Some(write as u64),
         answer: Err(StreamFault::Write(Code::Done)),
-        written: &ACCEPTED.as_bytes()[..write],
+        written: ACCEPTED.as_bytes().get(..write).unwrap_or(b"more"),
         has_sheet: true,
     }
 }
