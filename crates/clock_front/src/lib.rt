@@ -18,6 +18,8 @@ mod close_body;
 mod close_scan;
 mod connections;
 mod events;
+#[cfg(test)]
+mod example;
 mod fed;
 mod front;
 mod head;
