@@ -3,6 +3,7 @@ ghost use Rattle.serde_json.specs.View.{view};
 ghost use Rattle.clock_setup.specs.Faults.{IsFirstFault, IsRefusal, first_fault};
 ghost use Rattle.clock_setup.specs.Limits.{SetupFields, IsOfFirstVersion, IsSetup, IsWithin, latest_version};
 ghost use Rattle.clock_setup.specs.Members.{number_at};
+ghost use Rattle.clock_setup.specs.SetupData.{setup_data};
 ghost use Rattle.clock_setup.specs.SetupShape.{fields_of};
 ghost use Rattle.clock_setup.specs.SetupDocument as document;
 
@@ -14,8 +15,10 @@ use crate::limits::{
 };
 use crate::members::{number_at, read_value};
 use crate::names::{bidder_names, is_distinct, product_names, tokens};
+use crate::scanned_setup::scanned_setup;
 use crate::setup::Setup;
 use clock_device::Text;
+use clock_scan::{Scan, Stop, is_text};
 use serde_json::Value;
 use std::alloc::{AllocError, Global};
 
@@ -78,6 +81,33 @@ fn within_limits(alloc: Global, entries: &SetupEntries) -> Result<Setup, SetupFa
     })
 }
 
+/// The entries of a document that is read without a tree.
+fn scanned_entries(alloc: Global, bytes: &[u8]) -> Result<SetupEntries<'_>, Stop>
+    ensures value { IfOk result (λ entries. document.json bytes.now ≡ Some (setup_data entries)) }
+    ensures version { IfOk result (λ entries. IsWithin 1 latest_version entries.version) }
+    ensures first_version { IfOk result (λ entries. entries.version ≡ 1 → IsOfFirstVersion entries) }
+{
+    if !is_text(bytes) {
+        return Err(Stop::Unusual);
+    }
+    let mut scan = Scan::new(bytes);
+    let entries = scanned_setup(alloc, &mut scan)?;
+    if !scan.ends() {
+        return Err(Stop::Unusual);
+    }
+    Ok(entries)
+}
+
+/// What [`read_setup`] answers, by a tree of the document's values.
+#[tactic(auto, unfolding(crate::specs::SetupDocument::document_setup))]
+fn setup_by_tree(alloc: Global, bytes: &[u8]) -> Result<Setup, SetupFault>
+    ensures ok { IfOk result (λ setup. document.document_setup bytes.now ≡ Ok setup) }
+    ensures err { IfErr result (IsRefusal SetupFault.NoMemory (document.document_setup bytes.now)) }
+{
+    let value = read_value(alloc, bytes)?.ok_or(SetupFault::NotJson)?;
+    setup_of(alloc, &value)
+}
+
 /// The set-up that the bytes of a document mean, or the document's first fault.
 ///
 /// A document is one JSON value (RFC 8259), in any order of keys and with any white space:
@@ -86,13 +116,15 @@ fn within_limits(alloc: Global, entries: &SetupEntries) -> Result<Setup, SetupFa
 /// each product. Version 1 means a limit of 100 percent and granules of one dollar. Its objects have exactly these keys, and its numbers are whole
 /// numbers below 2^64. [`SetupFault`] has the faults in the order in which they are looked at, and [`Place`] the limits.
 /// Reading takes time and memory in proportion to the document's length. Nothing is kept of a document that is refused.
-#[tactic(auto, unfolding(crate::specs::SetupDocument::document_setup))]
 pub fn read_setup(alloc: Global, bytes: &[u8]) -> Result<Setup, SetupFault>
     ensures ok { IfOk result (λ setup. document.document_setup bytes.now ≡ Ok setup) }
     ensures err { IfErr result (IsRefusal SetupFault.NoMemory (document.document_setup bytes.now)) }
 {
-    let value = read_value(alloc, bytes)?.ok_or(SetupFault::NotJson)?;
-    setup_of(alloc, &value)
+    match scanned_entries(alloc, bytes) {
+        Ok(entries) => within_limits(alloc, &entries),
+        Err(Stop::Unusual) => setup_by_tree(alloc, bytes),
+        Err(Stop::NoMemory) => Err(SetupFault::NoMemory),
+    }
 }
 
 /// The set-up that a JSON value means, or its first fault: what [`read_setup`] answers for a text that reads as this

@@ -14,10 +14,10 @@ use std::alloc::{AllocError, AllocFailed, Global};
 use std::marker::Model;
 
 /// The limit of a set-up of version 1, in percent.
-const FIRST_LIMIT: u64 = 100;
+pub(crate) const FIRST_LIMIT: u64 = 100;
 
 /// The granule of each product of a set-up of version 1, in dollars.
-const FIRST_GRANULE: u64 = 1;
+pub(crate) const FIRST_GRANULE: u64 = 1;
 
 /// A product as a document has it, with no limit tested yet. Contracts see a product.
 #[derive(Drop)]

@@ -1,0 +1,114 @@
+-- What the value of a set-up means as a document.
+use Rattle.std.proofs.Common.{◌≡◌, ℕ, ◌≤◌, ◌⊎◌, inl, inr, Bool, true, false, ◌==◌, List, [], ◌∷◌, map, All, Option, Some, None, Result, Ok, Err, IfOk, IfErr, codes, refl, sym, ap, ◌∙◌, subst, arith}
+use Rattle.std.specs.Prelude.{⊤, if◌then◌else◌}
+use Rattle.std.proofs.lemmas.Bool.{eqb-true}
+use Rattle.std.proofs.lemmas.List.Elements.{All-nil, All-head, All-tail}
+use Rattle.serde_json.specs.Data.{Data, object}
+use Rattle.clock_scan.specs.Reading.{items_of, members_of}
+use Rattle.clock_setup.specs.declared.setup.Product.{Product}
+use Rattle.clock_setup.specs.declared.setup.Bidder.{Bidder}
+use Rattle.clock_setup.specs.Limits.{SetupFields, IsWithin, IsOfFirstVersion, latest_version, first_granule, first_limit}
+use Rattle.clock_setup.specs.declared.fault.SetupFault.{SetupFault}
+use Rattle.clock_setup.specs.declared.fault.SetupFault.TheVariants.{NoMemory}
+use Rattle.clock_setup.specs.Faults.{first_fault, unless, IsFirstFault, IsRefusal}
+use Rattle.clock_setup.specs.WithinLaws.{test_of_within}
+use Rattle.clock_setup.specs.Members.{each, number_at, ◌>>=◌}
+use Rattle.clock_setup.specs.SetupShape.{product_of, bidder_of, fields_of}
+use Rattle.clock_setup.specs.SetupDocument.{json, setup_checks, setup_of, document_setup}
+use Rattle.clock_setup.specs.SetupData.{added, product_data, products_data, bidder_data, bidders_data, setup_fields, setup_data}
+
+-- products of a version, where it is that of the next one
+pub of_common_version : (so_far next : ℕ) (products : List Product) → (so_far ≡ 0 → products ≡ []) → (so_far ≡ 0) ⊎ (so_far ≡ next)
+    → map (product_data so_far) products ≡ map (product_data next) products
+of_common_version so_far next products empty (inl none) = ap (map (product_data so_far)) (empty none) ∙ sym (ap (map (product_data next)) (empty none))
+of_common_version so_far next products empty (inr same) = ap (λ v. map (product_data v) products) same
+
+-- their granules are one dollar, where the next one's version is the first
+pub of_first_version : (so_far next : ℕ) (products : List Product) → (so_far ≡ 0 → products ≡ []) → (so_far ≡ 1 → All (λ product. product.granule ≡ first_granule) products)
+    → (so_far ≡ 0) ⊎ (so_far ≡ next) → next ≡ 1 → All (λ product. product.granule ≡ first_granule) products
+of_first_version so_far next products empty granules (inl none) one =
+    subst (All (λ (product : Product). product.granule ≡ first_granule)) (sym (empty none)) (All-nil (λ (product : Product). product.granule ≡ first_granule))
+of_first_version so_far next products empty granules (inr same) one = granules (same ∙ one)
+
+-- a list of items each of which means something
+each_of : {A : Type 0} (meaning : Data → Option A) (data_of : A → Data) (P : A → Type 0) → ((x : A) → P x → meaning (data_of x) ≡ Some x)
+    → (xs : List A) → All P xs → each meaning (items_of (map data_of xs)) ≡ Some xs
+each_of meaning data_of P means [] h = refl
+each_of meaning data_of P means (x ∷ xs) h =
+    ap (λ o. o >>= λ first. (each meaning (items_of (map data_of xs)) >>= λ rest. Some (first ∷ rest))) (means x (All-head P x xs h))
+    ∙ ap (λ o. o >>= λ rest. Some (x ∷ rest)) (each_of meaning data_of P means xs (All-tail P x xs h))
+
+first_product : (version : ℕ) (product : Product) → (version == 1) ≡ true → product.granule ≡ first_granule → product_of version (product_data version product) ≡ Some product
+unfolding product_of
+first_product version product is granule = rw (is, granule) refl
+
+later_product : (version : ℕ) (product : Product) → (version == 1) ≡ false → product_of version (product_data version product) ≡ Some product
+unfolding product_of
+later_product version product is = rw is refl
+
+bidder_is : (bidder : Bidder) → bidder_of (bidder_data bidder) ≡ Some bidder
+unfolding bidder_of
+bidder_is bidder = refl
+
+bidders_are : (bidders : List Bidder) → each bidder_of (items_of (map bidder_data bidders)) ≡ Some bidders
+bidders_are bidders = each_of bidder_of bidder_data (λ _. ⊤) (λ bidder _. bidder_is bidder) bidders (λ k d lt. tt)
+
+abbrev object_of : SetupFields → Option ℕ → Data
+object_of setup limit = object (members_of (setup_fields (Some (bidders_data setup.bidders)) limit (Some setup.operator)
+    (Some (products_data setup.version setup.products)) (Some setup.requirement) (Some setup.version)))
+
+first_setup : (setup : SetupFields) → (setup.version == 1) ≡ true → IsOfFirstVersion setup → fields_of (object_of setup None) ≡ Some setup
+unfolding fields_of
+first_setup setup is first =
+    let products : each (product_of setup.version) (items_of (map (product_data setup.version) setup.products)) ≡ Some setup.products =
+    each_of (product_of setup.version) (product_data setup.version) (λ product. product.granule ≡ first_granule)
+    (λ product granule. first_product setup.version product is granule) setup.products first.granules in
+    rw (is, products, bidders_are setup.bidders, first.limit) refl
+
+later_setup : (setup : SetupFields) → (setup.version == 1) ≡ false → fields_of (object_of setup (Some setup.limit)) ≡ Some setup
+unfolding fields_of
+later_setup setup is =
+    let products : each (product_of setup.version) (items_of (map (product_data setup.version) setup.products)) ≡ Some setup.products =
+    each_of (product_of setup.version) (product_data setup.version) (λ _. ⊤)
+    (λ product _. later_product setup.version product is) setup.products (λ k d lt. tt) in
+    rw (is, products, bidders_are setup.bidders) refl
+
+setup_at : (setup : SetupFields) (first : Bool) → (setup.version == 1) ≡ first → (first ≡ true → IsOfFirstVersion setup) → fields_of (setup_data setup) ≡ Some setup
+setup_at setup true is h = ap (λ b. fields_of (object_of setup (if b then None else Some setup.limit))) is ∙ first_setup setup is (h refl)
+setup_at setup false is h = ap (λ b. fields_of (object_of setup (if b then None else Some setup.limit))) is ∙ later_setup setup is
+
+-- the value of a set-up means this set-up
+pub setup_is : (setup : SetupFields) → (setup.version ≡ 1 → IsOfFirstVersion setup) → fields_of (setup_data setup) ≡ Some setup
+setup_is setup first = setup_at setup (setup.version == 1) refl (λ is. first (eqb-true setup.version 1 is))
+
+version_in : (setup : SetupFields) (limit : Option ℕ) → number_at (codes "version") (object_of setup limit) ≡ Some setup.version
+version_in setup None = refl
+version_in setup (Some limit) = refl
+
+-- the value of a set-up of a known version is judged by the limits alone
+pub setup_judged : (setup : SetupFields) → IsWithin 1 latest_version setup.version → (setup.version ≡ 1 → IsOfFirstVersion setup)
+    → setup_of (setup_data setup) ≡ unless (first_fault (setup_checks setup)) setup
+unfolding setup_of
+setup_judged setup within first =
+    let version : number_at (codes "version") (setup_data setup) ≡ Some setup.version = version_in setup (added setup.version setup.limit) in
+    rw (version, test_of_within 1 latest_version setup.version within, setup_is setup first) refl
+
+-- and so is a document that is this value
+pub document_judged : (bytes : List ℕ) (setup : SetupFields) → json bytes ≡ Some (setup_data setup) → IsWithin 1 latest_version setup.version
+    → (setup.version ≡ 1 → IsOfFirstVersion setup) → document_setup bytes ≡ unless (first_fault (setup_checks setup)) setup
+unfolding document_setup
+document_judged bytes setup is within first = rw is (setup_judged setup within first)
+
+-- a set-up with no fault is what the document means
+pub judged_ok : (answer : Result SetupFields SetupFault) (setup : SetupFields) (result : Result SetupFields SetupFault)
+    → answer ≡ unless (first_fault (setup_checks setup)) setup → IfOk result (λ same. same ≡ setup) → IfOk result (λ _. first_fault (setup_checks setup) ≡ None)
+    → IfOk result (λ known. answer ≡ Ok known)
+judged_ok answer setup (Err fault) is same none = tt
+judged_ok answer setup (Ok known) is same none = is ∙ ap (λ fault. unless fault setup) none ∙ ap Ok (sym same)
+
+-- its first fault is what the document is refused for
+pub judged_err : (answer : Result SetupFields SetupFault) (setup : SetupFields) (result : Result SetupFields SetupFault)
+    → answer ≡ unless (first_fault (setup_checks setup)) setup → IfErr result (IsFirstFault NoMemory (first_fault (setup_checks setup)))
+    → IfErr result (IsRefusal NoMemory answer)
+judged_err answer setup (Ok known) is first = tt
+judged_err answer setup (Err fault) is first = λ known. is ∙ ap (λ fault. unless fault setup) (first known)

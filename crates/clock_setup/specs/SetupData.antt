@@ -1,0 +1,58 @@
+-- The value of JSON that a set-up is, whose meaning as a document is this set-up. Its keys ascend, as in every object.
+--     product_data version product, bidder_data bidder      an item of "products" and of "bidders"
+--     setup_data setup      the whole document
+--     product_fields, bidder_fields, setup_fields      the keys of an object that is being read, with what was found
+use Rattle.std.specs.Prelude.{ℕ, List, [], ◌∷◌, ◌==◌, map, Option, Some, None, option_map, if◌then◌else◌, codes}
+use Rattle.serde_json.specs.Data.{Data, string, array, object}
+use Rattle.clock_scan.specs.Reading.{whole, items_of, Fields, members_of}
+use Rattle.clock_setup.specs.declared.setup.Product.{Product}
+use Rattle.clock_setup.specs.declared.setup.Bidder.{Bidder}
+use Rattle.clock_setup.specs.Limits.{SetupFields}
+
+-- a number that documents have from version 2 on
+abbrev pub added : ℕ → ℕ → Option ℕ
+added version n = if version == 1 then None else Some n
+
+abbrev pub product_fields : Option ℕ → Option ℕ → Option (List ℕ) → Option ℕ → Option ℕ → Option ℕ → Fields
+product_fields cap granule name opening supply units =
+    (codes "cap", option_map whole cap)
+    ∷ (codes "granule", option_map whole granule)
+    ∷ (codes "name", option_map string name)
+    ∷ (codes "opening", option_map whole opening)
+    ∷ (codes "supply", option_map whole supply)
+    ∷ (codes "units", option_map whole units)
+    ∷ []
+
+abbrev pub product_data : ℕ → Product → Data
+product_data version product = object (members_of (product_fields (Some product.cap) (added version product.granule) (Some product.name)
+    (Some product.opening) (Some product.supply) (Some product.units)))
+
+abbrev pub bidder_fields : Option ℕ → Option (List ℕ) → Option (List ℕ) → Fields
+bidder_fields eligibility name token =
+    (codes "eligibility", option_map whole eligibility)
+    ∷ (codes "name", option_map string name)
+    ∷ (codes "token", option_map string token)
+    ∷ []
+
+abbrev pub bidder_data : Bidder → Data
+bidder_data bidder = object (members_of (bidder_fields (Some bidder.eligibility) (Some bidder.name) (Some bidder.token)))
+
+abbrev pub products_data : ℕ → List Product → Data
+products_data version products = array (items_of (map (product_data version) products))
+
+abbrev pub bidders_data : List Bidder → Data
+bidders_data bidders = array (items_of (map bidder_data bidders))
+
+abbrev pub setup_fields : Option Data → Option ℕ → Option (List ℕ) → Option Data → Option ℕ → Option ℕ → Fields
+setup_fields bidders limit operator products requirement version =
+    (codes "bidders", bidders)
+    ∷ (codes "limit", option_map whole limit)
+    ∷ (codes "operator", option_map string operator)
+    ∷ (codes "products", products)
+    ∷ (codes "requirement", option_map whole requirement)
+    ∷ (codes "version", option_map whole version)
+    ∷ []
+
+abbrev pub setup_data : SetupFields → Data
+setup_data setup = object (members_of (setup_fields (Some (bidders_data setup.bidders)) (added setup.version setup.limit) (Some setup.operator)
+    (Some (products_data setup.version setup.products)) (Some setup.requirement) (Some setup.version)))

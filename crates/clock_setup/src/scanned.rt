@@ -1,0 +1,274 @@
+//! The parts of a set-up read without a tree, where no text has an escape and each number is written in digits alone.
+ghost use Rattle.std.specs.Prelude.{◌≡◌, ◌⊎◌, ◌<◌, length, option_map, All, IfSome, IfOk, OnOk};
+ghost use Rattle.clock_scan.specs.Reading.{members_of, Reads, AddsMember};
+ghost use Rattle.serde_json.specs.Data.{object};
+ghost use Rattle.clock_setup.specs.Limits.{IsWithin, latest_version, first_granule};
+ghost use Rattle.clock_setup.specs.SetupData.{product_fields, product_data, products_data, bidder_fields, bidder_data, bidders_data};
+
+use crate::entries::{BidderEntry, FIRST_GRANULE, ProductEntry};
+use clock_scan::{Scan, Stop, is_key};
+use std::alloc::Global;
+
+/// What was found of a product.
+#[derive(Clone, Copy)]
+struct ProductParts<'v> {
+    cap: Option<u64>,
+    granule: Option<u64>,
+    name: Option<&'v str>,
+    opening: Option<u64>,
+    supply: Option<u64>,
+    units: Option<u64>,
+}
+
+impl<'v> ProductParts<'v> {
+    /// What was found, with the next member.
+    fn with(self, scan: &mut Scan<'v>) -> Option<ProductParts<'v>>
+        ensures value { IfSome result (λ parts. AddsMember 0 scan.old
+            (product_fields self.entry.cap self.entry.granule (option_map (λ t. t.now) self.entry.name) self.entry.opening self.entry.supply self.entry.units) scan.new
+            (product_fields parts.cap parts.granule (option_map (λ t. t.now) parts.name) parts.opening parts.supply parts.units)) }
+        ensures shorter { IfSome result (λ _. length scan.new < length scan.old) }
+    {
+        let key = scan.key()?;
+        if is_key(key, "name") {
+            let text = scan.text()?;
+            return Some(ProductParts {
+                name: Some(text),
+                ..self
+            });
+        }
+        let number = scan.number()?;
+        if is_key(key, "cap") {
+            return Some(ProductParts {
+                cap: Some(number),
+                ..self
+            });
+        }
+        if is_key(key, "opening") {
+            return Some(ProductParts {
+                opening: Some(number),
+                ..self
+            });
+        }
+        if is_key(key, "supply") {
+            return Some(ProductParts {
+                supply: Some(number),
+                ..self
+            });
+        }
+        if is_key(key, "units") {
+            return Some(ProductParts {
+                units: Some(number),
+                ..self
+            });
+        }
+        if is_key(key, "granule") {
+            return Some(ProductParts {
+                granule: Some(number),
+                ..self
+            });
+        }
+        None
+    }
+
+    /// The product, and the first version of documents in which one has these keys.
+    fn entry(self) -> Option<(u64, ProductEntry<'v>)>
+        ensures value { IfSome result (λ r. object (members_of
+            (product_fields self.entry.cap self.entry.granule (option_map (λ t. t.now) self.entry.name) self.entry.opening self.entry.supply self.entry.units)) ≡ product_data r.0 r.1) }
+        ensures version { IfSome result (λ r. IsWithin 1 latest_version r.0) }
+        ensures first_version { IfSome result (λ r. r.0 ≡ 1 → r.1.granule ≡ first_granule) }
+    {
+        let name = self.name?;
+        let units = self.units?;
+        let supply = self.supply?;
+        let cap = self.cap?;
+        let opening = self.opening?;
+        match self.granule {
+            None => Some((
+                1,
+                ProductEntry {
+                    name,
+                    units,
+                    supply,
+                    cap,
+                    opening,
+                    granule: FIRST_GRANULE,
+                },
+            )),
+            Some(granule) => Some((
+                2,
+                ProductEntry {
+                    name,
+                    units,
+                    supply,
+                    cap,
+                    opening,
+                    granule,
+                },
+            )),
+        }
+    }
+}
+
+/// A product, and the first version of documents in which one has its keys.
+fn product<'v>(scan: &mut Scan<'v>) -> Option<(u64, ProductEntry<'v>)>
+    ensures value { IfSome result (λ r. Reads 1 scan.old (product_data r.0 r.1) scan.new) }
+    ensures version { IfSome result (λ r. IsWithin 1 latest_version r.0) }
+    ensures first_version { IfSome result (λ r. r.0 ≡ 1 → r.1.granule ≡ first_granule) }
+    ensures shorter { IfSome result (λ _. length scan.new < length scan.old) }
+{
+    if !scan.opens_object() {
+        return None;
+    }
+    let mut parts = ProductParts {
+        cap: None,
+        granule: None,
+        name: None,
+        opening: None,
+        supply: None,
+        units: None,
+    };
+    'members: while !scan.closes_object() {
+        parts = parts.with(scan)?;
+    }
+    let (version, entry) = parts.entry()?;
+    Some((version, entry))
+}
+
+/// The version that a list of products and one more have their keys from, where it is the same. It is 0 for no products.
+fn common_version(so_far: u64, next: u64) -> Option<u64>
+    ensures { IfSome result (λ version. (version ≡ next) × ((so_far ≡ 0) ⊎ (so_far ≡ next))) }
+{
+    if so_far == 0 || so_far == next {
+        Some(next)
+    } else {
+        None
+    }
+}
+
+/// Products whose keys are those of one version, which is 0 where there are none.
+#[derive(Drop)]
+pub(crate) struct VersionedProducts<'v> {
+    pub version: u64,
+    pub entries: Vec<ProductEntry<'v>>,
+    ghost first_version: { version ≡ 1 → All (λ entry. entry.granule ≡ first_granule) entries.items },
+}
+
+/// Products whose keys are those of one version.
+pub(crate) fn products<'v>(
+    alloc: Global,
+    scan: &mut Scan<'v>,
+) -> Result<VersionedProducts<'v>, Stop>
+    ensures value { IfOk result (λ list. Reads 2 scan.old (products_data list.version list.entries.items) scan.new) }
+    ensures shorter { OnOk result (length scan.new < length scan.old) }
+{
+    if !scan.opens_array() {
+        return Err(Stop::Unusual);
+    }
+    let mut version = 0;
+    let mut entries = Vec::new(alloc);
+    'items: while !scan.closes_array() {
+        let Some((next, entry)) = product(scan) else {
+            return Err(Stop::Unusual);
+        };
+        let Some(common) = common_version(version, next) else {
+            return Err(Stop::Unusual);
+        };
+        version = common;
+        entries.push(entry)?;
+    }
+    Ok(VersionedProducts { version, entries })
+}
+
+/// What was found of a bidder.
+#[derive(Clone, Copy)]
+struct BidderParts<'v> {
+    eligibility: Option<u64>,
+    name: Option<&'v str>,
+    token: Option<&'v str>,
+}
+
+impl<'v> BidderParts<'v> {
+    /// What was found, with the next member.
+    fn with(self, scan: &mut Scan<'v>) -> Option<BidderParts<'v>>
+        ensures value { IfSome result (λ parts. AddsMember 0 scan.old
+            (bidder_fields self.entry.eligibility (option_map (λ t. t.now) self.entry.name) (option_map (λ t. t.now) self.entry.token)) scan.new
+            (bidder_fields parts.eligibility (option_map (λ t. t.now) parts.name) (option_map (λ t. t.now) parts.token))) }
+        ensures shorter { IfSome result (λ _. length scan.new < length scan.old) }
+    {
+        let key = scan.key()?;
+        if is_key(key, "eligibility") {
+            let number = scan.number()?;
+            return Some(BidderParts {
+                eligibility: Some(number),
+                ..self
+            });
+        }
+        let text = scan.text()?;
+        if is_key(key, "name") {
+            return Some(BidderParts {
+                name: Some(text),
+                ..self
+            });
+        }
+        if is_key(key, "token") {
+            return Some(BidderParts {
+                token: Some(text),
+                ..self
+            });
+        }
+        None
+    }
+
+    /// The bidder.
+    fn entry(self) -> Option<BidderEntry<'v>>
+        ensures { IfSome result (λ entry. object (members_of
+            (bidder_fields self.entry.eligibility (option_map (λ t. t.now) self.entry.name) (option_map (λ t. t.now) self.entry.token))) ≡ bidder_data entry) }
+    {
+        let name = self.name?;
+        let token = self.token?;
+        let eligibility = self.eligibility?;
+        Some(BidderEntry {
+            name,
+            token,
+            eligibility,
+        })
+    }
+}
+
+/// A bidder.
+fn bidder<'v>(scan: &mut Scan<'v>) -> Option<BidderEntry<'v>>
+    ensures value { IfSome result (λ entry. Reads 1 scan.old (bidder_data entry) scan.new) }
+    ensures shorter { IfSome result (λ _. length scan.new < length scan.old) }
+{
+    if !scan.opens_object() {
+        return None;
+    }
+    let mut parts = BidderParts {
+        eligibility: None,
+        name: None,
+        token: None,
+    };
+    'members: while !scan.closes_object() {
+        parts = parts.with(scan)?;
+    }
+    let entry = parts.entry()?;
+    Some(entry)
+}
+
+/// Bidders.
+pub(crate) fn bidders<'v>(alloc: Global, scan: &mut Scan<'v>) -> Result<Vec<BidderEntry<'v>>, Stop>
+    ensures value { IfOk result (λ list. Reads 2 scan.old (bidders_data list.items) scan.new) }
+    ensures shorter { OnOk result (length scan.new < length scan.old) }
+{
+    if !scan.opens_array() {
+        return Err(Stop::Unusual);
+    }
+    let mut entries = Vec::new(alloc);
+    'items: while !scan.closes_array() {
+        let Some(entry) = bidder(scan) else {
+            return Err(Stop::Unusual);
+        };
+        entries.push(entry)?;
+    }
+    Ok(entries)
+}
