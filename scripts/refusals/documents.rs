@@ -2,11 +2,8 @@
 use crate::record::Record;
 use crate::watch::Watch;
 use clock_device::{NoMemory, Text};
-use clock_posting::{post_first, sheet_lines};
-use clock_setup::{Increments, Opening, OpeningFault, Setup, SetupFault, read_opening, read_setup};
-use clock_sim::{
-    Replay, Report, ScriptFault, SimFault, read_replay, report_text, simulate,
-};
+use clock_setup::{Opening, OpeningFault, Setup, SetupFault, read_opening, read_setup};
+use clock_sim::{Replay, Report, ScriptFault, SimFault, read_replay, report_text, simulate};
 use clock_views::products_page;
 use std::alloc::Global;
 
@@ -50,12 +47,9 @@ fn opening_of(alloc: Global, document: &[u8]) -> Result<Opening, OpeningFault> {
     opening
 }
 
-/// What is told of an opening.
+/// What is told of an opening, but for its demands, whose lines the program prints.
 fn show_opening(alloc: Global, record: &mut Record, opening: &Opening) -> anyhow::Result<()> {
-    let increments = Increments::Single(opening.increment);
-    let posting = post_first(alloc, &opening.setup, &opening.grid, &increments)?;
-    let lines = sheet_lines(alloc, &opening.setup, &posting.sheet)?;
-    record.push_bytes(lines.as_slice())?;
+    record.push(format!(in alloc; "{}", opening.increment)?.as_str())?;
     show_setup(alloc, record, &opening.setup)
 }
 

@@ -29,11 +29,21 @@ pub fn opened<P: Processor + Copy>(
     processor: P,
     document: &str,
 ) -> anyhow::Result<Front<P>> {
-    match made(alloc, watch, read_setup(alloc, document.as_bytes())?, processor) {
+    match made(
+        alloc,
+        watch,
+        read_setup(alloc, document.as_bytes())?,
+        processor,
+    ) {
         Ok(front) => return Ok(front),
         Err(NoMemory) => record.refuse("NoMemory", true)?,
     }
-    Ok(made(alloc, watch, read_setup(alloc, document.as_bytes())?, processor)?)
+    Ok(made(
+        alloc,
+        watch,
+        read_setup(alloc, document.as_bytes())?,
+        processor,
+    )?)
 }
 
 /// The reply to a text.

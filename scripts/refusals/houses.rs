@@ -70,11 +70,21 @@ fn opened<P: Processor + Copy>(
     processor: P,
     document: &str,
 ) -> anyhow::Result<House<P>> {
-    match made(alloc, watch, read_setup(alloc, document.as_bytes())?, processor) {
+    match made(
+        alloc,
+        watch,
+        read_setup(alloc, document.as_bytes())?,
+        processor,
+    ) {
         Ok(house) => return Ok(house),
         Err(NoMemory) => record.refuse("NoMemory", true)?,
     }
-    Ok(made(alloc, watch, read_setup(alloc, document.as_bytes())?, processor)?)
+    Ok(made(
+        alloc,
+        watch,
+        read_setup(alloc, document.as_bytes())?,
+        processor,
+    )?)
 }
 
 /// Puts a sheet of a bidder that there is.

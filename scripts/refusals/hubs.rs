@@ -4,7 +4,7 @@ use crate::houses::{still_tells, told_by};
 use crate::record::{Record, is_refusal};
 use crate::watch::Watch;
 use clock_device::{Items, NoMemory, Text};
-use clock_front::{Conn, Event, EventReplies, Fed, Hub, HubFault, Reply, run_events};
+use clock_front::{Conn, Event, EventReplies, EventReply, Fed, Hub, HubFault, Reply, run_events};
 use clock_processor::Processor;
 use clock_setup::read_setup;
 use std::alloc::Global;
@@ -35,7 +35,12 @@ fn events_of(alloc: Global, rows: &[&str]) -> anyhow::Result<Items<Event>> {
 }
 
 /// Adds the reply to the request of a connection.
-fn show_reply(alloc: Global, record: &mut Record, number: u64, reply: &Reply) -> anyhow::Result<()> {
+fn show_reply(
+    alloc: Global,
+    record: &mut Record,
+    number: u64,
+    reply: &Reply,
+) -> anyhow::Result<()> {
     record.push(format!(in alloc; "{number}")?.as_str())?;
     record.push_bytes(reply.bytes())
 }
@@ -65,12 +70,22 @@ fn refusal_in(replies: &EventReplies) -> Option<&Reply> {
     None
 }
 
+/// Whether a reply is the one at its place, or says that there was no memory.
+fn is_same_or_refusal(one: &EventReply, place: usize, others: &[EventReply]) -> bool {
+    match others.get(place) {
+        Some(other) => {
+            let is_same = one.reply.bytes() == other.reply.bytes() || is_refusal(&one.reply);
+            is_same && one.number == other.number
+        }
+        None => false,
+    }
+}
+
 /// Whether replies are the same, but for those that say that there was no memory.
-fn are_same_else(first: &EventReplies, second: &EventReplies) -> bool {
-    let mut are_same = first.as_slice().len() == second.as_slice().len();
-    for (one, other) in first.as_slice().iter().zip(second.as_slice()) {
-        let is_same = one.reply.bytes() == other.reply.bytes() || is_refusal(&one.reply);
-        are_same = are_same && one.number == other.number && is_same;
+fn are_same_else(replies: &[EventReply], others: &[EventReply]) -> bool {
+    let mut are_same = replies.len() == others.len();
+    for (place, one) in replies.iter().enumerate() {
+        are_same = are_same && is_same_or_refusal(one, place, others);
     }
     are_same
 }
@@ -91,10 +106,14 @@ pub fn play_events<P: Processor + Copy>(
     match first {
         Err(NoMemory) => record.refuse("NoMemory", true)?,
         Ok(replies) => {
-            let are_same = are_same_else(&replies, &last);
+            let are_same = are_same_else(replies.as_slice(), last.as_slice());
             match refusal_in(&replies) {
                 Some(reply) => record.refuse_by(reply, are_same)?,
-                None => record.push(if are_same { "twice the same" } else { "twice different" })?,
+                None => record.push(if are_same {
+                    "twice the same"
+                } else {
+                    "twice different"
+                })?,
             }
         }
     }
@@ -131,7 +150,10 @@ fn connected<P: Processor>(
     if first != Err(HubFault::NoMemory) {
         return Ok(first?);
     }
-    record.refuse("NoMemory", still_tells(alloc, hub.front().house(), &before)?)?;
+    record.refuse(
+        "NoMemory",
+        still_tells(alloc, hub.front().house(), &before)?,
+    )?;
     Ok(connect(watch, hub)?)
 }
 
@@ -168,7 +190,10 @@ fn fed<P: Processor>(
     let before = told_by(alloc, hub.front().house())?;
     match feed(watch, hub, conn, piece) {
         Err(HubFault::NoMemory) => {
-            record.refuse("NoMemory", still_tells(alloc, hub.front().house(), &before)?)?;
+            record.refuse(
+                "NoMemory",
+                still_tells(alloc, hub.front().house(), &before)?,
+            )?;
         }
         first => return Ok(first?),
     }
@@ -220,7 +245,14 @@ fn take_piece<P: Processor>(
 ) -> anyhow::Result<()> {
     let before = told_by(alloc, hub.front().house())?;
     line.text.extend_from_slice(piece)?;
-    let reply = fed(alloc, record, Watch::new(alloc, true), hub, line.conn, piece)?;
+    let reply = fed(
+        alloc,
+        record,
+        Watch::new(alloc, true),
+        hub,
+        line.conn,
+        piece,
+    )?;
     match reply {
         Some(reply) => settle(alloc, record, hub, &before, number, line, &reply),
         None => Ok(()),

@@ -43,7 +43,9 @@ fn play(alloc: Global, record: &mut Record, parts: &[&str]) -> anyhow::Result<()
         ["opening", document] => documents::play_opening(alloc, record, document.as_bytes()),
         ["replay", document] => documents::play_replay(alloc, record, document.as_bytes()),
         ["simulate", document] => documents::play_simulation(alloc, record, document.as_bytes()),
-        [kind, "plain", document, rows @ ..] => play_with(alloc, record, Plain, kind, document, rows),
+        [kind, "plain", document, rows @ ..] => play_with(
+            alloc, record, Plain, kind, document, rows,
+        ),
         [kind, _, document, rows @ ..] => play_with(alloc, record, Woken, kind, document, rows),
         _ => anyhow::bail!("no such scenario"),
     }

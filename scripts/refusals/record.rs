@@ -53,13 +53,18 @@ impl Record {
     /// A call has said, in these words, that it found no memory, and then all was as before, or not.
     pub fn refuse(&mut self, words: &str, is_unchanged: bool) -> anyhow::Result<()> {
         self.refusals.push_str(words)?;
-        self.refusals.push_str(if is_unchanged { "\n" } else { " changed\n" })?;
+        self.refusals
+            .push_str(if is_unchanged { "\n" } else { " changed\n" })?;
         Ok(())
     }
 
     /// A reply has said that there was no memory, and then all was as before, or not.
     pub fn refuse_by(&mut self, reply: &Reply, is_unchanged: bool) -> anyhow::Result<()> {
-        let words = if reply.bytes() == NO_MEMORY { "503" } else { "503 in other words" };
+        let words = if reply.bytes() == NO_MEMORY {
+            "503"
+        } else {
+            "503 in other words"
+        };
         self.refuse(words, is_unchanged)
     }
 }
