@@ -6,7 +6,7 @@
 //! many bytes a piece has, over how many connections texts are fed in turn, and its texts, each behind a byte 0.
 #![tactic(auto)]
 
-use clock_front::{Conn, Fed, Front, Hub};
+use clock_front::{Conn, Fed, Front, Hub, HubFault};
 use clock_processor::Processor;
 use clock_queue::Woken;
 use clock_setup::read_setup;
@@ -28,7 +28,7 @@ fn connect_all<P: Processor>(
 }
 
 /// Feeds one piece, and tells whether a reply came that is not 200 OK.
-fn feed_piece<P: Processor>(hub: &mut Hub<P>, conn: Conn, piece: &[u8]) -> anyhow::Result<bool> {
+fn feed_piece<P: Processor>(hub: &mut Hub<P>, conn: Conn, piece: &[u8]) -> Result<bool, HubFault> {
     match hub.feed(conn, piece)? {
         Fed::More => Ok(false),
         Fed::Reply(reply) => Ok(!reply.bytes().starts_with(b"HTTP/1.1 200")),
@@ -48,7 +48,7 @@ fn feed_turn<P: Processor>(
     texts: &[&str],
     place: usize,
     size: usize,
-) -> anyhow::Result<u64> {
+) -> Result<u64, HubFault> {
     let mut others = 0u64;
     for (conn, text) in conns.iter().zip(texts) {
         if let Some(piece) = piece_at(text, place, size) {

@@ -1,5 +1,5 @@
 -- A sheet closes no round: a text that begins with the method PUT asks for no closing.
-use Rattle.std.proofs.Common.{◌≡◌, ℕ, suc, Bool, true, false, cond, List, [], ◌∷◌, ◌++◌, take, length, Option, Some, None, Result, Ok, Err, codes, decimal, refl, sym, ◌∙◌, ap, subst}
+use Rattle.std.proofs.Common.{◌≡◌, ℕ, suc, Bool, true, false, List, [], ◌∷◌, take, length, Option, Some, None, Result, Ok, Err, codes, refl, sym, ap, subst}
 use Rattle.std.specs.Prelude.{option_map, if◌then◌else◌}
 use Rattle.clock_setup.specs.Limits.{SetupFields}
 use Rattle.clock_bids.specs.declared.sheet.Bid.{Bid}
@@ -10,7 +10,7 @@ use Rattle.clock_views.specs.declared.code.Code.{Code}
 use Rattle.clock_views.specs.declared.code.Code.TheVariants.{LongHead, BadHead}
 use Rattle.clock_front.specs.Scans.{head_length}
 use Rattle.clock_front.specs.Heads.{same_bytes, onto_first, lines_of, head_from, head_of}
-use Rattle.clock_front.specs.Framing.{Head, Framing, Known, framed, framing, known, known_with_end, known_with_head, known_with_body, ended_head, or_bad_head, length_read, and_length, head_limit}
+use Rattle.clock_front.specs.Framing.{Head, Framing, framed, framing, known, known_with_end, known_with_head, ended_head, or_bad_head, length_read, and_length}
 use Rattle.clock_front.specs.Framing as framed_as
 use Rattle.clock_front.specs.Requests.{Ask, ask_of, ask_by_route, ask_of_page, request_of}
 use Rattle.clock_front.specs.Requests as asked
@@ -18,7 +18,7 @@ use Rattle.clock_front.specs.Bodies.{put_body}
 use Rattle.clock_front.specs.Routes.{page_of, has_method}
 use Rattle.clock_front.specs.Outcomes.{command_of}
 use Rattle.clock_front.specs.Askers.{asker}
-use Rattle.clock_front.specs.Fronts.{text_command, commands_of}
+use Rattle.clock_front.specs.Fronts.{commands_of}
 use Rattle.clock_front.specs.declared.routes.Page.{Page}
 use Rattle.clock_front.specs.declared.routes.Page.TheVariants.{Status, Products, Sheet, Account, Bids, Slip, Close, Results}
 use Rattle.clock_front.specs.declared.tokens.Asker.{Asker}
@@ -26,7 +26,7 @@ use Rattle.clock_front.specs.declared.tokens.Asker.TheVariants.{Nobody, Operator
 use Rattle.clock_sim.specs.declared.script.Script.{Script}
 use Rattle.clock_sim.specs.Groups.{ClosesNoRound}
 use Rattle.clock_sim.specs.RequestTexts.{put_text}
-use Rattle.clock_sim.specs.ScriptedRequests.{scripted_put, scripted_sheet}
+use Rattle.clock_sim.specs.ScriptedRequests.{scripted_put}
 
 -- ---- the method of a head
 

@@ -1,22 +1,21 @@
 -- A request that comes in pieces is answered as its whole text is.
-use Rattle.std.proofs.Common.{◌≡◌, ◌≢◌, ℕ, true, false, List, ◌∷◌, ◌++◌, Some, Option, ◌⊎◌, Result, Ok, Err, inl, inr, refl, sym, ◌∙◌, ap, subst, true≢false}
+use Rattle.std.proofs.Common.{◌≡◌, ◌≢◌, ℕ, true, false, List, ◌∷◌, ◌++◌, Option, ◌⊎◌, Result, Ok, Err, inl, inr, sym, ◌∙◌, ap, subst, true≢false}
 use Rattle.std.specs.Prelude.{option_and_then, IfOk}
-use Rattle.clock_setup.specs.Limits.{SetupFields}
 use Rattle.clock_house.specs.House.{HouseFields, StandsFor}
 use Rattle.clock_front.specs.Askers.{asker}
 use Rattle.clock_front.specs.Framing.{Framing, Head, framing, head_in, IsDecided}
 use Rattle.clock_front.specs.Framing as framed
 use Rattle.clock_front.specs.FramingLaws.{IsDecidedOnce, HasOneHead}
-use Rattle.clock_front.specs.Fronts.{StandsForTexts, AnswersText, IsStruckOut, house_after, commands_of}
+use Rattle.clock_front.specs.Fronts.{AnswersText, IsStruckOut, house_after, commands_of}
 use Rattle.clock_front.specs.Outcomes.{answer_of, outcome, command_of}
 use Rattle.clock_front.specs.Pieces.{is_less, needs_more}
 use Rattle.clock_front.specs.Private.{IsPrivateReply}
 use Rattle.clock_front.specs.Replies.{Answer}
 use Rattle.clock_front.specs.Requests.{Request, request_of, ask_of}
-use Rattle.clock_front.specs.Hubs.{HubFields, text_of, IsFed, IsAnswered}
+use Rattle.clock_front.specs.Hubs.{HubFields, IsFed, IsAnswered}
 use Rattle.clock_front.specs.declared.connections.Conn.{Conn}
 use Rattle.clock_front.specs.declared.hub_fault.HubFault.{HubFault}
-use Rattle.clock_front.specs.declared.fed.Fed.TheVariants.{More, Reply}
+use Rattle.clock_front.specs.declared.fed.Fed.TheVariants.{More}
 
 -- a piece came, and then the input ended
 pub ended_after : (old mid new : HubFields) (conn : Conn) (text : List ℕ) (reply : Answer) → IsFed old mid conn text More → IsAnswered mid new conn text reply

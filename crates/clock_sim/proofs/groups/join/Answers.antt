@@ -1,5 +1,4 @@
-use Rattle.std.proofs.Common.{◌≡◌, ◌++◌, ℕ, true, List, [], ◌∷◌, sym, ◌∙◌, ap, subst}
-use Rattle.clock_house.specs.House.{HouseFields}
+use Rattle.std.proofs.Common.{◌≡◌, ◌++◌, ℕ, true, List, sym, ◌∙◌, ap, subst}
 use Rattle.clock_front.specs.Pieces.{needs_more}
 use Rattle.clock_front.specs.declared.connections.Conn.{Conn}
 use Rattle.clock_sim.specs.declared.groups.Waiting.{Waiting}
