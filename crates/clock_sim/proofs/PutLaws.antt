@@ -141,7 +141,8 @@ of_page Status head body is = if_method _ Status asked.status tt
 of_page Products head body is = if_method _ Products asked.products tt
 of_page Sheet head body is = if_method _ Sheet (ask_of_page Sheet head body) tt
 of_page Account head body is = if_method _ Account asked.account tt
-of_page Bids head body is = if_method _ Bids (ask_of_page Bids head body) (put_or_bids (same_bytes (codes "PUT") head.method) (asked.put (put_body body)) asked.bids tt tt)
+of_page Bids head body is = if_method _ Bids (ask_of_page Bids head body)
+    (put_or_bids (same_bytes (codes "PUT") head.method) (asked.put (put_body body)) asked.bids tt tt)
 of_page Slip head body is = if_method _ Slip (ask_of_page Slip head body) tt
 of_page Close head body is =
     let none : has_method Close head.method ≡ false = ap (λ (method : List ℕ). has_method Close method) is in

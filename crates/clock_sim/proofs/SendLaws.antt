@@ -56,7 +56,8 @@ pub answered_early : IsDecidedOnce → HasOneHead → (head body : List ℕ) (an
 answered_early once one_head head body answer old new less answered texts stands =
     elim (answered texts stands) [
       | inl told ↦ inl (subst
-          (λ (request : Request). (answer ≡ answer_of (outcome (house_after old.setup (commands_of old.setup texts)) (asker old.setup request.token) request.ask))
+          (λ (request : Request).
+          (answer ≡ answer_of (outcome (house_after old.setup (commands_of old.setup texts)) (asker old.setup request.token) request.ask))
           × StandsFor (command_of new.setup (asker new.setup request.token) request.ask ∷ commands_of new.setup texts) new)
           (sym (same_request once one_head head body (is_decided head less))) told)
       | inr none ↦ inr (

@@ -1,5 +1,6 @@
 -- Steps of a rehearsal, one after the other.
-use Rattle.std.proofs.Common.{◌≡◌, ◌≢◌, ℕ, ◌+◌, ◌<◌, ◌≤◌, Bool, true, false, List, [], ◌∷◌, length, drop, get_or, Option, Some, None, Result, Ok, Err, refl, sym, ◌∙◌, ap, subst, inl, inr}
+use Rattle.std.proofs.Common.{◌≡◌, ◌≢◌, ℕ, ◌+◌, ◌<◌, ◌≤◌, Bool, true, false, List, [], ◌∷◌, length, drop, get_or, Option, Some, None, Result, Ok, Err}
+use Rattle.std.proofs.Common.{refl, sym, ◌∙◌, ap, subst, inl, inr}
 use Rattle.std.specs.Prelude.{MatchResult, if◌then◌else◌}
 use Rattle.std.proofs.lemmas.List.{drop_more, drop_all}
 use Rattle.clock_setup.specs.Limits.{SetupFields}
@@ -62,7 +63,8 @@ request_refused text answer old new sender round answered not_good not_memory te
 
 sent_by : {T : Type 0} (text : List ℕ) (answer : Answer) (old new : HouseFields) (sender : Option ℕ) (round : ℕ) (result : Result T SimFault)
     → AnswersText text answer old new → IsTold answer.code (refused_by sender round answer.code) result → (texts : Texts) → StandsForTexts texts old
-    → MatchResult result (λ _. ComesTo (after_request old.setup texts sender round text) new) (IsRefusal NoMemory (after_request old.setup texts sender round text))
+    → MatchResult result (λ _. ComesTo (after_request old.setup texts sender round text) new)
+    (IsRefusal NoMemory (after_request old.setup texts sender round text))
 sent_by text answer old new sender round (Ok done) answered told texts stands = request_done text answer old new sender round answered told texts stands
 sent_by text answer old new sender round (Err fault) answered told texts stands =
     λ other. let refused = told other in
@@ -94,7 +96,8 @@ round_closed old new closing text round result is at sent = record {
       let same : after_request old.setup texts None round text ≡ after_close old.setup closing texts =
       ap (λ (k : ℕ). after_request old.setup texts None k text) at
       ∙ ap (λ (one : List ℕ). after_request old.setup texts None (standing_in old).round one) is
-      ∙ ap (λ (closed : List ClosedRound). after_request old.setup texts None (standing old.setup.products closed).round (scripted_close old.setup closed closing)) stands.closed in
+      ∙ ap (λ (closed : List ClosedRound). after_request old.setup texts None (standing old.setup.products closed).round
+      (scripted_close old.setup closed closing)) stands.closed in
       subst P same (sent.comes texts stands);
 }
 
@@ -231,33 +234,40 @@ puts_none house old bidder script puts written same gives no_sheet =
 
 -- ---- round after round
 
-next_closing : (closings : List Closing) (i : ℕ) (closing : Closing) → i < length closings → closing ≡ get_or closings i closing → drop i closings ≡ closing ∷ drop (i + 1) closings
+next_closing : (closings : List Closing) (i : ℕ) (closing : Closing) → i < length closings → closing ≡ get_or closings i closing
+    → drop i closings ≡ closing ∷ drop (i + 1) closings
 next_closing closings i closing below is = drop_more closings i closing below ∙ ap (λ (one : Closing). one ∷ drop (i + 1) closings) (sym is)
 
 before_round : (whole : Step) (scripts : List Script) (closings : List Closing) (i : ℕ) (closing : Closing) (initial now : HouseFields)
     → i < length closings → closing ≡ get_or closings i closing
     → IsOnWay whole (rehearsed initial.setup scripts (drop i closings)) initial now
-    → IsOnWay whole (λ texts. after_round initial.setup scripts closing texts >>= until_end initial.setup (rehearsed initial.setup scripts (drop (i + 1) closings))) initial now
+    → IsOnWay whole (λ texts. after_round initial.setup scripts closing texts >>=
+    until_end initial.setup (rehearsed initial.setup scripts (drop (i + 1) closings))) initial now
 before_round whole scripts closings i closing initial now below is before =
     let P : List Closing → Type 0 = λ rest. IsOnWay whole (rehearsed initial.setup scripts rest) initial now in
     subst P (next_closing closings i closing below is) before
 
 -- a round is played
-pub round_played : {U : Type 0} (whole : Step) (scripts : List Script) (closings : List Closing) (i : ℕ) (closing : Closing) (initial now next : HouseFields) (done : U)
+pub round_played : {U : Type 0} (whole : Step) (scripts : List Script) (closings : List Closing) (i : ℕ) (closing : Closing)
+    (initial now next : HouseFields) (done : U)
     → i < length closings → closing ≡ get_or closings i closing
     → IsOnWay whole (rehearsed initial.setup scripts (drop i closings)) initial now → MakesStep (after_round now.setup scripts closing) now next (Ok done)
     → IsOnWay whole (until_end initial.setup (rehearsed initial.setup scripts (drop (i + 1) closings))) initial next
 round_played whole scripts closings i closing initial now next done below is before made =
-    goes_on whole (after_round initial.setup scripts closing) (until_end initial.setup (rehearsed initial.setup scripts (drop (i + 1) closings))) initial now next done
+    goes_on whole (after_round initial.setup scripts closing) (until_end initial.setup (rehearsed initial.setup scripts (drop (i + 1) closings)))
+    initial now next done
     (before_round whole scripts closings i closing initial now below is before)
     (subst (λ (setup : SetupFields). MakesStep (after_round setup scripts closing) now next (Ok done)) before.setup made)
 
-pub round_refused : {U T : Type 0} (whole : Step) (scripts : List Script) (closings : List Closing) (i : ℕ) (closing : Closing) (initial now next : HouseFields) (fault : SimFault)
+pub round_refused : {U T : Type 0} (whole : Step) (scripts : List Script) (closings : List Closing) (i : ℕ) (closing : Closing)
+    (initial now next : HouseFields) (fault : SimFault)
     → i < length closings → closing ≡ get_or closings i closing
-    → IsOnWay whole (rehearsed initial.setup scripts (drop i closings)) initial now → MakesStep {T = U} (after_round now.setup scripts closing) now next (Err fault)
+    → IsOnWay whole (rehearsed initial.setup scripts (drop i closings)) initial now → MakesStep {T = U} (after_round now.setup scripts closing) now next
+    (Err fault)
     → MakesStep {T = T} whole initial next (Err fault)
 round_refused {U = U} {T = T} whole scripts closings i closing initial now next fault below is before made =
-    stops {U = U} {T = T} whole (after_round initial.setup scripts closing) (until_end initial.setup (rehearsed initial.setup scripts (drop (i + 1) closings))) initial now next fault
+    stops {U = U} {T = T} whole (after_round initial.setup scripts closing)
+    (until_end initial.setup (rehearsed initial.setup scripts (drop (i + 1) closings))) initial now next fault
     (before_round whole scripts closings i closing initial now below is before)
     (subst (λ (setup : SetupFields). MakesStep {T = U} (after_round setup scripts closing) now next (Err fault)) before.setup made)
 
@@ -269,18 +279,21 @@ before_last whole scripts closings i initial now past before =
     subst P (drop_all i closings past) before
 
 -- no closing is left
-pub closings_spent : {U T : Type 0} (whole : Step) (scripts : List Script) (closings : List Closing) (i : ℕ) (initial now next : HouseFields) (done : U) → length closings ≤ i
+pub closings_spent : {U T : Type 0} (whole : Step) (scripts : List Script) (closings : List Closing) (i : ℕ) (initial now next : HouseFields) (done : U)
+    → length closings ≤ i
     → IsOnWay whole (rehearsed initial.setup scripts (drop i closings)) initial now → MakesStep (after_puts now.setup 0 scripts) now next (Ok done)
     → MakesStep {T = T} whole initial next (Err ClosingsSpent)
 closings_spent {T = T} whole scripts closings i initial now next done past before made =
     spent {T = T} whole (after_puts initial.setup 0 scripts) initial now next done ClosingsSpent (before_last whole scripts closings i initial now past before)
     (subst (λ (setup : SetupFields). MakesStep (after_puts setup 0 scripts) now next (Ok done)) before.setup made)
 
-pub last_refused : {U T : Type 0} (whole : Step) (scripts : List Script) (closings : List Closing) (i : ℕ) (initial now next : HouseFields) (fault : SimFault) → length closings ≤ i
+pub last_refused : {U T : Type 0} (whole : Step) (scripts : List Script) (closings : List Closing) (i : ℕ) (initial now next : HouseFields) (fault : SimFault)
+    → length closings ≤ i
     → IsOnWay whole (rehearsed initial.setup scripts (drop i closings)) initial now → MakesStep {T = U} (after_puts now.setup 0 scripts) now next (Err fault)
     → MakesStep {T = T} whole initial next (Err fault)
 last_refused {U = U} {T = T} whole scripts closings i initial now next fault past before made =
-    stops {U = U} {T = T} whole (after_puts initial.setup 0 scripts) (λ put. Err ClosingsSpent) initial now next fault (before_last whole scripts closings i initial now past before)
+    stops {U = U} {T = T} whole (after_puts initial.setup 0 scripts) (λ put. Err ClosingsSpent) initial now next fault
+    (before_last whole scripts closings i initial now past before)
     (subst (λ (setup : SetupFields). MakesStep {T = U} (after_puts setup 0 scripts) now next (Err fault)) before.setup made)
 
 -- ---- the report
@@ -300,7 +313,8 @@ reported replay setup old new copied held stands done made =
     ∙ ap (λ (closed : List ClosedRound). Ok (report_of new.setup closed)) (sym end.stands.closed)
 
 -- the fault of a rehearsal
-pub faulted : (replay : ReplayFields) (setup : SetupFields) (old new : HouseFields) (fault : SimFault) → setup ≡ replay.setup → old.setup ≡ setup → StandsForTexts [] old
+pub faulted : (replay : ReplayFields) (setup : SetupFields) (old new : HouseFields) (fault : SimFault) → setup ≡ replay.setup → old.setup ≡ setup
+    → StandsForTexts [] old
     → {U : Type 0} → MakesStep {T = U} (rehearsed old.setup replay.scripts replay.closings) old new (Err fault)
     → fault ≢ NoMemory → simulated replay ≡ Err fault
 faulted replay setup old new fault copied held stands made other =

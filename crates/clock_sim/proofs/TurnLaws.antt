@@ -1,5 +1,6 @@
 -- The bidders' turns: each puts its sheet, whose request waits for others or is sent after those that wait.
-use Rattle.std.proofs.Common.{◌≡◌, ℕ, ◌+◌, ◌<◌, ◌≤◌, List, [], ◌∷◌, ◌++◌, length, drop, get_or, Option, Some, None, Result, Ok, Err, refl, sym, ◌∙◌, ap, subst, All, arith}
+use Rattle.std.proofs.Common.{◌≡◌, ℕ, ◌+◌, ◌<◌, ◌≤◌, List, [], ◌∷◌, ◌++◌, length, drop, get_or, Option, Some, None, Result, Ok, Err, refl, sym, ◌∙◌}
+use Rattle.std.proofs.Common.{ap, subst, All, arith}
 use Rattle.std.specs.Prelude.{MatchResult, OnOk}
 use Rattle.std.proofs.lemmas.List.{drop_more, drop_all}
 use Rattle.std.proofs.lemmas.List.Elements.{All-tail}
@@ -26,7 +27,8 @@ use Rattle.clock_sim.proofs.GroupLaws.{ended_ok, one_step, with_one}
 
 -- a part of the steps is made, and the rest of it is left before the others
 pub way_goes_on : {U : Type 0} (whole part left rest : Step) (initial now next : HouseFields) (done : U)
-    → IsOnWay whole (λ texts. part texts >>= rest) initial now → MakesWay part left now next (Ok done) → IsOnWay whole (λ texts. left texts >>= rest) initial next
+    → IsOnWay whole (λ texts. part texts >>= rest) initial now → MakesWay part left now next (Ok done)
+    → IsOnWay whole (λ texts. left texts >>= rest) initial next
 way_goes_on whole part left rest initial now next done before made = record {
   setup = made.setup ∙ before.setup;
   comes = λ texts stands.
@@ -36,7 +38,8 @@ way_goes_on whole part left rest initial now next done before made = record {
 }
 
 pub way_stops : {U T : Type 0} (whole part left rest : Step) (initial now next : HouseFields) (fault : SimFault)
-    → IsOnWay whole (λ texts. part texts >>= rest) initial now → MakesWay {T = U} part left now next (Err fault) → MakesStep {T = T} whole initial next (Err fault)
+    → IsOnWay whole (λ texts. part texts >>= rest) initial now → MakesWay {T = U} part left now next (Err fault)
+    → MakesStep {T = T} whole initial next (Err fault)
 way_stops whole part left rest initial now next fault before made = record {
   setup = made.setup ∙ before.setup;
   comes = λ texts stands other.
@@ -91,7 +94,8 @@ first_stops first left second last old new fault one = record {
 }
 
 -- the requests of a group are sent, and then one more
-pub sent_after : {U T : Type 0} (group waiting : List Waiting) (bidder round : ℕ) (text : List ℕ) (old mid new : HouseFields) (done : U) (result : Result T SimFault)
+pub sent_after : {U T : Type 0} (group waiting : List Waiting) (bidder round : ℕ) (text : List ℕ) (old mid new : HouseFields) (done : U)
+    (result : Result T SimFault)
     → MakesStep (after_group old.setup group) old mid (Ok done) → length waiting ≡ 0
     → MakesStep (λ texts. after_request mid.setup texts (Some bidder) round text) mid new result
     → MakesWay (with_request old.setup group bidder round text) (after_group old.setup waiting) old new result
@@ -112,7 +116,8 @@ refused_before group rest bidder round text old new fault one = record {
 }
 
 -- there is room, and then one more waits
-pub waits_after : {U T : Type 0} (group between waiting : List Waiting) (bidder round : ℕ) (text : List ℕ) (old mid new : HouseFields) (done : U) (result : Result T SimFault)
+pub waits_after : {U T : Type 0} (group between waiting : List Waiting) (bidder round : ℕ) (text : List ℕ) (old mid new : HouseFields) (done : U)
+    (result : Result T SimFault)
     → MakesWay (after_group old.setup group) (after_group old.setup between) old mid (Ok done)
     → MakesWay (with_request mid.setup between bidder round text) (after_group mid.setup waiting) mid new result
     → MakesWay (with_request old.setup group bidder round text) (after_group old.setup waiting) old new result
@@ -142,7 +147,8 @@ if_ok : (code : Code) (done next : Texts) (fault : SimFault) → if_done code do
 if_ok Done done next fault is = let same : done ≡ next = cc in sym same
 if_ok code done next fault is = absurd (cc)
 
-sent_text : (setup : SetupFields) (texts next : Texts) (sender : Option ℕ) (round : ℕ) (text : List ℕ) → after_request setup texts sender round text ≡ Ok next → next ≡ text ∷ texts
+sent_text : (setup : SetupFields) (texts next : Texts) (sender : Option ℕ) (round : ℕ) (text : List ℕ) → after_request setup texts sender round text ≡ Ok next
+    → next ≡ text ∷ texts
 unfolding after_request
 sent_text setup texts next sender round text is = if_ok _ (text ∷ texts) next _ is
 
@@ -206,7 +212,8 @@ module _ (old : HouseFields) (group : List Waiting) (bidder : ℕ) (script : Scr
 
 -- ---- bidder after bidder
 
-next_script : (scripts : List Script) (i : ℕ) (script : Script) → i < length scripts → script ≡ get_or scripts i script → drop i scripts ≡ script ∷ drop (i + 1) scripts
+next_script : (scripts : List Script) (i : ℕ) (script : Script) → i < length scripts → script ≡ get_or scripts i script
+    → drop i scripts ≡ script ∷ drop (i + 1) scripts
 next_script scripts i script below is = drop_more scripts i script below ∙ ap (λ (one : Script). one ∷ drop (i + 1) scripts) (sym is)
 
 -- the requests that wait, and then the sheets of the bidders from this one on
@@ -220,7 +227,8 @@ in_turn setup i script rest (Err fault) = refl
 
 before_turn : (whole : Step) (scripts : List Script) (group : List Waiting) (i : ℕ) (script : Script) (initial now : HouseFields) → i < length scripts
     → script ≡ get_or scripts i script → IsOnWay whole (then_puts initial.setup group i (drop i scripts)) initial now
-    → IsOnWay whole (λ texts. after_group initial.setup group texts >>= after_put initial.setup i script >>= after_puts initial.setup (i + 1) (drop (i + 1) scripts)) initial now
+    → IsOnWay whole (λ texts. after_group initial.setup group texts >>= after_put initial.setup i script >>=
+    after_puts initial.setup (i + 1) (drop (i + 1) scripts)) initial now
 before_turn whole scripts group i script initial now below is before = record {
   setup = before.setup;
   comes = λ texts stands.
@@ -234,24 +242,28 @@ before_turn whole scripts group i script initial now below is before = record {
 }
 
 -- a bidder's turn is over
-pub turn_over : {U : Type 0} (whole : Step) (scripts : List Script) (group waiting : List Waiting) (i : ℕ) (script : Script) (initial now next : HouseFields) (done : U)
+pub turn_over : {U : Type 0} (whole : Step) (scripts : List Script) (group waiting : List Waiting) (i : ℕ) (script : Script)
+    (initial now next : HouseFields) (done : U)
     → i < length scripts → script ≡ get_or scripts i script → IsOnWay whole (then_puts initial.setup group i (drop i scripts)) initial now
     → MakesWay (λ texts. after_group now.setup group texts >>= after_put now.setup i script) (after_group now.setup waiting) now next (Ok done)
     → IsOnWay whole (then_puts initial.setup waiting (i + 1) (drop (i + 1) scripts)) initial next
 turn_over whole scripts group waiting i script initial now next done below is before made =
     way_goes_on whole (λ texts. after_group initial.setup group texts >>= after_put initial.setup i script) (after_group initial.setup waiting)
     (after_puts initial.setup (i + 1) (drop (i + 1) scripts)) initial now next done (before_turn whole scripts group i script initial now below is before)
-    (subst (λ (setup : SetupFields). MakesWay (λ texts. after_group setup group texts >>= after_put setup i script) (after_group setup waiting) now next (Ok done)) before.setup made)
+    (subst (λ (setup : SetupFields). MakesWay (λ texts. after_group setup group texts >>= after_put setup i script) (after_group setup waiting) now next
+    (Ok done)) before.setup made)
 
 -- a request was refused in a bidder's turn
-pub turn_refused : {U T : Type 0} (whole : Step) (scripts : List Script) (group waiting : List Waiting) (i : ℕ) (script : Script) (initial now next : HouseFields) (fault : SimFault)
+pub turn_refused : {U T : Type 0} (whole : Step) (scripts : List Script) (group waiting : List Waiting) (i : ℕ) (script : Script)
+    (initial now next : HouseFields) (fault : SimFault)
     → i < length scripts → script ≡ get_or scripts i script → IsOnWay whole (then_puts initial.setup group i (drop i scripts)) initial now
     → MakesWay {T = U} (λ texts. after_group now.setup group texts >>= after_put now.setup i script) (after_group now.setup waiting) now next (Err fault)
     → MakesStep {T = T} whole initial next (Err fault)
 turn_refused {U = U} {T = T} whole scripts group waiting i script initial now next fault below is before made =
     way_stops {U = U} {T = T} whole (λ texts. after_group initial.setup group texts >>= after_put initial.setup i script) (after_group initial.setup waiting)
     (after_puts initial.setup (i + 1) (drop (i + 1) scripts)) initial now next fault (before_turn whole scripts group i script initial now below is before)
-    (subst (λ (setup : SetupFields). MakesWay {T = U} (λ texts. after_group setup group texts >>= after_put setup i script) (after_group setup waiting) now next (Err fault)) before.setup made)
+    (subst (λ (setup : SetupFields). MakesWay {T = U} (λ texts. after_group setup group texts >>= after_put setup i script)
+    (after_group setup waiting) now next (Err fault)) before.setup made)
 
 -- no request waits before the first turn
 pub first_turn : (setup : SetupFields) (group : List Waiting) (scripts : List Script) (initial : HouseFields) → initial.setup ≡ setup → length group ≡ 0

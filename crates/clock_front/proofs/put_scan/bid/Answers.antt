@@ -19,7 +19,8 @@ members-preserved c =
     subst (λ ts. AddsMember 0 ts (bid_fields l.found) c.bid_member.new.scan (bid_fields c.in_ok-found.found)) same c.in_ok-found.ensures.value in
     (adds start l.invariant.0, omega (arith, l.invariant.1, c.in_ok-found.ensures.shorter, ap length same))
 
-whole : (old new : List Token) (d : Data) (found : Option Bid) → Reads 1 old d new → IfSome found (λ bid. d ≡ bid_data bid) → IfSome found (λ bid. Reads 1 old (bid_data bid) new)
+whole : (old new : List Token) (d : Data) (found : Option Bid) → Reads 1 old d new → IfSome found (λ bid. d ≡ bid_data bid)
+    → IfSome found (λ bid. Reads 1 old (bid_data bid) new)
 whole old new d None reads is = tt
 whole old new d (Some bid) reads is = subst (λ known. Reads 1 old known new) is reads
 
@@ -28,5 +29,6 @@ returns-clause-value c =
     let l = c.members in
     let closed : l.scan ≡ Token.end_object ∷ c.closes_object.new.self = grind arith in
     whole c.args.scan.now c.closes_object.new.self (object (members_of (bid_fields l.found))) c.bid.result
-    (members_end 0 c.args.scan.now c.opens_object.new.self l.scan c.closes_object.new.self (members_of (bid_fields l.found)) (c.opens_object.ensures (grind arith)) l.invariant.0 closed)
+    (members_end 0 c.args.scan.now c.opens_object.new.self l.scan c.closes_object.new.self (members_of (bid_fields l.found))
+    (c.opens_object.ensures (grind arith)) l.invariant.0 closed)
     c.bid.ensures

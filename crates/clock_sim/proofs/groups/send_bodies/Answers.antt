@@ -34,7 +34,8 @@ returns-in_err-send_body g c =
     let i = c.loop-one.one-index in
     let one = c.one-item.result in
     let stands = head_at old.connections group i one c.loop-one-test.true c.one-item.is c.loop-one.invariant.1 in
-    let IsMade : List ℕ → Type 0 = λ body. MakesStep {T = Unit {0}} (λ texts. after_request old.house.setup texts (Some one.bidder) one.round (one.head ++ body))
+    let IsMade : List ℕ → Type 0 =
+    λ body. MakesStep {T = Unit {0}} (λ texts. after_request old.house.setup texts (Some one.bidder) one.round (one.head ++ body))
     old.house c.send_body.new.hub.house (Err c.in_err-send_body.field-0.0) in
     rw (told.1, told.2)
     (body_refused (after_group c.args.hub.now.house.setup group) group i one c.args.hub.now.house old.house c.send_body.new.hub.house _

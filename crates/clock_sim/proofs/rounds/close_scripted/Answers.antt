@@ -16,7 +16,8 @@ pub returns : goal.returns
 returns g c =
     let house_is = c.house.ensures ∙ c.front.ensures in
     let pieces : c.head.result.now ++ c.body.result.now ≡ whole_text c.request-request.result.now = (λ k. c.head.ensures k ++ c.body.ensures k) in
-    round_closed c.args.hub.now.house c.send.new.hub.house c.args.closing.now (c.head.result.now ++ c.body.result.now) c.current_round-round.result c.send.result
+    round_closed c.args.hub.now.house c.send.new.hub.house c.args.closing.now (c.head.result.now ++ c.body.result.now) c.current_round-round.result
+    c.send.result
     (pieces ∙ ap whole_text c.request-request.ensures ∙ c.in_ok-write_close.ensures
     ∙ ap (λ (house : HouseFields). scripted_close house.setup house.closed c.args.closing.now) house_is)
     c.current_round-round.ensures c.send.ensures

@@ -42,7 +42,8 @@ returns-then-ended-clause-step g c =
     let over : (standing_in c.play_round.new.hub.house).ended ≡ true =
     ap (λ (house : HouseFields). (standing_in house).ended) (sym (c.house.ensures ∙ c.front.ensures)) ∙ sym c.ended.ensures.is ∙ c.if-ended.true in
     ends_there whole (rehearsed setup scripts (drop (i + 1) closings)) c.args.hub.now.house c.play_round.new.hub.house _
-    (round_played whole scripts closings i c.closing-item.result c.args.hub.now.house c.loop-closing.hub.house c.play_round.new.hub.house _ c.loop-closing-test.true
+    (round_played whole scripts closings i c.closing-item.result c.args.hub.now.house c.loop-closing.hub.house c.play_round.new.hub.house _
+    c.loop-closing-test.true
     c.closing-item.is c.loop-closing.invariant c.in_ok-play_round.ensures) over
 
 pub returns-then-ended-clause-ended : goal.returns-then-ended-clause-ended
@@ -59,7 +60,8 @@ loop-closing-preserved g c =
     let going : (standing_in c.play_round.new.hub.house).ended ≡ false =
     ap (λ (house : HouseFields). (standing_in house).ended) (sym (c.house.ensures ∙ c.front.ensures)) ∙ sym c.ended.ensures.is ∙ c.if-ended.false in
     goes_past whole (rehearsed setup scripts (drop (i + 1) closings)) c.args.hub.now.house c.play_round.new.hub.house
-    (round_played whole scripts closings i c.closing-item.result c.args.hub.now.house c.loop-closing.hub.house c.play_round.new.hub.house _ c.loop-closing-test.true
+    (round_played whole scripts closings i c.closing-item.result c.args.hub.now.house c.loop-closing.hub.house c.play_round.new.hub.house _
+    c.loop-closing-test.true
     c.closing-item.is c.loop-closing.invariant c.in_ok-play_round.ensures) going
 
 pub returns-in_err-put_all-clause-step : goal.returns-in_err-put_all-clause-step
@@ -67,9 +69,11 @@ returns-in_err-put_all-clause-step g c =
     let told = err_from_is_err_and c.from_residual-in_err-put_all.result c.from_residual-in_err-put_all.ensures.1 in
     rw (told.1, told.2)
     (last_refused (rehearsed c.args.hub.now.house.setup c.args.scripts.now c.args.closings.now) c.args.scripts.now c.args.closings.now
-    c.loop-closing.closing-index c.args.hub.now.house c.loop-closing.hub.house c.put_all.new.hub.house _ (omega arith) c.loop-closing.invariant c.in_err-put_all.ensures)
+    c.loop-closing.closing-index c.args.hub.now.house c.loop-closing.hub.house c.put_all.new.hub.house _ (omega arith) c.loop-closing.invariant
+    c.in_err-put_all.ensures)
 
 pub returns-clause-step : goal.returns-clause-step
 returns-clause-step g c =
     closings_spent (rehearsed c.args.hub.now.house.setup c.args.scripts.now c.args.closings.now) c.args.scripts.now c.args.closings.now
-    c.loop-closing.closing-index c.args.hub.now.house c.loop-closing.hub.house c.put_all.new.hub.house _ (omega arith) c.loop-closing.invariant c.in_ok-put_all.ensures
+    c.loop-closing.closing-index c.args.hub.now.house c.loop-closing.hub.house c.put_all.new.hub.house _ (omega arith) c.loop-closing.invariant
+    c.in_ok-put_all.ensures

@@ -17,5 +17,6 @@ pub returns : goal.returns
 returns g c =
     and_then (after_puts c.args.hub.now.house.setup 0 c.args.scripts.now) (after_close c.args.hub.now.house.setup c.args.closing.now)
     c.args.hub.now.house c.put_all.new.hub.house c.close_scripted.new.hub.house _ c.close_scripted.result c.in_ok-put_all.ensures
-    (subst (λ (setup : SetupFields). MakesStep (after_close setup c.args.closing.now) c.put_all.new.hub.house c.close_scripted.new.hub.house c.close_scripted.result)
+    (subst (λ (setup : SetupFields). MakesStep (after_close setup c.args.closing.now)
+    c.put_all.new.hub.house c.close_scripted.new.hub.house c.close_scripted.result)
     c.in_ok-put_all.ensures.setup c.close_scripted.ensures)

@@ -45,4 +45,5 @@ returns-in_err-put_scripted g c =
 pub returns : goal.returns
 returns g c =
     last_sent (after_puts c.args.hub.now.house.setup 0 c.args.scripts.now) c.args.scripts.now c.loop-bidder.group.items c.loop-bidder.bidder
-    c.args.hub.now.house c.loop-bidder.hub.house c.send_group.new.hub.house c.send_group.result (omega arith) c.loop-bidder.invariant.0 c.send_group.ensures.step
+    c.args.hub.now.house c.loop-bidder.hub.house c.send_group.new.hub.house c.send_group.result (omega arith) c.loop-bidder.invariant.0
+    c.send_group.ensures.step

@@ -14,7 +14,8 @@ returns-in-Reply g c =
     let body = c.args.body.now in
     let mid = c.connect.new.self in
     let new = c.feed.new.self in
-    let IsFedTo : Fed → Type 0 = λ fed. (text : List ℕ) → text_of mid.connections c.in_ok-conn.conn ≡ Some text → IsFed mid new c.in_ok-conn.conn (text ++ head) fed in
+    let IsFedTo : Fed → Type 0 = λ fed. (text : List ℕ) → text_of mid.connections c.in_ok-conn.conn ≡ Some text
+    → IsFed mid new c.in_ok-conn.conn (text ++ head) fed in
     let replied : IsFedTo (Reply c.in-Reply.reply) = subst IsFedTo c.in-Reply.is c.in_ok-feed.ensures.fed in
     let fed = replied [] c.in_ok-conn.ensures.connected.stands in
     let whole = answered_early c.decided_once.ensures c.one_head.ensures head body c.in-Reply.reply mid.house new.house fed.0 fed.1.answered in

@@ -19,7 +19,8 @@ returns-clause-ok c =
     let closings = c.as_slice-2.result.now in
     let inside = c.replay.inside in
     let same : replay_of c.new-hub.result.house.setup scripts closings ≡ c.args.replay.now =
-    ap (λ (s : SetupFields). replay_of s scripts closings) (ap (λ (hub : HubFields). hub.house.setup) c.new-hub.ensures ∙ c.in_ok-front.ensures.setup ∙ c.in_ok-setup.ensures)
+    ap (λ (s : SetupFields). replay_of s scripts closings) (ap (λ (hub : HubFields). hub.house.setup) c.new-hub.ensures ∙ c.in_ok-front.ensures.setup
+    ∙ c.in_ok-setup.ensures)
     ∙ ap (λ (list : List Script). replay_of inside.setup list closings) c.as_slice.ensures
     ∙ ap (λ (list : List Closing). replay_of inside.setup inside.scripts list) c.as_slice-2.ensures ∙ c.replay.view_is in
     subst (λ (replay : ReplayFields). IfOk c.played.result (λ report. simulated replay ≡ Ok report)) same c.played.ensures.ok
@@ -30,7 +31,8 @@ returns-clause-err c =
     let closings = c.as_slice-2.result.now in
     let inside = c.replay.inside in
     let same : replay_of c.new-hub.result.house.setup scripts closings ≡ c.args.replay.now =
-    ap (λ (s : SetupFields). replay_of s scripts closings) (ap (λ (hub : HubFields). hub.house.setup) c.new-hub.ensures ∙ c.in_ok-front.ensures.setup ∙ c.in_ok-setup.ensures)
+    ap (λ (s : SetupFields). replay_of s scripts closings) (ap (λ (hub : HubFields). hub.house.setup) c.new-hub.ensures ∙ c.in_ok-front.ensures.setup
+    ∙ c.in_ok-setup.ensures)
     ∙ ap (λ (list : List Script). replay_of inside.setup list closings) c.as_slice.ensures
     ∙ ap (λ (list : List Closing). replay_of inside.setup inside.scripts list) c.as_slice-2.ensures ∙ c.replay.view_is in
     subst (λ (replay : ReplayFields). IfErr c.played.result (IsRefusal faults.NoMemory (simulated replay))) same c.played.ensures.err

@@ -12,7 +12,8 @@ returns-then-is_key-clause-value c =
     let new = c.number.new.self in
     let known = whole c.in-Some-number.round in
     let named : old ≡ key_token (codes "round") ∷ value = c.in-Some.ensures ∙ ap (λ name. key_token name ∷ value) (c.is_key.ensures c.if-is_key.true) in
-    adds_member 2 old value new (put_fields c.args.self.now) (codes "round") known named (reads_deeper 0 2 value known new (omega arith) c.in-Some-number.ensures.value) refl
+    adds_member 2 old value new (put_fields c.args.self.now) (codes "round") known named
+    (reads_deeper 0 2 value known new (omega arith) c.in-Some-number.ensures.value) refl
 
 pub returns-then-is_key-2-clause-value : goal.returns-then-is_key-2-clause-value
 returns-then-is_key-2-clause-value c =
