@@ -10,7 +10,6 @@ use crate::fault::Fault;
 use crate::fault_lines::write_fault;
 use crate::input::read_all;
 use crate::words::{Job, job_asked};
-use clap::Error;
 use clap::error::ErrorKind;
 use clock_device::{Sink, Source, write_all};
 use std::alloc::Global;
@@ -69,7 +68,11 @@ pub fn command<R: Source, W: Sink, F: Sink>(
                 show_fault(Fault::Memory, faults);
                 return 1;
             }
-            show_usage(alloc, &error, faults);
+            let Ok(usage) = error.to_string(alloc) else {
+                show_fault(Fault::Memory, faults);
+                return 1;
+            };
+            let _ = write_all(faults, usage.as_bytes());
             2
         }
     }
@@ -113,11 +116,4 @@ pub fn show_fault<F: Sink>(fault: Fault, faults: &mut F)
         (fault_line fault) }
 {
     let _ = write_fault(faults, fault);
-}
-
-/// Shows what clap says of words that it refuses, or the help that they ask for.
-fn show_usage<F: Sink>(alloc: Global, error: &Error, faults: &mut F) {
-    if let Ok(text) = error.to_string(alloc) {
-        let _ = write_all(faults, text.as_bytes());
-    }
 }

@@ -41,6 +41,26 @@ fn played<P: Processor>(
     Ok(final_report(alloc, hub.front().house())?)
 }
 
+/// Plays an auction whose rounds are settled by a processor.
+fn simulate_with<P: Processor + Drop>(
+    alloc: Global,
+    replay: &Replay,
+    processor: P,
+) -> Result<Report, SimFault>
+    ensures ok { IfOk result (λ report. rules.simulated replay.now ≡ Ok report) }
+    ensures err { IfErr result (IsRefusal faults.NoMemory (rules.simulated replay.now)) }
+{
+    let setup = replay.setup.copy(alloc)?;
+    let front = Front::new(alloc, setup, processor)?;
+    let mut hub = Hub::new(alloc, front);
+    played(
+        alloc,
+        &mut hub,
+        replay.scripts.as_slice(),
+        replay.closings.as_slice(),
+    )
+}
+
 /// Plays an auction: in each round the bidders, in the order of their numbers, put the sheets that their scripts give,
 /// and then the next closing is made, until the auction ends; the closings that are left are not used.
 ///
@@ -52,13 +72,5 @@ pub fn simulate(alloc: Global, replay: &Replay) -> Result<Report, SimFault>
     ensures ok { IfOk result (λ report. rules.simulated replay.now ≡ Ok report) }
     ensures err { IfErr result (IsRefusal faults.NoMemory (rules.simulated replay.now)) }
 {
-    let setup = replay.setup.copy(alloc)?;
-    let front = Front::new(alloc, setup, Woken)?;
-    let mut hub = Hub::new(alloc, front);
-    played(
-        alloc,
-        &mut hub,
-        replay.scripts.as_slice(),
-        replay.closings.as_slice(),
-    )
+    simulate_with(alloc, replay, Woken)
 }

@@ -1,7 +1,9 @@
 //! A replay is played, and its report or its first fault is told.
 
+use super::simulate_with;
 use crate::{Replay, SimFault, read_replay, report_text, simulate};
 use clock_device::{NoMemory, Text};
+use clock_processor::Plain;
 use clock_setup::fixtures::ONE_PRODUCT;
 use clock_views::Code;
 use std::alloc::Global;
@@ -35,6 +37,12 @@ fn report_of(alloc: Global, replay: &Replay) -> Result<Text, Fail> {
     Ok(report_text(alloc, &report)?)
 }
 
+/// The text of its report, where rounds are settled by the rescanned list.
+fn rescanned_report_of(alloc: Global, replay: &Replay) -> Result<Text, Fail> {
+    let report = simulate_with(alloc, replay, Plain)?;
+    Ok(report_text(alloc, &report)?)
+}
+
 /// Its first fault, or none.
 fn fault_of(alloc: Global, replay: &Replay) -> Option<SimFault> {
     simulate(alloc, replay).err()
@@ -45,6 +53,8 @@ fn sincere_bidders_leave_at_their_limits(rt: HostRuntime) -> Result<(), Fail> {
     let replay = replay_of(rt.alloc(), FALLING_LIMITS, THREE_CLOSINGS)?;
     let text = report_of(rt.alloc(), &replay)?;
     assert_eq!(rt; text.as_slice(), REPORT.as_bytes());
+    let rescanned = rescanned_report_of(rt.alloc(), &replay)?;
+    assert_eq!(rt; rescanned.as_slice(), REPORT.as_bytes());
     Ok(())
 }
 

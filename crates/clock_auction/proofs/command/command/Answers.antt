@@ -12,3 +12,7 @@ pub returns-in-Err-run-clause-outcome : goal.returns-in-Err-run-clause-outcome
 returns-in-Err-run-clause-outcome g c =
     stopped_run _ c.in-Ok-Some.job (sym c.in-Ok-Some.ensures.ok ∙ c.in-Ok-Some.field-0-is) _ _ _
     c.in-Err-run.fault c.in-Err-run.ensures.run c.show_fault.ensures
+
+pub returns-in_default-clause-outcome : goal.returns-in_default-clause-outcome
+returns-in_default-clause-outcome g c =
+    (stopped fault.Memory, refl, (unread_for_memory _ _ _ _ c.requires.unread, untouched _ _ _ c.requires.unwritten, c.show_fault-in_default.ensures))

@@ -8,13 +8,13 @@ use Rattle.clock_sim.specs.declared.closing.Closing.{Closing}
 use Rattle.clock_sim.specs.Replays.{ReplayFields}
 use Rattle.clock_sim.specs.declared.sim_fault.SimFault.TheVariants as faults
 use Rattle.clock_sim.specs.Rehearsal.{simulated}
-use Rattle.clock_sim.proofs.simulation.simulate.Goals as goal
+use Rattle.clock_sim.proofs.simulation.simulate_with.Goals as goal
 
 abbrev replay_of : SetupFields → List Script → List Closing → ReplayFields
 replay_of setup scripts closings = record { setup = setup; scripts = scripts; closings = closings }
 
 pub returns-clause-ok : goal.returns-clause-ok
-returns-clause-ok c =
+returns-clause-ok g c =
     let scripts = c.as_slice.result.now in
     let closings = c.as_slice-2.result.now in
     let inside = c.replay.inside in
@@ -26,7 +26,7 @@ returns-clause-ok c =
     subst (λ (replay : ReplayFields). IfOk c.played.result (λ report. simulated replay ≡ Ok report)) same c.played.ensures.ok
 
 pub returns-clause-err : goal.returns-clause-err
-returns-clause-err c =
+returns-clause-err g c =
     let scripts = c.as_slice.result.now in
     let closings = c.as_slice-2.result.now in
     let inside = c.replay.inside in
