@@ -29,6 +29,12 @@ const Z_DROPS_B: Asked = (Kind::Reduction, 2, 1, 1, 100);
 
 const X_DROPS_B: Asked = (Kind::Reduction, 0, 1, 2, 106);
 
+/// A set-up before its bidders, and behind them.
+const OPENS_BIDDERS: &str = r#"{"bidders":["#;
+
+const A_HUNDRED_BLOCKS: &str =
+    r#"],"operator":"OPERATOROPERATOR","products":[{"cap":1,"name":"A","opening":100,"supply":100,"units":1}],"requirement":100,"version":1}"#;
+
 /// Settles requests after first ones, and asserts what they come to. The answer is how often a room was looked at.
 fn settles_with<P: Processor>(
     rt: &impl Abort,
@@ -102,22 +108,37 @@ fn earlier_drop_takes_the_excess(rt: HostRuntime) -> Result<(), Fail> {
     Ok(())
 }
 
-/// A product of a hundred blocks of which each of a hundred bidders may hold one.
-fn document_of_a_hundred(alloc: Global) -> Result<String, AllocError> {
-    let mut text = String::from_str(alloc, r#"{"bidders":["#)?;
-    for bidder in 100..200 {
-        if bidder > 100 {
+/// Adds a bidder of eligibility 1.
+fn push_bidder(alloc: Global, text: &mut String, number: u32) -> Result<(), AllocError> {
+    let entry = format!(in alloc;
+        r#"{{"eligibility":1,"name":"B{number}","token":"TOKENTOKENTOK{number}"}}"#
+    )?;
+    text.push_str(entry.as_str())
+}
+
+/// Adds a hundred of them.
+fn push_bidders(alloc: Global, text: &mut String) -> Result<(), AllocError> {
+    for number in 100..200 {
+        if number > 100 {
             text.push_str(",")?;
         }
-        let entry = format!(in alloc;
-            r#"{{"eligibility":1,"name":"B{bidder}","token":"TOKENTOKENTOK{bidder}"}}"#
-        )?;
-        text.push_str(entry.as_str())?;
+        push_bidder(alloc, text, number)?;
     }
-    text.push_str(r#"],"operator":"OPERATOROPERATOR","products":["#)?;
-    text.push_str(r#"{"cap":1,"name":"A","opening":100,"supply":100,"units":1}"#)?;
-    text.push_str(r#"],"requirement":100,"version":1}"#)?;
+    Ok(())
+}
+
+/// A product of a hundred blocks of which each of a hundred bidders may hold one.
+fn document_of_a_hundred(alloc: Global) -> Result<String, AllocError> {
+    let mut text = String::new(alloc);
+    text.push_str(OPENS_BIDDERS)?;
+    push_bidders(alloc, &mut text)?;
+    text.push_str(A_HUNDRED_BLOCKS)?;
     Ok(text)
+}
+
+/// A block for each of a hundred bidders.
+fn ones(alloc: Global, count: usize) -> Result<Vec<u64>, AllocError> {
+    vec![in alloc; 1; count]
 }
 
 /// A request of each of a hundred bidders for one block at 100.
@@ -135,13 +156,13 @@ fn nobody_can_give_up_a_block_without_excess(rt: HostRuntime) -> Result<(), Fail
     let taken = of_each(rt.alloc(), Kind::Increase)?;
     let given = of_each(rt.alloc(), Kind::Reduction)?;
     let requests = (taken.as_slice(), given.as_slice());
-    let ones = [1; 100];
+    let ones = ones(rt.alloc(), 100)?;
     let tests = settles(
         &rt,
         rt.alloc(),
         document.as_str(),
         requests,
-        (&ones, &ones, 0),
+        (ones.as_slice(), ones.as_slice(), 0),
     )?;
     assert!(rt; tests <= 100);
     Ok(())

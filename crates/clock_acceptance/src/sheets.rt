@@ -24,7 +24,6 @@ fn blocks(alloc: Global, count: usize) -> Result<Vec<Offer>, AllocError> {
 
 #[test]
 fn a_sheet_is_refused_for_its_first_fault(rt: HostRuntime) -> Result<(), Fail> {
-    let many = blocks(rt.alloc(), 8193)?;
     let level = [(0, 1, 100), (0, 2, 100)];
     let steps = [
         RefusedPut(
@@ -36,10 +35,17 @@ fn a_sheet_is_refused_for_its_first_fault(rt: HostRuntime) -> Result<(), Fail> {
         RefusedPut(X, 1, &[(0, 1, 101)], PutFault::Bid(BidFault::PriceRange(0))),
         RefusedPut(X, 1, &[(0, 3, 100)], PutFault::Bid(BidFault::OverCap(0))),
         RefusedPut(X, 1, &level, PutFault::Bid(BidFault::PriceOrder(1))),
-        RefusedPut(X, 1, many.as_slice(), PutFault::Bid(BidFault::TooMany)),
         Put(X, &[(0, 0, 100)]),
         InForce(X, Some(&[(0, 0, 100)])),
     ];
+    play(&rt, rt.alloc(), ONE_PRODUCT, &steps)
+}
+
+#[test]
+fn a_sheet_has_at_most_two_bids_for_each_of_the_most_products(rt: HostRuntime) -> Result<(), Fail> {
+    let many = blocks(rt.alloc(), 8193)?;
+    let fault = PutFault::Bid(BidFault::TooMany);
+    let steps = [RefusedPut(X, 1, many.as_slice(), fault)];
     play(&rt, rt.alloc(), ONE_PRODUCT, &steps)
 }
 

@@ -1,7 +1,8 @@
 -- Each way in which a run can stop is one of the outcomes.
 use Rattle.std.proofs.Common.{◌≡◌, ℕ, List, [], Bool, Option, Some, Err, refl, arith}
 use Rattle.clock_device.specs.Calls.{IsUnread, IsUnused}
-use Rattle.clock_auction.specs.Input.{IsReadingOf, Reading}
+use Rattle.clock_device.specs.Readings.{Reading}
+use Rattle.clock_auction.specs.Input.{IsReadingOf}
 use Rattle.clock_auction.specs.Output.{IsUntouched, Writing}
 use Rattle.clock_auction.specs.Run.{ComesTo, IsRunOf, Shows, stopped}
 use Rattle.clock_auction.specs.FaultLines.{fault_line}

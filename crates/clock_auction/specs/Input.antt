@@ -8,6 +8,7 @@
 --     IsStepOf     what one read came to
 use Rattle.std.specs.Prelude.{◌≡◌, ◌≤◌, ◌⊎◌, ◌+◌, ◌++◌, ℕ, List, [], length, Option, Bool, true, false, Result, Ok, Err}
 use Rattle.clock_device.specs.Streams.{HasRead, IsReadOut}
+use Rattle.clock_device.specs.Readings.{Reading}
 use Rattle.clock_auction.specs.declared.fault.Fault.{Fault}
 use Rattle.clock_auction.specs.declared.fault.Fault.TheVariants as fault
 
@@ -18,15 +19,6 @@ most_bytes = 67108864
 -- in how many reads at most
 abbrev pub most_reads : ℕ
 most_reads = 100000000
-
--- what is seen of a source over a run: the bytes left before and after it, where the source tells them, how many reads
--- were made, how many of them were interrupted, and whether one failed
-pub record Reading : Type 0 where
-  pub before : Option (List ℕ)
-  pub after : Option (List ℕ)
-  pub calls : ℕ
-  pub interruptions : ℕ
-  pub has_failed : Bool
 
 -- these bytes were read, and each read took one of them at least or was interrupted, but for so many other reads
 pub record Takes (reading : Reading) (others : ℕ) (bytes : List ℕ) : Type 0 where
@@ -82,11 +74,6 @@ IsStepOf left left_after document document_after (Err fault.LongInput) =
 IsStepOf left left_after document document_after (Err fault.Memory) =
     (bytes : List ℕ) × HasRead left left_after bytes × (length (document ++ bytes) ≤ most_bytes)
 IsStepOf left left_after document document_after (Err other) = ⊥
-
--- a count that grew by one at most
-pub record GrowsByOneAtMost (old new : ℕ) : Type 0 where
-  pub least : old ≤ new
-  pub most : new ≤ old + 1
 
 -- the read failed
 abbrev pub is_input_fault : {A : Type 0} → Result A Fault → Bool

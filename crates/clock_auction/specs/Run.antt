@@ -4,7 +4,8 @@
 --     ComesTo job reading output shown status     a run with this status ends so
 use Rattle.std.specs.Prelude.{◌≡◌, ◌⊎◌, ℕ, List, Option, Some, None, Result, Ok, Err, false}
 use Rattle.std.specs.Io.KnownBytes.{Keeps}
-use Rattle.clock_auction.specs.Input.{IsReadingOf, Reading, ReadsWhole}
+use Rattle.clock_device.specs.Readings.{Reading}
+use Rattle.clock_auction.specs.Input.{IsReadingOf, ReadsWhole}
 use Rattle.clock_auction.specs.Output.{IsUntouched, Writing, WritesFront, WritesWhole}
 use Rattle.clock_auction.specs.Answers.{answer_of}
 use Rattle.clock_auction.specs.FaultLines.{fault_line}

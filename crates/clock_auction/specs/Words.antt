@@ -21,6 +21,7 @@ use Rattle.clock_auction.specs.declared.words.Job.TheVariants.{Prices, Opening, 
 abbrev pub increment_option : Rule
 increment_option = record (new_rule (codes "increment")) {
   long = Some (codes "increment");
+  value_names = 1;
   parser = Some (parser.Unsigned least_increment most_increment);
   defaults = codes "10" ∷ [];
 }

@@ -53,6 +53,7 @@ fn prices_command<'a>(alloc: Global, helps: &'a NumberHelps) -> Result<Command<'
 {
     let increment = Arg::new(alloc, "increment")
         .long("increment")
+        .value_name("N")
         .value_parser(ValueParser::Unsigned(LEAST_INCREMENT, MOST_INCREMENT))
         .default_value("10")
         .help(helps.increment.as_str());

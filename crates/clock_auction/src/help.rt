@@ -3,10 +3,12 @@ use std::alloc::{AllocError, Global};
 
 /// Of the whole program.
 pub static PROGRAM_HELP: &str = "\
-Documents are read from standard input. Without any word the program does `prices --increment 10`.
+A document is read from standard input, by `serve` from a file. Without any word the program does
+`prices --increment 10`.
 
-Status 0: the answer is on standard output.
-Status 1: there was a fault, one line `fault: WORDS` on standard error, and nothing on standard output.
+Status 0: all was done, and the answer is on standard output.
+Status 1: there was a fault, with one line `fault: WORDS` on standard error. Nothing is on standard output,
+but for what a failing write let through, and `ready N` where `serve` had begun.
 Status 2: help, or words that are refused.";
 
 /// Of `prices`.
@@ -35,7 +37,7 @@ Example:
 /// Of `replay`.
 pub static REPLAY_HELP: &str = "\
 Reads from standard input a replay document: a set-up, a script for each bidder, and the closings in order.
-Prints each round as `opening` does, and then a line `won NAME D0 .. Dn PAY` for each bidder: how many
+Prints each round as `opening` does, and then a line `won NAME DEMAND .. DEMAND PAY` for each bidder: how many
 blocks of each product it won, and what it pays for them in dollars.
 Answers with 0, or with 1 and a line as `fault: scripts`, `fault: limits 0 0`, `fault: refused 0 1 over_cap`,
 `fault: closing 1 increment`, `fault: closings_spent`.

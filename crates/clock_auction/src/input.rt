@@ -1,10 +1,11 @@
-ghost use Rattle.std.specs.Prelude.{◌≡◌, ◌≤◌, ◌<◌, ◌+◌, ◌||◌, false, length, vec_len, IfOk};
+ghost use Rattle.std.specs.Prelude.{◌≡◌, ◌≤◌, ◌<◌, ◌+◌, ◌||◌, false, length, IfOk};
 ghost use Rattle.clock_device.specs.Calls.{IsUnread, count_after};
-ghost use Rattle.clock_auction.specs.Input.{GrowsByOneAtMost, IsReadingOf, IsStepOf, is_input_fault, most_bytes, most_reads};
+ghost use Rattle.clock_device.specs.Readings.{GrowsByOneAtMost};
+ghost use Rattle.clock_auction.specs.Input.{IsReadingOf, IsStepOf, is_input_fault, most_bytes, most_reads};
 
 use crate::fault::Fault;
-use clock_device::{Source, Stop, Text};
-use std::alloc::{AllocError, Global};
+use clock_device::{Source, Stop, Text, room_for_read};
+use std::alloc::Global;
 
 /// How many bytes of input are read at most.
 const MOST_BYTES: usize = 67_108_864;
@@ -29,7 +30,7 @@ pub fn read_all<R: Source>(alloc: Global, reader: &mut R) -> Result<Text, Fault>
         result }
     ensures calls { R.calls reader.new ≤ most_reads }
 {
-    let mut piece = empty_piece(alloc, PIECE)?;
+    let mut piece = room_for_read(alloc, PIECE)?;
     let mut document = Text::new(alloc);
     for _call in 0..MOST_READS {
         if read_more(reader, piece.as_mut_slice(), &mut document)? {
@@ -37,13 +38,6 @@ pub fn read_all<R: Source>(alloc: Global, reader: &mut R) -> Result<Text, Fault>
         }
     }
     Err(Fault::Input)
-}
-
-/// Room for one read.
-fn empty_piece(alloc: Global, size: usize) -> Result<Vec<u8>, AllocError>
-    ensures { IfOk result (λ piece. vec_len piece ≡ size) }
-{
-    vec![in alloc; 0; size]
 }
 
 /// Makes one read and adds its bytes to the document. Answers whether the input has ended. A read

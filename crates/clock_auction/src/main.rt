@@ -10,6 +10,8 @@ mod fault;
 mod fault_lines;
 mod help;
 mod input;
+#[cfg(test)]
+mod loopback;
 mod prices;
 mod serve;
 mod serving;
@@ -90,7 +92,9 @@ fn texts_of(alloc: Global, words: &[String]) -> Result<Vec<&str>, AllocError>
 }
 
 /// Shows the line of a fault on standard error, and answers the status of a run that has one.
-fn fault_status(rt: &HostRuntime, fault: Fault) -> u8 {
+fn fault_status(rt: &HostRuntime, fault: Fault) -> u8
+    ensures { result ≡ 1 }
+{
     show_fault(fault, &mut ToWriter::new(rt.stderr()));
     1
 }

@@ -1,5 +1,6 @@
 pub mod Calls
 pub mod Decimal
 pub mod Streams
+pub mod Readings
 pub mod SourceState
 pub mod SinkState

@@ -14,5 +14,5 @@ pub use decimal::write_number;
 pub use held::{ListSink, ListSource};
 pub use items::{Items, Text};
 pub use no_memory::NoMemory;
-pub use stream::{Failed, Sink, Source, Stop, write_all};
+pub use stream::{Failed, Sink, Source, Stop, room_for_read, write_all};
 pub use wrapped::{FromReader, ToWriter};

@@ -1,9 +1,10 @@
-ghost use Rattle.std.specs.Prelude.{◌≡◌, ◌≤◌, ◌||◌, ℕ, Bool, List, Option, length, IfOk, is_err};
+ghost use Rattle.std.specs.Prelude.{◌≡◌, ◌≤◌, ◌||◌, ℕ, Bool, List, Option, length, vec_len, IfOk, is_err};
 ghost use Rattle.std.specs.Io.{ReadsAtMost};
 ghost use Rattle.std.specs.Io.KnownBytes.{ReadConsumes, WriteAppends};
 ghost use Rattle.clock_device.specs.Calls.{count_after, interruptions_after, is_failed_read};
 ghost use Rattle.clock_device.specs.Streams.{CountsTaken, WritesText};
 
+use std::alloc::{AllocError, Global};
 use thiserror::Error;
 
 /// Why a read gave no bytes. Nothing was taken from the source.
@@ -46,6 +47,13 @@ pub trait Source {
         ensures counted { calls self.new ≡ count_after (calls self.old) }
         ensures interrupted { interruptions self.new ≡ interruptions_after (interruptions self.old) result }
         ensures failed { has_failed self.new ≡ (has_failed self.old || is_failed_read result) };
+}
+
+/// Room for one read of so many bytes.
+pub fn room_for_read(alloc: Global, size: usize) -> Result<Vec<u8>, AllocError>
+    ensures { IfOk result (λ room. vec_len room ≡ size) }
+{
+    vec![in alloc; 0; size]
 }
 
 /// Where bytes go.

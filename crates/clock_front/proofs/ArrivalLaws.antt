@@ -6,7 +6,8 @@ use Rattle.clock_device.proofs.Streams.{read_nothing, read_twice, same_bytes}
 use Rattle.clock_front.specs.Framing.{framing, known, needs_more}
 use Rattle.clock_front.specs.Shown.{Knows, KnowsOfStart}
 use Rattle.clock_front.specs.declared.progress.Progress.{Progress}
-use Rattle.clock_front.specs.Arrivals.{Reading, IsReadByNeed, Arrives, HasArrived, HasNoRoom, EndsArrival, IsStepOf, is_read_fault}
+use Rattle.clock_device.specs.Readings.{Reading}
+use Rattle.clock_front.specs.Arrivals.{IsReadByNeed, Arrives, HasArrived, HasNoRoom, EndsArrival, IsStepOf, is_read_fault}
 use Rattle.clock_front.specs.declared.reading.Unread.{Unread}
 use Rattle.clock_front.specs.declared.reading.Unread.TheVariants as unread
 

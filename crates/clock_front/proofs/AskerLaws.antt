@@ -1,5 +1,6 @@
 -- Whose a token is: in a set-up each token stands once.
-use Rattle.std.proofs.Common.{◌≡◌, ℕ, zero, suc, ◌+◌, ◌<◌, ◌≤◌, Bool, true, false, cond, List, [], ◌∷◌, length, map, get_or, refl, sym, ◌∙◌, ap, arith, add-zero}
+use Rattle.std.proofs.Common.{◌≡◌, ℕ, zero, suc, ◌+◌, ◌<◌, ◌≤◌, Bool, true, false, cond, List, [], ◌∷◌, length, map, get_or, refl, sym, ◌∙◌, ap}
+use Rattle.std.proofs.Common.{arith, add-zero}
 use Rattle.std.specs.Prelude.{Option, Some, None}
 use Rattle.std.proofs.lemmas.List.{length-map, get_or-map}
 use Rattle.std.specs.Cmp.Lexicographic.{bytes_decides}
@@ -75,12 +76,14 @@ module _ (setup : SetupFields) (limits : IsSetup setup) where
       (token_at b (omega (arith, smaller, lt)) ∙ e ∙ sym (token_at d lt))
 
   -- the bidder whose token was sent is the asker
-  pub asker_own : (b : ℕ) → b < length setup.bidders → (token : Option (List ℕ)) → has_token (bidder_at setup b).token token ≡ true → asker setup token ≡ Bidder b
+  pub asker_own : (b : ℕ) → b < length setup.bidders → (token : Option (List ℕ)) → has_token (bidder_at setup b).token token ≡ true
+      → asker setup token ≡ Bidder b
   asker_own b lt None h = absurd cc
   asker_own b lt (Some token) h =
       let mine : (bidder_at setup b).token ≡ token = same (bidder_at setup b).token token h in
       let operator : same_bytes token setup.operator ≡ false = differ token setup.operator (λ e. operator_apart b lt (mine ∙ e)) in
-      let found : holder (bidder_tokens 0 setup.bidders) token ≡ Bidder (0 + b) = holder_here 0 b setup.bidders token lt mine (λ j h e. earlier_apart j b h lt (e ∙ sym mine)) in
+      let found : holder (bidder_tokens 0 setup.bidders) token ≡ Bidder (0 + b) =
+      holder_here 0 b setup.bidders token lt mine (λ j h e. earlier_apart j b h lt (e ∙ sym mine)) in
       ap (λ t. cond t Operator (holder (bidder_tokens 0 setup.bidders) token)) operator ∙ found ∙ ap Bidder (omega arith)
 
 -- and no one else is that bidder

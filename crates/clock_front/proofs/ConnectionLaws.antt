@@ -1,12 +1,14 @@
 -- A piece is taken, and the request answered.
-use Rattle.std.proofs.Common.{◌≡◌, ◌↔◌, Bool, true, false, List, ℕ, Option, Some, None, IsTrue, is_some, refl, sym, ◌∙◌, ap, true≢false}
+use Rattle.std.proofs.Common.{◌≡◌, ◌≢◌, ◌↔◌, Bool, true, false, List, [], ℕ, Option, Some, None, Result, Ok, Err, IfOk, OnErr, IsTrue, is_some}
+use Rattle.std.proofs.Common.{refl, sym, ◌∙◌, ap, subst, true≢false}
 use Rattle.clock_house.specs.House.{HouseFields}
 use Rattle.clock_front.specs.Replies.{Answer}
-use Rattle.clock_front.specs.Framing.{Framing, framing}
+use Rattle.clock_front.specs.Framing.{Framing, framing, known}
 use Rattle.clock_front.specs.Framing as framed
 use Rattle.clock_front.specs.declared.connections.Conn.{Conn}
 use Rattle.clock_front.specs.Pieces.{is_less, needs_more}
-use Rattle.clock_front.specs.Hubs.{ConnectionFields, HubFields, IsTaken, IsAnswered}
+use Rattle.clock_front.specs.declared.hub_fault.HubFault.{HubFault}
+use Rattle.clock_front.specs.Hubs.{ConnectionFields, HubFields, IsConnected, IsTaken, IsAnswered, AllNeedMore, KeepsOthers, text_of}
 
 -- what is some has a text
 pub some_text : (o : Option (List ℕ)) → is_some o ≡ true → (text : List ℕ) × (o ≡ Some text)
@@ -40,3 +42,58 @@ fed_and_answered house old taken new conn text reply first second = record {
   private = second.private;
   setup = second.setup;
 }
+
+-- ---- the text of each connection that stands needs more
+
+needs_framed : (is : Framing) → is_less is ≡ true → is ≡ framed.needs_more
+needs_framed framed.needs_more more = refl
+needs_framed (framed.refusal code) more = absurd (true≢false (sym more))
+needs_framed (framed.whole head body) more = absurd (true≢false (sym more))
+
+-- what needs more is no request yet, and not refused
+pub needs_by_test : (text : List ℕ) → needs_more text ≡ true → framing text ≡ framed.needs_more
+needs_by_test text more = needs_framed (framing text) more
+
+-- one connection has changed, and its text needs more where it still stands
+pub keeps_waiting : (old new : ConnectionFields) (conn : Conn) → AllNeedMore old → KeepsOthers old new conn
+    → ((text : List ℕ) → text_of new conn ≡ Some text → needs_more text ≡ true) → AllNeedMore new
+keeps_waiting old new conn before others here other text at = by (needs_more text) refl
+  where
+    by : (more : Bool) → needs_more text ≡ more → needs_more text ≡ true
+    by true is = is
+    by false is =
+        let differs : other ≢ conn = λ same. true≢false (sym (here text (subst (λ (c : Conn). text_of new c ≡ Some text) same at)) ∙ is) in
+        absurd (true≢false (sym (before other text (sym (others other differs) ∙ at)) ∙ is))
+
+abbrev text_in : Option (List ℕ) → List ℕ
+text_in None = []
+text_in (Some text) = text
+
+-- two texts of one connection are the same
+pub same_text : (o : Option (List ℕ)) (a b : List ℕ) → o ≡ Some a → o ≡ Some b → a ≡ b
+same_text o a b one other = ap text_in (sym one ∙ other)
+
+-- where the connection stands with this text, which needs more
+pub waits_with : (new : ConnectionFields) (conn : Conn) (here : List ℕ) → text_of new conn ≡ Some here → needs_more here ≡ true
+    → (text : List ℕ) → text_of new conn ≡ Some text → needs_more text ≡ true
+waits_with new conn here stands more text at = ap needs_more (same_text (text_of new conn) text here at stands) ∙ more
+
+-- where it does not stand
+pub waits_no_more : (new : ConnectionFields) (conn : Conn) → text_of new conn ≡ None
+    → (text : List ℕ) → text_of new conn ≡ Some text → needs_more text ≡ true
+waits_no_more new conn gone text at = absurd (true≢false (sym (ap is_some (sym gone ∙ at))))
+
+no_bytes_wait : needs_more [] ≡ true
+unfolding framing known
+no_bytes_wait = refl
+
+-- a connection was made, or nothing has changed
+pub connect_keeps : (r : Result Conn HubFault) (old new : ConnectionFields) → AllNeedMore old
+    → IfOk r (IsConnected old new) → OnErr r (new ≡ old) → AllNeedMore new
+connect_keeps (Ok conn) old new before made same =
+    keeps_waiting old new conn before made.others (waits_with new conn [] made.stands no_bytes_wait)
+connect_keeps (Err fault) old new before made same = subst AllNeedMore (sym same) before
+
+-- no connection stands
+pub none_wait : (next : ℕ) → AllNeedMore (record { slots = []; next = next })
+none_wait next conn text at = absurd (true≢false (sym (ap is_some at)))

@@ -22,7 +22,8 @@ use Rattle.clock_front.specs.EventRuns.{numbers_of, numbers_of_requests, texts_o
 
 -- a run over events on its way, after so many of them: the requests that are done are answered, and they and those of the
 -- other events are all
-pub record IsOnItsWay (setup : SetupFields) (events : List Event) (index : ℕ) (replies : List EventReply) (connections : ConnectionFields) (conns : List (Option Conn)) (house : HouseFields) : Type 0 where
+pub record IsOnItsWay (setup : SetupFields) (events : List Event) (index : ℕ) (replies : List EventReply)
+    (connections : ConnectionFields) (conns : List (Option Conn)) (house : HouseFields) : Type 0 where
   pub numbered : Numbered
   pub done : List (ℕ × List ℕ)
   pub stands : Stands numbered connections conns
@@ -58,7 +59,8 @@ next_numbers done replies (Some request) (Some one) house next is same =
     ∙ sym (map-append (λ (r : ℕ × List ℕ). r.0) done (request ∷ []))
 
 -- the replies are a run over the texts
-next_underway : (setup : SetupFields) (limits : IsSetup setup) (done : List (ℕ × List ℕ)) (replies : List EventReply) (o : Option (ℕ × List ℕ)) (told : Option EventReply) (house next : HouseFields)
+next_underway : (setup : SetupFields) (limits : IsSetup setup) (done : List (ℕ × List ℕ)) (replies : List EventReply)
+    (o : Option (ℕ × List ℕ)) (told : Option EventReply) (house next : HouseFields)
     → HasCompleted o house next told → IsUnderWay setup (texts_of done) (answers_of replies) house
     → IsUnderWay setup (texts_of (with_request done o)) (answers_of (kept replies told)) next
 next_underway setup limits done replies None None house next is before =
@@ -67,11 +69,14 @@ next_underway setup limits done replies None (Some one) house next is before = a
 next_underway setup limits done replies (Some request) None house next is before = absurd is
 next_underway setup limits done replies (Some request) (Some one) house next is before =
     let one_more = step setup limits (texts_of done) (answers_of replies) house next request.1 one.reply before is.2 is.1 in
-    subst (λ (texts : List (List ℕ)). IsUnderWay setup texts (answers_of (replies ++ one ∷ [])) next) (sym (map-append (λ (r : ℕ × List ℕ). r.1) done (request ∷ [])))
-    (subst (λ (answers : List Answer). IsUnderWay setup (texts_of done ++ request.1 ∷ []) answers next) (sym (map-append (λ (r : EventReply). r.reply) replies (one ∷ []))) one_more)
+    subst (λ (texts : List (List ℕ)). IsUnderWay setup texts (answers_of (replies ++ one ∷ [])) next)
+    (sym (map-append (λ (r : ℕ × List ℕ). r.1) done (request ∷ [])))
+    (subst (λ (answers : List Answer). IsUnderWay setup (texts_of done ++ request.1 ∷ []) answers next)
+    (sym (map-append (λ (r : EventReply). r.reply) replies (one ∷ []))) one_more)
 
 -- one more event
-pub goes_on : (setup : SetupFields) (limits : IsSetup setup) (events : List Event) (index : ℕ) (replies : List EventReply) (connections later : ConnectionFields) (conns more : List (Option Conn)) (house next : HouseFields)
+pub goes_on : (setup : SetupFields) (limits : IsSetup setup) (events : List Event) (index : ℕ) (replies : List EventReply)
+    (connections later : ConnectionFields) (conns more : List (Option Conn)) (house next : HouseFields)
     (event : Event) (told : Option EventReply) (before : IsOnItsWay setup events index replies connections conns house)
     → index < length events → event ≡ get_or events index event
     → Stands (after before.numbered event) later more → HasCompleted (completed before.numbered event) house next told
@@ -91,7 +96,8 @@ goes_on setup limits events index replies connections later conns more house nex
     split = drop_more events index event lt ∙ ap (λ (e : Event). e ∷ drop (index + 1) events) (sym at)
 
 -- before the first event
-pub begins : (setup : SetupFields) (events : List Event) (replies : List EventReply) (connections : ConnectionFields) (conns : List (Option Conn)) (house : HouseFields)
+pub begins : (setup : SetupFields) (events : List Event) (replies : List EventReply) (connections : ConnectionFields)
+    (conns : List (Option Conn)) (house : HouseFields)
     → replies ≡ [] → Stands [] connections conns → house.setup ≡ setup → StandsForTexts [] house → IsOnItsWay setup events 0 replies connections conns house
 begins setup events replies connections conns house none stands kept new = record {
   numbered = [];
@@ -100,11 +106,17 @@ begins setup events replies connections conns house none stands kept new = recor
   few = omega arith;
   rest = refl;
   numbers = ap numbers_of none;
-  underway = record { end = []; kept = kept; runs = subst (λ (answers : List Answer). Runs setup [] [] answers []) (sym (ap answers_of none)) refl; stands = new };
+  underway = record {
+    end = [];
+    kept = kept;
+    runs = subst (λ (answers : List Answer). Runs setup [] [] answers []) (sym (ap answers_of none)) refl;
+    stands = new;
+  };
 }
 
 -- after the last event
-pub ends : (setup : SetupFields) (events : List Event) (index : ℕ) (replies : List EventReply) (connections : ConnectionFields) (conns : List (Option Conn)) (house : HouseFields)
+pub ends : (setup : SetupFields) (events : List Event) (index : ℕ) (replies : List EventReply) (connections : ConnectionFields)
+    (conns : List (Option Conn)) (house : HouseFields)
     → IsOnItsWay setup events index replies connections conns house → length events ≤ index
     → ((commands : List Command) → IsSound setup (history setup commands)) → IsEventRun setup events replies
 ends setup events index replies connections conns house way past sound =

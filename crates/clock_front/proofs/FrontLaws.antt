@@ -1,5 +1,6 @@
 -- What a front stands for, and which texts are refused by constant bytes.
-use Rattle.std.proofs.Common.{◌≡◌, ℕ, ◌+◌, Bool, true, false, cond, ◌&&◌, List, ◌∷◌, length, map, take, Option, Some, None, Ok, Err, Result, refl, sym, ◌∙◌, ap, subst, inl, inr}
+use Rattle.std.proofs.Common.{◌≡◌, ℕ, ◌+◌, Bool, true, false, cond, ◌&&◌, List, ◌∷◌, length, map, take, Option, Some, None, Ok, Err, Result, refl}
+use Rattle.std.proofs.Common.{sym, ◌∙◌, ap, subst, inl, inr}
 use Rattle.std.specs.Prelude.{nat_lt, codes, option_and_then}
 use Rattle.std.specs.List.{list_all}
 use Rattle.std.specs.Char.{is_ascii_digit}
@@ -12,11 +13,13 @@ use Rattle.clock_house.specs.History.{history, sheet_in_force, for_each_bidder}
 use Rattle.clock_house.specs.House.{HouseFields, StandsFor, IsFollowedBy, StandsStill}
 use Rattle.clock_bids.specs.declared.sheet.Bid.{Bid}
 use Rattle.clock_views.specs.declared.code.Code.{Code}
-use Rattle.clock_views.specs.declared.code.Code.TheVariants.{LongHead, BadHead, Coding, BadLength, LongBody}
+use Rattle.clock_views.specs.declared.code.Code.TheVariants.{LongHead, BadHead, Coding, BadLength, LongBody, CutShort}
 use Rattle.clock_front.specs.Scans.{head_length, line_ends, is_loose}
 use Rattle.clock_front.specs.Heads.{head_of}
 use Rattle.clock_front.specs.HeaderLines.{Values, none, one, many, Pairs, pairs_of, values_of, length_from, within_limit, unless_coded, body_length, body_limit}
-use Rattle.clock_front.specs.Framing.{head_limit, or_bad_head, ended_head, Head, kept, and_length, length_read, head_with_length, Known, unended, waiting, complete, refused, known_with_body, known_with_head, known_with_end, known, Framing, needs_more, refusal, whole, framed, framing, ok_head, ended_at, head_in}
+use Rattle.clock_front.specs.Framing.{head_limit, or_bad_head, ended_head, Head, kept, and_length, length_read, head_with_length, Known, unended}
+use Rattle.clock_front.specs.Framing.{waiting, complete, refused, known_with_body, known_with_head, known_with_end, known, Framing, needs_more}
+use Rattle.clock_front.specs.Framing.{refusal, whole, framed, framing, ok_head, ended_at, head_in}
 use Rattle.std.specs.Prelude.{IfOk, OnOk}
 use Rattle.clock_views.specs.Refusals.{alone}
 use Rattle.clock_views.proofs.Codes.{refusal_in_bytes}
@@ -25,7 +28,7 @@ use Rattle.clock_front.specs.Requests.{Ask, Request, ask_of, ask_by_route, reque
 use Rattle.clock_front.specs.Routes.{page_of}
 use Rattle.clock_front.specs.declared.tokens.Asker.{Asker}
 use Rattle.clock_front.specs.Outcomes.{Outcome, outcome, answer_of, refused as told_refused}
-use Rattle.clock_front.specs.Fronts.{house_after, text_command, commands_of, StandsForTexts}
+use Rattle.clock_front.specs.Fronts.{house_after, text_command, commands_of, StandsForTexts, cut_short}
 use Rattle.clock_front.proofs.Prefixes.{cond_cases}
 
 -- ---- what is refused at its head has a constant reply
@@ -50,7 +53,8 @@ limit_constant (Ok n) code h e =
       | inr i ↦ absurd (let bad = i.1 in cc)
     ]
 
-coded_constant : (v : Values) (r : Result ℕ Code) (code : Code) → (r ≡ Err code → is_constant code ≡ true) → unless_coded v r ≡ Err code → is_constant code ≡ true
+coded_constant : (v : Values) (r : Result ℕ Code) (code : Code) → (r ≡ Err code → is_constant code ≡ true)
+    → unless_coded v r ≡ Err code → is_constant code ≡ true
 coded_constant none r code h e = h e
 coded_constant (one value) r code h e = same_code Coding code (cc) (refl {a = true})
 coded_constant many r code h e = same_code Coding code (cc) (refl {a = true})
@@ -75,7 +79,8 @@ ended_constant bytes code e =
       ]
     ]
 
-measured_constant : (head : RequestHead) (r : Result ℕ Code) (code : Code) → (r ≡ Err code → is_constant code ≡ true) → and_length head r ≡ Err code → is_constant code ≡ true
+measured_constant : (head : RequestHead) (r : Result ℕ Code) (code : Code) → (r ≡ Err code → is_constant code ≡ true)
+    → and_length head r ≡ Err code → is_constant code ≡ true
 measured_constant head (Err c) code h e = (let is : c ≡ code = cc in h (ap Err is))
 measured_constant head (Ok n) code h e = absurd cc
 
@@ -83,7 +88,8 @@ read_constant : (r : Result RequestHead Code) (code : Code) → (r ≡ Err code 
 read_constant (Err c) code h e = (let is : c ≡ code = cc in h (ap Err is))
 read_constant (Ok head) code h e = measured_constant head (body_length (pairs_of head)) code (body_constant (pairs_of head) code) e
 
-head_constant : (count n : ℕ) (r : Result (Head × ℕ) Code) (code : Code) → (r ≡ Err code → is_constant code ≡ true) → known_with_head count n r ≡ refused code → is_constant code ≡ true
+head_constant : (count n : ℕ) (r : Result (Head × ℕ) Code) (code : Code) → (r ≡ Err code → is_constant code ≡ true)
+    → known_with_head count n r ≡ refused code → is_constant code ≡ true
 head_constant count n (Err c) code h e = (let is : c ≡ code = cc in h (ap Err is))
 head_constant count n (Ok read) code h e =
     elim (cond_cases (nat_lt count (n + read.1)) (waiting read.0 n read.1) (complete read.0 n read.1) _ e) [
@@ -130,7 +136,8 @@ read_head_of : (r : Result RequestHead Code) (head : Head) (n : ℕ) → length_
 read_head_of (Err c) head n e = absurd cc
 read_head_of (Ok h) head n e = ap Some (measured_head h (body_length (pairs_of h)) head n e)
 
-complete_read : (count n : ℕ) (r : Result (Head × ℕ) Code) (head : Head) (m body : ℕ) → known_with_head count n r ≡ complete head m body → (k : ℕ) × (r ≡ Ok (head, k))
+complete_read : (count n : ℕ) (r : Result (Head × ℕ) Code) (head : Head) (m body : ℕ) → known_with_head count n r ≡ complete head m body
+    → (k : ℕ) × (r ≡ Ok (head, k))
 complete_read count n (Err c) head m body e = absurd cc
 complete_read count n (Ok read) head m body e =
     elim (cond_cases (nat_lt count (n + read.1)) (waiting read.0 n read.1) (complete read.0 n read.1) _ e) [
@@ -174,7 +181,8 @@ outcome_after house commands asker ask stands =
     ∙ ap (shown_by house.setup asker ask (history house.setup commands).closed) stands.sheets
 
 -- a text that a house has done stands before the others
-pub text_followed : (text : List ℕ) (texts : List (List ℕ)) (old new : HouseFields) → IsFollowedBy (text_command old.setup text) old new → StandsForTexts texts old
+pub text_followed : (text : List ℕ) (texts : List (List ℕ)) (old new : HouseFields) → IsFollowedBy (text_command old.setup text) old new
+    → StandsForTexts texts old
     → StandsForTexts (text ∷ texts) new
 text_followed text texts old new followed stands =
     subst (λ setup. StandsFor (commands_of setup (text ∷ texts)) new) (sym followed.setup) (followed.stands (commands_of old.setup texts) stands)
@@ -223,3 +231,9 @@ pub constant_answer : (code : Code) → ◌≡◌ {A = Answer} (record { code = 
 constant_answer code =
     let told : List ℕ → Answer = λ page. record { code = code; bytes = reply_bytes code None page } in
     ap told (sym (refusal_in_bytes (alone code)))
+
+-- the reply to a text that needed more when its input ended
+pub answered_cut_short : (house : HouseFields) (who : Asker) (text : List ℕ) → framing text ≡ needs_more
+    → answer_of (outcome house who (request_of text).ask) ≡ cut_short
+answered_cut_short house who text is =
+    ap (λ ask. answer_of (outcome house who ask)) (sym (ask_by text needs_more (sym is))) ∙ sym (constant_answer CutShort)

@@ -1,5 +1,6 @@
 -- The head that the bytes are taken apart into is their one head of the grammar.
-use Rattle.std.proofs.Common.{◌≡◌, ◌≢◌, ℕ, ◌+◌, ◌-◌, ◌<◌, ◌≤◌, suc, zero, Bool, true, false, cond, not, ◌&&◌, List, [], ◌∷◌, ◌++◌, length, take, drop, map, Some, None, refl, sym, ◌∙◌, ap, subst, arith, append_assoc, length-append, eqb, eq-eqb}
+use Rattle.std.proofs.Common.{◌≡◌, ◌≢◌, ℕ, ◌+◌, ◌-◌, ◌<◌, ◌≤◌, suc, zero, Bool, true, false, cond, not, ◌&&◌, List, [], ◌∷◌, ◌++◌, length, take, drop}
+use Rattle.std.proofs.Common.{map, Some, None, refl, sym, ◌∙◌, ap, subst, arith, append_assoc, length-append, eqb, eq-eqb}
 use Rattle.std.specs.Prelude.{◌==◌, ◌||◌, nat_lt, nat_le, slice_index}
 use Rattle.std.specs.List.{list_all, before_first, after_first, position_or_len, prefix_len, flat_map, AllByRecursion}
 use Rattle.std.specs.Str.{is_utf8}
@@ -12,7 +13,8 @@ use Rattle.std.proofs.Math.Seq.{take-append_seam, drop-append-add}
 use Rattle.std.proofs.lemmas.Bool.Decides.{nat_tests}
 use Rattle.std.proofs.lemmas.List.Elements.{recursion_from_All, All-from_recursion}
 use Rattle.httparse.specs.Ascii.{colon}
-use Rattle.httparse.specs.Grammar.{LineEnd, crlf, lf, print_end, print_blank, print_version, Field, print_field, IsField, print_section, RequestHead, print_request, IsRequestHead, ReadsRequest, is_token_byte, is_uri_byte, is_value_byte, is_token, IsToken}
+use Rattle.httparse.specs.Grammar.{LineEnd, crlf, lf, print_end, print_blank, print_version, Field, print_field, IsField, print_section, RequestHead}
+use Rattle.httparse.specs.Grammar.{print_request, IsRequestHead, ReadsRequest, is_token_byte, is_uri_byte, is_value_byte, is_token, IsToken}
 use Rattle.httparse.proofs.GrammarLemmas.{print_request-append, cons-append}
 use Rattle.clock_front.specs.Heads.{same_bytes, onto_first, lines_of, word, after_word, field_of, head_from, is_field, is_head, head_of}
 use Rattle.clock_front.specs.Scans.{line_ends, has_bare_line_feed, is_loose}
@@ -50,7 +52,8 @@ lines_front (x ∷ xs) rest a b =
     let more = lines_front xs rest (second_so _ _ a) (second_so _ _ b) in
     let cr : (x == 13) ≡ false = not_of _ (first_so _ _ a) in
     let nl : (x == 10) ≡ false = not_of _ (first_so _ _ b) in
-    ap (λ t. cond t (lines_of (xs ++ 13 ∷ (10 ∷ rest))) (cond (x == 10) ([] ∷ lines_of (xs ++ 13 ∷ (10 ∷ rest))) (onto_first x (lines_of (xs ++ 13 ∷ (10 ∷ rest)))))) cr
+    ap (λ t. cond t (lines_of (xs ++ 13 ∷ (10 ∷ rest))) (cond (x == 10) ([] ∷ lines_of (xs ++ 13 ∷ (10 ∷ rest)))
+    (onto_first x (lines_of (xs ++ 13 ∷ (10 ∷ rest)))))) cr
     ∙ ap (λ t. cond t ([] ∷ lines_of (xs ++ 13 ∷ (10 ∷ rest))) (onto_first x (lines_of (xs ++ 13 ∷ (10 ∷ rest))))) nl
     ∙ ap (onto_first x) more
 
@@ -177,7 +180,8 @@ version_lacks c (suc (suc n)) le a b = absurd (omega arith)
 minor_again : (n : ℕ) → slice_index (print_version n) 7 - 48 ≡ n
 minor_again n = omega arith
 
-line_of_lacks : (c : ℕ) (m t : List ℕ) (n : ℕ) → (32 == c) ≡ false → lacks c m → lacks c t → lacks c (print_version n) → lacks c (m ++ 32 ∷ (t ++ 32 ∷ print_version n))
+line_of_lacks : (c : ℕ) (m t : List ℕ) (n : ℕ) → (32 == c) ≡ false → lacks c m → lacks c t → lacks c (print_version n)
+    → lacks c (m ++ 32 ∷ (t ++ 32 ∷ print_version n))
 line_of_lacks c m t n sp a b v =
     let after : lacks c (32 ∷ print_version n) = ap (λ u. not u && list_all (λ b. not (b == c)) (print_version n)) sp ∙ v in
     let rest : lacks c (t ++ 32 ∷ print_version n) = lacks-append c t (32 ∷ print_version n) b after in
@@ -198,7 +202,8 @@ head_built m t n fs a b fields =
     let minor : slice_index (after_word (after_word line)) 7 - 48 ≡ n = ap (λ v. slice_index v 7 - 48) version ∙ minor_again n in
     let counted : length lines - 1 ≡ length (map print_line fs) = omega (arith, length-append (map print_line fs) ([] ∷ [])) in
     let taken : take (length lines - 1) lines ≡ map print_line fs = ap (λ k. take k lines) counted ∙ take-append_seam (map print_line fs) ([] ∷ []) in
-    ap (λ x. made x (word (after_word line)) (slice_index (after_word (after_word line)) 7 - 48) (map field_of (take (length lines - 1) lines))) (before_at 32 m (t ++ 32 ∷ print_version n) a)
+    ap (λ x. made x (word (after_word line)) (slice_index (after_word (after_word line)) 7 - 48) (map field_of (take (length lines - 1) lines)))
+    (before_at 32 m (t ++ 32 ∷ print_version n) a)
     ∙ ap (λ x. made m x (slice_index (after_word (after_word line)) 7 - 48) (map field_of (take (length lines - 1) lines))) target
     ∙ ap (λ x. made m t x (map field_of (take (length lines - 1) lines))) minor
     ∙ ap (λ x. made m t n (map field_of x)) taken
@@ -208,7 +213,8 @@ both : (s t : Bool) → s ≡ true → t ≡ true → (s && t) ≡ true
 both s t a b = cc
 
 token_test : (bytes : List ℕ) → IsToken bytes → is_token bytes ≡ true
-token_test bytes t = both (nat_lt 0 (length bytes)) (list_all is_token_byte bytes) (let lt : 0 < length bytes = t.0 in grind (arith, nat_tests)) (list_all-from_AllPass is_token_byte bytes t.1)
+token_test bytes t = both (nat_lt 0 (length bytes)) (list_all is_token_byte bytes) (let lt : 0 < length bytes = t.0 in grind (arith, nat_tests))
+    (list_all-from_AllPass is_token_byte bytes t.1)
 
 token_fact : (bytes : List ℕ) → is_token bytes ≡ true → IsToken bytes
 token_fact bytes t =
@@ -225,8 +231,11 @@ fields_test (f ∷ fs) all =
 fields_fact : (fs : List Field) → list_all is_field fs ≡ true → AllByRecursion IsField fs
 fields_fact [] t = tt
 fields_fact (f ∷ fs) t =
-    let here : is_field f ≡ true = first_so _ _ t in
-    (record { name = token_fact f.name (first_so _ _ here); raw = AllPass-from_list_all is_value_byte f.raw (second_so _ _ here) }, fields_fact fs (second_so _ _ t))
+    let here : is_field f ≡ true = first_so _ _ t in (
+      record { name = token_fact f.name (first_so _ _ here); raw = AllPass-from_list_all is_value_byte f.raw (second_so _ _ here) },
+      fields_fact fs
+          (second_so _ _ t),
+    )
 
 head_test : (h : RequestHead) → IsRequestHead h → is_head h ≡ true
 head_test h is =
@@ -296,8 +305,10 @@ found bytes m t n e last fs is text bare =
     let same : head_from (lines_of bytes) ≡ made m t n fs =
     ap head_from lines ∙ head_built m t n fs (token_lacks 32 refl m is.method) (avoids is_uri_byte 32 refl t uri) rest.fields_are in
     let strict : print_request (made m t n fs) ≡ bytes =
-    sym (append_none (print_request (made m t n fs))) ∙ print_request-append (made m t n fs) [] ∙ regroup m t (print_version n) (print_end crlf) (print_section fs crlf)
-    ∙ ap (λ x. line ++ (print_end x ++ print_section fs crlf)) (sym first.end) ∙ ap (λ x. line ++ (print_end e ++ print_section fs x)) (sym rest.last_is) ∙ sym text in
+    sym (append_none (print_request (made m t n fs))) ∙ print_request-append (made m t n fs) []
+    ∙ regroup m t (print_version n) (print_end crlf) (print_section fs crlf)
+    ∙ ap (λ x. line ++ (print_end x ++ print_section fs crlf)) (sym first.end) ∙ ap (λ x. line ++ (print_end e ++ print_section fs x)) (sym rest.last_is)
+    ∙ sym text in
     let test : (is_head (made m t n fs) && same_bytes (print_request (made m t n fs)) bytes) ≡ true =
     both _ _ (head_test (made m t n fs) is) ((bytes_decides (print_request (made m t n fs)) bytes).1 strict) in (
       first.end,
@@ -325,12 +336,14 @@ found_of_reads bytes h tight reads =
     regroup m t v e s = simp (append_none, append_assoc, cons-append)
 
     by_blank : (bytes : List ℕ) (h : RequestHead) (blank : List LineEnd) → h.blank ≡ blank → IsRequestHead h
-        → bytes ≡ print_blank h.blank ++ (h.method ++ 32 ∷ (h.target ++ 32 ∷ (print_version h.minor ++ (print_end h.line_end ++ (print_section h.fields h.last ++ [])))))
+        → bytes ≡ print_blank h.blank ++ (h.method ++ 32 ∷ (h.target ++ 32 ∷
+        (print_version h.minor ++ (print_end h.line_end ++ (print_section h.fields h.last ++ [])))))
         → (slice_index bytes 0 == 13) ≡ false → has_bare_line_feed 0 bytes ≡ false → Found bytes h
     by_blank bytes h [] none is text front bare =
         let strict : IsRequestHead (made h.method h.target h.minor h.fields) =
         record { method = is.method; target = is.target; target_text = is.target_text; minor = is.minor; fields = is.fields } in
-        let grouped = text ∙ ap (λ b. print_blank b ++ after h) none ∙ regroup h.method h.target (print_version h.minor) (print_end h.line_end) (print_section h.fields h.last) in
+        let grouped = text ∙ ap (λ b. print_blank b ++ after h) none
+        ∙ regroup h.method h.target (print_version h.minor) (print_end h.line_end) (print_section h.fields h.last) in
         let got = found bytes h.method h.target h.minor h.line_end h.last h.fields strict grouped bare in
         let with : List LineEnd → LineEnd → LineEnd → RequestHead =
         λ b e l. record { blank = b; method = h.method; target = h.target; minor = h.minor; line_end = e; fields = h.fields; last = l } in

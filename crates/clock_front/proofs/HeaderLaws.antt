@@ -1,5 +1,6 @@
 -- One step of each loop over headers and digits.
-use Rattle.std.proofs.Common.{◌≡◌, ℕ, ◌+◌, ◌-◌, ◌*◌, ◌<◌, ◌≤◌, ◌⊎◌, suc, zero, Bool, true, false, cond, ◌&&◌, List, [], ◌∷◌, length, get_or, map, min, take, drop, Some, Result, Ok, Err, refl, sym, ◌∙◌, ap, arith, eqb, add-one, inl, inr}
+use Rattle.std.proofs.Common.{◌≡◌, ℕ, ◌+◌, ◌-◌, ◌*◌, ◌<◌, ◌≤◌, ◌⊎◌, suc, zero, Bool, true, false, cond, ◌&&◌, List, [], ◌∷◌, length, get_or, map, min}
+use Rattle.std.proofs.Common.{take, drop, Some, Result, Ok, Err, refl, sym, ◌∙◌, ap, arith, eqb, add-one, inl, inr}
 use Rattle.std.specs.Prelude.{◌↔◌, IsTrue, nat_lt}
 use Rattle.std.specs.List.{list_all}
 use Rattle.std.specs.Char.{to_ascii_lowercase, is_ascii_digit, digit_value}
@@ -60,7 +61,8 @@ pub values_next : (text : List ℕ) (headers : List HeaderSpan) (i : ℕ) (d : H
     ≡ values_after found name (map (header_bytes text) (drop i headers))
 values_next text headers i d name bytes found r t lt is test e =
     sym (values_step text headers i d name found t lt
-    (ap (λ b. same_bytes (map to_ascii_lowercase b) (map to_ascii_lowercase name)) (sym is) ∙ named (map to_ascii_lowercase bytes) (map to_ascii_lowercase name) r test ∙ e))
+    (ap (λ b. same_bytes (map to_ascii_lowercase b) (map to_ascii_lowercase name)) (sym is)
+    ∙ named (map to_ascii_lowercase bytes) (map to_ascii_lowercase name) r test ∙ e))
 
 pub all_at : (p : ℕ → Bool) (xs : List ℕ) (i : ℕ) → list_all p xs ≡ true → i < length xs → p (get_or xs i 0) ≡ true
 all_at p [] i all lt = absurd (omega arith)
@@ -99,7 +101,8 @@ pub keeps_short : (r : Result ℕ Code) (n : ℕ) → r ≡ Ok n → nat_lt 1048
 keeps_short r n is short = ap within_limit is ∙ ap (λ t. cond t (Err LongBody) (Ok n)) short
 
 -- a span that begins later covers the later bytes
-span_later : (text : List ℕ) (a e s : ℕ) → s ≤ e - a → span_bytes text (record { start = a + s; end = e }) ≡ drop s (span_bytes text (record { start = a; end = e }))
+span_later : (text : List ℕ) (a e s : ℕ) → s ≤ e - a → span_bytes text (record { start = a + s; end = e }) ≡ drop s
+    (span_bytes text (record { start = a; end = e }))
 span_later text a e s le =
     ap (λ n. take n (drop (a + s) text)) (let k : e - (a + s) ≡ (e - a) - s = omega arith in k)
     ∙ ap (take ((e - a) - s)) (sym (drop-drop s a text))

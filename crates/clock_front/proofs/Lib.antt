@@ -6,6 +6,7 @@ mod TextLaws
 pub mod ProgressLaws
 mod RouteLaws
 mod TieLaws
+mod BodyScanLaws
 mod ReplyLaws
 mod TokenLaws
 mod OutcomeLaws

@@ -141,8 +141,10 @@ refused_stands numbered connections conns stands full few =
     none : opened numbered ≡ None
     none =
         elim (cases_Bool (nat_le most_connections (standing_count connections))) [
-          | inl many_stand ↦ (let c = stands.count in let no_room : nat_lt (count_by is_some numbered) most_connections ≡ false = grind (arith, nat_tests) in ap opened_if no_room)
-          | inr room ↦ absurd (let bad : nat_le 18446744073709551615 connections.next ≡ true = sym (ap (λ (b : Bool). b || nat_le 18446744073709551615 connections.next) room) ∙ full in
+          | inl many_stand ↦ (let c = stands.count in let no_room : nat_lt (count_by is_some numbered) most_connections ≡ false =
+              grind (arith, nat_tests) in ap opened_if no_room)
+          | inr room ↦ absurd (let bad : nat_le 18446744073709551615 connections.next ≡ true =
+              sym (ap (λ (b : Bool). b || nat_le 18446744073709551615 connections.next) room) ∙ full in
               let le : 18446744073709551615 ≤ connections.next = grind (arith, nat_tests) in let n = stands.few in let e = stands.all in omega arith)
         ]
 
@@ -170,7 +172,8 @@ connected_stands numbered old new conns conn stands is =
     some =
         elim (cases_Bool (nat_le most_connections (standing_count old))) [
           | inl many_stand ↦ absurd (let bad : true ≡ false = sym (ap (λ (b : Bool). b || nat_le 18446744073709551615 old.next) many_stand) ∙ is.room in cc)
-          | inr room ↦ (let c = stands.count in let less : nat_lt (count_by is_some numbered) most_connections ≡ true = grind (arith, nat_tests) in ap opened_if less)
+          | inr room ↦ (let c = stands.count in let less : nat_lt (count_by is_some numbered) most_connections ≡ true =
+              grind (arith, nat_tests) in ap opened_if less)
         ]
 
 -- ---- what a connection has changes
@@ -277,7 +280,8 @@ more_stands numbered old new conns number conn piece (Some text) stands at stood
     (taken_stands numbered old.connections new.connections conns number conn text (text ++ piece) stands at is told.1)
 
 -- after a piece the request was answered
-pub answered_stands : (numbered : Numbered) (old new : HubFields) (conns : List (Option Conn)) (number : ℕ) (conn : Conn) (piece : List ℕ) (reply : Answer) (o : Option (List ℕ))
+pub answered_stands : (numbered : Numbered) (old new : HubFields) (conns : List (Option Conn)) (number : ℕ) (conn : Conn)
+    (piece : List ℕ) (reply : Answer) (o : Option (List ℕ))
     → Stands numbered old.connections conns → conn_at conns number ≡ Some conn → IsSome (text_of old.connections conn) → text_at numbered number ≡ o
     → ((text : List ℕ) → text_of old.connections conn ≡ Some text → IsFed old new conn (text ++ piece) (Reply reply))
     → Stands (set numbered number (option_and_then (λ text. if_standing (text ++ piece)) o)) new.connections conns

@@ -47,10 +47,12 @@ pub private_reply : (house : HouseFields) (text : List ℕ) (answer : Answer) �
 private_reply house text answer limits is =
     λ texts bidder stands lt own.
     (right house.setup limits texts text answer
-    (is ∙ ap answer_of (outcome_after house (commands_of house.setup texts) (asker house.setup (request_of text).token) (request_of text).ask stands))).private bidder lt own
+    (is ∙ ap answer_of (outcome_after house (commands_of house.setup texts) (asker house.setup (request_of text).token) (request_of text).ask stands))).private
+    bidder lt own
 
 pub if_private : {N : Type 0} (told : Result Answer N) (house : HouseFields) (text : List ℕ) → IsSetup house.setup
-    → IfOk told (λ reply. reply ≡ answer_of (outcome house (asker house.setup (request_of text).token) (request_of text).ask)) → IfOk told (IsPrivateReply text house)
+    → IfOk told (λ reply. reply ≡ answer_of (outcome house (asker house.setup (request_of text).token) (request_of text).ask))
+    → IfOk told (IsPrivateReply text house)
 if_private (Ok reply) house text limits is = private_reply house text reply limits is
 if_private (Err e) house text limits is = tt
 
@@ -68,7 +70,8 @@ pub accepted_by_view : (house : HouseFields) (bidder : ℕ) (sent : PutBody) (bi
 unfolding bidder_outcome
 accepted_by_view house bidder sent bids answer same seen is =
     λ commands stands.
-    let judged : List Bid → Option PutFault = seen_put_fault (public_setup house.setup) (bidder_at house.setup bidder) (view_of house.setup bidder commands) sent.round in
+    let judged : List Bid → Option PutFault = seen_put_fault (public_setup house.setup) (bidder_at house.setup bidder)
+    (view_of house.setup bidder commands) sent.round in
     is ∙ ap (λ fault. answer_of (put_outcome sent fault)) (sym (seen commands stands) ∙ ap judged same)
 
 refused_answer : (house : HouseFields) (bidder : ℕ) (sent : PutBody) (bids : List Bid) (fault : PutFault) (answer : Answer) → bids ≡ sent.bids
@@ -77,11 +80,13 @@ refused_answer : (house : HouseFields) (bidder : ℕ) (sent : PutBody) (bids : L
 unfolding bidder_outcome
 refused_answer house bidder sent bids fault answer same seen is =
     λ commands stands.
-    let judged : List Bid → Option PutFault = seen_put_fault (public_setup house.setup) (bidder_at house.setup bidder) (view_of house.setup bidder commands) sent.round in
+    let judged : List Bid → Option PutFault = seen_put_fault (public_setup house.setup) (bidder_at house.setup bidder)
+    (view_of house.setup bidder commands) sent.round in
     is ∙ ap (λ first. answer_of (put_outcome sent first)) (sym (seen commands stands) ∙ ap judged same)
 
 -- the answer to a sheet that is not put in force
-pub refused_by_view : {N : Type 0} (told : Result Answer N) (house : HouseFields) (bidder : ℕ) (sent : PutBody) (bids : List Bid) (fault : PutFault) → bids ≡ sent.bids
+pub refused_by_view : {N : Type 0} (told : Result Answer N) (house : HouseFields) (bidder : ℕ) (sent : PutBody) (bids : List Bid) (fault : PutFault)
+    → bids ≡ sent.bids
     → ToView house bidder (λ view. IsFirstFault NoMemory (seen_put_fault (public_setup house.setup) (bidder_at house.setup bidder) view sent.round bids) fault)
     → IfOk told (λ reply. reply ≡ answer_of (refused (shown_put fault))) → OnOk told (fault ≢ NoMemory) → IfOk told (IsToldByView house bidder (put (Ok sent)))
 refused_by_view (Ok reply) house bidder sent bids fault same seen is known =

@@ -1,5 +1,6 @@
 -- What the code's values show of a text and of what follows it.
-use Rattle.std.proofs.Common.{◌≡◌, ℕ, ◌+◌, ◌-◌, ◌≤◌, ◌<◌, Bool, true, false, cond, List, [], ◌∷◌, ◌++◌, length, take, drop, min, Option, Some, None, Ok, Err, Result, refl, sym, ◌∙◌, ap, subst, arith, inl, inr, length-append, length-drop}
+use Rattle.std.proofs.Common.{◌≡◌, ℕ, ◌+◌, ◌-◌, ◌≤◌, ◌<◌, Bool, true, false, cond, List, [], ◌∷◌, ◌++◌, length, take, drop, min, Option, Some, None}
+use Rattle.std.proofs.Common.{Ok, Err, Result, refl, sym, ◌∙◌, ap, subst, arith, inl, inr, length-append, length-drop}
 use Rattle.std.specs.Prelude.{option_map, nat_lt}
 use Rattle.std.proofs.lemmas.Bool.Decides.{nat_tests}
 use Rattle.std.proofs.lemmas.List.{take-append-le, drop-append-le, length-take, take-append-drop, take_all, take_min}
@@ -11,7 +12,8 @@ use Rattle.clock_views.specs.declared.code.Code.TheVariants.{LongHead}
 use Rattle.clock_front.specs.declared.head.EndedHead.{EndedHead}
 use Rattle.clock_front.specs.declared.progress.Progress.{Progress}
 use Rattle.clock_front.specs.Scans.{head_length}
-use Rattle.clock_front.specs.Framing.{head_limit, Head, head_with_length, Known, unended, waiting, complete, refused, known_with_body, known_with_head, known_with_end, known, advanced, whole, framed, framing}
+use Rattle.clock_front.specs.Framing.{head_limit, Head, head_with_length, Known, unended, waiting, complete, refused, known_with_body}
+use Rattle.clock_front.specs.Framing.{known_with_head, known_with_end, known, advanced, whole, framed, framing}
 use Rattle.clock_front.specs.Shown.{shown_ended, shown_read, shown_progress, IsHeadWithin, IsRequestWithin, IsProgressWithin, IsSomeWithin, Knows, KnowsOfStart}
 use Rattle.clock_front.proofs.Prefixes.{cond_cases, head_length_within, known_by_parts, complete_fits}
 use Rattle.clock_front.proofs.ScanLaws.{skipped}
@@ -94,7 +96,8 @@ pub known_refused : (text : List ℕ) (limit n : ℕ) (fault : Code) → limit �
 known_refused text limit n fault is e read = ap (known_with_head (length text) n) read ∙ known_at text limit (Some n) is e
 
 pub known_headed : (text : List ℕ) (limit n : ℕ) (head : EndedHead) → limit ≡ min (length text) head_limit → Some n ≡ head_length (take limit text)
-    → Ok (shown_ended (take n text) head, head.body) ≡ head_with_length (take n text) → IsHeadWithin (length (take n text)) head → head.length ≡ length (take n text)
+    → Ok (shown_ended (take n text) head, head.body) ≡ head_with_length (take n text) → IsHeadWithin (length (take n text)) head
+    → head.length ≡ length (take n text)
     → known_with_body (length text) (shown_ended text head) head.length head.body ≡ known text
 known_headed text limit n head is e read in_head size =
     let le = ends_within text limit n e in
@@ -142,19 +145,22 @@ brought_on text count k is =
     subst (λ (t : List ℕ). known t ≡ advanced k t) (take-append-drop count text)
     (known_by_parts (take count text) (drop count text) ∙ ap (λ k. advanced k (take count text ++ drop count text)) (sym is))
 
-pub shown_in : (text : List ℕ) (count : ℕ) (head : EndedHead) → IsHeadWithin (length (take count text)) head → shown_ended (take count text) head ≡ shown_ended text head
+pub shown_in : (text : List ℕ) (count : ℕ) (head : EndedHead) → IsHeadWithin (length (take count text)) head
+    → shown_ended (take count text) head ≡ shown_ended text head
 shown_in text count head is =
     sym (ended-append (take count text) (drop count text) head is) ∙ ap (λ t. shown_ended t head) (take-append-drop count text)
 
 pub head_longer : (n m : ℕ) (head : EndedHead) → n ≤ m → IsHeadWithin n head → IsHeadWithin m head
 head_longer n m head le is = record { method = is.method; path = is.path; token = is.token; fits = omega arith }
 
-pub known_waiting : (text : List ℕ) (count : ℕ) (head : EndedHead) → waiting (shown_ended (take count text) head) head.length head.body ≡ known (take count text)
+pub known_waiting : (text : List ℕ) (count : ℕ) (head : EndedHead)
+    → waiting (shown_ended (take count text) head) head.length head.body ≡ known (take count text)
     → IsHeadWithin (length (take count text)) head → known_with_body (length text) (shown_ended text head) head.length head.body ≡ known text
 known_waiting text count head is in_front =
     ap (λ h. known_with_body (length text) h head.length head.body) (sym (shown_in text count head in_front)) ∙ sym (brought_on text count _ is)
 
-pub known_complete : (text : List ℕ) (count : ℕ) (head : EndedHead) → complete (shown_ended (take count text) head) head.length head.body ≡ known (take count text)
+pub known_complete : (text : List ℕ) (count : ℕ) (head : EndedHead)
+    → complete (shown_ended (take count text) head) head.length head.body ≡ known (take count text)
     → IsHeadWithin (length (take count text)) head → complete (shown_ended text head) head.length head.body ≡ known text
 known_complete text count head is in_front =
     ap (λ h. complete h head.length head.body) (sym (shown_in text count head in_front)) ∙ sym (brought_on text count _ is)

@@ -19,7 +19,8 @@ put_more piece text old start i lt within so_far =
     drop-set-add start text i (get_or piece i 0)
     ∙ ap (λ rest. set rest i (get_or piece i 0)) (so_far ∙ ap (λ rest. take i piece ++ rest) (drop_more (drop start old) i 0 within))
     ∙ set_at (take i piece) (get_or (drop start old) i 0) (drop (i + 1) (drop start old)) (get_or piece i 0) i (length-take-le i piece (omega arith))
-    ∙ sym (ap (λ front. front ++ drop (i + 1) (drop start old)) (take_more piece i 0 lt) ∙ append_assoc (take i piece) (get_or piece i 0 ∷ []) (drop (i + 1) (drop start old)))
+    ∙ sym (ap (λ front. front ++ drop (i + 1) (drop start old)) (take_more piece i 0 lt)
+    ∙ append_assoc (take i piece) (get_or piece i 0 ∷ []) (drop (i + 1) (drop start old)))
 
 -- a reply whose page was added to a text with room for a head
 pub written_page : (told : Answer) (code : Code) (allowed : Option Page) (text new : List ℕ) (value : Data)

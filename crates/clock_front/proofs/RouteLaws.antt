@@ -1,5 +1,6 @@
 -- What inserts make, and what a look-up finds.
-use Rattle.std.proofs.Common.{◌≡◌, ◌≢◌, ℕ, ◌+◌, ◌-◌, ◌*◌, ◌^◌, ◌<◌, ◌≤◌, Bool, true, false, cond, not, ◌&&◌, List, ◌∷◌, length, get_or, take, drop, Option, Some, None, Result, Ok, Err, refl, sym, ◌∙◌, ap, arith, add-one}
+use Rattle.std.proofs.Common.{◌≡◌, ◌≢◌, ℕ, ◌+◌, ◌-◌, ◌*◌, ◌^◌, ◌<◌, ◌≤◌, Bool, true, false, cond, not, ◌&&◌, List, ◌∷◌, length, get_or, take, drop}
+use Rattle.std.proofs.Common.{Option, Some, None, Result, Ok, Err, refl, sym, ◌∙◌, ap, arith, add-one}
 use Rattle.std.specs.Prelude.{option_map, ◌==◌, nat_lt}
 use Rattle.std.specs.List.{suffix_len, list_all}
 use Rattle.std.specs.Char.{digit_value, is_ascii_digit}
@@ -23,7 +24,8 @@ pub added : (r : Result Scan InsertError) (page : Page) (old new : Table) (done 
 added (Ok s) page old new done h = h.1
 added (Err e) page old new done h = h.0
 
-pub page_found : (path : List ℕ) (routes : Table) (o : Option (RouteOf Page)) → IsUtf8 path → routes ≡ table → first routes path ≡ o → option_map (λ r. r.value) o ≡ page_of path
+pub page_found : (path : List ℕ) (routes : Table) (o : Option (RouteOf Page)) → IsUtf8 path → routes ≡ table
+    → first routes path ≡ o → option_map (λ r. r.value) o ≡ page_of path
 unfolding page_of
 page_found path routes o text is found =
     ap (option_map (λ r. r.value)) (sym found ∙ ap (λ t. first t path) is)
@@ -37,7 +39,8 @@ no_page path not_text = by (is_utf8 path) refl
     by true e = absurd (not_text (IsUtf8-from_is_utf8 path e))
     by false e = sym (ap (λ t. cond t (option_map (λ r. r.value) (first table path)) None) e)
 
-pub page_seen : (path text : List ℕ) (routes : Table) (o : Option (RouteOf Page)) → text ≡ path → IsUtf8 path → routes ≡ table → first routes text ≡ o → option_map (λ r. r.value) o ≡ page_of path
+pub page_seen : (path text : List ℕ) (routes : Table) (o : Option (RouteOf Page)) → text ≡ path → IsUtf8 path → routes ≡ table
+    → first routes text ≡ o → option_map (λ r. r.value) o ≡ page_of path
 page_seen path text routes o same is_text is found = page_found path routes o is_text is (ap (first routes) (sym same) ∙ found)
 
 -- a text behind which no slash stands, and before which one does or nothing
@@ -63,7 +66,8 @@ pub not_named : (text : List ℕ) → is_plain_number text ≡ false → None �
 not_named text plain = sym (ap (λ t. cond (t && nat_lt (digits_value 10 text) (2 ^ 64)) (Some (digits_value 10 text)) None) plain)
 
 -- a digit more makes the number too long, and so it stays
-pub too_long_named : (text : List ℕ) (i number : ℕ) → is_plain_number text ≡ true → i < length text → digits_value_after 10 number (drop i text) ≡ digits_value 10 text
+pub too_long_named : (text : List ℕ) (i number : ℕ) → is_plain_number text ≡ true → i < length text
+    → digits_value_after 10 number (drop i text) ≡ digits_value 10 text
     → 2 ^ 64 ≤ number * 10 + (get_or text i 0 - 48) → None ≡ round_named text
 too_long_named text i number plain lt so_far long =
     let all : list_all is_ascii_digit text ≡ true = second_so _ _ (first_so _ _ plain) in
@@ -75,5 +79,6 @@ too_long_named text i number plain lt so_far long =
     sym (ap (λ t. cond (t && nat_lt (digits_value 10 text) (2 ^ 64)) (Some (digits_value 10 text)) None) plain
     ∙ ap (λ t. cond t (Some (digits_value 10 text)) None) no)
 
-pub all_digits_read : (text : List ℕ) (i number : ℕ) → length text ≤ i → digits_value_after 10 number (drop i text) ≡ digits_value 10 text → number ≡ digits_value 10 text
+pub all_digits_read : (text : List ℕ) (i number : ℕ) → length text ≤ i → digits_value_after 10 number (drop i text) ≡ digits_value 10 text
+    → number ≡ digits_value 10 text
 all_digits_read text i number le so_far = ap (digits_value_after 10 number) (sym (drop_all i text le)) ∙ so_far

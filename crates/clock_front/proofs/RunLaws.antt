@@ -8,12 +8,14 @@ use Rattle.clock_front.specs.Runs.{IsRight, Runs}
 use Rattle.clock_front.proofs.TextViews.{answered_from_view, isolated}
 
 -- a right reply is private
-pub right : (setup : SetupFields) (limits : IsSetup setup) (past : List (List ℕ)) (text : List ℕ) (one : Answer) → one ≡ reply setup past text → IsRight setup past text one
+pub right : (setup : SetupFields) (limits : IsSetup setup) (past : List (List ℕ)) (text : List ℕ) (one : Answer)
+    → one ≡ reply setup past text → IsRight setup past text one
 right setup limits past text one is = record {
   is = is;
   private = λ bidder lt own. record {
     from_view = is ∙ answered_from_view setup bidder past text limits lt own;
-    elsewhere = λ other number other_past other_limits other_lt alike. is ∙ isolated setup other bidder number past other_past text limits other_limits lt other_lt alike own;
+    elsewhere = λ other number other_past other_limits other_lt alike. is
+        ∙ isolated setup other bidder number past other_past text limits other_limits lt other_lt alike own;
   };
 }
 
@@ -49,7 +51,8 @@ pub record IsUnderWay (setup : SetupFields) (texts : List (List ℕ)) (answers :
   pub stands : StandsForTexts end front
 
 -- one more text is answered
-pub step : (setup : SetupFields) (limits : IsSetup setup) (texts : List (List ℕ)) (answers : List Answer) (front next : HouseFields) (text : List ℕ) (one : Answer) →
+pub step : (setup : SetupFields) (limits : IsSetup setup) (texts : List (List ℕ)) (answers : List Answer) (front next : HouseFields)
+    (text : List ℕ) (one : Answer) →
     IsUnderWay setup texts answers front → next.setup ≡ front.setup → AnswersText text one front next →
     IsUnderWay setup (texts ++ text ∷ []) (answers ++ one ∷ []) next
 step setup limits texts answers front next text one before same answered =
@@ -57,7 +60,8 @@ step setup limits texts answers front next text one before same answered =
       | inl told ↦ record {
         end = text ∷ before.end;
         kept = same ∙ before.kept;
-        runs = goes_on setup [] texts answers before.end text one before.runs (right setup limits before.end text one (told.0 ∙ ap (λ of_setup. reply of_setup before.end text) before.kept));
+        runs = goes_on setup [] texts answers before.end text one before.runs
+            (right setup limits before.end text one (told.0 ∙ ap (λ of_setup. reply of_setup before.end text) before.kept));
         stands = told.1;
       }
       | inr none ↦ record {

@@ -1,5 +1,6 @@
 -- One step of each scan.
-use Rattle.std.proofs.Common.{◌≡◌, ℕ, ◌+◌, ◌-◌, ◌<◌, ◌≤◌, suc, zero, Bool, true, false, cond, not, ◌&&◌, List, [], ◌∷◌, ◌++◌, length, get_or, take, drop, length-drop, Option, Some, None, refl, sym, ◌∙◌, ap, arith, eqb, add-one}
+use Rattle.std.proofs.Common.{◌≡◌, ℕ, ◌+◌, ◌-◌, ◌<◌, ◌≤◌, suc, zero, Bool, true, false, cond, not, ◌&&◌, List, [], ◌∷◌, ◌++◌, length, get_or, take}
+use Rattle.std.proofs.Common.{drop, length-drop, Option, Some, None, refl, sym, ◌∙◌, ap, arith, eqb, add-one}
 use Rattle.std.specs.Prelude.{option_map, nat_eq, ◌||◌}
 use Rattle.std.specs.List.{starts_with}
 use Rattle.std.proofs.Math.Seq.{drop-cons}

@@ -5,7 +5,8 @@ use Rattle.clock_house.specs.House.{HouseFields}
 use Rattle.clock_views.specs.declared.code.Code.{Code}
 use Rattle.clock_front.specs.Fronts.{AnswersText, StandsForTexts}
 use Rattle.clock_front.specs.Replies.{Answer}
-use Rattle.clock_front.specs.Arrivals.{Reading, HasArrived}
+use Rattle.clock_device.specs.Readings.{Reading}
+use Rattle.clock_front.specs.Arrivals.{HasArrived}
 use Rattle.clock_front.specs.Streamed.{Writing, HasServed, IsAnswerTo, IsServed}
 use Rattle.clock_front.specs.declared.stream_fault.StreamFault.TheVariants as fault
 

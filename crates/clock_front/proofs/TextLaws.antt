@@ -1,5 +1,6 @@
 -- The steps of reading a text.
-use Rattle.std.proofs.Common.{◌≡◌, ℕ, ◌-◌, ◌<◌, ◌≤◌, Bool, true, false, cond, List, [], ◌++◌, length, map, min, take, drop, Option, Some, None, Result, Ok, Err, refl, sym, ◌∙◌, ap, arith}
+use Rattle.std.proofs.Common.{◌≡◌, ℕ, ◌-◌, ◌<◌, ◌≤◌, Bool, true, false, cond, List, [], ◌++◌, length, map, min, take, drop, Option, Some, None}
+use Rattle.std.proofs.Common.{Result, Ok, Err, refl, sym, ◌∙◌, ap, arith}
 use Rattle.std.specs.Prelude.{nat_lt, codes}
 use Rattle.std.specs.List.{position, position_or_len}
 use Rattle.std.proofs.lemmas.List.{take_all, take_min, length-take}
@@ -46,7 +47,8 @@ pub not_parsed : (bytes : List ℕ) (headers : List HeaderSpan) (result : Result
     → FindsRequest bytes 64 headers result → (IsCompleteAnd result (λ r. r.len ≡ length bytes) → ⊥) → head_of bytes ≡ None
 not_parsed bytes headers result few tight finds missing = by (head_of bytes) refl
   where
-    weaker : (q : Result (Status RequestSpans) Error) (h : RequestHead) → bytes ≡ print_request h ++ [] → IsCompleteAnd q (λ r. IsRequestAt bytes headers r h) → IsCompleteAnd q (λ r. r.len ≡ length bytes)
+    weaker : (q : Result (Status RequestSpans) Error) (h : RequestHead) → bytes ≡ print_request h ++ []
+        → IsCompleteAnd q (λ r. IsRequestAt bytes headers r h) → IsCompleteAnd q (λ r. r.len ≡ length bytes)
     weaker (Ok (Complete r)) h text at = at.len ∙ ap length (sym (append_none (print_request h)) ∙ sym text)
     weaker (Ok Partial) h text at = at
     weaker (Err e) h text at = at
@@ -76,7 +78,9 @@ read_is bytes headers r h method target path token n few tight head at m t p k l
     ∙ ap (λ u. cond u (Err BadHead) (or_bad_head (head_of bytes))) tight ∙ ap or_bad_head head in
     let pairs : map (header_bytes bytes) (take r.headers headers) ≡ pairs_of h = at.fields in
     let sized : body_length (pairs_of h) ≡ Ok n = ap body_length (sym pairs) ∙ sym l in
-    let tokened : token ≡ token_from (values_of (codes "authorization") (pairs_of h)) = k ∙ ap (λ ps. token_from (values_of (codes "authorization") ps)) pairs in
+    let tokened : token ≡ token_from (values_of (codes "authorization") (pairs_of h)) = k
+    ∙ ap (λ ps. token_from (values_of (codes "authorization") ps)) pairs in
     let routed : path ≡ path_of_target h.target = p ∙ ap path_of_target (t ∙ at.path) in
-    ap (λ x. parted x path token n) (m ∙ at.method) ∙ ap (λ x. parted h.method x token n) routed ∙ ap (λ x. parted h.method (path_of_target h.target) x n) tokened
+    ap (λ x. parted x path token n) (m ∙ at.method) ∙ ap (λ x. parted h.method x token n) routed
+    ∙ ap (λ x. parted h.method (path_of_target h.target) x n) tokened
     ∙ sym (ap length_read ended ∙ ap (and_length h) sized)

@@ -1,5 +1,6 @@
 -- What a bidder knows in the whole run is what its view of the texts tells it.
-use Rattle.std.proofs.Common.{◌≡◌, ◌≢◌, ℕ, ◌<◌, Bool, true, false, cond, List, [], ◌∷◌, ◌++◌, length, map, get_or, refl, sym, ◌∙◌, ap, arith, eqb, eq-eqb, append-nil, append_assoc, zero-add}
+use Rattle.std.proofs.Common.{◌≡◌, ◌≢◌, ℕ, ◌<◌, Bool, true, false, cond, List, [], ◌∷◌, ◌++◌, length, map, get_or, refl, sym, ◌∙◌, ap, arith, eqb}
+use Rattle.std.proofs.Common.{eq-eqb, append-nil, append_assoc, zero-add}
 use Rattle.std.specs.Prelude.{Option, Some, None, option_map, option_and_then, slice_index_or, Result, Ok, Err}
 use Rattle.std.specs.List.{range_with_len}
 use Rattle.std.proofs.lemmas.Bool.Decides.{nat_tests}
@@ -32,7 +33,8 @@ use Rattle.clock_front.specs.Requests.{Ask, request_of}
 use Rattle.clock_front.specs.Requests as ask
 use Rattle.clock_front.specs.Outcomes.{Outcome, done, answer_of, page_or_no_round, in_version, close_command, outcome, command_of}
 use Rattle.clock_front.specs.Fronts.{text_command, commands_of, house_after, reply}
-use Rattle.clock_front.specs.Views.{SeenText, own, accepted_close, is_own, closings_of, seen_of_text, text_view, sheet_put, typed_view, Known, known_from, bidder_outcome, answer}
+use Rattle.clock_front.specs.Views.{SeenText, own, accepted_close, is_own, closings_of, seen_of_text, text_view, sheet_put, typed_view, Known}
+use Rattle.clock_front.specs.Views.{known_from, bidder_outcome, answer}
 use Rattle.clock_front.specs.Isolation.{IsAnsweredFromView, SeesTheSame, IsIsolated}
 use Rattle.clock_front.proofs.AskerLaws.{asker_own, asker_other}
 
@@ -89,15 +91,18 @@ other_seen setup b auction who.Operator (ask.close sent) not_b = closing_seen_of
 other_seen setup b auction _ _ not_b = refl
 
 -- the sheets and closings in a view of texts are what is seen of their commands
-text_seen : (setup : SetupFields) (b : ℕ) (limits : IsSetup setup) → b < length setup.bidders → (past : List (List ℕ)) (text : List ℕ) (mine : Bool) → is_own (bidder_at setup b) text ≡ mine →
+text_seen : (setup : SetupFields) (b : ℕ) (limits : IsSetup setup) → b < length setup.bidders
+    → (past : List (List ℕ)) (text : List ℕ) (mine : Bool) → is_own (bidder_at setup b) text ≡ mine →
     typed_view (cond mine (own text ∷ []) (closings_of (seen_of setup b (history setup (commands_of setup past)) (text_command setup text))))
     ≡ seen_of setup b (history setup (commands_of setup past)) (text_command setup text)
 text_seen setup b limits lt past text true is =
     append-nil (sheet_put (request_of text).ask)
     ∙ sym (own_seen setup b (history setup (commands_of setup past)) (request_of text).ask)
-    ∙ ap (λ author. seen_of setup b (history setup (commands_of setup past)) (command_of setup author (request_of text).ask)) (sym (asker_own setup limits b lt (request_of text).token is))
+    ∙ ap (λ author. seen_of setup b (history setup (commands_of setup past)) (command_of setup author (request_of text).ask))
+    (sym (asker_own setup limits b lt (request_of text).token is))
 text_seen setup b limits lt past text false is =
-    other_seen setup b (history setup (commands_of setup past)) (asker setup (request_of text).token) (request_of text).ask (asker_other setup b (request_of text).token is)
+    other_seen setup b (history setup (commands_of setup past)) (asker setup (request_of text).token) (request_of text).ask
+    (asker_other setup b (request_of text).token is)
 
 pub typed_view-text_view : (setup : SetupFields) (b : ℕ) (limits : IsSetup setup) → b < length setup.bidders → (past : List (List ℕ)) →
     typed_view (text_view setup b past) ≡ view_of setup b (commands_of setup past)
@@ -111,7 +116,8 @@ typed_view-text_view setup b limits lt (text ∷ past) =
 abbrev Rounds : Type 0
 Rounds = ℕ → Option (RoundSheet × Slip)
 
-module _ (setup : PublicSetup) (row : Bidder) (standing_now : Standing) (held : Holding) (in_force : Option (List Bid)) (one two : Rounds) (alike : (n : ℕ) → one n ≡ two n) where
+module _ (setup : PublicSetup) (row : Bidder) (standing_now : Standing) (held : Holding) (in_force : Option (List Bid))
+    (one two : Rounds) (alike : (n : ℕ) → one n ≡ two n) where
   same_slip : (named : Option ℕ) →
       page_or_no_round (option_map (λ (one_seen : RoundSheet × Slip). slip_value one_seen.1) (option_and_then one named))
       ≡ page_or_no_round (option_map (λ (one_seen : RoundSheet × Slip). slip_value one_seen.1) (option_and_then two named))
@@ -153,12 +159,14 @@ module _ (setup : SetupFields) (b : ℕ) (lt : b < length setup.bidders) (comman
   }
 
   slip_told : (found : Option ClosedRound) →
-      option_map (λ closed. slip_value (slip_of b closed)) found ≡ option_map (λ (one_seen : RoundSheet × Slip). slip_value one_seen.1) (option_map (shown_to b) found)
+      option_map (λ closed. slip_value (slip_of b closed)) found ≡ option_map (λ (one_seen : RoundSheet × Slip). slip_value one_seen.1)
+      (option_map (shown_to b) found)
   slip_told None = refl
   slip_told (Some closed) = refl
 
   sheet_told : (found : Option ClosedRound) →
-      option_map (λ closed. sheet_value (public_setup setup) closed.sheet) found ≡ option_map (λ (one_seen : RoundSheet × Slip). sheet_value (public_setup setup) one_seen.0) (option_map (shown_to b) found)
+      option_map (λ closed. sheet_value (public_setup setup) closed.sheet) found ≡ option_map
+      (λ (one_seen : RoundSheet × Slip). sheet_value (public_setup setup) one_seen.0) (option_map (shown_to b) found)
   sheet_told None = refl
   sheet_told (Some closed) = refl
 
@@ -177,7 +185,8 @@ module _ (setup : SetupFields) (b : ℕ) (lt : b < length setup.bidders) (comman
   own_sheet : slice_index_or (for_each_bidder setup (sheet_in_force setup (history setup commands))) b None ≡ sheet_in_force setup (history setup commands) b
   own_sheet = get_or-map-range_with_len (sheet_in_force setup (history setup commands)) 0 (length setup.bidders) b b None lt (zero-add b)
 
-  pub told_of_known : (asked : Ask) → outcome (house_after setup commands) (who.Bidder b) asked ≡ bidder_outcome (public_setup setup) (bidder_at setup b) known_in asked
+  pub told_of_known : (asked : Ask) → outcome (house_after setup commands) (who.Bidder b) asked ≡ bidder_outcome
+      (public_setup setup) (bidder_at setup b) known_in asked
   unfolding bidder_outcome
   told_of_known (ask.slip segment) = ap page_or_no_round (named_slip (round_named segment))
   told_of_known (ask.sheet segment) = ap page_or_no_round (named_sheet (round_named segment))
@@ -202,18 +211,33 @@ module _ (setup : SetupFields) (b : ℕ) (lt : b < length setup.bidders) (comman
       let row = bidder_at setup b in
       let view = view_of setup b commands in
       told_of_known asked
-      ∙ ap (λ s. bidder_outcome public row (record { standing = s; holding = known_in.holding; in_force = known_in.in_force; rounds = known_in.rounds }) asked) is.standing
-      ∙ ap (λ h. bidder_outcome public row (record { standing = seen_standing public view; holding = h; in_force = known_in.in_force; rounds = known_in.rounds }) asked) is.holding
-      ∙ ap (λ f. bidder_outcome public row (record { standing = seen_standing public view; holding = seen_holding public row view; in_force = f; rounds = known_in.rounds }) asked) is.in_force
-      ∙ same_rounds public row (seen_standing public view) (seen_holding public row view) (seen_in_force public row view) known_in.rounds (λ n. seen_round n view) is.rounds asked
+      ∙ ap (λ s. bidder_outcome public row (record { standing = s; holding = known_in.holding; in_force = known_in.in_force; rounds = known_in.rounds }) asked)
+      is.standing
+      ∙ ap (λ h. bidder_outcome public row (record {
+        standing = seen_standing public view;
+        holding = h;
+        in_force =
+            known_in.in_force;
+        rounds = known_in.rounds;
+      }) asked) is.holding
+      ∙ ap (λ f. bidder_outcome public row (record {
+        standing = seen_standing public view;
+        holding = seen_holding public row view;
+        in_force = f;
+        rounds = known_in.rounds;
+      }) asked) is.in_force
+      ∙ same_rounds public row (seen_standing public view) (seen_holding public row view) (seen_in_force public row view) known_in.rounds
+      (λ n. seen_round n view) is.rounds asked
 
 -- ---- the headline
 
 pub answered_from_view : IsAnsweredFromView
 answered_from_view setup b past text limits lt is =
-    ap (λ author. answer_of (outcome (house_after setup (commands_of setup past)) author (request_of text).ask)) (asker_own setup limits b lt (request_of text).token is)
+    ap (λ author. answer_of (outcome (house_after setup (commands_of setup past)) author (request_of text).ask))
+    (asker_own setup limits b lt (request_of text).token is)
     ∙ ap answer_of (told_of_view setup b lt (commands_of setup past) (request_of text).ask)
-    ∙ ap (λ view. answer_of (bidder_outcome (public_setup setup) (bidder_at setup b) (known_from (public_setup setup) (bidder_at setup b) view) (request_of text).ask)) (sym (typed_view-text_view setup b limits lt past))
+    ∙ ap (λ view. answer_of (bidder_outcome (public_setup setup) (bidder_at setup b) (known_from (public_setup setup) (bidder_at setup b) view)
+    (request_of text).ask)) (sym (typed_view-text_view setup b limits lt past))
 
 pub isolated : IsIsolated
 isolated one two b d past other_past text limits other_limits lb ld alike is =

@@ -1,5 +1,6 @@
 -- Tables of tokens.
-use Rattle.std.proofs.Common.{◌≡◌, ℕ, ◌+◌, ◌<◌, ◌≤◌, suc, Bool, true, false, cond, List, [], ◌∷◌, length, get_or, drop, map, Vec, Option, Some, None, refl, sym, ◌∙◌, ap, arith, add-one}
+use Rattle.std.proofs.Common.{◌≡◌, ℕ, ◌+◌, ◌<◌, ◌≤◌, suc, Bool, true, false, cond, List, [], ◌∷◌, length, get_or, drop, map, Vec, Option, Some, None}
+use Rattle.std.proofs.Common.{refl, sym, ◌∙◌, ap, arith, add-one}
 use Rattle.std.specs.Prelude.{nat_eq, unwrap_or}
 use Rattle.std.specs.declared.alloc.Global.{Global}
 use Rattle.std.specs.Cmp.Lexicographic.{pointwise, bytes_decides}
@@ -41,7 +42,8 @@ found-insert (entry ∷ entries) key asker other = by (same_key key entry.0) ref
     twice false true e = absurd cc
     twice false false e = refl
 
-    by : (t : Bool) → same_key key entry.0 ≡ t → found (insert_entry same_key entries key asker) other ≡ cond (same_bytes other key.items) asker (found entries other)
+    by : (t : Bool) → same_key key entry.0 ≡ t → found (insert_entry same_key entries key asker) other ≡ cond
+        (same_bytes other key.items) asker (found entries other)
         → found (insert_entry same_key (entry ∷ entries) key asker) other ≡ cond (same_bytes other key.items) asker (found (entry ∷ entries) other)
     by true e rest =
         ap (λ t. found (cond t ((entry.0, asker) ∷ entries) (entry ∷ insert_entry same_key entries key asker)) other) e
@@ -50,7 +52,8 @@ found-insert (entry ∷ entries) key asker other = by (same_key key entry.0) ref
         ap (λ t. found (cond t ((entry.0, asker) ∷ entries) (entry ∷ insert_entry same_key entries key asker)) other) e
         ∙ ap (λ found_later. cond (same_bytes other entry.0.items) entry.1 found_later) rest
         ∙ sym (later (same_bytes other key.items) (same_bytes other entry.0.items) asker entry.1 (found entries other)
-        (λ a b. (let same : pointwise nat_eq key.items entry.0.items ≡ true = (bytes_decides key.items entry.0.items).1 (sym ((bytes_decides other key.items).0 a) ∙ (bytes_decides other entry.0.items).0 b) in
+        (λ a b. (let same : pointwise nat_eq key.items entry.0.items ≡ true =
+        (bytes_decides key.items entry.0.items).1 (sym ((bytes_decides other key.items).0 a) ∙ (bytes_decides other entry.0.items).0 b) in
         let bad : true ≡ false = sym same ∙ e in cc)))
 
 -- a look-up by a query
@@ -86,7 +89,8 @@ bidder_known : (i : ℕ) (bidders : List BidderRow) (token : List ℕ) → IsKno
 bidder_known i [] token = tt
 bidder_known i (bidder ∷ bidders) token =
     picked (i + length (bidder ∷ bidders)) (same_bytes token bidder.token) (Bidder i) (holder (bidder_tokens (suc i) bidders) token)
-    (omega arith) (fewer (suc i + length bidders) (i + length (bidder ∷ bidders)) (holder (bidder_tokens (suc i) bidders) token) (omega arith) (bidder_known (suc i) bidders token))
+    (omega arith) (fewer (suc i + length bidders) (i + length (bidder ∷ bidders)) (holder (bidder_tokens (suc i) bidders) token)
+    (omega arith) (bidder_known (suc i) bidders token))
 
 pub asker_known : (setup : SetupFields) (token : Option (List ℕ)) → IsKnown (length setup.bidders) (asker setup token)
 asker_known setup None = tt

@@ -1,5 +1,4 @@
 -- How the bytes of a request come out of a source. Own limit: 2,000,000 reads.
---     Reading      what is seen of a source over a call
 --     IsReadByNeed reading front last      bytes that still needed more were read, and then these by the last read
 --     HasArrived reading text      the text was read: it is decided, or the input ended behind it
 --     HasFailedRead, RunsOutOfReads      the two ways in which a request is not read
@@ -8,6 +7,7 @@
 --     IsStepOf left left_after old new result      what one read comes to
 use Rattle.std.specs.Prelude.{◌≡◌, ◌≤◌, ◌⊎◌, ◌+◌, ◌++◌, ℕ, List, [], length, Option, Bool, true, false, Result, Ok, Err}
 use Rattle.clock_device.specs.Streams.{HasRead, IsReadOut}
+use Rattle.clock_device.specs.Readings.{Reading}
 use Rattle.clock_front.specs.Framing.{framing, needs_more, IsDecided}
 use Rattle.clock_front.specs.declared.reading.Unread.{Unread}
 use Rattle.clock_front.specs.declared.reading.Unread.TheVariants as unread
@@ -15,15 +15,6 @@ use Rattle.clock_front.specs.declared.reading.Unread.TheVariants as unread
 -- how many reads are made at most
 abbrev pub most_reads : ℕ
 most_reads = 2000000
-
--- what is seen of a source over a call: the bytes left before and after it, where the source tells them, how many reads were
--- made, how many of them were interrupted, and whether one failed
-pub record Reading : Type 0 where
-  pub before : Option (List ℕ)
-  pub after : Option (List ℕ)
-  pub calls : ℕ
-  pub interruptions : ℕ
-  pub has_failed : Bool
 
 -- every read was needed: the bytes that came before the last read still needed more, and each read but the last took one of
 -- them at least or was interrupted
@@ -89,11 +80,6 @@ abbrev pub IsStepOf : Option (List ℕ) → Option (List ℕ) → List ℕ → L
 IsStepOf left left_after old new (Ok done) = (last : List ℕ) × BringsLast left left_after old new last × IsLastIf done left_after new last
 IsStepOf left left_after old new (Err unread.Read) = HasRead left left_after []
 IsStepOf left left_after old new (Err unread.Memory) = (last : List ℕ) × HasRead left left_after last
-
--- a count that grew by one at most
-pub record GrowsByOneAtMost (old new : ℕ) : Type 0 where
-  pub least : old ≤ new
-  pub most : new ≤ old + 1
 
 -- the read failed
 abbrev pub is_read_fault : {A : Type 0} → Result A Unread → Bool

@@ -3,6 +3,7 @@
 --     house_after setup commands      the auction that commands have made, as a house shows it
 --     reply setup texts text      the answer to a text after others
 --     StandsForTexts texts house      the house stands for the commands of the texts
+--     IsCutShort reply      the reply to a text that needed more, or that of want of memory
 --     IsStruckOut text reply      the reply of want of memory, to a text that needs some
 --     AnswersText text reply old new      a text is answered by what is right, or there was no memory and it did nothing
 use Rattle.std.specs.Prelude.{◌≡◌, ◌⊎◌, ℕ, List, ◌∷◌, map}
@@ -11,7 +12,7 @@ use Rattle.clock_house.specs.Command.{Command}
 use Rattle.clock_house.specs.History.{history, sheet_in_force, for_each_bidder}
 use Rattle.clock_house.specs.House.{HouseFields, StandsFor}
 use Rattle.clock_views.specs.declared.code.Code.{Code}
-use Rattle.clock_views.specs.declared.code.Code.TheVariants.{Memory}
+use Rattle.clock_views.specs.declared.code.Code.TheVariants.{CutShort, Memory}
 use Rattle.clock_front.specs.Framing.{framing, refusal}
 use Rattle.clock_front.specs.Replies.{Answer, refusal_bytes}
 use Rattle.clock_front.specs.Requests.{request_of}
@@ -46,6 +47,14 @@ StandsForTexts texts house = StandsFor (commands_of house.setup texts) house
 -- the reply where there was no memory
 abbrev pub no_memory : Answer
 no_memory = record { code = Memory; bytes = refusal_bytes Memory }
+
+-- the reply to a text that still needed more when its input ended
+abbrev pub cut_short : Answer
+cut_short = record { code = CutShort; bytes = refusal_bytes CutShort }
+
+-- that reply, or there was no memory for it
+abbrev pub IsCutShort : Answer → Type 0
+IsCutShort answer = (answer ≡ cut_short) ⊎ (answer ≡ no_memory)
 
 -- the reply of want of memory, to a text that needs some: one that is refused at its head or at its length needs none
 pub record IsStruckOut (text : List ℕ) (answer : Answer) : Type 0 where

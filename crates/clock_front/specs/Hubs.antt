@@ -2,6 +2,7 @@
 --     text_of connections conn      the bytes that have come over a connection that stands
 --     is_full connections      there is no room for one more
 --     IsConnected old new conn      a connection was made
+--     AllNeedMore connections      no request of a connection that stands is complete
 --     IsFed old new conn text fed      what a piece has led to with which the text is this one
 --     IsAnswered old new conn text reply      the request of a connection was answered, and the connection is gone
 --     IsConnectFault, IsFeedFault, IsFinishFault      when each refusal comes
@@ -53,6 +54,10 @@ standing_count connections = count_by is_some connections.slots
 -- as many stand as can, or the serial numbers have come to their end
 abbrev pub is_full : ConnectionFields → Bool
 is_full connections = nat_le most_connections (standing_count connections) || nat_le 18446744073709551615 connections.next
+
+-- the text of each connection that stands needs more
+abbrev pub AllNeedMore : ConnectionFields → Type 0
+AllNeedMore connections = (conn : Conn) (text : List ℕ) → text_of connections conn ≡ Some text → needs_more text ≡ true
 
 -- every other connection stands as it did
 abbrev pub KeepsOthers : ConnectionFields → ConnectionFields → Conn → Type 0

@@ -9,6 +9,7 @@ pub mod Bodies
 pub mod Replies
 pub mod ShownReply
 pub mod CloseBodies
+pub mod QuickBodies
 pub mod Askers
 pub mod HeldTokens
 pub mod TokenTable

@@ -6,7 +6,8 @@
 --     methods page      the methods of a page, in the order in which they are told
 --     role page      whose token a page asks for
 -- (Own routes. A path is compared byte by byte: no escape is undone, and no slash is added or dropped.)
-use Rattle.std.specs.Prelude.{ℕ, ◌^◌, ◌&&◌, ◌||◌, not, Bool, List, [], ◌∷◌, ◌++◌, length, slice_index, if◌then◌else◌, nat_lt, nat_le, ◌==◌, Option, Some, None, option_map, Result, Ok, Err, codes}
+use Rattle.std.specs.Prelude.{ℕ, ◌^◌, ◌&&◌, ◌||◌, not, Bool, List, [], ◌∷◌, ◌++◌, length, slice_index, if◌then◌else◌, nat_lt, nat_le, ◌==◌, Option}
+use Rattle.std.specs.Prelude.{Some, None, option_map, Result, Ok, Err, codes}
 use Rattle.std.specs.List.{after_last, list_all, list_any}
 use Rattle.std.specs.Char.{is_ascii_digit}
 use Rattle.std.specs.Str.Parse.{digits_value}

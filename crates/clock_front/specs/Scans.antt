@@ -3,7 +3,8 @@
 --     head_length text      how many bytes there are up to and with the first empty line
 --     line_ends bytes      how many lines end
 --     is_loose bytes      the bytes begin with a line end, or an LF stands without a CR before it
-use Rattle.std.specs.Prelude.{ℕ, ◌+◌, ◌&&◌, ◌||◌, not, Bool, false, List, [], ◌∷◌, suc, slice_index, if◌then◌else◌, ◌==◌, nat_eq, Option, Some, None, option_map}
+use Rattle.std.specs.Prelude.{ℕ, ◌+◌, ◌&&◌, ◌||◌, not, Bool, false, List, [], ◌∷◌, suc, slice_index, if◌then◌else◌, ◌==◌, nat_eq, Option, Some, None}
+use Rattle.std.specs.Prelude.{option_map}
 use Rattle.std.specs.List.{starts_with}
 use Rattle.httparse.specs.Ascii.{carriage_return, line_feed, crlf_bytes}
 

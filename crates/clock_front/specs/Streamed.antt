@@ -11,7 +11,8 @@ use Rattle.clock_house.specs.House.{HouseFields}
 use Rattle.clock_views.specs.declared.code.Code.{Code}
 use Rattle.clock_front.specs.Replies.{Answer}
 use Rattle.clock_front.specs.Fronts.{AnswersText, StandsForTexts, no_memory}
-use Rattle.clock_front.specs.Arrivals.{Reading, HasArrived, HasFailedRead, RunsOutOfReads, HasNoRoom}
+use Rattle.clock_device.specs.Readings.{Reading}
+use Rattle.clock_front.specs.Arrivals.{HasArrived, HasFailedRead, RunsOutOfReads, HasNoRoom}
 use Rattle.clock_front.specs.declared.stream_fault.StreamFault.{StreamFault}
 use Rattle.clock_front.specs.declared.stream_fault.StreamFault.TheVariants as fault
 

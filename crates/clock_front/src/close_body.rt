@@ -5,8 +5,10 @@ ghost use Rattle.clock_setup.specs.Members.{each};
 ghost use Rattle.clock_front.specs.CloseBodies as bodies;
 
 use crate::body_fault::BodyFault;
+use crate::close_scan::close_by_bytes;
 use clock_device::Items;
 use clock_order::Tie;
+use clock_scan::Stop;
 use clock_setup::Increments;
 use clock_setup::members::{has_members, items_at, number_at, numbers_of, read_value};
 use serde_json::Value;
@@ -103,5 +105,9 @@ pub fn read_close(alloc: Global, bytes: &[u8]) -> Result<CloseBody, BodyFault>
     ensures ok { IfOk result (λ body. bodies.close_body bytes.now ≡ Ok body) }
     ensures err { IfErr result (λ fault. fault ≢ BodyFault.NoMemory → bodies.close_body bytes.now ≡ Err fault) }
 {
-    close_by_tree(alloc, bytes)
+    match close_by_bytes(alloc, bytes) {
+        Ok(body) => Ok(body),
+        Err(Stop::NoMemory) => Err(BodyFault::NoMemory),
+        Err(Stop::Unusual) => close_by_tree(alloc, bytes),
+    }
 }

@@ -1,5 +1,5 @@
-ghost use Rattle.std.specs.Prelude.{◌≡◌, ◌⊎◌, ◌++◌, ℕ, List, [], Some, IfOk, IfErr, OnOk, OnErr, ◌==◌, is_some, IsSome};
-ghost use Rattle.clock_front.specs.Fronts.{AnswersText, IsStruckOut};
+ghost use Rattle.std.specs.Prelude.{◌≡◌, ◌⊎◌, ◌++◌, ℕ, true, List, [], Some, IfOk, IfErr, OnOk, OnErr, ◌==◌, is_some, IsSome};
+ghost use Rattle.clock_front.specs.Fronts.{AnswersText, IsCutShort, IsStruckOut};
 ghost use Rattle.clock_front.specs.Private.{IsPrivateReply};
 ghost use Rattle.clock_front.specs.Pieces.{needs_more};
 ghost use Rattle.clock_front.specs.Hubs.{text_of, is_full as is_full_of, standing_count, IsConnected, IsConnectFault, IsTaken, IsGone};
@@ -78,6 +78,7 @@ impl Partial {
         ensures answered { AnswersText self.now.text result front.old front.new }
         ensures private { IsStruckOut self.now.text result ⊎ IsPrivateReply self.now.text front.old result }
         ensures setup { front.new.setup ≡ front.old.setup }
+        ensures cut_short { needs_more self.now.text ≡ true → IsCutShort result }
     {
         front.answer_known(self.text.as_slice(), self.progress)
     }

@@ -2,8 +2,8 @@ ghost use Rattle.std.specs.Prelude.{◌≡◌, ◌⊎◌, [], length, IfOk, IsOk
 ghost use Rattle.clock_house.specs.House.{IsFollowedBy, StandsStill};
 ghost use Rattle.clock_views.specs.declared.code.Code.{Code as ReplyCode};
 ghost use Rattle.clock_front.specs.Askers.{IsKnown, asker as asker_with};
-ghost use Rattle.clock_front.specs.Framing.{framing as framing_of, refusal as refusal_of};
-ghost use Rattle.clock_front.specs.Fronts.{AnswersText, IsStruckOut, StandsForTexts};
+ghost use Rattle.clock_front.specs.Framing.{framing as framing_of, needs_more, refusal as refusal_of};
+ghost use Rattle.clock_front.specs.Fronts.{AnswersText, IsCutShort, IsStruckOut, StandsForTexts};
 ghost use Rattle.clock_front.specs.Outcomes.{answer_of, outcome, command_of};
 ghost use Rattle.clock_front.specs.Private.{IsToldAsker, IsPrivateReply};
 ghost use Rattle.clock_front.specs.Replies.{refusal_bytes};
@@ -159,6 +159,7 @@ impl<P: Processor> Front<P> {
         ensures private { IsStruckOut text.now result ⊎ IsPrivateReply text.now self.old result }
         ensures setup { self.new.setup ≡ self.old.setup }
         ensures refused { (code : ReplyCode) → framing_of text.now ≡ refusal_of code → result.code ≡ code }
+        ensures cut_short { framing_of text.now ≡ needs_more → IsCutShort result }
     {
         match self.answer_text(text, progress) {
             Ok(reply) => reply,

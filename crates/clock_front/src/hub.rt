@@ -1,4 +1,6 @@
-ghost use Rattle.std.specs.Prelude.{◌≡◌, ◌++◌, ℕ, List, [], Some, IfOk, IfErr, OnErr, OnOk, IsSome};
+ghost use Rattle.std.specs.Prelude.{◌≡◌, ◌++◌, ℕ, true, List, [], Some, IfOk, IfErr, OnErr, OnOk, IsSome};
+ghost use Rattle.clock_front.specs.Fronts.{IsCutShort};
+ghost use Rattle.clock_front.specs.Pieces.{needs_more};
 ghost use Rattle.clock_front.specs.Hubs.{text_of, IsConnected, IsConnectFault, IsFed, IsFeedFault, IsAnswered, IsFinishFault};
 
 use crate::connections::{Conn, Connections};
@@ -21,11 +23,25 @@ pub struct Hub<P> {
 }
 
 impl<P> Model for Hub<P> {
-    ghost use Rattle.clock_front.specs.Hubs.{HubFields};
+    ghost use Rattle.clock_front.specs.Hubs.{HubFields, AllNeedMore};
 
     ghost Value = { HubFields };
 
     ghost view = { λ h. record { house = h.front; connections = h.connections } };
+
+    ghost invariant = { λ h. AllNeedMore h.connections };
+}
+
+/// Answers the request of a connection that stands, which is gone with it.
+fn complete<P: Processor>(front: &mut Front<P>, connections: &mut Connections, conn: Conn) -> Reply
+    requires { IsSome (text_of connections.old conn) }
+    ensures answered { (text : List ℕ) → text_of connections.old conn ≡ Some text
+        → IsAnswered (record { house = front.old; connections = connections.old })
+        (record { house = front.new; connections = connections.new }) conn text result }
+    ensures cut_short { (text : List ℕ) → text_of connections.old conn ≡ Some text → needs_more text ≡ true → IsCutShort result }
+{
+    let partial = connections.remove(conn);
+    partial.answer(front)
 }
 
 impl<P: Processor> Hub<P> {
@@ -50,15 +66,6 @@ impl<P: Processor> Hub<P> {
         self.connections.connect()
     }
 
-    /// Answers the request of a connection that stands, which is gone with it.
-    fn complete(&mut self, conn: Conn) -> Reply
-        requires { IsSome (text_of self.old.connections conn) }
-        ensures { (text : List ℕ) → text_of self.old.connections conn ≡ Some text → IsAnswered self.old self.new conn text result }
-    {
-        let partial = self.connections.remove(conn);
-        partial.answer(&mut self.front)
-    }
-
     /// Takes a piece of a request: it needs more, or its reply is told, as [`Front::answer`] gives it. Where there is no
     /// memory the connection stands with the bytes that it had, and the piece can be fed again.
     pub fn feed(&mut self, conn: Conn, piece: &[u8]) -> Result<Fed, HubFault>
@@ -74,13 +81,15 @@ impl<P: Processor> Hub<P> {
         if self.connections.take(conn, piece)? {
             return Ok(Fed::More);
         }
-        Ok(Fed::Reply(self.complete(conn)))
+        let reply = complete(&mut self.front, &mut self.connections, conn);
+        Ok(Fed::Reply(reply))
     }
 
-    /// The reply to a request whose input has ended.
+    /// The reply to a request whose input has ended: it was cut short, since a request that is complete was answered.
     pub fn finish(&mut self, conn: Conn) -> Result<Reply, HubFault>
         ensures answered { (text : List ℕ) → text_of self.old.connections conn ≡ Some text
             → IfOk result (IsAnswered self.old self.new conn text) }
+        ensures cut_short { IfOk result IsCutShort }
         ensures stood { OnOk result (IsSome (text_of self.old.connections conn)) }
         ensures fault { IfErr result (IsFinishFault (text_of self.old.connections conn)) }
         ensures still { OnErr result (self.new ≡ self.old) }
@@ -88,7 +97,7 @@ impl<P: Processor> Hub<P> {
         if !self.connections.stands(conn) {
             return Err(HubFault::Unknown);
         }
-        Ok(self.complete(conn))
+        Ok(complete(&mut self.front, &mut self.connections, conn))
     }
 
     /// The front that answers.

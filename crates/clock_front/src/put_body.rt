@@ -5,8 +5,10 @@ ghost use Rattle.clock_setup.specs.Members.{each};
 ghost use Rattle.clock_front.specs.Bodies as bodies;
 
 use crate::body_fault::BodyFault;
+use crate::put_scan::put_by_bytes;
 use clock_bids::Bid;
 use clock_device::Items;
+use clock_scan::Stop;
 use clock_setup::members::{has_members, items_at, number_at, read_value};
 use serde_json::Value;
 use std::alloc::Global;
@@ -84,5 +86,9 @@ pub fn read_put(alloc: Global, bytes: &[u8]) -> Result<PutBody, BodyFault>
     ensures ok { IfOk result (λ body. bodies.put_body bytes.now ≡ Ok body) }
     ensures err { IfErr result (λ fault. fault ≢ BodyFault.NoMemory → bodies.put_body bytes.now ≡ Err fault) }
 {
-    put_by_tree(alloc, bytes)
+    match put_by_bytes(alloc, bytes) {
+        Ok(body) => Ok(body),
+        Err(Stop::NoMemory) => Err(BodyFault::NoMemory),
+        Err(Stop::Unusual) => put_by_tree(alloc, bytes),
+    }
 }

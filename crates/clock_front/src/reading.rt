@@ -1,10 +1,11 @@
-ghost use Rattle.std.specs.Prelude.{◌≡◌, ◌≤◌, ◌<◌, ◌+◌, ◌||◌, Ok, false, length, vec_len, IfOk};
+ghost use Rattle.std.specs.Prelude.{◌≡◌, ◌≤◌, ◌<◌, ◌+◌, ◌||◌, Ok, false, length};
 ghost use Rattle.clock_device.specs.Calls.{IsUnread, count_after};
 ghost use Rattle.clock_front.specs.Framing.{framing, needs_more};
-ghost use Rattle.clock_front.specs.Arrivals.{EndsArrival, GrowsByOneAtMost, IsStepOf, is_read_fault, most_reads};
+ghost use Rattle.clock_device.specs.Readings.{GrowsByOneAtMost};
+ghost use Rattle.clock_front.specs.Arrivals.{EndsArrival, IsStepOf, is_read_fault, most_reads};
 
 use crate::arriving::Arriving;
-use clock_device::{NoMemory, Source, Stop};
+use clock_device::{NoMemory, Source, Stop, room_for_read};
 use std::alloc::{AllocError, Global};
 
 /// How many reads are made at most.
@@ -40,13 +41,6 @@ impl From<AllocError> for Unread {
     fn from(_refused: AllocError) -> Unread {
         Unread::Memory
     }
-}
-
-/// Room for one read.
-fn empty_piece(alloc: Global, size: usize) -> Result<Vec<u8>, AllocError>
-    ensures { IfOk result (λ piece. vec_len piece ≡ size) }
-{
-    vec![in alloc; 0; size]
 }
 
 /// Makes one read and adds its bytes to the request. Answers whether it was the last: they decide what the request is, or the
@@ -89,7 +83,7 @@ pub(crate) fn read_request<R: Source>(alloc: Global, source: &mut R) -> Result<A
         result }
     ensures calls { R.calls source.new ≤ most_reads }
 {
-    let mut piece = empty_piece(alloc, PIECE)?;
+    let mut piece = room_for_read(alloc, PIECE)?;
     let mut request = Arriving::new(alloc);
     for _read in 0..MOST_READS {
         if read_once(source, piece.as_mut_slice(), &mut request)? {

@@ -1,6 +1,7 @@
 ghost use Rattle.std.specs.Prelude.{◌≡◌, ◌≤◌, ℕ, List, MatchOption};
 ghost use Rattle.clock_device.specs.Calls.{IsUnread, IsUnused};
-ghost use Rattle.clock_front.specs.Arrivals.{Reading, most_reads};
+ghost use Rattle.clock_device.specs.Readings.{Reading};
+ghost use Rattle.clock_front.specs.Arrivals.{most_reads};
 ghost use Rattle.clock_front.specs.Fronts.{StandsForTexts};
 ghost use Rattle.clock_front.specs.Streamed.{HasServed, IsAnswerTo, IsServed, IsUnanswered};
 

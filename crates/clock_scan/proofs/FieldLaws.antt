@@ -9,7 +9,8 @@ use Rattle.serde_json.specs.Data.{Data, member, put}
 use Rattle.clock_scan.specs.Reading.{Fields, field_before, members_of, with_field, is_before, is_field}
 
 put_first_at : (o : Ordering) (name key : List ℕ) (d : Data) (value : Option Data) (fields : Fields) → slice_cmp nat_cmp name key ≡ o
-    → match_ordering o (is_before name fields) false false ≡ true → (is_before name fields ≡ true → put name d (members_of fields) ≡ member name d (members_of fields))
+    → match_ordering o (is_before name fields) false false ≡ true
+    → (is_before name fields ≡ true → put name d (members_of fields) ≡ member name d (members_of fields))
     → put name d (field_before key value (members_of fields)) ≡ member name d (field_before key value (members_of fields))
 put_first_at Less name key d None fields is h later = later h
 put_first_at Less name key d (Some e) fields is h later = rw is refl

@@ -1,5 +1,6 @@
 -- Laws of lexemes: a byte's, and the tokens that it begins.
-use Rattle.std.proofs.Common.{◌≡◌, ℕ, ◌+◌, ◌-◌, ◌<◌, ◌≤◌, ◌^◌, ◌||◌, true, false, List, [], ◌∷◌, ◌++◌, length, take, drop, get_or, decimal, append_assoc, refl, sym, ap, ap₂, ◌∙◌, arith}
+use Rattle.std.proofs.Common.{◌≡◌, ℕ, ◌+◌, ◌-◌, ◌<◌, ◌≤◌, ◌^◌, ◌||◌, true, false, List, [], ◌∷◌, ◌++◌, length, take, drop, get_or, decimal}
+use Rattle.std.proofs.Common.{append_assoc, refl, sym, ap, ap₂, ◌∙◌, arith}
 use Rattle.std.proofs.lemmas.Bool.{true≢false, false≢true}
 use Rattle.std.proofs.lemmas.List.{drop_more, drop_all, get_or-drop, take_all, take-append-le}
 use Rattle.std.proofs.lemmas.Fmt.{decimal-digits_value}
@@ -32,7 +33,8 @@ blank lexer.operator x xs h = absurd (false≢true h)
 blank lexer.space x xs h = refl
 blank lexer.other x xs h = absurd (false≢true h)
 
-pub space_at : (bytes : List ℕ) (i : ℕ) → i < length bytes → is_blank (class (get_or bytes i 0)) ≡ true → lex between (drop (i + 1) bytes) ≡ lex between (drop i bytes)
+pub space_at : (bytes : List ℕ) (i : ℕ) → i < length bytes → is_blank (class (get_or bytes i 0)) ≡ true
+    → lex between (drop (i + 1) bytes) ≡ lex between (drop i bytes)
 unfolding lex
 space_at bytes i lt h = sym (ap (lex between) (at_byte bytes i _ lt refl) ∙ blank _ (get_or bytes i 0) (drop (i + 1) bytes) h)
 
@@ -90,10 +92,12 @@ pub AllDigits-push : (ds : List ℕ) (d : ℕ) → AllDigits 10 ds → digit_val
 AllDigits-push [] d h k = (k, tt)
 AllDigits-push (c ∷ ds) d h k = (h.0, AllDigits-push ds d h.1 k)
 
-pub lex-digits : (ds rest : List ℕ) (n : ℕ) → AllDigits 10 ds → digits_value 10 ds ≡ n → n < 2 ^ 64 → 0 < length ds → (get_or ds 0 0 ≡ 48 → length ds ≡ 1) → ends_word rest ≡ true
+pub lex-digits : (ds rest : List ℕ) (n : ℕ) → AllDigits 10 ds → digits_value 10 ds ≡ n → n < 2 ^ 64 → 0 < length ds → (get_or ds 0 0 ≡ 48 → length ds ≡ 1)
+    → ends_word rest ≡ true
     → lex between (ds ++ rest) ≡ token (number (decimal n)) ∷ lex between rest
 lex-digits ds rest n digits is small some lead ended =
-    let written : decimal n ≡ ds = ap decimal (sym is) ∙ decimal-digits_value (numerals_by_value _ tells_digits) ds digits some lead (omega (arith, is, small)) in
+    let written : decimal n ≡ ds = ap decimal (sym is) ∙ decimal-digits_value (numerals_by_value _ tells_digits) ds digits some lead
+    (omega (arith, is, small)) in
     ap (λ s. lex between (s ++ rest)) (sym written) ∙ lex-number (decimal n) rest (IsNumber-decimal n small) ended
 
 -- ---- what a place lets begin or close
@@ -112,35 +116,40 @@ array_begins lexer.after_value ls ms h is = absurd (false≢true h)
 array_begins lexer.after_comma ls ms h is = ap (punctuate lexer.after_comma) is
 array_begins lexer.after_key ls ms h is = absurd (false≢true h)
 
-pub object_closes : (p : Place) (ls ms : List Lexeme) → may_close p ≡ true → ls ≡ token end_object ∷ ms → punctuate p ls ≡ end_object ∷ punctuate lexer.after_value ms
+pub object_closes : (p : Place) (ls ms : List Lexeme) → may_close p ≡ true → ls ≡ token end_object ∷ ms
+    → punctuate p ls ≡ end_object ∷ punctuate lexer.after_value ms
 unfolding punctuate
 object_closes lexer.fresh ls ms h is = ap (punctuate lexer.fresh) is
 object_closes lexer.after_value ls ms h is = ap (punctuate lexer.after_value) is
 object_closes lexer.after_comma ls ms h is = absurd (false≢true h)
 object_closes lexer.after_key ls ms h is = absurd (false≢true h)
 
-pub array_closes : (p : Place) (ls ms : List Lexeme) → may_close p ≡ true → ls ≡ token end_array ∷ ms → punctuate p ls ≡ end_array ∷ punctuate lexer.after_value ms
+pub array_closes : (p : Place) (ls ms : List Lexeme) → may_close p ≡ true → ls ≡ token end_array ∷ ms
+    → punctuate p ls ≡ end_array ∷ punctuate lexer.after_value ms
 unfolding punctuate
 array_closes lexer.fresh ls ms h is = ap (punctuate lexer.fresh) is
 array_closes lexer.after_value ls ms h is = ap (punctuate lexer.after_value) is
 array_closes lexer.after_comma ls ms h is = absurd (false≢true h)
 array_closes lexer.after_key ls ms h is = absurd (false≢true h)
 
-pub number_begins : (p : Place) (ls ms : List Lexeme) (s : List ℕ) → may_begin p ≡ true → ls ≡ token (number s) ∷ ms → punctuate p ls ≡ number s ∷ punctuate lexer.after_value ms
+pub number_begins : (p : Place) (ls ms : List Lexeme) (s : List ℕ) → may_begin p ≡ true → ls ≡ token (number s) ∷ ms
+    → punctuate p ls ≡ number s ∷ punctuate lexer.after_value ms
 unfolding punctuate
 number_begins lexer.fresh ls ms s h is = ap (punctuate lexer.fresh) is
 number_begins lexer.after_value ls ms s h is = absurd (false≢true h)
 number_begins lexer.after_comma ls ms s h is = ap (punctuate lexer.after_comma) is
 number_begins lexer.after_key ls ms s h is = absurd (false≢true h)
 
-pub text_begins : (p : Place) (ls ms : List Lexeme) (s : List ℕ) → may_begin p ≡ true → ls ≡ token (string s) ∷ ms → lexer.begins_colon ms ≡ false → punctuate p ls ≡ string s ∷ punctuate lexer.after_value ms
+pub text_begins : (p : Place) (ls ms : List Lexeme) (s : List ℕ) → may_begin p ≡ true → ls ≡ token (string s) ∷ ms → lexer.begins_colon ms ≡ false
+    → punctuate p ls ≡ string s ∷ punctuate lexer.after_value ms
 unfolding punctuate
 text_begins lexer.fresh ls ms s h is next = ap (punctuate lexer.fresh) is ∙ rw next refl
 text_begins lexer.after_value ls ms s h is next = absurd (false≢true h)
 text_begins lexer.after_comma ls ms s h is next = ap (punctuate lexer.after_comma) is ∙ rw next refl
 text_begins lexer.after_key ls ms s h is next = absurd (false≢true h)
 
-pub key_begins : (p : Place) (ls ms : List Lexeme) (s : List ℕ) → may_begin p ≡ true → ls ≡ token (string s) ∷ colon ∷ ms → punctuate p ls ≡ key s ∷ punctuate lexer.fresh ms
+pub key_begins : (p : Place) (ls ms : List Lexeme) (s : List ℕ) → may_begin p ≡ true → ls ≡ token (string s) ∷ colon ∷ ms
+    → punctuate p ls ≡ key s ∷ punctuate lexer.fresh ms
 unfolding punctuate
 key_begins lexer.fresh ls ms s h is = ap (punctuate lexer.fresh) is
 key_begins lexer.after_value ls ms s h is = absurd (false≢true h)
@@ -161,11 +170,13 @@ pub at_end : (bytes : List ℕ) (i : ℕ) → length bytes ≤ i → lex between
 unfolding lex
 at_end bytes i past = ap (lex between) (drop_all i bytes past)
 
-pub object_begins_at : (p : Place) (bytes : List ℕ) (start at : ℕ) → may_begin p ≡ true → lex between (drop at bytes) ≡ lex between (drop start bytes) → at < length bytes → get_or bytes at 0 ≡ 123
+pub object_begins_at : (p : Place) (bytes : List ℕ) (start at : ℕ) → may_begin p ≡ true → lex between (drop at bytes) ≡ lex between (drop start bytes)
+    → at < length bytes → get_or bytes at 0 ≡ 123
     → punctuate p (lex between (drop start bytes)) ≡ begin_object ∷ punctuate lexer.fresh (lex between (drop (at + 1) bytes))
 object_begins_at p bytes start at may same lt is = object_begins p _ _ may (sym same ∙ open_brace_at bytes at lt is)
 
-pub array_begins_at : (p : Place) (bytes : List ℕ) (start at : ℕ) → may_begin p ≡ true → lex between (drop at bytes) ≡ lex between (drop start bytes) → at < length bytes → get_or bytes at 0 ≡ 91
+pub array_begins_at : (p : Place) (bytes : List ℕ) (start at : ℕ) → may_begin p ≡ true → lex between (drop at bytes) ≡ lex between (drop start bytes)
+    → at < length bytes → get_or bytes at 0 ≡ 91
     → punctuate p (lex between (drop start bytes)) ≡ begin_array ∷ punctuate lexer.fresh (lex between (drop (at + 1) bytes))
 array_begins_at p bytes start at may same lt is = array_begins p _ _ may (sym same ∙ open_bracket_at bytes at lt is)
 
@@ -178,11 +189,13 @@ pub first_of : (bytes ds : List ℕ) (at end : ℕ) → drop at bytes ≡ ds ++ 
 first_of bytes [] at end is some = absurd (omega arith)
 first_of bytes (d ∷ ds) at end is some = ap (λ l. get_or l 0 0) (sym is) ∙ get_or-drop at bytes 0 0 ∙ ap (λ i. get_or bytes i 0) (omega arith)
 
-pub ends_at : (bytes : List ℕ) (i : ℕ) → i < length bytes → (is_operator (get_or bytes i 0) || is_space (get_or bytes i 0)) ≡ true → ends_word (drop i bytes) ≡ true
+pub ends_at : (bytes : List ℕ) (i : ℕ) → i < length bytes → (is_operator (get_or bytes i 0) || is_space (get_or bytes i 0)) ≡ true
+    → ends_word (drop i bytes) ≡ true
 ends_at bytes i lt h = ap ends_word (at_byte bytes i _ lt refl) ∙ h
 
 -- the bytes between two places
-pub taken : (bytes s : List ℕ) (at end : ℕ) → drop (at + 1) bytes ≡ s ++ drop end bytes → at + 1 + length s ≡ end → s ≡ take (end - (at + 1)) (drop (at + 1) bytes)
+pub taken : (bytes s : List ℕ) (at end : ℕ) → drop (at + 1) bytes ≡ s ++ drop end bytes → at + 1 + length s ≡ end
+    → s ≡ take (end - (at + 1)) (drop (at + 1) bytes)
 taken bytes s at end is size =
     let count : end - (at + 1) ≡ length s = omega (arith, size) in
     sym (ap₂ (λ n l. take n l) count is ∙ take-append-le (length s) s (drop end bytes) (omega arith) ∙ take_all (length s) s (omega arith))

@@ -1,5 +1,6 @@
 -- Laws of reading: a list item by item, an object member by member, and the whole text.
-use Rattle.std.proofs.Common.{◌≡◌, ℕ, suc, ◌-◌, ◌<◌, ◌≤◌, ◌^◌, true, List, [], ◌∷◌, ◌++◌, length, decimal, map, Option, Some, None, refl, sym, ap, ◌∙◌, subst, arith}
+use Rattle.std.proofs.Common.{◌≡◌, ℕ, suc, ◌-◌, ◌<◌, ◌≤◌, ◌^◌, true, List, [], ◌∷◌, ◌++◌, length, decimal, map, Option, Some, None, refl, sym, ap}
+use Rattle.std.proofs.Common.{◌∙◌, subst, arith}
 use Rattle.json.specs.Token.{Token}
 use Rattle.json.specs.Lex.{lex, between, tokens, punctuate, fresh}
 use Rattle.json.specs.Json as json
@@ -61,7 +62,8 @@ items_push : (values : List Data) (d : Data) (rest : Items) → items_before val
 items_push [] d rest = refl
 items_push (v ∷ values) d rest = ap (item v) (items_push values d rest)
 
-one_more : (values : List Data) (d : Data) (r : Option (Items × List Token)) → parse_map (items_before values) (parse_map (item d) r) ≡ parse_map (items_before (values ++ d ∷ [])) r
+one_more : (values : List Data) (d : Data) (r : Option (Items × List Token)) → parse_map (items_before values) (parse_map (item d) r) ≡ parse_map
+    (items_before (values ++ d ∷ [])) r
 one_more values d None = refl
 one_more values d (Some p) = ap (λ ds. Some (ds, p.1)) (items_push values d p.0)
 
@@ -77,7 +79,8 @@ items_next levels start old new values d has reads =
       has.0 - 1,
       omega (arith, has.1, shorter),
       λ depth enough. has.2 depth enough
-          ∙ ap (parse_map (items_before values)) (item_read (json.value depth) has.0 old new d (omega (arith, has.1, shorter)) (reads_open levels old d new reads) (reads depth enough))
+          ∙ ap (parse_map (items_before values))
+          (item_read (json.value depth) has.0 old new d (omega (arith, has.1, shorter)) (reads_open levels old d new reads) (reads depth enough))
           ∙ one_more values d _,
     )
 
@@ -86,7 +89,8 @@ map-push f [] x = refl
 map-push f (y ∷ xs) x = ap (λ r. f y ∷ r) (map-push f xs x)
 
 -- one item more of a list of values of one kind
-pub items_push_next : {A : Type 0} (levels : ℕ) (data_of : A → Data) (start old new : List Token) (xs : List A) (x : A) → HasItems levels start (map data_of xs) old
+pub items_push_next : {A : Type 0} (levels : ℕ) (data_of : A → Data) (start old new : List Token) (xs : List A) (x : A)
+    → HasItems levels start (map data_of xs) old
     → Reads levels old (data_of x) new → HasItems levels start (map data_of (xs ++ x ∷ [])) new
 items_push_next levels data_of start old new xs x has reads =
     subst (λ values. HasItems levels start values new) (sym (map-push data_of xs x)) (items_next levels start old new (map data_of xs) (data_of x) has reads)
@@ -98,7 +102,8 @@ items_end levels first start old new values opened has closed = λ depth enough.
     let less : suc (depth - 1) ≡ depth = omega (arith, enough) in
     let inside = has.2 (depth - 1) (omega (arith, enough))
     ∙ ap (parse_map (items_before values)) (items_over (json.value (depth - 1)) has.0 old new has.1 (ap after_end_array closed)) in
-    subst (λ n. converted of_json (json.value n first) ≡ Some (array (items_of values), new)) less (array_read (depth - 1) first start new (items_of values) opened inside)
+    subst (λ n. converted of_json (json.value n first) ≡ Some (array (items_of values), new)) less
+    (array_read (depth - 1) first start new (items_of values) opened inside)
 
 -- ---- objects
 
@@ -127,15 +132,18 @@ members_end levels first start old new found opened has closed = λ depth enough
     subst (λ n. converted of_json (json.value n first) ≡ Some (object found, new)) less (object_read (depth - 1) first start new found opened inside)
 
 -- a member under one of the keys
-pub adds_member : (levels : ℕ) (old value new : List Token) (fields : Fields) (name : List ℕ) (d : Data) → old ≡ Token.key name ∷ value → Reads levels value d new
+pub adds_member : (levels : ℕ) (old value new : List Token) (fields : Fields) (name : List ℕ) (d : Data) → old ≡ Token.key name ∷ value
+    → Reads levels value d new
     → is_field name fields ≡ true → AddsMember levels old fields new (with_field name d fields)
 adds_member levels old value new fields name d named reads known = λ start has.
-    subst (λ ms. HasMembers levels start ms new) (put_in name d fields known) (members_next levels start old value new (members_of fields) name d has named reads)
+    subst (λ ms. HasMembers levels start ms new) (put_in name d fields known)
+    (members_next levels start old value new (members_of fields) name d has named reads)
 
 -- ---- the whole text
 
 -- one value, and nothing behind it
-pub text_is : (levels : ℕ) (text : List ℕ) (ts new : List Token) (d : Data) → levels ≤ 127 → ts ≡ tokens text → Reads levels ts d new → new ≡ [] → read text ≡ Some d
+pub text_is : (levels : ℕ) (text : List ℕ) (ts new : List Token) (d : Data) → levels ≤ 127 → ts ≡ tokens text → Reads levels ts d new → new ≡ []
+    → read text ≡ Some d
 text_is levels text ts new d enough is reads ended =
     ap (λ t. last (json.value 127 t)) (sym is) ∙ last_read (json.value 127 ts) d (reads 127 enough ∙ ap (λ rest. Some (d, rest)) ended)
 

@@ -11,11 +11,13 @@ abbrev pick : {A : Type 0} → A → Option A → A
 pick d None = d
 pick d (Some a) = a
 
-found : {A B : Type 0} (a : A) (r s : List Token) (x : Option B) (b : B) → option_map {U = B × List Token} (λ y. (y, r)) x ≡ Some (b, s) → (r ≡ s) × (x ≡ Some b)
+found : {A B : Type 0} (a : A) (r s : List Token) (x : Option B) (b : B) → option_map {U = B × List Token} (λ y. (y, r)) x ≡ Some (b, s)
+    → (r ≡ s) × (x ≡ Some b)
 found a r s None b e = absurd (cc)
 found a r s (Some y) b e = let same = ap (pick (y, r)) e in (ap (λ p. p.1) same, ap (λ p. Some p.0) same)
 
-pub converted_some : {A B : Type 0} (f : A → Option B) (o : Option (A × List Token)) (b : B) (r : List Token) → converted f o ≡ Some (b, r) → (a : A) × (o ≡ Some (a, r)) × (f a ≡ Some b)
+pub converted_some : {A B : Type 0} (f : A → Option B) (o : Option (A × List Token)) (b : B) (r : List Token) → converted f o ≡ Some (b, r)
+    → (a : A) × (o ≡ Some (a, r)) × (f a ≡ Some b)
 converted_some f None b r e = absurd (cc)
 converted_some f (Some p) b r e = let both = found p.0 p.1 r (f p.0) b e in (p.0, ap (λ s. Some (p.0, s)) both.0, both.1)
 
@@ -27,11 +29,13 @@ pub converted-array : (o : Option (json.Items × List Token)) → converted of_j
 converted-array None = refl
 converted-array (Some p) = twice array p.1 (of_items p.0)
 
-pub converted-object : (o : Option (json.Members × List Token)) → converted of_json (parse_map json.object o) ≡ parse_map object (converted (λ ms. of_members ms no_members) o)
+pub converted-object : (o : Option (json.Members × List Token)) → converted of_json (parse_map json.object o) ≡ parse_map object
+    (converted (λ ms. of_members ms no_members) o)
 converted-object None = refl
 converted-object (Some p) = twice object p.1 (of_members p.0 no_members)
 
-with_item : (j : json.Json) (d : Data) → of_json j ≡ Some d → (o : Option (json.Items × List Token)) → converted of_items (parse_map (json.item j) o) ≡ parse_map (item d) (converted of_items o)
+with_item : (j : json.Json) (d : Data) → of_json j ≡ Some d → (o : Option (json.Items × List Token))
+    → converted of_items (parse_map (json.item j) o) ≡ parse_map (item d) (converted of_items o)
 with_item j d e None = refl
 with_item j d e (Some p) = rw e (twice (item d) p.1 (of_items p.0))
 
@@ -43,7 +47,8 @@ with_member k j d old e (Some p) = rw e
 module _ (p : Parse json.Json) where
   pub item_read : (n : ℕ) (ts r : List Token) (d : Data) → 0 < n → after_end_array ts ≡ None → converted of_json (p ts) ≡ Some (d, r)
       → converted of_items (items p n ts) ≡ parse_map (item d) (converted of_items (items p (n - 1) r))
-  item_read n ts r d some going e = let j = converted_some of_json (p ts) d r e in ap (converted of_items) (items_more p n ts r j.0 some going j.1) ∙ with_item j.0 d j.2 _
+  item_read n ts r d some going e = let j = converted_some of_json (p ts) d r e in
+      ap (converted of_items) (items_more p n ts r j.0 some going j.1) ∙ with_item j.0 d j.2 _
 
   pub items_over : (n : ℕ) (ts r : List Token) → length ts ≤ n → after_end_array ts ≡ Some r → converted of_items (items p n ts) ≡ Some (no_items, r)
   items_over n ts r enough e = ap (converted of_items) (items_end p n ts r enough e)
@@ -55,7 +60,8 @@ module _ (p : Parse json.Json) where
         let j = converted_some of_json (p s) d r e in
         ap (converted (λ ms. of_members ms old)) (members_more p n k ts s r j.0 some key j.1) ∙ with_member k j.0 d old j.2 _
 
-    pub members_over : (n : ℕ) (ts r : List Token) → length ts ≤ n → read_key ts ≡ Some (None, r) → converted (λ ms. of_members ms old) (members p n ts) ≡ Some (old, r)
+    pub members_over : (n : ℕ) (ts r : List Token) → length ts ≤ n → read_key ts ≡ Some (None, r) → converted (λ ms. of_members ms old)
+        (members p n ts) ≡ Some (old, r)
     members_over n ts r enough e = ap (converted (λ ms. of_members ms old)) (members_end p n ts r enough e)
 
 -- ---- the whole text
@@ -68,12 +74,16 @@ last_read o d e = let j = converted_some of_json o d [] e in ap last j.1 ∙ j.2
 
 -- ---- what opens here is read one level further down
 
-pub object_read : (depth : ℕ) (old s r : List Token) (ms : Members) → old ≡ Token.begin_object ∷ s → converted (λ js. of_members js no_members) (members (value depth) (length s) s) ≡ Some (ms, r)
+pub object_read : (depth : ℕ) (old s r : List Token) (ms : Members) → old ≡ Token.begin_object ∷ s → converted (λ js. of_members js no_members)
+    (members (value depth) (length s) s) ≡ Some (ms, r)
     → converted of_json (value (suc depth) old) ≡ Some (object ms, r)
 unfolding value
-object_read depth old s r ms is e = ap (λ ts. converted of_json (value (suc depth) ts)) is ∙ converted-object (members (value depth) (length s) s) ∙ ap (parse_map object) e
+object_read depth old s r ms is e = ap (λ ts. converted of_json (value (suc depth) ts)) is ∙ converted-object (members (value depth) (length s) s)
+    ∙ ap (parse_map object) e
 
-pub array_read : (depth : ℕ) (old s r : List Token) (ds : Items) → old ≡ Token.begin_array ∷ s → converted of_items (items (value depth) (length s) s) ≡ Some (ds, r)
+pub array_read : (depth : ℕ) (old s r : List Token) (ds : Items) → old ≡ Token.begin_array ∷ s
+    → converted of_items (items (value depth) (length s) s) ≡ Some (ds, r)
     → converted of_json (value (suc depth) old) ≡ Some (array ds, r)
 unfolding value
-array_read depth old s r ds is e = ap (λ ts. converted of_json (value (suc depth) ts)) is ∙ converted-array (items (value depth) (length s) s) ∙ ap (parse_map array) e
+array_read depth old s r ds is e = ap (λ ts. converted of_json (value (suc depth) ts)) is ∙ converted-array (items (value depth) (length s) s)
+    ∙ ap (parse_map array) e

@@ -1,5 +1,6 @@
 -- What the value of a set-up means as a document.
-use Rattle.std.proofs.Common.{◌≡◌, ℕ, ◌≤◌, ◌⊎◌, inl, inr, Bool, true, false, ◌==◌, List, [], ◌∷◌, map, All, Option, Some, None, Result, Ok, Err, IfOk, IfErr, codes, refl, sym, ap, ◌∙◌, subst, arith}
+use Rattle.std.proofs.Common.{◌≡◌, ℕ, ◌≤◌, ◌⊎◌, inl, inr, Bool, true, false, ◌==◌, List, [], ◌∷◌, map, All, Option, Some, None, Result, Ok, Err, IfOk}
+use Rattle.std.proofs.Common.{IfErr, codes, refl, sym, ap, ◌∙◌, subst, arith}
 use Rattle.std.specs.Prelude.{⊤, if◌then◌else◌}
 use Rattle.std.proofs.lemmas.Bool.{eqb-true}
 use Rattle.std.proofs.lemmas.List.Elements.{All-nil, All-head, All-tail}
@@ -24,7 +25,8 @@ of_common_version so_far next products empty (inl none) = ap (map (product_data 
 of_common_version so_far next products empty (inr same) = ap (λ v. map (product_data v) products) same
 
 -- their granules are one dollar, where the next one's version is the first
-pub of_first_version : (so_far next : ℕ) (products : List Product) → (so_far ≡ 0 → products ≡ []) → (so_far ≡ 1 → All (λ product. product.granule ≡ first_granule) products)
+pub of_first_version : (so_far next : ℕ) (products : List Product) → (so_far ≡ 0 → products ≡ [])
+    → (so_far ≡ 1 → All (λ product. product.granule ≡ first_granule) products)
     → (so_far ≡ 0) ⊎ (so_far ≡ next) → next ≡ 1 → All (λ product. product.granule ≡ first_granule) products
 of_first_version so_far next products empty granules (inl none) one =
     subst (All (λ (product : Product). product.granule ≡ first_granule)) (sym (empty none)) (All-nil (λ (product : Product). product.granule ≡ first_granule))
@@ -38,7 +40,8 @@ each_of meaning data_of P means (x ∷ xs) h =
     ap (λ o. o >>= λ first. (each meaning (items_of (map data_of xs)) >>= λ rest. Some (first ∷ rest))) (means x (All-head P x xs h))
     ∙ ap (λ o. o >>= λ rest. Some (x ∷ rest)) (each_of meaning data_of P means xs (All-tail P x xs h))
 
-first_product : (version : ℕ) (product : Product) → (version == 1) ≡ true → product.granule ≡ first_granule → product_of version (product_data version product) ≡ Some product
+first_product : (version : ℕ) (product : Product) → (version == 1) ≡ true → product.granule ≡ first_granule
+    → product_of version (product_data version product) ≡ Some product
 unfolding product_of
 first_product version product is granule = rw (is, granule) refl
 
@@ -73,7 +76,8 @@ later_setup setup is =
     (λ product _. later_product setup.version product is) setup.products (λ k d lt. tt) in
     rw (is, products, bidders_are setup.bidders) refl
 
-setup_at : (setup : SetupFields) (first : Bool) → (setup.version == 1) ≡ first → (first ≡ true → IsOfFirstVersion setup) → fields_of (setup_data setup) ≡ Some setup
+setup_at : (setup : SetupFields) (first : Bool) → (setup.version == 1) ≡ first → (first ≡ true → IsOfFirstVersion setup)
+    → fields_of (setup_data setup) ≡ Some setup
 setup_at setup true is h = ap (λ b. fields_of (object_of setup (if b then None else Some setup.limit))) is ∙ first_setup setup is (h refl)
 setup_at setup false is h = ap (λ b. fields_of (object_of setup (if b then None else Some setup.limit))) is ∙ later_setup setup is
 

@@ -24,7 +24,8 @@ impl<'v> ProductParts<'v> {
     /// What was found, with the next member.
     fn with(self, scan: &mut Scan<'v>) -> Option<ProductParts<'v>>
         ensures value { IfSome result (λ parts. AddsMember 0 scan.old
-            (product_fields self.entry.cap self.entry.granule (option_map (λ t. t.now) self.entry.name) self.entry.opening self.entry.supply self.entry.units) scan.new
+            (product_fields self.entry.cap self.entry.granule (option_map (λ t. t.now) self.entry.name)
+            self.entry.opening self.entry.supply self.entry.units) scan.new
             (product_fields parts.cap parts.granule (option_map (λ t. t.now) parts.name) parts.opening parts.supply parts.units)) }
         ensures shorter { IfSome result (λ _. length scan.new < length scan.old) }
     {
@@ -73,7 +74,8 @@ impl<'v> ProductParts<'v> {
     /// The product, and the first version of documents in which one has these keys.
     fn entry(self) -> Option<(u64, ProductEntry<'v>)>
         ensures value { IfSome result (λ r. object (members_of
-            (product_fields self.entry.cap self.entry.granule (option_map (λ t. t.now) self.entry.name) self.entry.opening self.entry.supply self.entry.units)) ≡ product_data r.0 r.1) }
+            (product_fields self.entry.cap self.entry.granule (option_map (λ t. t.now) self.entry.name)
+            self.entry.opening self.entry.supply self.entry.units)) ≡ product_data r.0 r.1) }
         ensures version { IfSome result (λ r. IsWithin 1 latest_version r.0) }
         ensures first_version { IfSome result (λ r. r.0 ≡ 1 → r.1.granule ≡ first_granule) }
     {

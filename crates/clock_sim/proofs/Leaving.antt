@@ -1,5 +1,6 @@
 -- The bids of blocks one by one are those at the different leaving prices.
-use Rattle.std.proofs.Common.{◌≡◌, ℕ, ◌+◌, ◌-◌, ◌<◌, ◌≤◌, zero, suc, max, List, [], ◌∷◌, ◌++◌, length, map, reverse, take, get_or, Bool, true, false, cond, not, Option, Some, None, refl, sym, ◌∙◌, ap, ap₂, subst, arith}
+use Rattle.std.proofs.Common.{◌≡◌, ℕ, ◌+◌, ◌-◌, ◌<◌, ◌≤◌, zero, suc, max, List, [], ◌∷◌, ◌++◌, length, map, reverse, take, get_or, Bool, true, false}
+use Rattle.std.proofs.Common.{cond, not, Option, Some, None, refl, sym, ◌∙◌, ap, ap₂, subst, arith}
 use Rattle.std.specs.Prelude.{nat_le, nat_lt, nat_eq}
 use Rattle.std.specs.List.{filter_map, cons_option, count_by, dedup, dedup_from}
 use Rattle.std.proofs.lemmas.Bool.Decides.{nat_tests}
@@ -194,11 +195,13 @@ all_blocks product held pair limits falls within =
     bids_of_blocks product (held - length limits) pair (reverse limits) (rises_back limits falls)
     ∙ ap (λ k. leaving_bids product k (leaving_prices pair limits)) all
 
-none_first : (product held : ℕ) (pair : PricePair) (prices : List ℕ) → first_of prices ≡ None → keeping_or_leaving product pair held prices ≡ bid_of product held pair.clock ∷ []
+none_first : (product held : ℕ) (pair : PricePair) (prices : List ℕ) → first_of prices ≡ None
+    → keeping_or_leaving product pair held prices ≡ bid_of product held pair.clock ∷ []
 none_first product held pair [] e = refl
 none_first product held pair (x ∷ xs) e = absurd (cc)
 
-some_first : (product held : ℕ) (pair : PricePair) (prices : List ℕ) (price : ℕ) → first_of prices ≡ Some price → keeping_or_leaving product pair held prices ≡ leaving_bids product held prices
+some_first : (product held : ℕ) (pair : PricePair) (prices : List ℕ) (price : ℕ) → first_of prices ≡ Some price
+    → keeping_or_leaving product pair held prices ≡ leaving_bids product held prices
 some_first product held pair [] price e = absurd (cc)
 some_first product held pair (x ∷ xs) price e = refl
 

@@ -6,3 +6,7 @@ pub mod TextPieces
 pub mod RoundLaws
 pub mod StepLaws
 mod SincereExamples
+pub mod PutLaws
+pub mod SendLaws
+pub mod GroupLaws
+pub mod TurnLaws

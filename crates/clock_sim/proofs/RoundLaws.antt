@@ -1,5 +1,6 @@
 -- The closed rounds that a house shows, by their number.
-use Rattle.std.proofs.Common.{◌≡◌, ℕ, zero, suc, ◌+◌, ◌<◌, ◌≤◌, List, [], ◌∷◌, ◌++◌, true, false, cond, length, map, take, Option, Some, None, refl, sym, ◌∙◌, ap, subst, add-one, All, arith}
+use Rattle.std.proofs.Common.{◌≡◌, ℕ, zero, suc, ◌+◌, ◌<◌, ◌≤◌, List, [], ◌∷◌, ◌++◌, true, false, cond, length, map, take, Option, Some, None, refl}
+use Rattle.std.proofs.Common.{sym, ◌∙◌, ap, subst, add-one, All, arith}
 use Rattle.std.specs.Prelude.{reverse, slice_get, option_map}
 use Rattle.std.proofs.lemmas.List.{reverse-append, length-reverse, length-map, map-append}
 use Rattle.std.specs.List.{range_with_len}
@@ -29,17 +30,20 @@ module _ (setup : SetupFields) where
   AreInOrder closed = AreNumbered (length setup.bidders) (length setup.products) closed
 
   -- at the end the current round is the last closed one
-  pub rounds_at_end : (closed : List ClosedRound) → AreInOrder closed → (standing setup.products closed).ended ≡ true → (standing setup.products closed).round ≡ length closed
+  pub rounds_at_end : (closed : List ClosedRound) → AreInOrder closed → (standing setup.products closed).ended ≡ true
+      → (standing setup.products closed).round ≡ length closed
   rounds_at_end [] all ended = absurd (cc)
   rounds_at_end (last ∷ rounds) all ended = ap (λ over. cond over last.sheet.round (last.sheet.round + 1)) ended ∙ all.0
 
   -- before, it is the next one
-  pub rounds_before_end : (closed : List ClosedRound) → AreInOrder closed → (standing setup.products closed).ended ≡ false → (standing setup.products closed).round ≡ length closed + 1
+  pub rounds_before_end : (closed : List ClosedRound) → AreInOrder closed → (standing setup.products closed).ended ≡ false
+      → (standing setup.products closed).round ≡ length closed + 1
   rounds_before_end [] all going = refl
   rounds_before_end (last ∷ rounds) all going = ap (λ over. cond over last.sheet.round (last.sheet.round + 1)) going ∙ ap (λ n. n + 1) all.0
 
   -- each sheet has a line for each product
-  pub last_lines : (closed : List ClosedRound) → AreInOrder closed → (last : RoundSheet) → last_sheet closed ≡ Some last → length last.lines ≡ length setup.products
+  pub last_lines : (closed : List ClosedRound) → AreInOrder closed → (last : RoundSheet) → last_sheet closed ≡ Some last
+      → length last.lines ≡ length setup.products
   last_lines [] all last e = absurd (cc)
   last_lines (round ∷ rounds) all last e = let same : round.sheet ≡ last = cc in ap (λ (sheet : RoundSheet). length sheet.lines) (sym same) ∙ all.2
 
@@ -78,7 +82,8 @@ told_sheet closed n =
 -- there is one of each closed round
 pub some_sheet : (closed : List ClosedRound) (n : ℕ) → n < length closed → slice_get (map (λ (round : ClosedRound). round.sheet) (reverse closed)) n ≡ None → ⊥
 some_sheet closed n below none =
-    get_within (map (λ (round : ClosedRound). round.sheet) (reverse closed)) n (omega (arith, length-map (reverse closed) (λ (round : ClosedRound). round.sheet), length-reverse closed)) none
+    get_within (map (λ (round : ClosedRound). round.sheet) (reverse closed)) n
+    (omega (arith, length-map (reverse closed) (λ (round : ClosedRound). round.sheet), length-reverse closed)) none
 
 take_suc : {A : Type 0} (xs : List A) (n : ℕ) (x : A) → slice_get xs n ≡ Some x → take (suc n) xs ≡ take n xs ++ x ∷ []
 take_suc [] n x e = absurd (cc)
@@ -103,7 +108,8 @@ lined setup (last ∷ rounds) all =
     subst (All P) (sym split) (All-push P (map sheet (reverse rounds)) last.sheet (lined setup rounds all.3) all.2)
 
 -- rows that are each a row
-pub rows_of : (setup : SetupFields) (f : ℕ → List ℕ) (n : ℕ) → ((bidder : ℕ) → bidder < n → IsRow setup.products (f bidder)) → All (IsRow setup.products) (map f (range_with_len 0 n))
+pub rows_of : (setup : SetupFields) (f : ℕ → List ℕ) (n : ℕ) → ((bidder : ℕ) → bidder < n → IsRow setup.products (f bidder))
+    → All (IsRow setup.products) (map f (range_with_len 0 n))
 rows_of setup f n each k d within =
     let count = length-map-range_with_len f 0 n in
     let below : k < n = omega arith in
@@ -117,7 +123,8 @@ some_closed setup (last ∷ rounds) ended = omega arith
 -- ---- prices
 
 -- the prices after the last closed round are those of the current one
-pub prices_in_force : (setup : SetupFields) (closed : List ClosedRound) → prices_after setup.products (last_sheet closed) ≡ (standing setup.products closed).prices
+pub prices_in_force : (setup : SetupFields) (closed : List ClosedRound) → prices_after setup.products (last_sheet closed) ≡
+    (standing setup.products closed).prices
 prices_in_force setup [] = refl
 prices_in_force setup (last ∷ rounds) = refl
 

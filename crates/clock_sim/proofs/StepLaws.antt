@@ -1,5 +1,6 @@
 -- Steps of a rehearsal, one after the other.
-use Rattle.std.proofs.Common.{◌≡◌, ◌≢◌, ℕ, ◌+◌, ◌<◌, ◌≤◌, Bool, true, false, List, [], ◌∷◌, length, drop, get_or, Option, Some, None, Result, Ok, Err, refl, sym, ◌∙◌, ap, subst, inl, inr}
+use Rattle.std.proofs.Common.{◌≡◌, ◌≢◌, ℕ, ◌+◌, ◌<◌, ◌≤◌, Bool, true, false, List, [], ◌∷◌, length, drop, get_or, Option, Some, None, Result, Ok, Err}
+use Rattle.std.proofs.Common.{refl, sym, ◌∙◌, ap, subst, inl, inr}
 use Rattle.std.specs.Prelude.{MatchResult, if◌then◌else◌}
 use Rattle.std.proofs.lemmas.List.{drop_more, drop_all}
 use Rattle.clock_setup.specs.Limits.{SetupFields}
@@ -13,18 +14,18 @@ use Rattle.clock_front.specs.Replies.{Answer}
 use Rattle.clock_front.specs.Fronts.{reply, StandsForTexts, AnswersText}
 use Rattle.clock_sim.specs.declared.sim_fault.SimFault.{SimFault}
 use Rattle.clock_sim.specs.declared.sim_fault.SimFault.TheVariants.{NoMemory, ClosingsSpent}
-use Rattle.clock_sim.specs.Rehearsal.{if_done, refused_by, after_request, after_request_if, rounds_after, after_put, after_puts, after_close, after_round, rehearsed, simulated}
+use Rattle.clock_sim.specs.Rehearsal.{if_done, refused_by, after_request, rounds_after, after_puts, after_close, after_round, rehearsed, simulated}
 use Rattle.clock_sim.specs.FinalReport.{report_of}
 use Rattle.clock_sim.specs.Replays.{ReplayFields}
 use Rattle.clock_sim.specs.declared.script.Script.{Script}
 use Rattle.clock_sim.specs.declared.closing.Closing.{Closing}
 use Rattle.clock_sim.specs.ScriptedRequests.{scripted_put, scripted_close}
-use Rattle.clock_sim.specs.Steps.{IsTold, ComesTo, MakesStep}
+use Rattle.clock_sim.specs.Steps.{IsTold, ComesTo, MakesStep, IsLeft}
 
-abbrev Texts : Type 0
+abbrev pub Texts : Type 0
 Texts = List (List ℕ)
 
-abbrev Step : Type 0
+abbrev pub Step : Type 0
 Step = Texts → Result Texts SimFault
 
 -- ---- one request
@@ -62,7 +63,8 @@ request_refused text answer old new sender round answered not_good not_memory te
 
 sent_by : {T : Type 0} (text : List ℕ) (answer : Answer) (old new : HouseFields) (sender : Option ℕ) (round : ℕ) (result : Result T SimFault)
     → AnswersText text answer old new → IsTold answer.code (refused_by sender round answer.code) result → (texts : Texts) → StandsForTexts texts old
-    → MatchResult result (λ _. ComesTo (after_request old.setup texts sender round text) new) (IsRefusal NoMemory (after_request old.setup texts sender round text))
+    → MatchResult result (λ _. ComesTo (after_request old.setup texts sender round text) new)
+    (IsRefusal NoMemory (after_request old.setup texts sender round text))
 sent_by text answer old new sender round (Ok done) answered told texts stands = request_done text answer old new sender round answered told texts stands
 sent_by text answer old new sender round (Err fault) answered told texts stands =
     λ other. let refused = told other in
@@ -83,35 +85,6 @@ out_of_memory step old new same = record { setup = same; comes = λ texts stands
 
 -- ---- the requests of a round
 
--- a bidder whose script gives no sheet puts none
-pub nothing_put : {T : Type 0} (old : HouseFields) (bidder : ℕ) (script : Script) (done : T) → scripted_put old.setup old.closed bidder script ≡ None
-    → MakesStep (after_put old.setup bidder script) old old (Ok done)
-nothing_put old bidder script done none = record {
-  setup = refl;
-  comes = λ texts stands. record {
-    texts = texts;
-    is =
-        ap (λ (closed : List ClosedRound). after_request_if old.setup texts (Some bidder) (standing old.setup.products closed).round (scripted_put old.setup closed bidder script)) (sym stands.closed)
-        ∙ ap (λ (put : Option (List ℕ)). after_request_if old.setup texts (Some bidder) (standing_in old).round put) none;
-    stands = stands;
-  };
-}
-
--- the sheet that a script gives is put
-pub sheet_put : {T : Type 0} (old new : HouseFields) (bidder : ℕ) (script : Script) (text : List ℕ) (round : ℕ) (result : Result T SimFault)
-    → scripted_put old.setup old.closed bidder script ≡ Some text → round ≡ (standing_in old).round
-    → MakesStep (λ texts. after_request old.setup texts (Some bidder) round text) old new result → MakesStep (after_put old.setup bidder script) old new result
-sheet_put old new bidder script text round result puts at sent = record {
-  setup = sent.setup;
-  comes = λ texts stands.
-      let P : Result Texts SimFault → Type 0 = λ answer. MatchResult result (λ _. ComesTo answer new) (IsRefusal NoMemory answer) in
-      let same : after_request old.setup texts (Some bidder) round text ≡ after_put old.setup bidder script texts =
-      ap (λ (k : ℕ). after_request old.setup texts (Some bidder) k text) at
-      ∙ ap (λ (put : Option (List ℕ)). after_request_if old.setup texts (Some bidder) (standing_in old).round put) (sym puts)
-      ∙ ap (λ (closed : List ClosedRound). after_request_if old.setup texts (Some bidder) (standing old.setup.products closed).round (scripted_put old.setup closed bidder script)) stands.closed in
-      subst P same (sent.comes texts stands);
-}
-
 -- the operator closes the round
 pub round_closed : {T : Type 0} (old new : HouseFields) (closing : Closing) (text : List ℕ) (round : ℕ) (result : Result T SimFault)
     → text ≡ scripted_close old.setup old.closed closing → round ≡ (standing_in old).round
@@ -123,7 +96,8 @@ round_closed old new closing text round result is at sent = record {
       let same : after_request old.setup texts None round text ≡ after_close old.setup closing texts =
       ap (λ (k : ℕ). after_request old.setup texts None k text) at
       ∙ ap (λ (one : List ℕ). after_request old.setup texts None (standing_in old).round one) is
-      ∙ ap (λ (closed : List ClosedRound). after_request old.setup texts None (standing old.setup.products closed).round (scripted_close old.setup closed closing)) stands.closed in
+      ∙ ap (λ (closed : List ClosedRound). after_request old.setup texts None (standing old.setup.products closed).round
+      (scripted_close old.setup closed closing)) stands.closed in
       subst P same (sent.comes texts stands);
 }
 
@@ -149,12 +123,6 @@ no_further first second old new fault one = record {
 }
 
 -- ---- steps on their way
-
--- the rest of the steps give what the whole gives
-pub record IsLeft (rest : Step) (answer : Result Texts SimFault) (house : HouseFields) : Type 0 where
-  pub texts : Texts
-  pub stands : StandsForTexts texts house
-  pub same : rest texts ≡ answer
 
 pub record IsOnWay (whole rest : Step) (initial now : HouseFields) : Type 0 where
   pub setup : now.setup ≡ initial.setup
@@ -264,71 +232,42 @@ puts_none house old bidder script puts written same gives no_sheet =
     let P : HouseFields → Type 0 = λ now. scripted_put now.setup now.closed bidder script ≡ None in
     subst P same (gives ∙ ap (λ (b : Bool). if b then Some written else None) no_sheet)
 
--- ---- bidder after bidder
-
-next_script : (scripts : List Script) (i : ℕ) (script : Script) → i < length scripts → script ≡ get_or scripts i script → drop i scripts ≡ script ∷ drop (i + 1) scripts
-next_script scripts i script below is = drop_more scripts i script below ∙ ap (λ (one : Script). one ∷ drop (i + 1) scripts) (sym is)
-
-before_put : (whole : Step) (scripts : List Script) (i : ℕ) (script : Script) (initial now : HouseFields) → i < length scripts → script ≡ get_or scripts i script
-    → IsOnWay whole (after_puts initial.setup i (drop i scripts)) initial now
-    → IsOnWay whole (λ texts. after_put initial.setup i script texts >>= after_puts initial.setup (i + 1) (drop (i + 1) scripts)) initial now
-before_put whole scripts i script initial now below is before =
-    let P : List Script → Type 0 = λ rest. IsOnWay whole (after_puts initial.setup i rest) initial now in
-    subst P (next_script scripts i script below is) before
-
-pub next_put : {U : Type 0} (whole : Step) (scripts : List Script) (i : ℕ) (script : Script) (initial now next : HouseFields) (done : U)
-    → i < length scripts → script ≡ get_or scripts i script
-    → IsOnWay whole (after_puts initial.setup i (drop i scripts)) initial now → MakesStep (after_put now.setup i script) now next (Ok done)
-    → IsOnWay whole (after_puts initial.setup (i + 1) (drop (i + 1) scripts)) initial next
-next_put whole scripts i script initial now next done below is before made =
-    goes_on whole (after_put initial.setup i script) (after_puts initial.setup (i + 1) (drop (i + 1) scripts)) initial now next done
-    (before_put whole scripts i script initial now below is before)
-    (subst (λ (setup : SetupFields). MakesStep (after_put setup i script) now next (Ok done)) before.setup made)
-
-pub refused_put : {U T : Type 0} (whole : Step) (scripts : List Script) (i : ℕ) (script : Script) (initial now next : HouseFields) (fault : SimFault)
-    → i < length scripts → script ≡ get_or scripts i script
-    → IsOnWay whole (after_puts initial.setup i (drop i scripts)) initial now → MakesStep {T = U} (after_put now.setup i script) now next (Err fault)
-    → MakesStep {T = T} whole initial next (Err fault)
-refused_put {U = U} {T = T} whole scripts i script initial now next fault below is before made =
-    stops {U = U} {T = T} whole (after_put initial.setup i script) (after_puts initial.setup (i + 1) (drop (i + 1) scripts)) initial now next fault
-    (before_put whole scripts i script initial now below is before)
-    (subst (λ (setup : SetupFields). MakesStep {T = U} (after_put setup i script) now next (Err fault)) before.setup made)
-
-pub all_put : {T : Type 0} (whole : Step) (scripts : List Script) (i : ℕ) (initial now : HouseFields) (done : T) → length scripts ≤ i
-    → IsOnWay whole (after_puts initial.setup i (drop i scripts)) initial now → MakesStep whole initial now (Ok done)
-all_put whole scripts i initial now done past before =
-    let P : List Script → Type 0 = λ rest. IsOnWay whole (after_puts initial.setup i rest) initial now in
-    ends whole (after_puts initial.setup i []) initial now done (subst P (drop_all i scripts past) before) (λ texts. refl)
-
 -- ---- round after round
 
-next_closing : (closings : List Closing) (i : ℕ) (closing : Closing) → i < length closings → closing ≡ get_or closings i closing → drop i closings ≡ closing ∷ drop (i + 1) closings
+next_closing : (closings : List Closing) (i : ℕ) (closing : Closing) → i < length closings → closing ≡ get_or closings i closing
+    → drop i closings ≡ closing ∷ drop (i + 1) closings
 next_closing closings i closing below is = drop_more closings i closing below ∙ ap (λ (one : Closing). one ∷ drop (i + 1) closings) (sym is)
 
 before_round : (whole : Step) (scripts : List Script) (closings : List Closing) (i : ℕ) (closing : Closing) (initial now : HouseFields)
     → i < length closings → closing ≡ get_or closings i closing
     → IsOnWay whole (rehearsed initial.setup scripts (drop i closings)) initial now
-    → IsOnWay whole (λ texts. after_round initial.setup scripts closing texts >>= until_end initial.setup (rehearsed initial.setup scripts (drop (i + 1) closings))) initial now
+    → IsOnWay whole (λ texts. after_round initial.setup scripts closing texts >>=
+    until_end initial.setup (rehearsed initial.setup scripts (drop (i + 1) closings))) initial now
 before_round whole scripts closings i closing initial now below is before =
     let P : List Closing → Type 0 = λ rest. IsOnWay whole (rehearsed initial.setup scripts rest) initial now in
     subst P (next_closing closings i closing below is) before
 
 -- a round is played
-pub round_played : {U : Type 0} (whole : Step) (scripts : List Script) (closings : List Closing) (i : ℕ) (closing : Closing) (initial now next : HouseFields) (done : U)
+pub round_played : {U : Type 0} (whole : Step) (scripts : List Script) (closings : List Closing) (i : ℕ) (closing : Closing)
+    (initial now next : HouseFields) (done : U)
     → i < length closings → closing ≡ get_or closings i closing
     → IsOnWay whole (rehearsed initial.setup scripts (drop i closings)) initial now → MakesStep (after_round now.setup scripts closing) now next (Ok done)
     → IsOnWay whole (until_end initial.setup (rehearsed initial.setup scripts (drop (i + 1) closings))) initial next
 round_played whole scripts closings i closing initial now next done below is before made =
-    goes_on whole (after_round initial.setup scripts closing) (until_end initial.setup (rehearsed initial.setup scripts (drop (i + 1) closings))) initial now next done
+    goes_on whole (after_round initial.setup scripts closing) (until_end initial.setup (rehearsed initial.setup scripts (drop (i + 1) closings)))
+    initial now next done
     (before_round whole scripts closings i closing initial now below is before)
     (subst (λ (setup : SetupFields). MakesStep (after_round setup scripts closing) now next (Ok done)) before.setup made)
 
-pub round_refused : {U T : Type 0} (whole : Step) (scripts : List Script) (closings : List Closing) (i : ℕ) (closing : Closing) (initial now next : HouseFields) (fault : SimFault)
+pub round_refused : {U T : Type 0} (whole : Step) (scripts : List Script) (closings : List Closing) (i : ℕ) (closing : Closing)
+    (initial now next : HouseFields) (fault : SimFault)
     → i < length closings → closing ≡ get_or closings i closing
-    → IsOnWay whole (rehearsed initial.setup scripts (drop i closings)) initial now → MakesStep {T = U} (after_round now.setup scripts closing) now next (Err fault)
+    → IsOnWay whole (rehearsed initial.setup scripts (drop i closings)) initial now → MakesStep {T = U} (after_round now.setup scripts closing) now next
+    (Err fault)
     → MakesStep {T = T} whole initial next (Err fault)
 round_refused {U = U} {T = T} whole scripts closings i closing initial now next fault below is before made =
-    stops {U = U} {T = T} whole (after_round initial.setup scripts closing) (until_end initial.setup (rehearsed initial.setup scripts (drop (i + 1) closings))) initial now next fault
+    stops {U = U} {T = T} whole (after_round initial.setup scripts closing)
+    (until_end initial.setup (rehearsed initial.setup scripts (drop (i + 1) closings))) initial now next fault
     (before_round whole scripts closings i closing initial now below is before)
     (subst (λ (setup : SetupFields). MakesStep {T = U} (after_round setup scripts closing) now next (Err fault)) before.setup made)
 
@@ -340,18 +279,21 @@ before_last whole scripts closings i initial now past before =
     subst P (drop_all i closings past) before
 
 -- no closing is left
-pub closings_spent : {U T : Type 0} (whole : Step) (scripts : List Script) (closings : List Closing) (i : ℕ) (initial now next : HouseFields) (done : U) → length closings ≤ i
+pub closings_spent : {U T : Type 0} (whole : Step) (scripts : List Script) (closings : List Closing) (i : ℕ) (initial now next : HouseFields) (done : U)
+    → length closings ≤ i
     → IsOnWay whole (rehearsed initial.setup scripts (drop i closings)) initial now → MakesStep (after_puts now.setup 0 scripts) now next (Ok done)
     → MakesStep {T = T} whole initial next (Err ClosingsSpent)
 closings_spent {T = T} whole scripts closings i initial now next done past before made =
     spent {T = T} whole (after_puts initial.setup 0 scripts) initial now next done ClosingsSpent (before_last whole scripts closings i initial now past before)
     (subst (λ (setup : SetupFields). MakesStep (after_puts setup 0 scripts) now next (Ok done)) before.setup made)
 
-pub last_refused : {U T : Type 0} (whole : Step) (scripts : List Script) (closings : List Closing) (i : ℕ) (initial now next : HouseFields) (fault : SimFault) → length closings ≤ i
+pub last_refused : {U T : Type 0} (whole : Step) (scripts : List Script) (closings : List Closing) (i : ℕ) (initial now next : HouseFields) (fault : SimFault)
+    → length closings ≤ i
     → IsOnWay whole (rehearsed initial.setup scripts (drop i closings)) initial now → MakesStep {T = U} (after_puts now.setup 0 scripts) now next (Err fault)
     → MakesStep {T = T} whole initial next (Err fault)
 last_refused {U = U} {T = T} whole scripts closings i initial now next fault past before made =
-    stops {U = U} {T = T} whole (after_puts initial.setup 0 scripts) (λ put. Err ClosingsSpent) initial now next fault (before_last whole scripts closings i initial now past before)
+    stops {U = U} {T = T} whole (after_puts initial.setup 0 scripts) (λ put. Err ClosingsSpent) initial now next fault
+    (before_last whole scripts closings i initial now past before)
     (subst (λ (setup : SetupFields). MakesStep {T = U} (after_puts setup 0 scripts) now next (Err fault)) before.setup made)
 
 -- ---- the report
@@ -371,7 +313,8 @@ reported replay setup old new copied held stands done made =
     ∙ ap (λ (closed : List ClosedRound). Ok (report_of new.setup closed)) (sym end.stands.closed)
 
 -- the fault of a rehearsal
-pub faulted : (replay : ReplayFields) (setup : SetupFields) (old new : HouseFields) (fault : SimFault) → setup ≡ replay.setup → old.setup ≡ setup → StandsForTexts [] old
+pub faulted : (replay : ReplayFields) (setup : SetupFields) (old new : HouseFields) (fault : SimFault) → setup ≡ replay.setup → old.setup ≡ setup
+    → StandsForTexts [] old
     → {U : Type 0} → MakesStep {T = U} (rehearsed old.setup replay.scripts replay.closings) old new (Err fault)
     → fault ≢ NoMemory → simulated replay ≡ Err fault
 faulted replay setup old new fault copied held stands made other =

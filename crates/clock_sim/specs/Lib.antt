@@ -12,3 +12,4 @@ pub mod ScriptedRequests
 pub mod FinalReport
 pub mod Rehearsal
 pub mod Steps
+pub mod Groups

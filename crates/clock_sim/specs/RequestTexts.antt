@@ -1,8 +1,9 @@
 -- The texts of the requests that are played, byte for byte those of a live bidder and operator (RFC 9112 for the head). A body is the
 -- compact text of a value of JSON.
---     request_text line token body      a request of a line, by the holder of a token
+--     request_head line token count, request_text line token body      a request of a line, by the holder of a token
 --     put_text token round bids      the request by which a bidder puts a sheet
 --     close_value round increments ties, close_text token round increments ties      the request by which the operator closes a round
+--     whole_text written      the text of a request that was written in two pieces
 use Prim.Native.String.{String}
 use Rattle.std.specs.Prelude.{ℕ, List, [], ◌∷◌, ◌++◌, length, codes, decimal, Some}
 use Rattle.serde_json.specs.Data.{Data}
@@ -13,12 +14,16 @@ use Rattle.clock_bids.specs.declared.sheet.Bid.{Bid}
 use Rattle.clock_order.specs.declared.ties.Tie.{Tie}
 use Rattle.clock_views.specs.Values.{whole, list_of, object_of}
 use Rattle.clock_views.specs.BidderPages.{bids_value}
+use Rattle.clock_sim.specs.declared.request_texts.RequestText.{RequestText}
 
--- the line, the token, the length of the body, an empty line and the body
+-- the line, the token, the length of the body and an empty line
+abbrev pub request_head : List ℕ → List ℕ → ℕ → List ℕ
+request_head line token count =
+    line ++ (codes " HTTP/1.1\r\nauthorization: Bearer " ++ (token ++ ((codes "\r\ncontent-length: " ++ decimal count) ++ codes "\r\n\r\n")))
+
+-- the head, and the body behind it
 abbrev pub request_text : List ℕ → List ℕ → List ℕ → List ℕ
-request_text line token body =
-    line ++ (codes " HTTP/1.1\r\nauthorization: Bearer " ++ (token ++ ((codes "\r\ncontent-length: " ++ decimal (length body))
-    ++ (codes "\r\n\r\n" ++ body))))
+request_text line token body = request_head line token (length body) ++ body
 
 -- a sheet is sent as the page of the bidder's own bids shows it
 abbrev pub put_body : ℕ → List Bid → List ℕ
@@ -52,3 +57,7 @@ close_body round increments ties = compact_text (close_value round increments ti
 
 abbrev pub close_text : List ℕ → ℕ → Increments → List Tie → List ℕ
 close_text token round increments ties = request_text (codes "POST /v1/close") token (close_body round increments ties)
+
+-- the two pieces of a request
+abbrev pub whole_text : RequestText → List ℕ
+whole_text written = written.head.items ++ written.body.items

@@ -2,6 +2,8 @@
 --     IsTold code fault result      what the code of a reply is told as
 --     ComesTo answer house      the step has an end, and the house stands for its texts
 --     MakesStep step old new result      whatever the house stood for, the step was made, or its fault is told
+--     IsLeft rest answer house      the rest of the steps, made from what the house stands for, has this end
+--     MakesWay whole rest old new result      a part of some steps was made, and the rest is left
 use Rattle.std.specs.Prelude.{◌≡◌, ◌≢◌, ℕ, List, Result, Ok, Err, MatchResult}
 use Rattle.clock_setup.specs.Faults.{IsRefusal}
 use Rattle.clock_house.specs.House.{HouseFields}
@@ -33,3 +35,17 @@ pub record MakesStep {T : Type 0} (step : List (List ℕ) → Result (List (List
   pub setup : new.setup ≡ old.setup
   pub comes : (texts : List (List ℕ)) → StandsForTexts texts old
       → MatchResult result (λ done. ComesTo (step texts) new) (IsRefusal NoMemory (step texts))
+
+-- the rest of the steps give this from what the house stands for
+pub record IsLeft (rest : List (List ℕ) → Result (List (List ℕ)) SimFault) (answer : Result (List (List ℕ)) SimFault)
+    (house : HouseFields) : Type 0 where
+  pub texts : List (List ℕ)
+  pub stands : StandsForTexts texts house
+  pub same : rest texts ≡ answer
+
+-- whatever texts the house stood for, the rest is left of the steps; or their fault is told, or there was no memory
+pub record MakesWay {T : Type 0} (whole rest : List (List ℕ) → Result (List (List ℕ)) SimFault) (old new : HouseFields)
+    (result : Result T SimFault) : Type 0 where
+  pub setup : new.setup ≡ old.setup
+  pub comes : (texts : List (List ℕ)) → StandsForTexts texts old
+      → MatchResult result (λ done. IsLeft rest (whole texts) new) (IsRefusal NoMemory (whole texts))

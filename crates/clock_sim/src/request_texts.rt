@@ -155,32 +155,31 @@ fn push_close_body(
     Ok(())
 }
 
-/// Adds a request of a line, with a token and a body.
-fn push_request(text: &mut Vec<u8>, line: &[u8], token: &[u8], body: &[u8]) -> Result<(), NoMemory>
-    ensures { OnOk result (Adds (texts.request_text line.now token.now body.now) text.old.items text.new.items) }
+/// Adds the head of a request of a line, with a token, before a body of so many bytes.
+fn push_head(text: &mut Vec<u8>, line: &[u8], token: &[u8], length: u64) -> Result<(), NoMemory>
+    ensures { OnOk result (Adds (texts.request_head line.now token.now length) text.old.items text.new.items) }
 {
     push_label(text, line)?;
     push_label(text, b" HTTP/1.1\r\nauthorization: Bearer ")?;
     push_label(text, token)?;
-    push_number(text, b"\r\ncontent-length: ", body.len() as u64)?;
+    push_number(text, b"\r\ncontent-length: ", length)?;
     push_label(text, b"\r\n\r\n")?;
-    push_label(text, body)?;
     Ok(())
 }
 
-/// The text of the last request that was written.
+/// The text of the last request that was written, in the two pieces in which it is sent.
 #[derive(Drop)]
 pub(crate) struct RequestText {
+    head: Vec<u8>,
     body: Vec<u8>,
-    text: Vec<u8>,
 }
 
 impl RequestText {
     /// Nothing yet. It takes no memory.
     pub(crate) fn new(alloc: Global) -> RequestText {
         RequestText {
+            head: Vec::new(alloc),
             body: Vec::new(alloc),
-            text: Vec::new(alloc),
         }
     }
 
@@ -191,16 +190,16 @@ impl RequestText {
         round: u64,
         bids: &[Bid],
     ) -> Result<(), NoMemory>
-        ensures { OnOk result (self.new.text.items ≡ texts.put_text token.now round bids.now) }
+        ensures { OnOk result (texts.whole_text self.new ≡ texts.put_text token.now round bids.now) }
     {
         self.body.clear();
         push_put_body(&mut self.body, round, bids)?;
-        self.text.clear();
-        push_request(
-            &mut self.text,
+        self.head.clear();
+        push_head(
+            &mut self.head,
             b"PUT /v1/me/bids",
             token,
-            self.body.as_slice(),
+            self.body.len() as u64,
         )?;
         Ok(())
     }
@@ -213,24 +212,31 @@ impl RequestText {
         increments: &Increments,
         ties: &[Tie],
     ) -> Result<(), NoMemory>
-        ensures { OnOk result (self.new.text.items ≡ texts.close_text token.now round increments.now ties.now) }
+        ensures { OnOk result (texts.whole_text self.new ≡ texts.close_text token.now round increments.now ties.now) }
     {
         self.body.clear();
         push_close_body(&mut self.body, round, increments, ties)?;
-        self.text.clear();
-        push_request(
-            &mut self.text,
+        self.head.clear();
+        push_head(
+            &mut self.head,
             b"POST /v1/close",
             token,
-            self.body.as_slice(),
+            self.body.len() as u64,
         )?;
         Ok(())
     }
 
-    /// The bytes of the request.
-    pub(crate) fn as_slice(&self) -> &[u8]
-        ensures { result.now ≡ self.now.text.items }
+    /// The bytes up to the body.
+    pub(crate) fn head(&self) -> &[u8]
+        ensures { result.now ≡ self.now.head.items }
     {
-        self.text.as_slice()
+        self.head.as_slice()
+    }
+
+    /// The bytes of the body.
+    pub(crate) fn body(&self) -> &[u8]
+        ensures { result.now ≡ self.now.body.items }
+    {
+        self.body.as_slice()
     }
 }

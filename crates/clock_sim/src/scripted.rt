@@ -7,7 +7,7 @@ ghost use Rattle.clock_house.specs.House.{standing_in, holding_in};
 ghost use Rattle.clock_sim.specs.ScriptedRequests as rules;
 ghost use Rattle.clock_sim.specs.Replays.{IsScript, IsLimits};
 ghost use Rattle.clock_sim.specs.Sincere.{sincere_sheet};
-ghost use Rattle.clock_sim.specs.RequestTexts.{put_text};
+ghost use Rattle.clock_sim.specs.RequestTexts.{put_text, whole_text};
 
 use crate::closing::Closing;
 use crate::request_texts::RequestText;
@@ -63,7 +63,7 @@ impl Requests {
     ) -> Result<(), NoMemory>
         requires known { bidder < length house.now.setup.bidders }
         requires limits { IsLimits house.now.setup.products limits.now }
-        ensures { OnOk result (self.new.request.text.items ≡ put_text (bidder_at house.now.setup bidder).token (standing_in house.now).round
+        ensures { OnOk result (whole_text self.new.request ≡ put_text (bidder_at house.now.setup bidder).token (standing_in house.now).round
             (sincere_sheet (standing_in house.now).round (standing_in house.now).prices (holding_in house.now bidder).demands limits.now)) }
     {
         house.keeps();
@@ -90,7 +90,7 @@ impl Requests {
         sheets: &[Option<BidList>],
     ) -> Result<bool, NoMemory>
         ensures { IfOk result (λ puts. option_map (put_text token.now round) (slice_index_or sheets.now (round - 1) None)
-            ≡ (if puts then Some self.new.request.text.items else None)) }
+            ≡ (if puts then Some (whole_text self.new.request) else None)) }
     {
         match sheet_of(sheets, round) {
             None => Ok(false),
@@ -112,7 +112,7 @@ impl Requests {
         requires known { bidder < length house.now.setup.bidders }
         requires script { IsScript house.now.setup.products script.now }
         ensures { IfOk result (λ puts. rules.scripted_put house.now.setup house.now.closed bidder script.now
-            ≡ (if puts then Some self.new.request.text.items else None)) }
+            ≡ (if puts then Some (whole_text self.new.request) else None)) }
     {
         match script {
             Script::Sincere(limits) => {
@@ -134,7 +134,7 @@ impl Requests {
         house: &House<P>,
         closing: &Closing,
     ) -> Result<(), NoMemory>
-        ensures { OnOk result (self.new.request.text.items ≡ rules.scripted_close house.now.setup house.now.closed closing.now) }
+        ensures { OnOk result (whole_text self.new.request ≡ rules.scripted_close house.now.setup house.now.closed closing.now) }
     {
         self.request.write_close(
             house.setup().operator.as_slice(),
@@ -145,10 +145,10 @@ impl Requests {
         Ok(())
     }
 
-    /// The bytes of the last request.
-    pub(crate) fn as_slice(&self) -> &[u8]
-        ensures { result.now ≡ self.now.request.text.items }
+    /// The last request.
+    pub(crate) fn request(&self) -> &RequestText
+        ensures { result.now ≡ self.now.request }
     {
-        self.request.as_slice()
+        &self.request
     }
 }

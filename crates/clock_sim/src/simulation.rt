@@ -13,7 +13,7 @@ use crate::rounds::play;
 use crate::script::Script;
 use crate::scripted::Requests;
 use crate::sim_fault::SimFault;
-use clock_front::Front;
+use clock_front::{Front, Hub};
 use clock_processor::Processor;
 use clock_queue::Woken;
 use std::alloc::Global;
@@ -24,37 +24,40 @@ mod tests;
 /// Plays an auction before its first request.
 fn played<P: Processor>(
     alloc: Global,
-    front: &mut Front<P>,
+    hub: &mut Hub<P>,
     scripts: &[Script],
     closings: &[Closing],
 ) -> Result<Report, SimFault>
-    requires first { StandsForTexts [] front.old }
-    requires each { length scripts.now ≡ length front.old.setup.bidders }
-    requires scripts { All (IsScript front.old.setup.products) scripts.now }
-    ensures ok { let replay : ReplayFields = record { setup = front.old.setup; scripts = scripts.now; closings = closings.now } in
+    requires first { StandsForTexts [] hub.old.house }
+    requires each { length scripts.now ≡ length hub.old.house.setup.bidders }
+    requires scripts { All (IsScript hub.old.house.setup.products) scripts.now }
+    ensures ok { let replay : ReplayFields = record { setup = hub.old.house.setup; scripts = scripts.now; closings = closings.now } in
         IfOk result (λ report. rules.simulated replay ≡ Ok report) }
-    ensures err { let replay : ReplayFields = record { setup = front.old.setup; scripts = scripts.now; closings = closings.now } in
+    ensures err { let replay : ReplayFields = record { setup = hub.old.house.setup; scripts = scripts.now; closings = closings.now } in
         IfErr result (IsRefusal faults.NoMemory (rules.simulated replay)) }
 {
     let mut requests = Requests::new(alloc);
-    play(front, &mut requests, scripts, closings)?;
-    Ok(final_report(alloc, front.house())?)
+    play(alloc, hub, &mut requests, scripts, closings)?;
+    Ok(final_report(alloc, hub.front().house())?)
 }
 
 /// Plays an auction: in each round the bidders, in the order of their numbers, put the sheets that their scripts give,
 /// and then the next closing is made, until the auction ends; the closings that are left are not used.
 ///
-/// Each sheet and closing is sent as the bytes of a live request, so that it takes the path of a live bidder's. The first
-/// fault in this order is answered: a request that is refused, or that the auction goes on and no closing is left.
+/// Each sheet and closing is sent as the bytes of a live request over a connection of its own, so that it takes the path of
+/// a live bidder's. Sheets go in groups of at most 64: all connections of a group are made, then all heads are fed, then all
+/// bodies; one whose body is too long is answered at its head, and goes by itself. The first fault in the order of the
+/// requests is answered: one that is refused, or that the auction goes on and no closing is left.
 pub fn simulate(alloc: Global, replay: &Replay) -> Result<Report, SimFault>
     ensures ok { IfOk result (λ report. rules.simulated replay.now ≡ Ok report) }
     ensures err { IfErr result (IsRefusal faults.NoMemory (rules.simulated replay.now)) }
 {
     let setup = replay.setup.copy(alloc)?;
-    let mut front = Front::new(alloc, setup, Woken)?;
+    let front = Front::new(alloc, setup, Woken)?;
+    let mut hub = Hub::new(alloc, front);
     played(
         alloc,
-        &mut front,
+        &mut hub,
         replay.scripts.as_slice(),
         replay.closings.as_slice(),
     )

@@ -5,7 +5,10 @@
 --     is_refusal code      the request was refused
 use Rattle.std.specs.Prelude.{ℕ, List, Bool, true, false, codes}
 use Rattle.clock_views.specs.declared.code.Code.{Code}
-use Rattle.clock_views.specs.declared.code.Code.TheVariants.{Done, BadHead, BadLength, CutShort, BadJson, Token, Role, NoPage, NoRound, Method, Ended, WrongRound, LongBody, Shape, TooMany, UnknownProduct, PriceRange, OverCap, PriceOrder, MixedDirection, KeepPrice, OverActivity, Increment, TieRange, TieRepeated, TooManyTies, PriceLimit, LongHead, Coding, Memory}
+use Rattle.clock_views.specs.declared.code.Code.TheVariants.{Done, BadHead, BadLength, CutShort, BadJson, Token, Role, NoPage, NoRound, Method, Ended}
+use Rattle.clock_views.specs.declared.code.Code.TheVariants.{WrongRound, LongBody, Shape, TooMany, UnknownProduct, PriceRange, OverCap, PriceOrder}
+use Rattle.clock_views.specs.declared.code.Code.TheVariants.{MixedDirection, KeepPrice, OverActivity, Increment, TieRange, TieRepeated, TooManyTies}
+use Rattle.clock_views.specs.declared.code.Code.TheVariants.{PriceLimit, LongHead, Coding, Memory}
 
 -- the status of HTTP
 abbrev pub status_of : Code → ℕ

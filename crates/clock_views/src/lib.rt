@@ -15,6 +15,8 @@
 
 mod bidder;
 mod code;
+#[cfg(test)]
+mod example;
 mod operator;
 mod pieces;
 mod public;

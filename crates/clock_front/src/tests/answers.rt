@@ -1,5 +1,6 @@
 //! What requests are answered with, one after the other.
-use super::requests::{compare, fields_of, opened, reply_of, setup_of, text_of};
+use super::requests::{compare, fields_of, on_front, reply_of, setup_of, text_of};
+use super::texts::{ACCEPTED, PUT};
 use crate::{Front, run};
 use clock_device::{Items, Text};
 use clock_processor::Plain;
@@ -117,32 +118,38 @@ fn send(rt: &impl Abort, alloc: Global, front: &mut Front<Plain>, row: &str) -> 
 }
 
 /// Sends the requests of all lines in turn.
-fn send_all(rt: &impl Abort, alloc: Global, document: &str, rows: &str) -> Result<(), Fail> {
-    let mut front = opened(alloc, document)?;
+fn send_rows(
+    rt: &impl Abort,
+    alloc: Global,
+    front: &mut Front<Plain>,
+    rows: &str,
+) -> Result<(), Fail> {
     for row in rows.split(';') {
-        send(rt, alloc, &mut front, row.trim())?;
+        send(rt, alloc, front, row.trim())?;
     }
     Ok(())
 }
 
-/// The 147 bytes of a sheet that X puts, byte for byte, and its reply.
+/// Sends the requests of all lines to a front of a set-up.
+fn send_all(rt: &impl Abort, alloc: Global, document: &str, rows: &str) -> Result<(), Fail> {
+    on_front(alloc, document, |front| send_rows(rt, alloc, front, rows))
+}
+
+/// The 147 bytes of a sheet that X puts, byte for byte, and its reply; then the rows.
+fn put_and_told(rt: &impl Abort, alloc: Global, front: &mut Front<Plain>) -> Result<(), Fail> {
+    let reply = reply_of(alloc, front, PUT)?;
+    assert_eq!(rt; reply.as_str(), ACCEPTED);
+    send_rows(rt, alloc, front, SHEETS)
+}
+
 #[test]
 fn a_sheet_is_put_and_told(rt: HostRuntime) -> Result<(), Fail> {
-    let alloc = rt.alloc();
-    let mut front = opened(alloc, ONE_PRODUCT)?;
-    let put =
-        "PUT /v1/me/bids HTTP/1.1\r\nauthorization: Bearer XXXXXXXXXXXXXXXX\r\ncontent-length: 59\r\n\r\n\
-        {\"bids\":[{\"price\":100,\"product\":0,\"quantity\":2}],\"round\":1}";
-    assert_eq!(rt; put.len(), 147);
-    let reply = reply_of(alloc, &mut front, put)?;
-    assert_eq!(rt;
-        reply.as_str(),
-        "HTTP/1.1 200 OK\r\nconnection: close\r\ncontent-length: 36\r\ncontent-type: application/json\r\n\r\n{\"accepted\":true,\"bids\":1,\"round\":1}"
-    );
-    for row in SHEETS.split(';') {
-        send(&rt, alloc, &mut front, row.trim())?;
-    }
-    Ok(())
+    assert_eq!(rt; PUT.len(), 147);
+    on_front(
+        rt.alloc(),
+        ONE_PRODUCT,
+        |front| put_and_told(&rt, rt.alloc(), front),
+    )
 }
 
 #[test]
@@ -191,16 +198,17 @@ fn has_too_many(
     body: &str,
     page: &str,
 ) -> Result<(), Fail> {
-    let mut front = opened(alloc, ONE_PRODUCT)?;
     let text = text_of(alloc, line, who, body)?;
-    compare(
-        rt,
-        alloc,
-        &mut front,
-        text.as_str(),
-        "422 Unprocessable Entity",
-        page,
-    )
+    on_front(alloc, ONE_PRODUCT, |front| {
+        compare(
+            rt,
+            alloc,
+            front,
+            text.as_str(),
+            "422 Unprocessable Entity",
+            page,
+        )
+    })
 }
 
 #[test]

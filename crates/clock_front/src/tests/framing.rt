@@ -2,7 +2,7 @@
 ghost use Rattle.std.specs.Prelude.{◌≤◌, length};
 ghost use Rattle.clock_front.specs.Shown.{Knows};
 
-use super::requests::opened;
+use super::requests::on_front;
 use crate::{Framing, Front, Head, Progress, frame};
 use clock_processor::Plain;
 use clock_setup::fixtures::ONE_PRODUCT;
@@ -120,10 +120,15 @@ fn answer_in_two(
 }
 
 /// Wherever a text is cut in two, its reply ends with a page.
-fn is_answered_in_two(rt: &impl Abort, alloc: Global, text: &[u8], page: &str) -> Result<(), Fail> {
-    let mut front = opened(alloc, ONE_PRODUCT)?;
+fn is_answered_in_two(
+    rt: &impl Abort,
+    alloc: Global,
+    front: &mut Front<Plain>,
+    text: &[u8],
+    page: &str,
+) -> Result<(), Fail> {
     for count in 0..text.len() {
-        let reply = answer_in_two(alloc, &mut front, text, count)?;
+        let reply = answer_in_two(alloc, front, text, count)?;
         assert!(rt; reply.as_str().ends_with(page));
     }
     Ok(())
@@ -132,5 +137,7 @@ fn is_answered_in_two(rt: &impl Abort, alloc: Global, text: &[u8], page: &str) -
 #[test]
 fn a_text_in_pieces_is_answered_as_the_text(rt: HostRuntime) -> Result<(), Fail> {
     let page = r#"{"ended":false,"round":1,"version":1}"#;
-    is_answered_in_two(&rt, rt.alloc(), STATUS.as_bytes(), page)
+    on_front(rt.alloc(), ONE_PRODUCT, |front| {
+        is_answered_in_two(&rt, rt.alloc(), front, STATUS.as_bytes(), page)
+    })
 }

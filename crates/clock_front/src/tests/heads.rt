@@ -1,5 +1,5 @@
 //! What is answered where a head is at a limit or past it, or is none.
-use super::requests::{compare, fields_of, opened};
+use super::requests::{compare, fields_of, on_front};
 use clock_setup::fixtures::ONE_PRODUCT;
 use std::alloc::Global;
 use std::process::Abort;
@@ -45,8 +45,9 @@ fn answers(
     status: &str,
     page: &str,
 ) -> Result<(), Fail> {
-    let mut front = opened(alloc, ONE_PRODUCT)?;
-    compare(rt, alloc, &mut front, text, status, page)
+    on_front(alloc, ONE_PRODUCT, |front| {
+        compare(rt, alloc, front, text, status, page)
+    })
 }
 
 /// The head of a text is read, and its path has no page.

@@ -1,5 +1,7 @@
 //! One bidder's replies in two runs in which it sees the same.
-use super::requests::{fields_of, opened, reply_of, text_of};
+mod in_pieces;
+
+use super::requests::{fields_of, on_front, reply_of, text_of};
 use crate::Front;
 use clock_processor::Plain;
 use std::alloc::Global;
@@ -143,19 +145,18 @@ PUT /v1/me/bids|Y|{"bids":[{"price":110,"product":0,"quantity":1}],"round":2}
 PUT /v1/me/bids|Y|{"bids":[{"price":111,"product":0,"quantity":1}],"round":2}
 POST /v1/close|O|{"increment":10,"round":2,"ties":[[0,0,8]]}"#;
 
-/// A front of what is public and of bidders.
-fn opened_for(alloc: Global, public: &str, bidders: &str) -> Result<Front<Plain>, Fail> {
-    let document = format!(in alloc; "{{{public},\"bidders\":[{bidders}]}}")?;
-    opened(alloc, document.as_str())
-}
-
-/// The reply to the request of a row.
-fn reply_to(alloc: Global, front: &mut Front<Plain>, row: &str) -> Result<String, Fail> {
+/// The text of the request of a row.
+fn text_of_row(alloc: Global, row: &str) -> Result<String, Fail> {
     let fields = fields_of(alloc, row)?;
     let &[line, who, body] = fields.as_slice() else {
         return Err("a row has three fields")?;
     };
-    let text = text_of(alloc, line, who, body)?;
+    text_of(alloc, line, who, body)
+}
+
+/// The reply to the request of a row.
+fn reply_to(alloc: Global, front: &mut Front<Plain>, row: &str) -> Result<String, Fail> {
+    let text = text_of_row(alloc, row)?;
     reply_of(alloc, front, text.as_str())
 }
 
@@ -172,16 +173,23 @@ fn replies_to(alloc: Global, front: &mut Front<Plain>, rows: &str) -> Result<Str
 }
 
 /// All replies to X's own requests, between which the others send theirs.
-fn told_x(alloc: Global, public: &str, bidders: &str, others: &str) -> Result<String, Fail> {
-    let mut front = opened_for(alloc, public, bidders)?;
+fn replies_between(alloc: Global, front: &mut Front<Plain>, others: &str) -> Result<String, Fail> {
     let mut others = others.split('~');
     let mut told = String::new(alloc);
     for own in OWN.split('~') {
-        let replies = replies_to(alloc, &mut front, own)?;
+        let replies = replies_to(alloc, front, own)?;
         told.push_str(replies.as_str())?;
-        replies_to(alloc, &mut front, others.next().unwrap_or(""))?;
+        replies_to(alloc, front, others.next().unwrap_or(""))?;
     }
     Ok(told)
+}
+
+/// The same with a front of what is public and of bidders.
+fn told_x(alloc: Global, public: &str, bidders: &str, others: &str) -> Result<String, Fail> {
+    let document = format!(in alloc; "{{{public},\"bidders\":[{bidders}]}}")?;
+    on_front(alloc, document.as_str(), |front| {
+        replies_between(alloc, front, others)
+    })
 }
 
 /// Whether each of X's pages stands among its replies.

@@ -1,8 +1,15 @@
 mod answers;
 mod bodies;
+mod endless;
+mod events;
 mod framing;
 mod heads;
+mod hostile;
+mod hubs;
 mod isolation;
+mod pieces;
 mod replies;
 mod requests;
 mod routes;
+mod streams;
+mod texts;

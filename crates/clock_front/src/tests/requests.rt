@@ -17,6 +17,19 @@ pub(super) fn opened(alloc: Global, document: &str) -> Result<Front<Plain>, Fail
     Ok(Front::new(alloc, setup, Plain)?)
 }
 
+/// What is done with a front of a set-up. No other function of the tests lets a front go, since each that does so proves it
+/// anew.
+pub(super) fn on_front<T, F: FnOnce(&mut Front<Plain>) -> Result<T, Fail>>(
+    alloc: Global,
+    document: &str,
+    act: F,
+) -> Result<T, Fail>
+    requires { F.IsAlwaysCallable act }
+{
+    let mut front = opened(alloc, document)?;
+    act(&mut front)
+}
+
 /// The fields of a row, with `|` between two.
 pub(super) fn fields_of(alloc: Global, row: &str) -> Result<Vec<&str>, Fail> {
     Ok(row.split('|').collect(alloc)?)
@@ -64,7 +77,7 @@ fn lines_of(status: &str) -> (&'static str, &'static str) {
 }
 
 /// The bytes of a reply with a status and a page.
-fn reply_with(alloc: Global, status: &str, page: &str) -> Result<String, Fail> {
+pub(super) fn reply_with(alloc: Global, status: &str, page: &str) -> Result<String, Fail> {
     let (first, last) = lines_of(status);
     Ok(format!(in alloc;
         "HTTP/1.1 {status}\r\n{first}connection: close\r\ncontent-length: {}\r\ncontent-type: application/json\r\n{last}\r\n{page}",

@@ -8,5 +8,6 @@ returns-in-Ok-clause-private g c =
 
 pub returns-clause-private : goal.returns-clause-private
 returns-clause-private g c =
-    refused_by_view c.put_refusal.result c.args.house.now c.args.bidder c.args.sheet c.as_slice.result.now c.in-Err.fault c.as_slice.ensures c.in-Err.ensures.seen
+    refused_by_view c.put_refusal.result c.args.house.now c.args.bidder c.args.sheet c.as_slice.result.now c.in-Err.fault
+    c.as_slice.ensures c.in-Err.ensures.seen
     c.put_refusal.ensures.reply c.put_refusal.ensures.known

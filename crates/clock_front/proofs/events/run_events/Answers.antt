@@ -18,13 +18,17 @@ pub loop-event-preserved : goal.loop-event-preserved
 loop-event-preserved g c =
     let setup = c.args.setup in
     let before = c.loop-event.invariant in
-    let limits : IsSetup setup = subst IsSetup (ap (λ (house : HouseFields). house.setup) c.house.ensures ∙ c.in_ok-front.ensures.setup) c.keeps.ensures.limits in
+    let limits : IsSetup setup = subst IsSetup (ap (λ (house : HouseFields). house.setup) c.house.ensures
+    ∙ c.in_ok-front.ensures.setup) c.keeps.ensures.limits in
     let hub = c.loop-event.hub in
     let next = c.take_event.new.self in
     let told = c.in_ok-told.ensures in
-    let way = goes_on setup limits c.args.events.now c.loop-event.event-index c.loop-event.replies hub.hub.connections next.hub.connections hub.conns next.conns hub.hub.house next.hub.house
-    c.event-item.result c.in_ok-told.told before c.loop-event-test.true c.event-item.is (told.stands before.numbered before.stands) (told.told before.numbered before.stands) in
-    subst (λ (replies : List EventReply). IsOnItsWay setup c.args.events.now (c.loop-event.event-index + 1) replies next.hub.connections next.conns next.hub.house) (sym c.in_ok-keep.ensures) way
+    let way = goes_on setup limits c.args.events.now c.loop-event.event-index c.loop-event.replies hub.hub.connections
+    next.hub.connections hub.conns next.conns hub.hub.house next.hub.house
+    c.event-item.result c.in_ok-told.told before c.loop-event-test.true c.event-item.is (told.stands before.numbered before.stands)
+    (told.told before.numbered before.stands) in
+    subst (λ (replies : List EventReply). IsOnItsWay setup c.args.events.now
+    (c.loop-event.event-index + 1) replies next.hub.connections next.conns next.hub.house) (sym c.in_ok-keep.ensures) way
 
 pub returns : goal.returns
 returns g c =

@@ -12,7 +12,8 @@ pub returns-then-not-has_method-clause-reply : goal.returns-then-not-has_method-
 returns-then-not-has_method-clause-reply g c = search rules
 
 pub returns-then-not-has_method-clause-private : goal.returns-then-not-has_method-clause-private
-returns-then-not-has_method-clause-private g c = if_told_asker c.not_allowed.result c.args.house.now c.args.asker _ c.requires (returns-then-not-has_method-clause-reply g c)
+returns-then-not-has_method-clause-private g c = if_told_asker c.not_allowed.result c.args.house.now c.args.asker _ c.requires
+    (returns-then-not-has_method-clause-reply g c)
 
 pub returns-clause-reply : goal.returns-clause-reply
 returns-clause-reply g c = search rules

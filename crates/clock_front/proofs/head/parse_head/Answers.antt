@@ -10,7 +10,8 @@ use Rattle.clock_front.proofs.head.parse_head.Goals as goal
 pub returns-then-found-bytes-clause-found : goal.returns-then-found-bytes-clause-found
 returns-then-found-bytes-clause-found c =
     let is = c.in-Ok-Complete.is ∙ ap Ok c.in-Ok-Complete.field-0-is in
-    let of = subst (λ (r : Result (Status RequestSpans) Error). IfComplete r (IsRequestOf c.args.bytes.now c.parse_request.new.headers)) is c.parse_request.ensures.complete in
+    let of = subst (λ (r : Result (Status RequestSpans) Error). IfComplete r (IsRequestOf c.args.bytes.now c.parse_request.new.headers))
+    is c.parse_request.ensures.complete in
     parsed _ _ _ c.requires.tight c.if-found-bytes.true of
 
 pub returns-else-found-bytes-clause-none : goal.returns-else-found-bytes-clause-none

@@ -19,13 +19,15 @@ loop-header-preserved c =
     elim c.if-eq_ignore_ascii_case.branch [
       | then-eq_ignore_ascii_case w ↦ record {
         rest = ap after (ap (shown_values text) w.found-is ∙ w.and_one-found.ensures.shown text)
-            ∙ values_next text headers i _ name c.of.result.now found _ true c.loop-header-test.true c.of.ensures c.eq_ignore_ascii_case.ensures.test w.if-eq_ignore_ascii_case.true
+            ∙ values_next text headers i _ name c.of.result.now found _ true c.loop-header-test.true c.of.ensures
+            c.eq_ignore_ascii_case.ensures.test w.if-eq_ignore_ascii_case.true
             ∙ c.loop-header.invariant.rest;
         within = subst fits (sym w.found-is) (w.and_one-found.ensures.within (length text) (c.requires i _ c.loop-header-test.true).1);
       }
       | else-eq_ignore_ascii_case w ↦ record {
         rest = ap after (ap (shown_values text) w.found-is)
-            ∙ values_next text headers i _ name c.of.result.now found _ false c.loop-header-test.true c.of.ensures c.eq_ignore_ascii_case.ensures.test w.if-eq_ignore_ascii_case.false
+            ∙ values_next text headers i _ name c.of.result.now found _ false c.loop-header-test.true c.of.ensures
+            c.eq_ignore_ascii_case.ensures.test w.if-eq_ignore_ascii_case.false
             ∙ c.loop-header.invariant.rest;
         within = subst fits (sym w.found-is) c.loop-header.invariant.within;
       }

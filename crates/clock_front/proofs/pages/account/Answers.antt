@@ -16,10 +16,14 @@ returns-clause-reply g c =
     let house = c.args.house.now in
     let held = held_is (holding_in house c.args.bidder) c.own.result.eligibility c.own.result.demands.now c.own.ensures.eligibility c.own.ensures.demands in
     written_page _ _ _ _ _ _ c.written.ensures c.in_ok-text.ensures c.in_ok-push_account_page.ensures
-    ∙ ap (λ (setup : SetupFields). with_page Done None (account_value setup.products (bidder_at setup c.args.bidder).name c.own.result.round (record { eligibility = c.own.result.eligibility; demands = c.own.result.demands.now }) c.ended.result)) c.setup.ensures
-    ∙ ap (λ (round : ℕ). with_page Done None (account_value house.setup.products (bidder_at house.setup c.args.bidder).name round (record { eligibility = c.own.result.eligibility; demands = c.own.result.demands.now }) c.ended.result)) c.own.ensures.round
-    ∙ ap (λ (held : Holding). with_page Done None (account_value house.setup.products (bidder_at house.setup c.args.bidder).name (standing_in house).round held c.ended.result)) held
-    ∙ ap (λ (ended : Bool). with_page Done None (account_value house.setup.products (bidder_at house.setup c.args.bidder).name (standing_in house).round (holding_in house c.args.bidder) ended)) c.ended.ensures.is
+    ∙ ap (λ (setup : SetupFields). with_page Done None (account_value setup.products (bidder_at setup c.args.bidder).name c.own.result.round
+    (record { eligibility = c.own.result.eligibility; demands = c.own.result.demands.now }) c.ended.result)) c.setup.ensures
+    ∙ ap (λ (round : ℕ). with_page Done None (account_value house.setup.products (bidder_at house.setup c.args.bidder).name round
+    (record { eligibility = c.own.result.eligibility; demands = c.own.result.demands.now }) c.ended.result)) c.own.ensures.round
+    ∙ ap (λ (held : Holding). with_page Done None (account_value house.setup.products (bidder_at house.setup c.args.bidder).name
+    (standing_in house).round held c.ended.result)) held
+    ∙ ap (λ (ended : Bool). with_page Done None (account_value house.setup.products (bidder_at house.setup c.args.bidder).name
+    (standing_in house).round (holding_in house c.args.bidder) ended)) c.ended.ensures.is
 
 pub returns-clause-private : goal.returns-clause-private
 returns-clause-private g c = told_by_view c.args.house.now c.args.bidder account c.written.result c.requires (returns-clause-reply g c)

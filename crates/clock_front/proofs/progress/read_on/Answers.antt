@@ -33,6 +33,7 @@ returns-in-Ok c = record {
 
 pub returns-in-Err : goal.returns-in-Err
 returns-in-Err c = record {
-  is = known_refused c.args.text.now c.min-limit.result c.in-Some.length c.in-Err.fault c.min-limit.ensures (sym c.in-Some.is ∙ c.head_length.ensures) c.in-Err.ensures.shown;
+  is = known_refused c.args.text.now c.min-limit.result c.in-Some.length c.in-Err.fault c.min-limit.ensures
+      (sym c.in-Some.is ∙ c.head_length.ensures) c.in-Err.ensures.shown;
   within = tt;
 }

@@ -5,7 +5,8 @@ use Rattle.clock_front.proofs.reply.put_lines.Goals as goal
 pub returns-clause-bytes : goal.returns-clause-bytes
 returns-clause-bytes c =
     let text = c.args.text.now in
-    let counted : length c.as_slice.result.now - 256 ≡ length (drop 256 text) = ap (λ (t : List ℕ). length t - 256) c.as_slice.ensures ∙ sym (length-drop 256 text) in
+    let counted : length c.as_slice.result.now - 256 ≡ length (drop 256 text) = ap (λ (t : List ℕ). length t - 256) c.as_slice.ensures
+    ∙ sym (length-drop 256 text) in
     let number = c.as_bytes.ensures.value ∙ c.format.ensures.text ∙ ap decimal counted in
     let last = c.put_before-last.ensures.put ∙ ap (λ (lines : List ℕ). lines ++ drop 256 text) c.last_lines.ensures.bytes in
     let kind = c.put_before-kind.ensures.put ∙ ap (λ (rest : List ℕ). codes "\r\ncontent-type: application/json\r\n" ++ rest) last in

@@ -10,4 +10,5 @@ returns-in-None c =
 pub returns : goal.returns
 returns c =
     named c.args.segment.now c.loop-digit.number (sym c.is_plain_number.ensures ∙ c.if-not-is_plain_number.false)
-    (all_digits_read c.args.segment.now c.loop-digit.digit-index c.loop-digit.number c.loop-digit-test.false c.loop-digit.invariant.rest) c.loop-digit.invariant.short
+    (all_digits_read c.args.segment.now c.loop-digit.digit-index c.loop-digit.number c.loop-digit-test.false c.loop-digit.invariant.rest)
+    c.loop-digit.invariant.short

@@ -19,9 +19,11 @@ loop-text-preserved g c =
     let below : i < length texts = c.loop-text-test.true in
     let at : text ≡ get_or texts i text = rw c.as_slice.ensures c.text-item.is in
     let more : take (i + 1) texts ≡ take i texts ++ text ∷ [] = take_more texts i text below ∙ ap (λ (last : List ℕ). take i texts ++ last ∷ []) (sym at) in
-    let limits : IsSetup c.args.setup = subst IsSetup (ap (λ (house : HouseFields). house.setup) c.house.ensures ∙ c.loop-text.invariant.kept) c.keeps.ensures.limits in
+    let limits : IsSetup c.args.setup = subst IsSetup (ap (λ (house : HouseFields). house.setup) c.house.ensures
+    ∙ c.loop-text.invariant.kept) c.keeps.ensures.limits in
     let next : IsUnderWay c.args.setup (take i texts ++ text ∷ []) (c.loop-text.replies ++ c.answer.result ∷ []) c.answer.new.self =
-    step c.args.setup limits (take i texts) c.loop-text.replies front c.answer.new.self text c.answer.result c.loop-text.invariant c.answer.ensures.setup c.answer.ensures.answered in
+    step c.args.setup limits (take i texts) c.loop-text.replies front c.answer.new.self text c.answer.result c.loop-text.invariant
+    c.answer.ensures.setup c.answer.ensures.answered in
     subst (λ (so_far : List (List ℕ)). IsUnderWay c.args.setup so_far c.push.new.self c.answer.new.self) (sym more)
     (subst (λ (answers : List Answer). IsUnderWay c.args.setup (take i texts ++ text ∷ []) answers c.answer.new.self) (sym c.in_ok-push.ensures.ok) next)
 
@@ -31,6 +33,8 @@ returns g c =
     let same = ap (λ (house : HouseFields). house.setup) c.house-2.ensures ∙ before.kept in
     record {
       end = before.end;
-      runs = subst (λ (texts : List (List ℕ)). Runs c.args.setup [] texts c.loop-text.replies before.end) (take_all c.loop-text.text-index c.args.texts.now (omega arith)) before.runs;
-      sound = subst (λ (setup : SetupFields). IsSound setup (history setup (commands_of c.args.setup before.end))) same (c.keeps-2.ensures.sound (commands_of c.args.setup before.end));
+      runs = subst (λ (texts : List (List ℕ)). Runs c.args.setup [] texts c.loop-text.replies before.end)
+          (take_all c.loop-text.text-index c.args.texts.now (omega arith)) before.runs;
+      sound = subst (λ (setup : SetupFields). IsSound setup (history setup (commands_of c.args.setup before.end))) same
+          (c.keeps-2.ensures.sound (commands_of c.args.setup before.end));
     }

@@ -9,4 +9,5 @@ returns-clause-value c =
     let bytes = c.args.bytes.now in
     let d = setup_data c.in_ok-entries.entries in
     json_value bytes d (c.is_text.ensures c.if-not-is_text.false)
-    (text_is 3 bytes c.new-scan.result c.scanned_setup.new.scan d (omega arith) c.new-scan.ensures c.in_ok-entries.ensures.value (c.ends.ensures c.if-not-ends.false))
+    (text_is 3 bytes c.new-scan.result c.scanned_setup.new.scan d (omega arith) c.new-scan.ensures c.in_ok-entries.ensures.value
+    (c.ends.ensures c.if-not-ends.false))

@@ -14,7 +14,8 @@ members-preserved c =
     let start = c.opens_object.new.self in
     let same : c.closes_object.new.self ≡ l.scan = grind arith in (
       c.in_ok-parts.ensures.value start
-          (subst (λ ts. HasMembers 0 start (members_of (bidder_fields p.eligibility (option_map (λ t. t.now) p.name) (option_map (λ t. t.now) p.token))) ts) (sym same) l.invariant.0),
+          (subst (λ ts. HasMembers 0 start (members_of (bidder_fields p.eligibility (option_map (λ t. t.now) p.name) (option_map (λ t. t.now) p.token))) ts)
+          (sym same) l.invariant.0),
       omega (arith, l.invariant.1, c.in_ok-parts.ensures.shorter, ap length same),
     )
 
@@ -24,5 +25,6 @@ returns-clause-value c =
     let p = l.parts in
     let closed : l.scan ≡ Token.end_object ∷ c.closes_object.new.self = grind arith in
     subst (λ d. Reads 1 c.args.scan.now d c.closes_object.new.self) c.in_ok-entry.ensures
-    (members_end 0 c.args.scan.now c.opens_object.new.self l.scan c.closes_object.new.self (members_of (bidder_fields p.eligibility (option_map (λ t. t.now) p.name) (option_map (λ t. t.now) p.token)))
+    (members_end 0 c.args.scan.now c.opens_object.new.self l.scan c.closes_object.new.self
+    (members_of (bidder_fields p.eligibility (option_map (λ t. t.now) p.name) (option_map (λ t. t.now) p.token)))
     (c.opens_object.ensures (grind arith)) l.invariant.0 closed)

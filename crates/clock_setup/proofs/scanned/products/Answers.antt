@@ -14,7 +14,8 @@ items-init c =
       subst (λ list. HasItems 1 start (map (product_data 0) list) start) (sym c.new-entries.ensures.items) (items_start 1 start),
       omega arith,
       λ _. c.new-entries.ensures.items,
-      λ _. subst (All (λ (product : Product). product.granule ≡ first_granule)) (sym c.new-entries.ensures.items) (All-nil (λ (product : Product). product.granule ≡ first_granule)),
+      λ _. subst (All (λ (product : Product). product.granule ≡ first_granule)) (sym c.new-entries.ensures.items)
+          (All-nil (λ (product : Product). product.granule ≡ first_granule)),
     )
 
 pub items-preserved : goal.items-preserved
@@ -30,10 +31,12 @@ items-preserved c =
     let P = λ (product : Product). product.granule ≡ first_granule in
     let same : c.closes_array.new.self ≡ l.scan = grind arith in
     let reads : Reads 1 l.scan (product_data version entry) after =
-    subst (λ v. Reads 1 l.scan (product_data v entry) after) (sym is) (subst (λ ts. Reads 1 ts (product_data known entry) after) same c.in-Some.ensures.value) in
+    subst (λ v. Reads 1 l.scan (product_data v entry) after) (sym is) (subst (λ ts. Reads 1 ts (product_data known entry) after) same c.in-Some.ensures.value)
+    in
     let kept = of_common_version l.version version l.entries.items l.invariant.2 agrees in (
       subst (λ list. HasItems 1 start (map (product_data version) list) after) (sym c.in_ok-push.ensures.items)
-          (items_push_next 1 (product_data version) start l.scan after l.entries.items entry (subst (λ values. HasItems 1 start values l.scan) kept l.invariant.0) reads),
+          (items_push_next 1 (product_data version) start l.scan after l.entries.items entry
+          (subst (λ values. HasItems 1 start values l.scan) kept l.invariant.0) reads),
       omega (arith, l.invariant.1, c.in-Some.ensures.shorter, ap length same),
       λ zero. absurd (omega (arith, zero, is, c.in-Some.ensures.version.0)),
       λ one. subst (All P) (sym c.in_ok-push.ensures.items) (All-push P l.entries.items entry

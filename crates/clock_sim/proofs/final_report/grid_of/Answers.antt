@@ -8,6 +8,7 @@ pub returns : goal.returns
 returns g c =
     let house = c.args.house.now in
     let f = λ (bidder : ℕ). (holding_in house bidder).demands in
-    let done : c.loop-bidder.bidder ≡ length house.setup.bidders = omega (arith, c.bidder_count-bidder-end.ensures, ap (λ (s : SetupFields). length s.bidders) c.setup-setup.ensures) in
+    let done : c.loop-bidder.bidder ≡ length house.setup.bidders =
+    omega (arith, c.bidder_count-bidder-end.ensures, ap (λ (s : SetupFields). length s.bidders) c.setup-setup.ensures) in
     filled-all f (length house.setup.products) (length house.setup.bidders) c.loop-bidder.grid
     (subst (λ (n : ℕ). IsFilled f (length house.setup.products) (length house.setup.bidders) n c.loop-bidder.grid) done c.loop-bidder.invariant)

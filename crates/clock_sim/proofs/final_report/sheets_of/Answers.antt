@@ -15,7 +15,8 @@ loop-round-preserved g c =
     let is : slice_get all c.loop-round.round ≡ Some copy = c.sheet_at.ensures ∙ ap Some (sym c.in_ok-copy.ensures.same) in
     let P : RoundSheet → Type 0 = λ sheet. All IsPricedLine sheet.lines in
     record {
-      same = c.in_ok-push.ensures.ok ∙ ap (λ (so_far : List RoundSheet). so_far ++ copy ∷ []) c.loop-round.invariant.same ∙ sym (take_next all c.loop-round.round copy is);
+      same = c.in_ok-push.ensures.ok ∙ ap (λ (so_far : List RoundSheet). so_far ++ copy ∷ []) c.loop-round.invariant.same
+          ∙ sym (take_next all c.loop-round.round copy is);
       priced = subst (All P) (sym c.in_ok-push.ensures.ok) (All-push P c.loop-round.sheets copy c.loop-round.invariant.priced c.in_ok-copy.ensures.priced);
     }
 
@@ -24,4 +25,5 @@ returns-clause-same g c =
     let closed = c.args.house.now.closed in
     let all = map (λ (closed : ClosedRound). closed.sheet) (reverse closed) in
     c.loop-round.invariant.same
-    ∙ take_all c.loop-round.round all (omega (arith, length-map (reverse closed) (λ (closed : ClosedRound). closed.sheet), length-reverse closed, c.closed_rounds-round-end.ensures))
+    ∙ take_all c.loop-round.round all
+    (omega (arith, length-map (reverse closed) (λ (closed : ClosedRound). closed.sheet), length-reverse closed, c.closed_rounds-round-end.ensures))

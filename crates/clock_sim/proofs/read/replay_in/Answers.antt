@@ -15,7 +15,8 @@ returns-in_err-setup-clause-err c =
 
 pub invariant_of-result : goal.invariant_of-result
 invariant_of-result c =
-    let first : None ≡ first_fault (replay_checks (record { setup = c.in_ok-setup.setup; scripts = c.in-Some.entries.scripts; closings = c.in-Some.entries.closings })) =
+    let first : None ≡ first_fault
+    (replay_checks (record { setup = c.in_ok-setup.setup; scripts = c.in-Some.entries.scripts; closings = c.in-Some.entries.closings })) =
     rw (← c.as_slice.ensures, ← c.as_slice-2.ensures) c.in-None.ensures.fault in
     replay_within _ c.in-None.ensures.limits (sym first)
 
@@ -29,7 +30,8 @@ returns-in-Some-replay_fault-clause-err c =
 
 pub returns-in-None-clause-ok : goal.returns-in-None-clause-ok
 returns-in-None-clause-ok c =
-    let first : None ≡ first_fault (replay_checks (record { setup = c.in_ok-setup.setup; scripts = c.in-Some.entries.scripts; closings = c.in-Some.entries.closings })) =
+    let first : None ≡ first_fault
+    (replay_checks (record { setup = c.in_ok-setup.setup; scripts = c.in-Some.entries.scripts; closings = c.in-Some.entries.closings })) =
     rw (← c.as_slice.ensures, ← c.as_slice-2.ensures) c.in-None.ensures.fault in
     let read = sym (rw c.in-Some.is at c.in_ok-entries.ensures) in
     replay_taken (view c.args.value.now) _ c.in_ok-setup.setup read c.in_ok-setup.ensures.ok first

@@ -8,7 +8,7 @@ use Rattle.clock_sim.proofs.StepLaws.{begins, round_played, round_refused, goes_
 use Rattle.clock_sim.proofs.rounds.play.Goals as goal
 
 pub loop-closing-init : goal.loop-closing-init
-loop-closing-init g c = begins (rehearsed c.args.front.now.setup c.args.scripts.now c.args.closings.now) c.args.front.now
+loop-closing-init g c = begins (rehearsed c.args.hub.now.house.setup c.args.scripts.now c.args.closings.now) c.args.hub.now.house
 
 pub play_round-requires-clause-each : goal.play_round-requires-clause-each
 play_round-requires-clause-each g c = c.requires.each ∙ sym (ap (λ (setup : SetupFields). length setup.bidders) c.loop-closing.invariant.setup)
@@ -28,48 +28,52 @@ pub returns-in_err-play_round-clause-step : goal.returns-in_err-play_round-claus
 returns-in_err-play_round-clause-step g c =
     let told = err_from_is_err_and c.from_residual.result c.from_residual.ensures.1 in
     rw (told.1, told.2)
-    (round_refused (rehearsed c.args.front.now.setup c.args.scripts.now c.args.closings.now) c.args.scripts.now c.args.closings.now
-    c.loop-closing.closing-index c.closing-item.result c.args.front.now c.loop-closing.front c.play_round.new.front _ c.loop-closing-test.true
+    (round_refused (rehearsed c.args.hub.now.house.setup c.args.scripts.now c.args.closings.now) c.args.scripts.now c.args.closings.now
+    c.loop-closing.closing-index c.closing-item.result c.args.hub.now.house c.loop-closing.hub.house c.play_round.new.hub.house _ c.loop-closing-test.true
     c.closing-item.is c.loop-closing.invariant c.in_err-play_round.ensures)
 
 pub returns-then-ended-clause-step : goal.returns-then-ended-clause-step
 returns-then-ended-clause-step g c =
-    let setup = c.args.front.now.setup in
+    let setup = c.args.hub.now.house.setup in
     let scripts = c.args.scripts.now in
     let closings = c.args.closings.now in
     let i = c.loop-closing.closing-index in
     let whole = rehearsed setup scripts closings in
-    let over : (standing_in c.play_round.new.front).ended ≡ true =
-    ap (λ (house : HouseFields). (standing_in house).ended) (sym c.house.ensures) ∙ sym c.ended.ensures.is ∙ c.if-ended.true in
-    ends_there whole (rehearsed setup scripts (drop (i + 1) closings)) c.args.front.now c.play_round.new.front _
-    (round_played whole scripts closings i c.closing-item.result c.args.front.now c.loop-closing.front c.play_round.new.front _ c.loop-closing-test.true
+    let over : (standing_in c.play_round.new.hub.house).ended ≡ true =
+    ap (λ (house : HouseFields). (standing_in house).ended) (sym (c.house.ensures ∙ c.front.ensures)) ∙ sym c.ended.ensures.is ∙ c.if-ended.true in
+    ends_there whole (rehearsed setup scripts (drop (i + 1) closings)) c.args.hub.now.house c.play_round.new.hub.house _
+    (round_played whole scripts closings i c.closing-item.result c.args.hub.now.house c.loop-closing.hub.house c.play_round.new.hub.house _
+    c.loop-closing-test.true
     c.closing-item.is c.loop-closing.invariant c.in_ok-play_round.ensures) over
 
 pub returns-then-ended-clause-ended : goal.returns-then-ended-clause-ended
 returns-then-ended-clause-ended g c =
-    ap (λ (house : HouseFields). (standing_in house).ended) (sym c.house.ensures) ∙ sym c.ended.ensures.is ∙ c.if-ended.true
+    ap (λ (house : HouseFields). (standing_in house).ended) (sym (c.house.ensures ∙ c.front.ensures)) ∙ sym c.ended.ensures.is ∙ c.if-ended.true
 
 pub loop-closing-preserved : goal.loop-closing-preserved
 loop-closing-preserved g c =
-    let setup = c.args.front.now.setup in
+    let setup = c.args.hub.now.house.setup in
     let scripts = c.args.scripts.now in
     let closings = c.args.closings.now in
     let i = c.loop-closing.closing-index in
     let whole = rehearsed setup scripts closings in
-    let going : (standing_in c.play_round.new.front).ended ≡ false =
-    ap (λ (house : HouseFields). (standing_in house).ended) (sym c.house.ensures) ∙ sym c.ended.ensures.is ∙ c.if-ended.false in
-    goes_past whole (rehearsed setup scripts (drop (i + 1) closings)) c.args.front.now c.play_round.new.front
-    (round_played whole scripts closings i c.closing-item.result c.args.front.now c.loop-closing.front c.play_round.new.front _ c.loop-closing-test.true
+    let going : (standing_in c.play_round.new.hub.house).ended ≡ false =
+    ap (λ (house : HouseFields). (standing_in house).ended) (sym (c.house.ensures ∙ c.front.ensures)) ∙ sym c.ended.ensures.is ∙ c.if-ended.false in
+    goes_past whole (rehearsed setup scripts (drop (i + 1) closings)) c.args.hub.now.house c.play_round.new.hub.house
+    (round_played whole scripts closings i c.closing-item.result c.args.hub.now.house c.loop-closing.hub.house c.play_round.new.hub.house _
+    c.loop-closing-test.true
     c.closing-item.is c.loop-closing.invariant c.in_ok-play_round.ensures) going
 
 pub returns-in_err-put_all-clause-step : goal.returns-in_err-put_all-clause-step
 returns-in_err-put_all-clause-step g c =
     let told = err_from_is_err_and c.from_residual-in_err-put_all.result c.from_residual-in_err-put_all.ensures.1 in
     rw (told.1, told.2)
-    (last_refused (rehearsed c.args.front.now.setup c.args.scripts.now c.args.closings.now) c.args.scripts.now c.args.closings.now
-    c.loop-closing.closing-index c.args.front.now c.loop-closing.front c.put_all.new.front _ (omega arith) c.loop-closing.invariant c.in_err-put_all.ensures)
+    (last_refused (rehearsed c.args.hub.now.house.setup c.args.scripts.now c.args.closings.now) c.args.scripts.now c.args.closings.now
+    c.loop-closing.closing-index c.args.hub.now.house c.loop-closing.hub.house c.put_all.new.hub.house _ (omega arith) c.loop-closing.invariant
+    c.in_err-put_all.ensures)
 
 pub returns-clause-step : goal.returns-clause-step
 returns-clause-step g c =
-    closings_spent (rehearsed c.args.front.now.setup c.args.scripts.now c.args.closings.now) c.args.scripts.now c.args.closings.now
-    c.loop-closing.closing-index c.args.front.now c.loop-closing.front c.put_all.new.front _ (omega arith) c.loop-closing.invariant c.in_ok-put_all.ensures
+    closings_spent (rehearsed c.args.hub.now.house.setup c.args.scripts.now c.args.closings.now) c.args.scripts.now c.args.closings.now
+    c.loop-closing.closing-index c.args.hub.now.house c.loop-closing.hub.house c.put_all.new.hub.house _ (omega arith) c.loop-closing.invariant
+    c.in_ok-put_all.ensures

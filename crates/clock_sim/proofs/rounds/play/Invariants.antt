@@ -6,4 +6,5 @@ use Rattle.clock_sim.proofs.rounds.play.Given as goal
 -- the closings that are left are made
 abbrev pub invariant-loop-closing : goal.invariant-loop-closing
 invariant-loop-closing g l =
-    IsOnWay (rehearsed l.initial.front.setup l.scripts l.closings) (rehearsed l.initial.front.setup l.scripts (drop l.closing-index l.closings)) l.initial.front l.front
+    IsOnWay (rehearsed l.initial.hub.house.setup l.scripts l.closings) (rehearsed l.initial.hub.house.setup l.scripts (drop l.closing-index l.closings))
+    l.initial.hub.house l.hub.house

@@ -10,12 +10,13 @@ pub returns-in_err-put_all : goal.returns-in_err-put_all
 returns-in_err-put_all g c =
     let told = err_from_is_err_and c.from_residual.result c.from_residual.ensures.1 in
     rw (told.1, told.2)
-    (no_further (after_puts c.args.front.now.setup 0 c.args.scripts.now) (after_close c.args.front.now.setup c.args.closing.now)
-    c.args.front.now c.put_all.new.front _ c.in_err-put_all.ensures)
+    (no_further (after_puts c.args.hub.now.house.setup 0 c.args.scripts.now) (after_close c.args.hub.now.house.setup c.args.closing.now)
+    c.args.hub.now.house c.put_all.new.hub.house _ c.in_err-put_all.ensures)
 
 pub returns : goal.returns
 returns g c =
-    and_then (after_puts c.args.front.now.setup 0 c.args.scripts.now) (after_close c.args.front.now.setup c.args.closing.now)
-    c.args.front.now c.put_all.new.front c.close_scripted.new.front _ c.close_scripted.result c.in_ok-put_all.ensures
-    (subst (λ (setup : SetupFields). MakesStep (after_close setup c.args.closing.now) c.put_all.new.front c.close_scripted.new.front c.close_scripted.result)
+    and_then (after_puts c.args.hub.now.house.setup 0 c.args.scripts.now) (after_close c.args.hub.now.house.setup c.args.closing.now)
+    c.args.hub.now.house c.put_all.new.hub.house c.close_scripted.new.hub.house _ c.close_scripted.result c.in_ok-put_all.ensures
+    (subst (λ (setup : SetupFields). MakesStep (after_close setup c.args.closing.now)
+    c.put_all.new.hub.house c.close_scripted.new.hub.house c.close_scripted.result)
     c.in_ok-put_all.ensures.setup c.close_scripted.ensures)

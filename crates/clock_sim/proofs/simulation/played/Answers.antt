@@ -8,14 +8,14 @@ use Rattle.clock_sim.proofs.simulation.played.Goals as goal
 
 pub returns-in_err-play-clause-err : goal.returns-in_err-play-clause-err
 returns-in_err-play-clause-err g c =
-    let front = c.args.front.now in
-    let replay : ReplayFields = record { setup = front.setup; scripts = c.args.scripts.now; closings = c.args.closings.now } in
+    let house = c.args.hub.now.house in
+    let replay : ReplayFields = record { setup = house.setup; scripts = c.args.scripts.now; closings = c.args.closings.now } in
     let told = err_from_is_err_and c.from_residual.result c.from_residual.ensures.1 in
-    rw (told.1, told.2) (faulted replay front.setup front c.play.new.front _ refl refl c.requires.first c.in_err-play.ensures.step)
+    rw (told.1, told.2) (faulted replay house.setup house c.play.new.hub.house _ refl refl c.requires.first c.in_err-play.ensures.step)
 
 pub returns-clause-ok : goal.returns-clause-ok
 returns-clause-ok g c =
-    let front = c.args.front.now in
-    let replay : ReplayFields = record { setup = front.setup; scripts = c.args.scripts.now; closings = c.args.closings.now } in
-    reported replay front.setup front c.play.new.front refl refl c.requires.first _ c.in_ok-play.ensures.step
-    ∙ ap Ok (sym (c.in_ok-final_report.ensures ∙ ap (λ (house : HouseFields). report_of house.setup house.closed) c.house.ensures))
+    let house = c.args.hub.now.house in
+    let replay : ReplayFields = record { setup = house.setup; scripts = c.args.scripts.now; closings = c.args.closings.now } in
+    reported replay house.setup house c.play.new.hub.house refl refl c.requires.first _ c.in_ok-play.ensures.step
+    ∙ ap Ok (sym (c.in_ok-final_report.ensures ∙ ap (λ (house : HouseFields). report_of house.setup house.closed) (c.house.ensures ∙ c.front.ensures)))

@@ -2,6 +2,7 @@ use Rattle.std.proofs.Common.{◌≡◌, List, Ok, ap, subst, ◌∙◌}
 use Rattle.std.specs.Prelude.{IfOk, IfErr}
 use Rattle.clock_setup.specs.Limits.{SetupFields}
 use Rattle.clock_setup.specs.Faults.{IsRefusal}
+use Rattle.clock_front.specs.Hubs.{HubFields}
 use Rattle.clock_sim.specs.declared.script.Script.{Script}
 use Rattle.clock_sim.specs.declared.closing.Closing.{Closing}
 use Rattle.clock_sim.specs.Replays.{ReplayFields}
@@ -17,8 +18,9 @@ returns-clause-ok c =
     let scripts = c.as_slice.result.now in
     let closings = c.as_slice-2.result.now in
     let inside = c.replay.inside in
-    let same : replay_of c.in_ok-front.front.setup scripts closings ≡ c.args.replay.now =
-    ap (λ (s : SetupFields). replay_of s scripts closings) (c.in_ok-front.ensures.setup ∙ c.in_ok-setup.ensures)
+    let same : replay_of c.new-hub.result.house.setup scripts closings ≡ c.args.replay.now =
+    ap (λ (s : SetupFields). replay_of s scripts closings) (ap (λ (hub : HubFields). hub.house.setup) c.new-hub.ensures ∙ c.in_ok-front.ensures.setup
+    ∙ c.in_ok-setup.ensures)
     ∙ ap (λ (list : List Script). replay_of inside.setup list closings) c.as_slice.ensures
     ∙ ap (λ (list : List Closing). replay_of inside.setup inside.scripts list) c.as_slice-2.ensures ∙ c.replay.view_is in
     subst (λ (replay : ReplayFields). IfOk c.played.result (λ report. simulated replay ≡ Ok report)) same c.played.ensures.ok
@@ -28,8 +30,9 @@ returns-clause-err c =
     let scripts = c.as_slice.result.now in
     let closings = c.as_slice-2.result.now in
     let inside = c.replay.inside in
-    let same : replay_of c.in_ok-front.front.setup scripts closings ≡ c.args.replay.now =
-    ap (λ (s : SetupFields). replay_of s scripts closings) (c.in_ok-front.ensures.setup ∙ c.in_ok-setup.ensures)
+    let same : replay_of c.new-hub.result.house.setup scripts closings ≡ c.args.replay.now =
+    ap (λ (s : SetupFields). replay_of s scripts closings) (ap (λ (hub : HubFields). hub.house.setup) c.new-hub.ensures ∙ c.in_ok-front.ensures.setup
+    ∙ c.in_ok-setup.ensures)
     ∙ ap (λ (list : List Script). replay_of inside.setup list closings) c.as_slice.ensures
     ∙ ap (λ (list : List Closing). replay_of inside.setup inside.scripts list) c.as_slice-2.ensures ∙ c.replay.view_is in
     subst (λ (replay : ReplayFields). IfErr c.played.result (IsRefusal faults.NoMemory (simulated replay))) same c.played.ensures.err

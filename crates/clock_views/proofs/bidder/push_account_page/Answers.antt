@@ -5,7 +5,8 @@ use Rattle.clock_views.proofs.bidder.push_account_page.Goals as goal
 
 pub returns : goal.returns
 returns c =
-    together (account_in_pieces c.args.setup.now.products (bidder_at c.args.setup.now c.args.bidder).name c.args.own.round (record { eligibility = c.args.own.eligibility; demands = c.args.own.demands.now }) c.args.ended)
+    together (account_in_pieces c.args.setup.now.products (bidder_at c.args.setup.now c.args.bidder).name c.args.own.round
+    (record { eligibility = c.args.own.eligibility; demands = c.args.own.demands.now }) c.args.ended)
     (before (rw c.activity.ensures at c.in_ok-push_number.ensures)
     (before c.in_ok-push_numbers.ensures
     (before c.in_ok-push_number-2.ensures

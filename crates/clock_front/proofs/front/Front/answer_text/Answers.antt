@@ -52,7 +52,8 @@ returns-in-Refused-clause-followed g c =
     let text = c.args.text.now in
     let who = asker house.setup (request_of text).token in
     let others = subst (λ (h : HouseFields). IsFollowedBy other h h) c.self.view_is c.keeps.ensures.others in
-    let same = sym (away_other house.setup who c.in-Refused.code) ∙ ap (command_of house.setup who) (ask_by text (refusal c.in-Refused.code) c.in-Refused.ensures) in
+    let same = sym (away_other house.setup who c.in-Refused.code)
+    ∙ ap (command_of house.setup who) (ask_by text (refusal c.in-Refused.code) c.in-Refused.ensures) in
     subst (λ (command : Command). IsFollowedBy command house house) same others
 
 pub returns-in-Whole-clause-reply : goal.returns-in-Whole-clause-reply
@@ -65,7 +66,8 @@ returns-in-Whole-clause-reply g c =
     told_as c.answer_head.result _ _
     (ap (λ (h : HouseFields). answer_of (outcome h c.asker-asker.result ask)) c.self.view_is
     ∙ ap (λ (who : Asker). answer_of (outcome house who ask)) (c.asker-asker.ensures.shown house.setup table)
-    ∙ ap (λ (request : Request). answer_of (outcome house (asker house.setup request.token) request.ask)) (whole_request text head c.in-Whole.body.now c.in-Whole.ensures))
+    ∙ ap (λ (request : Request). answer_of (outcome house (asker house.setup request.token) request.ask))
+    (whole_request text head c.in-Whole.body.now c.in-Whole.ensures))
     c.answer_head.ensures.reply
 
 pub returns-in-Whole-clause-followed : goal.returns-in-Whole-clause-followed
@@ -77,7 +79,8 @@ returns-in-Whole-clause-followed g c =
     let new = c.answer_head.new.house in
     let table = subst (λ (h : HouseFields). IsTableOf h.setup c.self.inside.tokens) c.self.view_is c.self.invariant in
     let same = ap (λ (who : Asker). command_of house.setup who ask) (c.asker-asker.ensures.shown house.setup table)
-    ∙ ap (λ (request : Request). command_of house.setup (asker house.setup request.token) request.ask) (whole_request text head c.in-Whole.body.now c.in-Whole.ensures) in
+    ∙ ap (λ (request : Request). command_of house.setup (asker house.setup request.token) request.ask)
+    (whole_request text head c.in-Whole.body.now c.in-Whole.ensures) in
     done_as c.answer_head.result
     (λ followed. subst (λ (command : Command). IsFollowedBy command house new) same
     (subst (λ (h : HouseFields). IsFollowedBy (command_of h.setup c.asker-asker.result ask) h new) c.self.view_is followed))

@@ -17,6 +17,7 @@ returns-clause-stands g c = λ numbered stands.
       | in-Ok w ↦ subst (λ (o : Option Conn). with_conn o new) (sym w.conn-is)
           (connected_stands numbered old.connections new.connections conns w.in-Ok.conn stands w.in-Ok.ensures.connected)
       | in-Err-Full w ↦ subst (λ (o : Option Conn). with_conn o new) (sym w.conn-is)
-          (subst (with_conn None) (sym w.in-Err-Full.ensures.still) (refused_stands numbered old.connections conns stands (subst (IsConnectFault old.connections) w.in-Err-Full.field-0-is w.in-Err-Full.ensures.fault) c.requires))
+          (subst (with_conn None) (sym w.in-Err-Full.ensures.still) (refused_stands numbered old.connections conns stands
+          (subst (IsConnectFault old.connections) w.in-Err-Full.field-0-is w.in-Err-Full.ensures.fault) c.requires))
     ] in
     then_ok c.push.result (λ pushed. subst (Stands (numbered ++ opened numbered ∷ []) new.connections) (sym pushed) made) c.push.ensures.ok

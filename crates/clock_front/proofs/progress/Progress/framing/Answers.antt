@@ -11,7 +11,8 @@ returns-in-Waiting c = framed_of c.args.text.now _ (ap (shown_progress c.args.te
 
 pub returns-in-Complete : goal.returns-in-Complete
 returns-in-Complete c =
-    whole_of c.args.text.now _ _ c.in-Complete.head.length c.in-Complete.head.body c.head_in.ensures (ap (shown_progress c.args.text.now) (sym c.in-Complete.is) ∙ c.requires.is)
+    whole_of c.args.text.now _ _ c.in-Complete.head.length c.in-Complete.head.body c.head_in.ensures
+    (ap (shown_progress c.args.text.now) (sym c.in-Complete.is) ∙ c.requires.is)
 
 pub returns-in-Refused : goal.returns-in-Refused
 returns-in-Refused c = framed_of c.args.text.now _ (ap (shown_progress c.args.text.now) (sym c.in-Refused.is) ∙ c.requires.is)

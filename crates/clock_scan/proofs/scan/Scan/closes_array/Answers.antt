@@ -11,5 +11,6 @@ returns c =
     let at = c.after_space-at.result in
     let may : may_close (place_of s.place) ≡ true = sym c.may_close.ensures ∙ c.if-not-may_close.false in
     let is = c.if-byte_at-ne93.false in
-    sym c.self.view_is ∙ array_closes (place_of s.place) _ _ may (sym c.after_space-at.ensures ∙ close_bracket_at s.bytes.now at (c.byte_at.ensures.within (omega (arith, is))) (sym c.byte_at.ensures.value ∙ is))
+    sym c.self.view_is ∙ array_closes (place_of s.place) _ _ may
+    (sym c.after_space-at.ensures ∙ close_bracket_at s.bytes.now at (c.byte_at.ensures.within (omega (arith, is))) (sym c.byte_at.ensures.value ∙ is))
     ∙ ap (λ ts. end_array ∷ ts) (sym c.after_value-place.ensures)

@@ -13,7 +13,8 @@ pub items-preserved : goal.items-preserved
 items-preserved c =
     let l = c.items in
     let same : c.closes_array.new.self ≡ l.self = grind arith in
-    let reads : Reads 0 l.self (whole c.in-Some.next) c.number.new.self = subst (λ ts. Reads 0 ts (whole c.in-Some.next) c.number.new.self) same c.in-Some.ensures.value in (
+    let reads : Reads 0 l.self (whole c.in-Some.next) c.number.new.self = subst (λ ts. Reads 0 ts (whole c.in-Some.next) c.number.new.self)
+    same c.in-Some.ensures.value in (
       subst (λ list. HasItems 0 c.opens_array.new.self (map whole list) c.number.new.self) (sym c.in_ok-push.ensures.items)
           (items_push_next 0 whole c.opens_array.new.self l.self c.number.new.self l.list.items c.in-Some.next l.invariant.0 reads),
       omega (arith, l.invariant.1, c.in-Some.ensures.shorter, ap length same),

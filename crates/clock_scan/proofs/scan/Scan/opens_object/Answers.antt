@@ -10,4 +10,5 @@ returns c =
     let at = c.after_space-at.result in
     let may : may_begin (place_of s.place) ≡ true = sym c.may_begin.ensures ∙ c.if-not-may_begin.false in
     let is = c.if-byte_at-ne123.false in
-    λ _. sym c.self.view_is ∙ object_begins_at (place_of s.place) s.bytes.now s.at at may c.after_space-at.ensures (c.byte_at.ensures.within (omega (arith, is))) (sym c.byte_at.ensures.value ∙ is)
+    λ _. sym c.self.view_is ∙ object_begins_at (place_of s.place) s.bytes.now s.at at may c.after_space-at.ensures
+    (c.byte_at.ensures.within (omega (arith, is))) (sym c.byte_at.ensures.value ∙ is)

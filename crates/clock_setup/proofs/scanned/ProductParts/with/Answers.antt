@@ -9,34 +9,40 @@ pub returns-then-is_key-clause-value : goal.returns-then-is_key-clause-value
 returns-then-is_key-clause-value c =
     let p = c.args.self in
     adds_member 0 c.args.scan.now c.key.new.self c.text.new.self (product_fields p.cap p.granule (option_map (λ t. t.now) p.name) p.opening p.supply p.units)
-    (codes "name") (string c.in_ok-text.text.now) (c.in_ok-key.ensures ∙ ap (λ k. Token.key k ∷ c.key.new.self) (c.is_key.ensures c.if-is_key.true)) c.in_ok-text.ensures.value refl
+    (codes "name") (string c.in_ok-text.text.now) (c.in_ok-key.ensures ∙ ap (λ k. Token.key k ∷ c.key.new.self) (c.is_key.ensures c.if-is_key.true))
+    c.in_ok-text.ensures.value refl
 
 pub returns-then-is_key-2-clause-value : goal.returns-then-is_key-2-clause-value
 returns-then-is_key-2-clause-value c =
     let p = c.args.self in
     adds_member 0 c.args.scan.now c.key.new.self c.number.new.self (product_fields p.cap p.granule (option_map (λ t. t.now) p.name) p.opening p.supply p.units)
-    (codes "cap") (whole c.in_ok-number.number) (c.in_ok-key.ensures ∙ ap (λ k. Token.key k ∷ c.key.new.self) (c.is_key-2.ensures c.if-is_key-2.true)) c.in_ok-number.ensures.value refl
+    (codes "cap") (whole c.in_ok-number.number) (c.in_ok-key.ensures ∙ ap (λ k. Token.key k ∷ c.key.new.self) (c.is_key-2.ensures c.if-is_key-2.true))
+    c.in_ok-number.ensures.value refl
 
 pub returns-then-is_key-3-clause-value : goal.returns-then-is_key-3-clause-value
 returns-then-is_key-3-clause-value c =
     let p = c.args.self in
     adds_member 0 c.args.scan.now c.key.new.self c.number.new.self (product_fields p.cap p.granule (option_map (λ t. t.now) p.name) p.opening p.supply p.units)
-    (codes "opening") (whole c.in_ok-number.number) (c.in_ok-key.ensures ∙ ap (λ k. Token.key k ∷ c.key.new.self) (c.is_key-3.ensures c.if-is_key-3.true)) c.in_ok-number.ensures.value refl
+    (codes "opening") (whole c.in_ok-number.number) (c.in_ok-key.ensures ∙ ap (λ k. Token.key k ∷ c.key.new.self) (c.is_key-3.ensures c.if-is_key-3.true))
+    c.in_ok-number.ensures.value refl
 
 pub returns-then-is_key-4-clause-value : goal.returns-then-is_key-4-clause-value
 returns-then-is_key-4-clause-value c =
     let p = c.args.self in
     adds_member 0 c.args.scan.now c.key.new.self c.number.new.self (product_fields p.cap p.granule (option_map (λ t. t.now) p.name) p.opening p.supply p.units)
-    (codes "supply") (whole c.in_ok-number.number) (c.in_ok-key.ensures ∙ ap (λ k. Token.key k ∷ c.key.new.self) (c.is_key-4.ensures c.if-is_key-4.true)) c.in_ok-number.ensures.value refl
+    (codes "supply") (whole c.in_ok-number.number) (c.in_ok-key.ensures ∙ ap (λ k. Token.key k ∷ c.key.new.self) (c.is_key-4.ensures c.if-is_key-4.true))
+    c.in_ok-number.ensures.value refl
 
 pub returns-then-is_key-5-clause-value : goal.returns-then-is_key-5-clause-value
 returns-then-is_key-5-clause-value c =
     let p = c.args.self in
     adds_member 0 c.args.scan.now c.key.new.self c.number.new.self (product_fields p.cap p.granule (option_map (λ t. t.now) p.name) p.opening p.supply p.units)
-    (codes "units") (whole c.in_ok-number.number) (c.in_ok-key.ensures ∙ ap (λ k. Token.key k ∷ c.key.new.self) (c.is_key-5.ensures c.if-is_key-5.true)) c.in_ok-number.ensures.value refl
+    (codes "units") (whole c.in_ok-number.number) (c.in_ok-key.ensures ∙ ap (λ k. Token.key k ∷ c.key.new.self) (c.is_key-5.ensures c.if-is_key-5.true))
+    c.in_ok-number.ensures.value refl
 
 pub returns-then-is_key-6-clause-value : goal.returns-then-is_key-6-clause-value
 returns-then-is_key-6-clause-value c =
     let p = c.args.self in
     adds_member 0 c.args.scan.now c.key.new.self c.number.new.self (product_fields p.cap p.granule (option_map (λ t. t.now) p.name) p.opening p.supply p.units)
-    (codes "granule") (whole c.in_ok-number.number) (c.in_ok-key.ensures ∙ ap (λ k. Token.key k ∷ c.key.new.self) (c.is_key-6.ensures c.if-is_key-6.true)) c.in_ok-number.ensures.value refl
+    (codes "granule") (whole c.in_ok-number.number) (c.in_ok-key.ensures ∙ ap (λ k. Token.key k ∷ c.key.new.self) (c.is_key-6.ensures c.if-is_key-6.true))
+    c.in_ok-number.ensures.value refl

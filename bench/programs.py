@@ -1,0 +1,50 @@
+"""What the scripts that time a program of this folder share: the program is built over a copy of the crates."""
+import json
+import pathlib
+import shutil
+import subprocess
+import sys
+
+TOP = pathlib.Path(__file__).resolve().parent.parent
+
+
+def build(name, work):
+    """Adds the program NAME.rs to a copy of the repository, and builds it."""
+    source = (TOP / "bench" / f"{name}.rs").read_text()
+    uses = next(line for line in source.splitlines() if line.startswith("//! Uses:")).removeprefix("//! Uses:")
+    shutil.copytree(TOP / "crates", work / "crates")
+    (work / "crates.txt").write_text((TOP / "crates.txt").read_text() + f"bench_{name}:{uses}\n")
+    crate = work / "crates" / f"bench_{name}"
+    for folder, file, text in [("src", "main.rt", source), ("specs", "Lib.antt", ""), ("proofs", "Lib.antt", "")]:
+        (crate / folder).mkdir(parents=True)
+        (crate / folder / file).write_text(text)
+    built = subprocess.run(["rt", "run"], cwd=crate, stdin=subprocess.DEVNULL, stdout=subprocess.DEVNULL)
+    if built.returncode != 0:
+        sys.exit(built.returncode)
+    return crate / "out" / f"bench_{name}"
+
+
+def setup_document(products, bidders):
+    """A set-up document of so many products and bidders."""
+    made = subprocess.run([TOP / "bench" / "setup_document", str(products), str(bidders)], capture_output=True, check=True)
+    return made.stdout.decode()
+
+
+def sent(line, token, value):
+    """A request with a body."""
+    body = json.dumps(value, separators=(",", ":"))
+    return f"{line} HTTP/1.1\r\nauthorization: Bearer {token}\r\ncontent-length: {len(body)}\r\n\r\n{body}"
+
+
+def put(bidder, number, bids):
+    """A bidder's sheet, of its quantities and prices."""
+    bids = [{"price": price, "product": product, "quantity": quantity} for product, (quantity, price) in enumerate(bids)]
+    return sent("PUT /v1/me/bids", f"{bidder:020d}", {"bids": bids, "round": number})
+
+
+def figures(program, parts):
+    """Runs the program on the parts of its input, and gives a name, a count, nanoseconds and other replies for each group."""
+    done = subprocess.run([program], input="\1".join(parts).encode(), stdout=subprocess.PIPE, check=True)
+    for line in done.stdout.decode().splitlines():
+        name, count, nanoseconds, others = line.split("\t")
+        yield name, int(count), int(nanoseconds), int(others)

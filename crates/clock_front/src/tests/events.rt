@@ -1,0 +1,33 @@
+//! Pieces of one byte, as events.
+use crate::Event;
+use clock_device::Text;
+use std::alloc::Global;
+use std::test::Fail;
+
+/// So many connections are asked for.
+pub(super) fn connected(alloc: Global, count: usize) -> Result<Vec<Event>, Fail> {
+    let mut events = Vec::new(alloc);
+    for _ in 0..count {
+        events.push(Event::Connect)?;
+    }
+    Ok(events)
+}
+
+/// A piece of a connection's request.
+pub(super) fn piece(alloc: Global, number: u64, bytes: &[u8]) -> Result<Event, Fail> {
+    Ok(Event::Piece(number, Text::from_slice(alloc, bytes)?))
+}
+
+/// The byte of a text at a place, if it has one.
+pub(super) fn push_byte(
+    alloc: Global,
+    events: &mut Vec<Event>,
+    number: u64,
+    text: &[u8],
+    place: usize,
+) -> Result<(), Fail> {
+    if let Some(byte) = text.get(place) {
+        events.push(piece(alloc, number, &[*byte])?)?;
+    }
+    Ok(())
+}

@@ -1,0 +1,203 @@
+//! The same where each request comes over a connection of its own, in single bytes.
+use super::{BY_W, BY_Y, OWN, PUBLIC, V_X_AND_W, X_AND_Y, text_of_row, told_x};
+use crate::tests::events::{connected, push_byte};
+use crate::tests::requests::setup_of;
+use crate::{Event, EventReplies, run_events};
+use clock_processor::Plain;
+use std::alloc::Global;
+use std::process::Abort;
+use std::test::Fail;
+
+/// No request has more bytes.
+const LONGEST: usize = 200;
+
+/// A request of a run, and whether it is X's.
+#[derive(Drop)]
+struct Request {
+    is_own: bool,
+    text: String,
+}
+
+/// How the bytes of a run's requests come. They are whole in their order, so that each last byte comes behind those before.
+#[derive(Clone, Copy)]
+enum Way {
+    /// One request after the other.
+    Apart,
+    /// A byte of each in turn, and then their last ones.
+    InTurn,
+    /// From the last request to the first all bytes but the last, and then their last ones.
+    LastFirst,
+}
+
+/// The requests of rows.
+fn push_rows(
+    alloc: Global,
+    requests: &mut Vec<Request>,
+    rows: &str,
+    is_own: bool,
+) -> Result<(), Fail> {
+    for row in rows.split('\n') {
+        if !row.is_empty() {
+            let text = text_of_row(alloc, row)?;
+            if text.len() > LONGEST {
+                return Err("a longer request")?;
+            }
+            requests.push(Request { is_own, text })?;
+        }
+    }
+    Ok(())
+}
+
+/// The requests of a run in their order: X's of each turn, and then those of the others.
+fn requests_of(alloc: Global, others: &str) -> Result<Vec<Request>, Fail> {
+    let mut requests = Vec::new(alloc);
+    let mut others = others.split('~');
+    for own in OWN.split('~') {
+        push_rows(alloc, &mut requests, own, true)?;
+        push_rows(alloc, &mut requests, others.next().unwrap_or(""), false)?;
+    }
+    Ok(requests)
+}
+
+/// The bytes of a text from a place up to another one.
+fn push_bytes(
+    alloc: Global,
+    events: &mut Vec<Event>,
+    number: usize,
+    text: &str,
+    places: (usize, usize),
+) -> Result<(), Fail> {
+    for place in places.0..places.1 {
+        push_byte(alloc, events, number as u64, text.as_bytes(), place)?;
+    }
+    Ok(())
+}
+
+/// The byte of each text at a place before its last one, in turn.
+fn push_turn(
+    alloc: Global,
+    events: &mut Vec<Event>,
+    requests: &[Request],
+    place: usize,
+) -> Result<(), Fail> {
+    for (number, request) in requests.iter().enumerate() {
+        if place.saturating_add(1) < request.text.len() {
+            push_byte(
+                alloc,
+                events,
+                number as u64,
+                request.text.as_str().as_bytes(),
+                place,
+            )?;
+        }
+    }
+    Ok(())
+}
+
+/// All bytes of each text, or the last one alone.
+fn push_in_order(
+    alloc: Global,
+    events: &mut Vec<Event>,
+    requests: &[Request],
+    is_last: bool,
+) -> Result<(), Fail> {
+    for (number, request) in requests.iter().enumerate() {
+        let count = request.text.len();
+        let first = if is_last { count.saturating_sub(1) } else { 0 };
+        push_bytes(alloc, events, number, request.text.as_str(), (first, count))?;
+    }
+    Ok(())
+}
+
+/// From the last text to the first all bytes but the last.
+fn push_backwards(
+    alloc: Global,
+    events: &mut Vec<Event>,
+    requests: &[Request],
+) -> Result<(), Fail> {
+    for (number, request) in requests.iter().enumerate().rev() {
+        let last = request.text.len().saturating_sub(1);
+        push_bytes(alloc, events, number, request.text.as_str(), (0, last))?;
+    }
+    Ok(())
+}
+
+/// What comes of the connections of a run.
+fn events_of(alloc: Global, requests: &[Request], way: Way) -> Result<Vec<Event>, Fail> {
+    let mut events = connected(alloc, requests.len())?;
+    match way {
+        Way::Apart => push_in_order(alloc, &mut events, requests, false)?,
+        Way::InTurn => {
+            for place in 0..LONGEST {
+                push_turn(alloc, &mut events, requests, place)?;
+            }
+            push_in_order(alloc, &mut events, requests, true)?;
+        }
+        Way::LastFirst => {
+            push_backwards(alloc, &mut events, requests)?;
+            push_in_order(alloc, &mut events, requests, true)?;
+        }
+    }
+    Ok(events)
+}
+
+/// The replies to events where these are the bidders.
+fn replies_to(alloc: Global, bidders: &str, events: &[Event]) -> Result<EventReplies, Fail> {
+    let document = format!(in alloc; "{{{PUBLIC},\"bidders\":[{bidders}]}}")?;
+    Ok(run_events(alloc, setup_of(alloc, document.as_str())?, Plain, events)?)
+}
+
+/// Whether a request is X's.
+fn is_own(requests: &[Request], number: u64) -> bool {
+    match requests.get(number as usize) {
+        Some(request) => request.is_own,
+        None => false,
+    }
+}
+
+/// The replies to X's own requests.
+fn own_replies(
+    alloc: Global,
+    requests: &[Request],
+    replies: &EventReplies,
+) -> Result<String, Fail> {
+    let mut told = String::new(alloc);
+    for one in replies.as_slice() {
+        if is_own(requests, one.number) {
+            let reply = String::from_utf8_lossy(alloc, one.reply.bytes())?;
+            told.push_str(reply.as_str())?;
+        }
+    }
+    Ok(told)
+}
+
+/// All replies to X's own requests of a run.
+fn told_x_in_pieces(alloc: Global, bidders: &str, others: &str, way: Way) -> Result<String, Fail> {
+    let requests = requests_of(alloc, others)?;
+    let events = events_of(alloc, requests.as_slice(), way)?;
+    let replies = replies_to(alloc, bidders, events.as_slice())?;
+    own_replies(alloc, requests.as_slice(), &replies)
+}
+
+/// X is told the same in both runs whose bytes come in these ways, as where each request comes whole.
+fn is_told_alike(
+    rt: &impl Abort,
+    alloc: Global,
+    whole: &str,
+    one: Way,
+    two: Way,
+) -> Result<(), Fail> {
+    let one = told_x_in_pieces(alloc, X_AND_Y, BY_Y, one)?;
+    assert_eq!(rt; one.as_str(), whole);
+    let two = told_x_in_pieces(alloc, V_X_AND_W, BY_W, two)?;
+    assert_eq!(rt; two.as_str(), whole);
+    Ok(())
+}
+
+#[test]
+fn rivals_show_in_no_reply_to_pieces(rt: HostRuntime) -> Result<(), Fail> {
+    let whole = told_x(rt.alloc(), PUBLIC, X_AND_Y, BY_Y)?;
+    is_told_alike(&rt, rt.alloc(), whole.as_str(), Way::Apart, Way::Apart)?;
+    is_told_alike(&rt, rt.alloc(), whole.as_str(), Way::InTurn, Way::LastFirst)?;
+    is_told_alike(&rt, rt.alloc(), whole.as_str(), Way::LastFirst, Way::InTurn)
+}

@@ -1,0 +1,70 @@
+-- A request that comes in pieces is answered as its whole text is.
+use Rattle.std.proofs.Common.{◌≡◌, ◌≢◌, ℕ, true, false, List, ◌∷◌, ◌++◌, Option, ◌⊎◌, Result, Ok, Err, inl, inr, sym, ◌∙◌, ap, subst, true≢false}
+use Rattle.std.specs.Prelude.{option_and_then, IfOk}
+use Rattle.clock_house.specs.House.{HouseFields, StandsFor}
+use Rattle.clock_front.specs.Askers.{asker}
+use Rattle.clock_front.specs.Framing.{Framing, Head, framing, head_in, IsDecided}
+use Rattle.clock_front.specs.Framing as framed
+use Rattle.clock_front.specs.FramingLaws.{IsDecidedOnce, HasOneHead}
+use Rattle.clock_front.specs.Fronts.{AnswersText, IsStruckOut, house_after, commands_of}
+use Rattle.clock_front.specs.Outcomes.{answer_of, outcome, command_of}
+use Rattle.clock_front.specs.Pieces.{is_less, needs_more}
+use Rattle.clock_front.specs.Private.{IsPrivateReply}
+use Rattle.clock_front.specs.Replies.{Answer}
+use Rattle.clock_front.specs.Requests.{Request, request_of, ask_of}
+use Rattle.clock_front.specs.Hubs.{HubFields, IsFed, IsAnswered}
+use Rattle.clock_front.specs.declared.connections.Conn.{Conn}
+use Rattle.clock_front.specs.declared.hub_fault.HubFault.{HubFault}
+use Rattle.clock_front.specs.declared.fed.Fed.TheVariants.{More}
+
+-- a piece came, and then the input ended
+pub ended_after : (old mid new : HubFields) (conn : Conn) (text : List ℕ) (reply : Answer) → IsFed old mid conn text More → IsAnswered mid new conn text reply
+    → IsAnswered old new conn text reply
+ended_after old mid new conn text reply fed answered = record {
+  gone = record {
+    gone = answered.gone.gone;
+    others = λ other differs. answered.gone.others other differs ∙ fed.1.others other differs;
+    count = answered.gone.count ∙ fed.1.count;
+    next = answered.gone.next ∙ fed.1.next;
+  };
+  answered = subst (λ (house : HouseFields). AnswersText text reply house new.house) fed.2 answered.answered;
+  private = subst (λ (house : HouseFields). IsStruckOut text reply ⊎ IsPrivateReply text house reply) fed.2 answered.private;
+  setup = answered.setup ∙ ap (λ (house : HouseFields). house.setup) fed.2;
+}
+
+pub answered_at_end : (old mid new : HubFields) (conn : Conn) (text : List ℕ) (result : Result Answer HubFault) → IsFed old mid conn text More
+    → IfOk result (IsAnswered mid new conn text) → IfOk result (IsAnswered old new conn text)
+answered_at_end old mid new conn text (Ok reply) fed answered = ended_after old mid new conn text reply fed answered
+answered_at_end old mid new conn text (Err fault) fed answered = answered
+
+is_decided : (text : List ℕ) → needs_more text ≡ false → IsDecided text
+is_decided text less = λ e. true≢false (sym (ap is_less e) ∙ less)
+
+abbrev request_from : Option Head → Framing → Request
+request_from found is = record { token = option_and_then (λ head. head.token) found; ask = ask_of is }
+
+-- what is decided of the first piece is asked for by the whole text
+same_request : IsDecidedOnce → HasOneHead → (head body : List ℕ) → IsDecided head → request_of (head ++ body) ≡ request_of head
+unfolding request_of
+same_request once one_head head body decided =
+    ap (λ (found : Option Head). request_from found (framing (head ++ body))) (one_head head body decided)
+    ∙ ap (λ (is : Framing). request_from (head_in head) is) (once head body decided)
+
+-- a request that is answered at its first piece is answered as its whole text is
+pub answered_early : IsDecidedOnce → HasOneHead → (head body : List ℕ) (answer : Answer) (old new : HouseFields) → needs_more head ≡ false
+    → AnswersText head answer old new → AnswersText (head ++ body) answer old new
+answered_early once one_head head body answer old new less answered texts stands =
+    elim (answered texts stands) [
+      | inl told ↦ inl (subst
+          (λ (request : Request).
+          (answer ≡ answer_of (outcome (house_after old.setup (commands_of old.setup texts)) (asker old.setup request.token) request.ask))
+          × StandsFor (command_of new.setup (asker new.setup request.token) request.ask ∷ commands_of new.setup texts) new)
+          (sym (same_request once one_head head body (is_decided head less))) told)
+      | inr none ↦ inr (
+        record {
+          is = none.0.is;
+          needs = λ code refused. none.0.needs code (sym (once head body (is_decided head less)) ∙ refused);
+        },
+        none.1,
+      )
+    ]

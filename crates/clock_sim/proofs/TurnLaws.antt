@@ -1,0 +1,294 @@
+-- The bidders' turns: each puts its sheet, whose request waits for others or is sent after those that wait.
+use Rattle.std.proofs.Common.{◌≡◌, ℕ, ◌+◌, ◌<◌, ◌≤◌, List, [], ◌∷◌, ◌++◌, length, drop, get_or, Option, Some, None, Result, Ok, Err, refl, sym, ◌∙◌}
+use Rattle.std.proofs.Common.{ap, subst, All, arith}
+use Rattle.std.specs.Prelude.{MatchResult, OnOk}
+use Rattle.std.proofs.lemmas.List.{drop_more, drop_all}
+use Rattle.std.proofs.lemmas.List.Elements.{All-tail}
+use Rattle.clock_setup.specs.Limits.{SetupFields}
+use Rattle.clock_setup.specs.Faults.{◌>>=◌, IsRefusal}
+use Rattle.clock_house.specs.House.{HouseFields, standing_in}
+use Rattle.clock_house.specs.History.{standing}
+use Rattle.clock_house.specs.declared.closed_round.ClosedRound.{ClosedRound}
+use Rattle.clock_views.specs.declared.code.Code.{Code}
+use Rattle.clock_views.specs.declared.code.Code.TheVariants.{Done}
+use Rattle.clock_front.specs.Fronts.{StandsForTexts}
+use Rattle.clock_sim.specs.declared.groups.Waiting.{Waiting}
+use Rattle.clock_sim.specs.declared.script.Script.{Script}
+use Rattle.clock_sim.specs.declared.sim_fault.SimFault.{SimFault}
+use Rattle.clock_sim.specs.declared.sim_fault.SimFault.TheVariants.{NoMemory}
+use Rattle.clock_sim.specs.Rehearsal.{if_done, after_request, after_request_if, after_put, after_puts, rounds_after}
+use Rattle.clock_sim.specs.ScriptedRequests.{scripted_put}
+use Rattle.clock_sim.specs.Groups.{ClosesNoRound, text_in, after_group, with_request}
+use Rattle.clock_sim.specs.Steps.{ComesTo, MakesStep, IsLeft, MakesWay}
+use Rattle.clock_sim.proofs.StepLaws.{Texts, Step, IsOnWay, and_then}
+use Rattle.clock_sim.proofs.GroupLaws.{ended_ok, one_step, with_one}
+
+-- ---- steps with requests that wait
+
+-- a part of the steps is made, and the rest of it is left before the others
+pub way_goes_on : {U : Type 0} (whole part left rest : Step) (initial now next : HouseFields) (done : U)
+    → IsOnWay whole (λ texts. part texts >>= rest) initial now → MakesWay part left now next (Ok done)
+    → IsOnWay whole (λ texts. left texts >>= rest) initial next
+way_goes_on whole part left rest initial now next done before made = record {
+  setup = made.setup ∙ before.setup;
+  comes = λ texts stands.
+      let way = before.comes texts stands in
+      let one = made.comes way.texts way.stands in
+      record { texts = one.texts; stands = one.stands; same = ap (λ (answer : Result Texts SimFault). answer >>= rest) one.same ∙ way.same };
+}
+
+pub way_stops : {U T : Type 0} (whole part left rest : Step) (initial now next : HouseFields) (fault : SimFault)
+    → IsOnWay whole (λ texts. part texts >>= rest) initial now → MakesWay {T = U} part left now next (Err fault)
+    → MakesStep {T = T} whole initial next (Err fault)
+way_stops whole part left rest initial now next fault before made = record {
+  setup = made.setup ∙ before.setup;
+  comes = λ texts stands other.
+      let way = before.comes texts stands in
+      sym way.same ∙ ap (λ (answer : Result Texts SimFault). answer >>= rest) (made.comes way.texts way.stands other);
+}
+
+-- where there was no memory, nothing is told
+pub no_memory_way : {T : Type 0} (whole rest : Step) (old new : HouseFields) → new.setup ≡ old.setup → MakesWay {T = T} whole rest old new (Err NoMemory)
+no_memory_way whole rest old new same = record { setup = same; comes = λ texts stands other. absurd (other refl) }
+
+none_left : (setup : SetupFields) (group : List Waiting) (texts : Texts) → length group ≡ 0 → after_group setup group texts ≡ Ok texts
+none_left setup [] texts none = refl
+none_left setup (one ∷ group) texts none = absurd (omega (arith, none))
+
+-- steps that are made, of which nothing is left
+pub whole_way : {T : Type 0} (whole : Step) (setup : SetupFields) (group : List Waiting) (old new : HouseFields) (result : Result T SimFault)
+    → MakesStep whole old new result → OnOk result (length group ≡ 0) → MakesWay whole (after_group setup group) old new result
+whole_way whole setup group old new (Ok done) made none = record {
+  setup = made.setup;
+  comes = λ texts stands.
+      let end = made.comes texts stands in
+      record { texts = end.texts; stands = end.stands; same = none_left setup group end.texts none ∙ sym end.is };
+}
+whole_way whole setup group old new (Err fault) made none = record { setup = made.setup; comes = made.comes }
+
+on_ok : {T : Type 0} (P : Type 0) (result : Result T SimFault) → P → OnOk result P
+on_ok P (Ok done) is = is
+on_ok P (Err fault) is = tt
+
+-- nothing is made
+pub same_way : {T : Type 0} (whole : Step) (old : HouseFields) (done : T) → MakesWay whole whole old old (Ok done)
+same_way whole old done = record { setup = refl; comes = λ texts stands. record { texts = texts; stands = stands; same = refl } }
+
+-- one part of the steps is made, and then another
+pub two_ways : {U T : Type 0} (first left second last : Step) (old mid new : HouseFields) (done : U) (result : Result T SimFault)
+    → MakesWay first left old mid (Ok done) → MakesWay (λ texts. left texts >>= second) last mid new result
+    → MakesWay (λ texts. first texts >>= second) last old new result
+two_ways {T = T} first left second last old mid new done result one two = record {
+  setup = two.setup ∙ one.setup;
+  comes = λ texts stands.
+      let way = one.comes texts stands in
+      let P : Result Texts SimFault → Type 0 = λ answer. MatchResult result (λ (_ : T). IsLeft last answer new) (IsRefusal NoMemory answer) in
+      subst P (ap (λ (answer : Result Texts SimFault). answer >>= second) way.same) (two.comes way.texts way.stands);
+}
+
+pub first_stops : {U T : Type 0} (first left second last : Step) (old new : HouseFields) (fault : SimFault)
+    → MakesWay {T = U} first left old new (Err fault) → MakesWay {T = T} (λ texts. first texts >>= second) last old new (Err fault)
+first_stops first left second last old new fault one = record {
+  setup = one.setup;
+  comes = λ texts stands other. ap (λ (answer : Result Texts SimFault). answer >>= second) (one.comes texts stands other);
+}
+
+-- the requests of a group are sent, and then one more
+pub sent_after : {U T : Type 0} (group waiting : List Waiting) (bidder round : ℕ) (text : List ℕ) (old mid new : HouseFields) (done : U)
+    (result : Result T SimFault)
+    → MakesStep (after_group old.setup group) old mid (Ok done) → length waiting ≡ 0
+    → MakesStep (λ texts. after_request mid.setup texts (Some bidder) round text) mid new result
+    → MakesWay (with_request old.setup group bidder round text) (after_group old.setup waiting) old new result
+sent_after group waiting bidder round text old mid new done result one none two =
+    whole_way (with_request old.setup group bidder round text) old.setup waiting old new result
+    (and_then (after_group old.setup group) (λ texts. after_request old.setup texts (Some bidder) round text) old mid new done result one
+    (subst (λ (setup : SetupFields). MakesStep (λ texts. after_request setup texts (Some bidder) round text) mid new result) one.setup two))
+    (on_ok (length waiting ≡ 0) result none)
+
+-- one of them is refused
+pub refused_before : {U T : Type 0} (group : List Waiting) (rest : Step) (bidder round : ℕ) (text : List ℕ) (old new : HouseFields) (fault : SimFault)
+    → MakesStep {T = U} (after_group old.setup group) old new (Err fault)
+    → MakesWay {T = T} (with_request old.setup group bidder round text) rest old new (Err fault)
+refused_before group rest bidder round text old new fault one = record {
+  setup = one.setup;
+  comes = λ texts stands other.
+      ap (λ (answer : Result Texts SimFault). answer >>= (λ sent. after_request old.setup sent (Some bidder) round text)) (one.comes texts stands other);
+}
+
+-- there is room, and then one more waits
+pub waits_after : {U T : Type 0} (group between waiting : List Waiting) (bidder round : ℕ) (text : List ℕ) (old mid new : HouseFields) (done : U)
+    (result : Result T SimFault)
+    → MakesWay (after_group old.setup group) (after_group old.setup between) old mid (Ok done)
+    → MakesWay (with_request mid.setup between bidder round text) (after_group mid.setup waiting) mid new result
+    → MakesWay (with_request old.setup group bidder round text) (after_group old.setup waiting) old new result
+waits_after group between waiting bidder round text old mid new done result one two =
+    two_ways (after_group old.setup group) (after_group old.setup between) (λ sent. after_request old.setup sent (Some bidder) round text)
+    (after_group old.setup waiting) old mid new done result one
+    (subst (λ (setup : SetupFields). MakesWay (with_request setup between bidder round text) (after_group setup waiting) mid new result) one.setup two)
+
+-- one more waits
+pub one_waits : {T : Type 0} (group waiting : List Waiting) (one : Waiting) (text : List ℕ) (old new : HouseFields) (done : T) → new ≡ old
+    → waiting ≡ group ++ one ∷ [] → text_in one ≡ text
+    → MakesWay (with_request old.setup group one.bidder one.round text) (after_group old.setup waiting) old new (Ok done)
+one_waits group waiting one text old new done same is reads = record {
+  setup = ap (λ (house : HouseFields). house.setup) same;
+  comes = λ texts stands. record {
+    texts = texts;
+    stands = subst (StandsForTexts texts) (sym same) stands;
+    same =
+        ap (λ (list : List Waiting). after_group old.setup list texts) is ∙ with_one old.setup group one texts
+        ∙ ap (λ (bytes : List ℕ). with_request old.setup group one.bidder one.round bytes texts) reads;
+  };
+}
+
+-- ---- a sheet waits
+
+if_ok : (code : Code) (done next : Texts) (fault : SimFault) → if_done code done fault ≡ Ok next → next ≡ done
+if_ok Done done next fault is = let same : done ≡ next = cc in sym same
+if_ok code done next fault is = absurd (cc)
+
+sent_text : (setup : SetupFields) (texts next : Texts) (sender : Option ℕ) (round : ℕ) (text : List ℕ) → after_request setup texts sender round text ≡ Ok next
+    → next ≡ text ∷ texts
+unfolding after_request
+sent_text setup texts next sender round text is = if_ok _ (text ∷ texts) next _ is
+
+parted : (first : Result Texts SimFault) (second : Step) (end : Texts) → first >>= second ≡ Ok end → (next : Texts) × (first ≡ Ok next) × (second next ≡ Ok end)
+parted (Ok next) second end is = (next, refl, is)
+parted (Err fault) second end is = absurd (cc)
+
+-- the requests of a group close no round
+group_closes_none : (setup : SetupFields) (group : List Waiting) (texts end : Texts) → All (λ one. ClosesNoRound (text_in one)) group
+    → after_group setup group texts ≡ Ok end → rounds_after setup end ≡ rounds_after setup texts
+group_closes_none setup [] texts end close is = let same : texts ≡ end = cc in ap (rounds_after setup) (sym same)
+group_closes_none setup (one ∷ group) texts end close is =
+    let parts = parted (one_step setup one texts) (after_group setup group) end is in
+    group_closes_none setup group parts.0 end (All-tail (λ (w : Waiting). ClosesNoRound (text_in w)) one group close) parts.2
+    ∙ ap (rounds_after setup) (sent_text setup texts parts.0 (Some one.bidder) one.round (text_in one) parts.1)
+    ∙ close 0 one (omega arith) setup texts
+
+-- the sheet that a script gives is the same before and after the requests of the group
+module _ (old : HouseFields) (group : List Waiting) (bidder : ℕ) (script : Script) (close : All (λ one. ClosesNoRound (text_in one)) group) where
+  abbrev given : List ClosedRound → Texts → Option (List ℕ) → Result Texts SimFault
+  given closed texts put = after_request_if old.setup texts (Some bidder) (standing old.setup.products closed).round put
+
+  put_after : (texts : Texts) → StandsForTexts texts old → (answer : Result Texts SimFault) → after_group old.setup group texts ≡ answer
+      → answer >>= (λ sent. given old.closed sent (scripted_put old.setup old.closed bidder script)) ≡ answer >>= after_put old.setup bidder script
+  put_after texts stands (Err fault) is = refl
+  put_after texts stands (Ok end) is =
+      ap (λ (closed : List ClosedRound). given closed end (scripted_put old.setup closed bidder script))
+      (stands.closed ∙ sym (group_closes_none old.setup group texts end close is))
+
+  -- no sheet is given
+  pub none_put : {T : Type 0} (done : T) → scripted_put old.setup old.closed bidder script ≡ None
+      → MakesWay (λ texts. after_group old.setup group texts >>= after_put old.setup bidder script) (after_group old.setup group) old old (Ok done)
+  none_put done none = record {
+    setup = refl;
+    comes = λ texts stands. record {
+      texts = texts;
+      stands = stands;
+      same =
+          sym (ended_ok (after_group old.setup group texts))
+          ∙ ap (λ (put : Option (List ℕ)). after_group old.setup group texts >>= (λ sent. given old.closed sent put)) (sym none)
+          ∙ put_after texts stands (after_group old.setup group texts) refl;
+    };
+  }
+
+  -- the sheet is given as this text
+  pub put_waits : {T : Type 0} (new : HouseFields) (rest : Step) (text : List ℕ) (round : ℕ) (result : Result T SimFault)
+      → scripted_put old.setup old.closed bidder script ≡ Some text → round ≡ (standing_in old).round
+      → MakesWay (λ texts. after_group old.setup group texts >>= (λ sent. after_request old.setup sent (Some bidder) round text)) rest old new result
+      → MakesWay (λ texts. after_group old.setup group texts >>= after_put old.setup bidder script) rest old new result
+  put_waits {T = T} new rest text round result puts at made = record {
+    setup = made.setup;
+    comes = λ texts stands.
+        let P : Result Texts SimFault → Type 0 = λ answer. MatchResult result (λ (_ : T). IsLeft rest answer new) (IsRefusal NoMemory answer) in
+        let same : after_group old.setup group texts >>= (λ sent. after_request old.setup sent (Some bidder) round text)
+        ≡ after_group old.setup group texts >>= after_put old.setup bidder script =
+        ap (λ (k : ℕ). after_group old.setup group texts >>= (λ sent. after_request old.setup sent (Some bidder) k text)) at
+        ∙ ap (λ (put : Option (List ℕ)). after_group old.setup group texts >>= (λ sent. given old.closed sent put)) (sym puts)
+        ∙ put_after texts stands (after_group old.setup group texts) refl in
+        subst P same (made.comes texts stands);
+  }
+
+-- ---- bidder after bidder
+
+next_script : (scripts : List Script) (i : ℕ) (script : Script) → i < length scripts → script ≡ get_or scripts i script
+    → drop i scripts ≡ script ∷ drop (i + 1) scripts
+next_script scripts i script below is = drop_more scripts i script below ∙ ap (λ (one : Script). one ∷ drop (i + 1) scripts) (sym is)
+
+-- the requests that wait, and then the sheets of the bidders from this one on
+abbrev pub then_puts : SetupFields → List Waiting → ℕ → List Script → Step
+then_puts setup group i scripts texts = after_group setup group texts >>= after_puts setup i scripts
+
+in_turn : (setup : SetupFields) (i : ℕ) (script : Script) (rest : List Script) (answer : Result Texts SimFault)
+    → answer >>= after_puts setup i (script ∷ rest) ≡ answer >>= after_put setup i script >>= after_puts setup (i + 1) rest
+in_turn setup i script rest (Ok texts) = refl
+in_turn setup i script rest (Err fault) = refl
+
+before_turn : (whole : Step) (scripts : List Script) (group : List Waiting) (i : ℕ) (script : Script) (initial now : HouseFields) → i < length scripts
+    → script ≡ get_or scripts i script → IsOnWay whole (then_puts initial.setup group i (drop i scripts)) initial now
+    → IsOnWay whole (λ texts. after_group initial.setup group texts >>= after_put initial.setup i script >>=
+    after_puts initial.setup (i + 1) (drop (i + 1) scripts)) initial now
+before_turn whole scripts group i script initial now below is before = record {
+  setup = before.setup;
+  comes = λ texts stands.
+      let way = before.comes texts stands in
+      record {
+        texts = way.texts;
+        stands = way.stands;
+        same = sym (in_turn initial.setup i script (drop (i + 1) scripts) (after_group initial.setup group way.texts))
+            ∙ ap (λ (rest : List Script). then_puts initial.setup group i rest way.texts) (sym (next_script scripts i script below is)) ∙ way.same;
+      };
+}
+
+-- a bidder's turn is over
+pub turn_over : {U : Type 0} (whole : Step) (scripts : List Script) (group waiting : List Waiting) (i : ℕ) (script : Script)
+    (initial now next : HouseFields) (done : U)
+    → i < length scripts → script ≡ get_or scripts i script → IsOnWay whole (then_puts initial.setup group i (drop i scripts)) initial now
+    → MakesWay (λ texts. after_group now.setup group texts >>= after_put now.setup i script) (after_group now.setup waiting) now next (Ok done)
+    → IsOnWay whole (then_puts initial.setup waiting (i + 1) (drop (i + 1) scripts)) initial next
+turn_over whole scripts group waiting i script initial now next done below is before made =
+    way_goes_on whole (λ texts. after_group initial.setup group texts >>= after_put initial.setup i script) (after_group initial.setup waiting)
+    (after_puts initial.setup (i + 1) (drop (i + 1) scripts)) initial now next done (before_turn whole scripts group i script initial now below is before)
+    (subst (λ (setup : SetupFields). MakesWay (λ texts. after_group setup group texts >>= after_put setup i script) (after_group setup waiting) now next
+    (Ok done)) before.setup made)
+
+-- a request was refused in a bidder's turn
+pub turn_refused : {U T : Type 0} (whole : Step) (scripts : List Script) (group waiting : List Waiting) (i : ℕ) (script : Script)
+    (initial now next : HouseFields) (fault : SimFault)
+    → i < length scripts → script ≡ get_or scripts i script → IsOnWay whole (then_puts initial.setup group i (drop i scripts)) initial now
+    → MakesWay {T = U} (λ texts. after_group now.setup group texts >>= after_put now.setup i script) (after_group now.setup waiting) now next (Err fault)
+    → MakesStep {T = T} whole initial next (Err fault)
+turn_refused {U = U} {T = T} whole scripts group waiting i script initial now next fault below is before made =
+    way_stops {U = U} {T = T} whole (λ texts. after_group initial.setup group texts >>= after_put initial.setup i script) (after_group initial.setup waiting)
+    (after_puts initial.setup (i + 1) (drop (i + 1) scripts)) initial now next fault (before_turn whole scripts group i script initial now below is before)
+    (subst (λ (setup : SetupFields). MakesWay {T = U} (λ texts. after_group setup group texts >>= after_put setup i script)
+    (after_group setup waiting) now next (Err fault)) before.setup made)
+
+-- no request waits before the first turn
+pub first_turn : (setup : SetupFields) (group : List Waiting) (scripts : List Script) (initial : HouseFields) → initial.setup ≡ setup → length group ≡ 0
+    → IsOnWay (after_puts setup 0 scripts) (then_puts setup group 0 scripts) initial initial
+first_turn setup group scripts initial same none = record {
+  setup = refl;
+  comes = λ texts stands. record {
+    texts = texts;
+    stands = stands;
+    same = ap (λ (answer : Result Texts SimFault). answer >>= after_puts setup 0 scripts) (none_left setup group texts none);
+  };
+}
+
+-- after the last turn the requests that wait are sent
+pub last_sent : {T : Type 0} (whole : Step) (scripts : List Script) (group : List Waiting) (i : ℕ) (initial now new : HouseFields) (result : Result T SimFault)
+    → length scripts ≤ i → IsOnWay whole (then_puts initial.setup group i (drop i scripts)) initial now
+    → MakesStep (after_group now.setup group) now new result → MakesStep whole initial new result
+last_sent {T = T} whole scripts group i initial now new result past before made = record {
+  setup = made.setup ∙ before.setup;
+  comes = λ texts stands.
+      let way = before.comes texts stands in
+      let P : Result Texts SimFault → Type 0 = λ answer. MatchResult result (λ (_ : T). ComesTo answer new) (IsRefusal NoMemory answer) in
+      let same : after_group now.setup group way.texts ≡ whole texts =
+      ap (λ (setup : SetupFields). after_group setup group way.texts) before.setup
+      ∙ sym (ended_ok (after_group initial.setup group way.texts))
+      ∙ ap (λ (rest : List Script). then_puts initial.setup group i rest way.texts) (sym (drop_all i scripts past)) ∙ way.same in
+      subst P same (made.comes way.texts way.stands);
+}

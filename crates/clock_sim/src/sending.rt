@@ -1,0 +1,81 @@
+//! A request is sent over a connection of its own, its head before its body.
+
+ghost use Rattle.std.specs.Prelude.{◌≡◌, ◌++◌, ℕ, List, Some, IfOk, OnOk, OnErr};
+ghost use Rattle.clock_front.specs.Hubs.{text_of, IsAnswered, KeepsOthers};
+ghost use Rattle.clock_sim.specs.Rehearsal as rules;
+ghost use Rattle.clock_sim.specs.Steps.{IsTold, MakesStep};
+
+use crate::sim_fault::SimFault;
+use clock_front::{Conn, Fed, Hub, HubFault, Reply, decided_once, one_head};
+use clock_processor::Processor;
+use clock_views::Code;
+
+/// The fault of a request that was refused: that of a bidder, or of the operator.
+fn refused_by(sender: Option<u64>, round: u64, code: Code) -> SimFault
+    ensures { result ≡ rules.refused_by sender round code }
+{
+    match sender {
+        Some(bidder) => SimFault::Refused(bidder, round, code),
+        None => SimFault::Closing(round, code),
+    }
+}
+
+/// What the code of a reply is told as.
+fn told(code: Code, sender: Option<u64>, round: u64) -> Result<(), SimFault>
+    ensures { IsTold code (rules.refused_by sender round code) result }
+{
+    match code {
+        Code::Done => Ok(()),
+        Code::Memory => Err(SimFault::NoMemory),
+        _ => Err(refused_by(sender, round, code)),
+    }
+}
+
+/// The reply to a request with its last piece, behind which the input ends.
+fn last_reply<P: Processor>(hub: &mut Hub<P>, conn: Conn, piece: &[u8]) -> Result<Reply, HubFault>
+    ensures answered { (text : List ℕ) → text_of hub.old.connections conn ≡ Some text
+        → IfOk result (IsAnswered hub.old hub.new conn (text ++ piece.now)) }
+    ensures still { (text : List ℕ) → text_of hub.old.connections conn ≡ Some text → OnErr result (hub.new.house ≡ hub.old.house) }
+{
+    match hub.feed(conn, piece)? {
+        Fed::Reply(reply) => Ok(reply),
+        Fed::More => hub.finish(conn),
+    }
+}
+
+/// Sends the body of a request whose head has come over a connection.
+pub(crate) fn send_body<P: Processor>(
+    hub: &mut Hub<P>,
+    conn: Conn,
+    sender: Option<u64>,
+    round: u64,
+    body: &[u8],
+) -> Result<(), SimFault>
+    ensures step { (head : List ℕ) → text_of hub.old.connections conn ≡ Some head
+        → MakesStep (λ texts. rules.after_request hub.old.house.setup texts sender round (head ++ body.now)) hub.old.house hub.new.house result }
+    ensures others { (head : List ℕ) → text_of hub.old.connections conn ≡ Some head
+        → OnOk result (KeepsOthers hub.old.connections hub.new.connections conn) }
+{
+    let reply = last_reply(hub, conn, body)?;
+    told(reply.code(), sender, round)
+}
+
+/// Sends a request over a connection of its own. One that is refused at its head is answered before its body.
+pub(crate) fn send<P: Processor>(
+    hub: &mut Hub<P>,
+    sender: Option<u64>,
+    round: u64,
+    head: &[u8],
+    body: &[u8],
+) -> Result<(), SimFault>
+    ensures { MakesStep (λ texts. rules.after_request hub.old.house.setup texts sender round (head.now ++ body.now))
+        hub.old.house hub.new.house result }
+{
+    decided_once();
+    one_head();
+    let conn = hub.connect()?;
+    match hub.feed(conn, head)? {
+        Fed::More => send_body(hub, conn, sender, round, body),
+        Fed::Reply(reply) => told(reply.code(), sender, round),
+    }
+}
