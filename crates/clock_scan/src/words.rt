@@ -24,7 +24,10 @@ pub(crate) fn byte_at(bytes: &[u8], at: usize) -> u8
 fn is_space(byte: u8) -> bool
     ensures { result ≡ is_blank_class (class byte) }
 {
-    (byte == b' ') | (byte == b'\t') | (byte == b'\n') | (byte == b'\r')
+    if byte == b' ' {
+        return true;
+    }
+    (byte == b'\t') | (byte == b'\n') | (byte == b'\r')
 }
 
 /// Where the white space ends that is there.

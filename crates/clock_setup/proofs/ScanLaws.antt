@@ -33,7 +33,7 @@ of_first_version so_far next products empty granules (inl none) one =
 of_first_version so_far next products empty granules (inr same) one = granules (same ∙ one)
 
 -- a list of items each of which means something
-each_of : {A : Type 0} (meaning : Data → Option A) (data_of : A → Data) (P : A → Type 0) → ((x : A) → P x → meaning (data_of x) ≡ Some x)
+pub each_of : {A : Type 0} (meaning : Data → Option A) (data_of : A → Data) (P : A → Type 0) → ((x : A) → P x → meaning (data_of x) ≡ Some x)
     → (xs : List A) → All P xs → each meaning (items_of (map data_of xs)) ≡ Some xs
 each_of meaning data_of P means [] h = refl
 each_of meaning data_of P means (x ∷ xs) h =

@@ -41,7 +41,7 @@ fn has_distinct_tokens(alloc: Global, entries: &SetupEntries) -> Result<bool, Al
 
 /// The set-up, where it is within its limits, or the first fault.
 #[tactic(auto, using(crate::proofs::FaultLaws::fault_lists), unfolding(crate::specs::SetupDocument::setup_checks))]
-fn within_limits(alloc: Global, entries: &SetupEntries) -> Result<Setup, SetupFault>
+pub(crate) fn within_limits(alloc: Global, entries: &SetupEntries) -> Result<Setup, SetupFault>
     requires version { IsWithin 1 latest_version entries.now.version }
     requires first_version { entries.now.version ≡ 1 → IsOfFirstVersion entries.now }
     ensures same { IfOk result (λ setup. setup ≡ entries.now) }

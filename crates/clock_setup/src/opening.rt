@@ -1,22 +1,24 @@
 ghost use Rattle.std.specs.Prelude.{◌≡◌, ◌≢◌, ◌≤◌, None, Some, length, Ok, Err, All, IfOk, IfErr};
-ghost use Rattle.serde_json.specs.View.{view};
 ghost use Rattle.clock_setup.specs.Demands.{IsGrid};
 ghost use Rattle.clock_setup.specs.Faults.{IsRefusal, first_fault};
 ghost use Rattle.clock_setup.specs.Limits.{IsWithin, least_increment, most_increment};
+ghost use Rattle.clock_setup.specs.OpeningData.{held_data, source_data};
 ghost use Rattle.clock_setup.specs.OpeningDocument.{document_opening, opening_of, in_opening};
 ghost use Rattle.clock_setup.specs.SetupDocument as document;
 
-use crate::document::setup_of;
+use crate::document::{setup_of, within_limits};
 use crate::fault::SetupFault;
 use crate::grid::Grid;
 use crate::limits::is_within;
 use crate::members::read_value;
-use crate::parts::opening_parts;
+use crate::parts::source_parts;
 use crate::rows::{grid_within, has_counts};
+use crate::scanned_opening::scanned_opening;
 use crate::setup::Setup;
+use crate::source::{HeldSetup, Source};
 use clock_device::NoMemory;
 use clock_money::{LEAST_INCREMENT, MOST_INCREMENT};
-use serde_json::Value;
+use clock_scan::Stop;
 use std::alloc::{AllocError, AllocFailed, Global};
 use thiserror::Error;
 
@@ -93,13 +95,24 @@ impl<T: Drop> From<AllocFailed<T>> for OpeningFault {
     }
 }
 
-/// The set-up under a document's key, its faults as those of the document.
-fn held_setup(alloc: Global, value: &Value) -> Result<Setup, OpeningFault>
-    ensures ok { IfOk result (λ setup. document.setup_of (view value.now) ≡ Ok setup) }
-    ensures err { IfErr result (IsRefusal OpeningFault.NoMemory (in_opening (document.setup_of (view value.now)))) }
+/// The set-up that is held, or its first fault.
+fn judged_setup(alloc: Global, held: &HeldSetup<'_>) -> Result<Setup, SetupFault>
+    ensures ok { IfOk result (λ setup. document.setup_of (held_data held.now) ≡ Ok setup) }
+    ensures err { IfErr result (IsRefusal SetupFault.NoMemory (document.setup_of (held_data held.now))) }
+{
+    match held {
+        HeldSetup::Tree(value) => setup_of(alloc, value),
+        HeldSetup::Scanned(setup) => within_limits(alloc, &setup.entries),
+    }
+}
+
+/// The set-up that is held, its faults as those of the document.
+fn held_setup(alloc: Global, held: &HeldSetup<'_>) -> Result<Setup, OpeningFault>
+    ensures ok { IfOk result (λ setup. document.setup_of (held_data held.now) ≡ Ok setup) }
+    ensures err { IfErr result (IsRefusal OpeningFault.NoMemory (in_opening (document.setup_of (held_data held.now)))) }
     ensures held { IfErr result (λ fault. fault ≢ OpeningFault.Setup SetupFault.NoMemory) }
 {
-    match setup_of(alloc, value) {
+    match judged_setup(alloc, held) {
         Ok(setup) => Ok(setup),
         Err(SetupFault::NoMemory) => Err(OpeningFault::NoMemory),
         Err(SetupFault::NotJson) => Err(OpeningFault::Setup(SetupFault::NotJson)),
@@ -111,18 +124,18 @@ fn held_setup(alloc: Global, value: &Value) -> Result<Setup, OpeningFault>
     }
 }
 
-/// The opening that a JSON value means, or its first fault.
-fn opening_in(alloc: Global, value: &Value) -> Result<Opening, OpeningFault>
-    ensures ok { IfOk result (λ opening. opening_of (view value.now) ≡ Ok opening) }
+/// The opening that a value of JSON means, or its first fault.
+fn opening_in(alloc: Global, source: Source<'_>) -> Result<Opening, OpeningFault>
+    ensures ok { IfOk result (λ opening. opening_of (source_data source.entry) ≡ Ok opening) }
     ensures grid { IfOk result
         (λ opening. IsGrid (length opening.setup.bidders) (length opening.setup.products) opening.grid) }
     ensures increment { IfOk result (λ opening. IsWithin least_increment most_increment opening.increment) }
     ensures err { IfErr result
-        (IsRefusal OpeningFault.NoMemory (opening_of (view value.now))) }
+        (IsRefusal OpeningFault.NoMemory (opening_of (source_data source.entry))) }
     ensures held { IfErr result (λ fault. fault ≢ OpeningFault.Setup SetupFault.NoMemory) }
 {
-    let parts = opening_parts(alloc, value)?;
-    let setup = held_setup(alloc, parts.setup)?;
+    let parts = source_parts(alloc, source)?;
+    let setup = held_setup(alloc, &parts.setup)?;
     if !has_counts(&setup, parts.demands.as_slice()) {
         return Err(OpeningFault::Shape);
     }
@@ -137,12 +150,9 @@ fn opening_in(alloc: Global, value: &Value) -> Result<Opening, OpeningFault>
     })
 }
 
-/// The opening that the bytes of a document mean, or the document's first fault.
-///
-/// The document is `{"demands":[[N,..],..],"increment":N,"setup":SETUP}` with a row for each bidder, a number of blocks
-/// for each product, and a set-up as [`read_setup`](crate::read_setup) reads it.
+/// What [`read_opening`] answers, by a tree of the document's values.
 #[tactic(auto, unfolding(crate::specs::OpeningDocument::document_opening))]
-pub fn read_opening(alloc: Global, bytes: &[u8]) -> Result<Opening, OpeningFault>
+fn opening_by_tree(alloc: Global, bytes: &[u8]) -> Result<Opening, OpeningFault>
     ensures ok { IfOk result (λ opening. document_opening bytes.now ≡ Ok opening) }
     ensures grid { IfOk result
         (λ opening. IsGrid (length opening.setup.bidders) (length opening.setup.products) opening.grid) }
@@ -152,5 +162,25 @@ pub fn read_opening(alloc: Global, bytes: &[u8]) -> Result<Opening, OpeningFault
     ensures held { IfErr result (λ fault. fault ≢ OpeningFault.Setup SetupFault.NoMemory) }
 {
     let value = read_value(alloc, bytes)?.ok_or(OpeningFault::NotJson)?;
-    opening_in(alloc, &value)
+    opening_in(alloc, Source::Document(&value))
+}
+
+/// The opening that the bytes of a document mean, or the document's first fault.
+///
+/// The document is `{"demands":[[N,..],..],"increment":N,"setup":SETUP}` with a row for each bidder, a number of blocks
+/// for each product, and a set-up as [`read_setup`](crate::read_setup) reads it.
+pub fn read_opening(alloc: Global, bytes: &[u8]) -> Result<Opening, OpeningFault>
+    ensures ok { IfOk result (λ opening. document_opening bytes.now ≡ Ok opening) }
+    ensures grid { IfOk result
+        (λ opening. IsGrid (length opening.setup.bidders) (length opening.setup.products) opening.grid) }
+    ensures increment { IfOk result (λ opening. IsWithin least_increment most_increment opening.increment) }
+    ensures err { IfErr result
+        (IsRefusal OpeningFault.NoMemory (document_opening bytes.now)) }
+    ensures held { IfErr result (λ fault. fault ≢ OpeningFault.Setup SetupFault.NoMemory) }
+{
+    match scanned_opening(alloc, bytes) {
+        Ok(entries) => opening_in(alloc, Source::Entries(entries)),
+        Err(Stop::Unusual) => opening_by_tree(alloc, bytes),
+        Err(Stop::NoMemory) => Err(OpeningFault::NoMemory),
+    }
 }

@@ -2,22 +2,16 @@ ghost use Rattle.std.specs.Prelude.{◌≡◌, ◌≢◌, Some, Ok, Err, IfOk, I
 ghost use Rattle.serde_json.specs.View.{view, items_view};
 ghost use Rattle.clock_setup.specs.Faults.{IsRefusal, or_fault};
 ghost use Rattle.clock_setup.specs.Members.{each};
+ghost use Rattle.clock_setup.specs.OpeningData.{held_data, source_data};
 ghost use Rattle.clock_setup.specs.OpeningShape as shape;
 
 use crate::fault::SetupFault;
 use crate::grid::Amounts;
 use crate::members::{has_members, items_at, number_at, numbers_of};
 use crate::opening::OpeningFault;
+use crate::source::{HeldSetup, OpeningEntries, Source};
 use serde_json::Value;
 use std::alloc::Global;
-
-/// An opening document of the right shape, with its set-up not yet read and no count compared.
-#[derive(Drop)]
-pub(crate) struct OpeningEntries<'v> {
-    pub setup: &'v Value,
-    pub demands: Vec<Amounts>,
-    pub increment: u64,
-}
 
 /// One bidder's demands.
 #[tactic(auto, unfolding(crate::specs::OpeningShape::row_of))]
@@ -46,12 +40,9 @@ fn row_entries(alloc: Global, items: &[Value]) -> Result<Vec<Amounts>, OpeningFa
 
 /// An opening document of the right shape.
 #[tactic(auto, unfolding(crate::specs::OpeningShape::parts_of))]
-pub(crate) fn opening_parts(
-    alloc: Global,
-    value: &Value,
-) -> Result<OpeningEntries<'_>, OpeningFault>
+fn opening_parts(alloc: Global, value: &Value) -> Result<OpeningEntries<'_>, OpeningFault>
     ensures ok { IfOk result (λ parts. shape.parts_of (view value.now)
-        ≡ Some (record { setup = view parts.setup.now; demands = parts.demands.items; increment = parts.increment })) }
+        ≡ Some (record { setup = held_data parts.setup; demands = parts.demands.items; increment = parts.increment })) }
     ensures err { IfErr result (IsRefusal OpeningFault.NoMemory (or_fault OpeningFault.Shape (shape.parts_of (view value.now)))) }
     ensures held { IfErr result (λ fault. fault ≢ OpeningFault.Setup SetupFault.NoMemory) }
 {
@@ -63,8 +54,24 @@ pub(crate) fn opening_parts(
         return Err(OpeningFault::Shape);
     }
     Ok(OpeningEntries {
-        setup,
+        setup: HeldSetup::Tree(setup),
         demands,
         increment,
     })
+}
+
+/// The parts of an opening.
+pub(crate) fn source_parts<'v>(
+    alloc: Global,
+    source: Source<'v>,
+) -> Result<OpeningEntries<'v>, OpeningFault>
+    ensures ok { IfOk result (λ parts. shape.parts_of (source_data source.entry)
+        ≡ Some (record { setup = held_data parts.setup; demands = parts.demands.items; increment = parts.increment })) }
+    ensures err { IfErr result (IsRefusal OpeningFault.NoMemory (or_fault OpeningFault.Shape (shape.parts_of (source_data source.entry)))) }
+    ensures held { IfErr result (λ fault. fault ≢ OpeningFault.Setup SetupFault.NoMemory) }
+{
+    match source {
+        Source::Document(value) => opening_parts(alloc, value),
+        Source::Entries(entries) => Ok(entries),
+    }
 }
