@@ -9,4 +9,5 @@ returns c =
     let bytes = c.args.bytes.now in
     let d = entries_data c.in_ok-entries.entries in
     json_value bytes d (c.is_text.ensures c.if-not-is_text.false)
-    (text_is 4 bytes c.new-scan.result c.opening_entries.new.scan d (omega arith) c.new-scan.ensures c.in_ok-entries.ensures (c.ends.ensures c.if-not-ends.false))
+    (text_is 4 bytes c.new-scan.result c.opening_entries.new.scan d (omega arith) c.new-scan.ensures c.in_ok-entries.ensures
+    (c.ends.ensures c.if-not-ends.false))

@@ -8,7 +8,8 @@ use Rattle.clock_setup.proofs.scanned_opening.OpeningFound.read_member.Goals as 
 pub returns-then-is_key-clause-value : goal.returns-then-is_key-clause-value
 returns-then-is_key-clause-value c =
     adds_member 3 c.args.scan.now c.key.new.self c.rows.new.self (found_opening c.args.self.now) (codes "demands") (rows c.in_ok-rows.field-0.items)
-    (c.in-Some.ensures ∙ ap (λ k. Token.key k ∷ c.key.new.self) (c.is_key.ensures c.if-is_key.true)) (reads_deeper 2 3 c.key.new.self (rows c.in_ok-rows.field-0.items) c.rows.new.self (omega arith) c.in_ok-rows.ensures.value) refl
+    (c.in-Some.ensures ∙ ap (λ k. Token.key k ∷ c.key.new.self) (c.is_key.ensures c.if-is_key.true))
+    (reads_deeper 2 3 c.key.new.self (rows c.in_ok-rows.field-0.items) c.rows.new.self (omega arith) c.in_ok-rows.ensures.value) refl
 
 pub returns-then-is_key-2-clause-value : goal.returns-then-is_key-2-clause-value
 returns-then-is_key-2-clause-value c =
@@ -18,4 +19,5 @@ returns-then-is_key-2-clause-value c =
 pub returns-then-is_key-3-clause-value : goal.returns-then-is_key-3-clause-value
 returns-then-is_key-3-clause-value c =
     adds_member 3 c.args.scan.now c.key.new.self c.number.new.self (found_opening c.args.self.now) (codes "increment") (whole c.in-Some-number.number)
-    (c.in-Some.ensures ∙ ap (λ k. Token.key k ∷ c.key.new.self) (c.is_key-3.ensures c.if-is_key-3.true)) (reads_deeper 0 3 c.key.new.self (whole c.in-Some-number.number) c.number.new.self (omega arith) c.in-Some-number.ensures.value) refl
+    (c.in-Some.ensures ∙ ap (λ k. Token.key k ∷ c.key.new.self) (c.is_key-3.ensures c.if-is_key-3.true))
+    (reads_deeper 0 3 c.key.new.self (whole c.in-Some-number.number) c.number.new.self (omega arith) c.in-Some-number.ensures.value) refl
