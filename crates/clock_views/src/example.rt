@@ -9,6 +9,7 @@ use std::test::Fail;
 fn a_page_in_three_lines(rt: HostRuntime) -> Result<(), Fail> {
     let setup = read_setup(rt.alloc(), ONE_PRODUCT.as_bytes())?;
     let page = status_page(rt.alloc(), &setup, 1, false)?;
-    assert!(rt; page.as_slice() == b"{\"ended\":false,\"round\":1,\"version\":1}");
+    let expected = b"{\"ended\":false,\"round\":1,\"version\":1}";
+    assert!(rt; page.as_slice() == expected.as_slice());
     Ok(())
 }
