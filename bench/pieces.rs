@@ -12,6 +12,7 @@ use clock_queue::Woken;
 use clock_setup::read_setup;
 use std::alloc::Global;
 use std::io::Read;
+use std::slice;
 use std::time::{Clock, Instant};
 
 /// A connection for each of some texts.
@@ -28,11 +29,37 @@ fn connect_all<P: Processor>(
 }
 
 /// Feeds one piece, and tells whether a reply came that is not 200 OK.
+#[inline(always)]
 fn feed_piece<P: Processor>(hub: &mut Hub<P>, conn: Conn, piece: &[u8]) -> Result<bool, HubFault> {
     match hub.feed(conn, piece)? {
         Fed::More => Ok(false),
         Fed::Reply(reply) => Ok(!reply.bytes().starts_with(b"HTTP/1.1 200")),
     }
+}
+
+/// Feeds a text over a connection of its own byte by byte, and tells whether a reply came that is not 200 OK.
+fn feed_bytes<P: Processor>(hub: &mut Hub<P>, text: &str) -> Result<bool, HubFault> {
+    let conn = hub.connect()?;
+    for byte in text.as_bytes() {
+        if feed_piece(hub, conn, slice::from_ref(byte))? {
+            return Ok(true);
+        }
+    }
+    Ok(false)
+}
+
+/// Feeds a text over a connection of its own, and tells whether a reply came that is not 200 OK.
+fn feed_alone<P: Processor>(hub: &mut Hub<P>, text: &str, size: usize) -> Result<bool, HubFault> {
+    if size == 1 {
+        return feed_bytes(hub, text);
+    }
+    let conn = hub.connect()?;
+    for piece in text.as_bytes().chunks(size.max(1)) {
+        if feed_piece(hub, conn, piece)? {
+            return Ok(true);
+        }
+    }
+    Ok(false)
 }
 
 /// The piece of a text from a place on.
@@ -93,6 +120,12 @@ fn feed_all<P: Processor>(
     together: usize,
 ) -> anyhow::Result<u64> {
     let mut others = 0u64;
+    if together == 1 {
+        for text in texts {
+            others = others.saturating_add(u64::from(feed_alone(hub, text, size)?));
+        }
+        return Ok(others);
+    }
     for some in texts.chunks(together.max(1)) {
         others = others.saturating_add(feed_together(alloc, hub, some, size)?);
     }
@@ -127,20 +160,38 @@ fn play<R: Print + Clock, P: Processor>(
     Ok(())
 }
 
+/// Plays the groups one after the other.
+fn play_all<R: Print + Clock, P: Processor>(
+    rt: &R,
+    alloc: Global,
+    hub: &mut Hub<P>,
+    groups: &[&str],
+) -> anyhow::Result<()> {
+    for group in groups {
+        play(rt, alloc, hub, group)?;
+    }
+    Ok(())
+}
+
+/// A front of a set-up document.
+fn opened(alloc: Global, document: &str) -> anyhow::Result<Front<Woken>> {
+    let setup = read_setup(alloc, document.as_bytes())?;
+    Ok(Front::new(alloc, setup, Woken)?)
+}
+
+/// Plays the groups of an input. No other function lets a hub go, since each that does so proves it anew.
+fn play_input<R: Print + Clock>(rt: &R, alloc: Global, input: &[&str]) -> anyhow::Result<()> {
+    let Some((document, groups)) = input.split_first() else {
+        return Ok(());
+    };
+    let mut hub = Hub::new(alloc, opened(alloc, document)?);
+    play_all(rt, alloc, &mut hub, groups)
+}
+
 fn main(rt: HostRuntime) -> anyhow::Result<()> {
     let alloc = rt.alloc();
     let mut input = String::new(alloc);
     rt.stdin().read_to_string(&mut input)?;
-    let mut parts = Vec::new(alloc);
-    for part in input.as_str().split('\u{1}') {
-        parts.push(part)?;
-    }
-    if let Some((document, groups)) = parts.as_slice().split_first() {
-        let setup = read_setup(alloc, document.as_bytes())?;
-        let mut hub = Hub::new(alloc, Front::new(alloc, setup, Woken)?);
-        for group in groups {
-            play(&rt, alloc, &mut hub, group)?;
-        }
-    }
-    Ok(())
+    let parts: Vec<&str> = input.as_str().split('\u{1}').collect(alloc)?;
+    play_input(&rt, alloc, parts.as_slice())
 }

@@ -6,6 +6,8 @@ mod auction;
 #[cfg(test)]
 mod documents;
 #[cfg(test)]
+mod example;
+#[cfg(test)]
 mod refusals;
 #[cfg(test)]
 mod rounds;

@@ -169,27 +169,47 @@ fn demands_of(alloc: Global, grid: &Grid, bidders: usize) -> Result<Amounts, NoM
     Ok(demands)
 }
 
-/// Settles first requests on no demands, and then others on what these came to. The demands are those at the end, row by
-/// row.
+/// Settles first requests on the demands of a round, and then others on what these came to.
+fn settle_in_turn<P: Processor>(
+    alloc: Global,
+    processor: &P,
+    setup: &Setup,
+    eligibilities: &Amounts,
+    grid: &Grid,
+    requests: (&[Asked], &[Asked]),
+) -> Result<Settled, Fail>
+    requires bidders { length eligibilities.now ≡ length setup.now.bidders }
+    requires within { IsWithinEligibility setup.now.products eligibilities.now grid.now }
+    ensures { IfOk result (λ settled. length settled.grid ≡ length setup.now.bidders) }
+{
+    let (first, second) = requests;
+    let begun = settle(alloc, processor, setup, eligibilities, grid, first)?;
+    settle(alloc, processor, setup, eligibilities, begun.grid(), second)
+}
+
+/// Settles first requests on no demands, and then others on what these came to.
+fn settle_from_none<P: Processor>(
+    alloc: Global,
+    processor: &P,
+    setup: &Setup,
+    requests: (&[Asked], &[Asked]),
+) -> Result<Settled, Fail>
+    ensures { IfOk result (λ settled. length settled.grid ≡ length setup.now.bidders) }
+{
+    let eligibilities = eligibilities(alloc, setup)?;
+    let none = Grid::zero(alloc, setup)?;
+    settle_in_turn(alloc, processor, setup, &eligibilities, &none, requests)
+}
+
+/// What first requests, settled on no demands, and then others come to. The demands are those at the end, row by row.
 pub fn settle_twice<P: Processor>(
     alloc: Global,
     processor: &P,
     document: &str,
-    first: &[Asked],
-    second: &[Asked],
+    requests: (&[Asked], &[Asked]),
 ) -> Result<(Amounts, Settled), Fail> {
     let setup = read_setup(alloc, document.as_bytes())?;
-    let eligibilities = eligibilities(alloc, &setup)?;
-    let none = Grid::zero(alloc, &setup)?;
-    let begun = settle(alloc, processor, &setup, &eligibilities, &none, first)?;
-    let end = settle(
-        alloc,
-        processor,
-        &setup,
-        &eligibilities,
-        begun.grid(),
-        second,
-    )?;
+    let end = settle_from_none(alloc, processor, &setup, requests)?;
     let demands = demands_of(alloc, end.grid(), setup.bidders.as_slice().len())?;
     Ok((demands, end))
 }

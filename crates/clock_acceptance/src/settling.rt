@@ -44,8 +44,7 @@ fn settles_with<P: Processor>(
     requests: (&[Asked], &[Asked]),
     end: End,
 ) -> Result<u64, Fail> {
-    let (first, second) = requests;
-    let (demands, settled) = settle_twice(alloc, processor, document, first, second)?;
+    let (demands, settled) = settle_twice(alloc, processor, document, requests)?;
     let (all, left, applied) = end;
     assert_eq!(rt; demands.as_slice(), all);
     assert_eq!(rt; settled.left(), left);

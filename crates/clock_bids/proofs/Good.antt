@@ -225,7 +225,7 @@ module _ (products : List Product) (prices : List PricePair) (demands : List ℕ
         subst (λ part. AreGoodChains products prices demands part) (sym (take_more bids i no_bid within))
         (good_chains-push products prices demands (take i bids) i here good (checks_here ∙ none))
 
-    known_here : here.product < length products
+    pub known_here : here.product < length products
     known_here = (so_far_good products prices demands (take i bids) i here (checks_here ∙ none)).known
 
     pub table-more : set last here.product (Some here) ≡ last_bids (length products) (take (i + 1) bids)
@@ -241,7 +241,7 @@ module _ (setup : PublicSetup) (round : ℕ) (prices : List PricePair) (holding 
   good_sheet_activity = (no_sheet_fault setup round prices holding bids good).active
 
 -- a sheet without bids is good
-no_activity : (products : List Product) (from n : ℕ) → activity products (map (λ _. 0) (range_with_len from n)) ≡ 0
+pub no_activity : (products : List Product) (from n : ℕ) → activity products (map (λ _. 0) (range_with_len from n)) ≡ 0
 no_activity [] from n = refl
 no_activity (product ∷ products) from zero = refl
 no_activity (product ∷ products) from (suc n) =

@@ -1,15 +1,16 @@
 -- Tables with an entry for each product, made of the bids for it, and a further bid.
 use Rattle.std.proofs.Common.{◌≡◌, ℕ, ◌+◌, ◌<◌, List, [], ◌∷◌, ◌++◌, cond, map, length, ◌==◌, ◌-◌, replicate}
 use Rattle.std.proofs.Common.{take, zero, suc, inl, inr, refl, ap, sym, ◌∙◌, arith, get_or, set, append-nil}
-use Rattle.std.specs.Prelude.{Some, None}
+use Rattle.std.specs.Prelude.{Some, None, slice_get}
 use Rattle.std.specs.List.{range_with_len}
 use Rattle.std.proofs.lemmas.Bool.{eq-eqb, ne_eqb, cases_eq}
 use Rattle.std.proofs.lemmas.List.{take_more, same_lists, length-set, get_or-set_same, get_or-set_other}
 use Rattle.std.proofs.lemmas.List.Elements.{filter-append}
+use Rattle.std.proofs.lemmas.Option.{slice_get-get_or}
 use Rattle.std.proofs.lemmas.List.FromFn.{length-map-range_with_len, get_or-map-range_with_len}
 use Rattle.clock_bids.specs.declared.sheet.Bid.{Bid}
 use Rattle.clock_bids.specs.Sheet.{chain_of, last_quantity, asked_demands}
-use Rattle.clock_bids.specs.Chains.{last_of, last_bids}
+use Rattle.clock_bids.specs.Chains.{bid_at, last_of, last_bids}
 use Rattle.clock_bids.proofs.Chains.{last_of-push, last_quantity-push}
 
 -- a further bid stands at the end of its product's chain, and in no other
@@ -103,3 +104,14 @@ pub filled : {A : Type 0} (items fresh : List A) (n had : ℕ) (a : A) → items
 filled items fresh n had a is none empty =
     is ∙ ap (λ old. take n old ++ replicate (n - had) a) none ∙ ap (λ old. old ++ replicate (n - had) a) (take_none n)
     ∙ ap (λ (k : ℕ). replicate k a) (let all : n - had ≡ n = omega (arith, empty) in all)
+
+-- the bids at the places of a table: none before any bid, and the next one at the place after it
+pub none_at : (bids : List Bid) (n : ℕ) → map (bid_at bids) (replicate n 0) ≡ replicate n None
+none_at bids zero = refl
+none_at bids (suc n) = ap (λ rest. None ∷ rest) (none_at bids n)
+
+pub bid_here : (bids : List Bid) (i : ℕ) → i < length bids → bid_at bids (i + 1) ≡ Some (get_or bids i no_bid)
+bid_here bids i within =
+    ap (λ b. cond b None (slice_get bids ((i + 1) - 1))) (ne_eqb (i + 1) 0 (λ e. omega (arith, e)))
+    ∙ ap (λ k. slice_get bids k) (let same : (i + 1) - 1 ≡ i = omega arith in same)
+    ∙ slice_get-get_or bids i no_bid within

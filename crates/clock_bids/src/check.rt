@@ -1,14 +1,14 @@
-ghost use Rattle.std.specs.Prelude.{◌≡◌, None, length, OnOk, IfOk, IfErr, slice_index_or};
-ghost use Rattle.clock_setup.specs.Limits.{IsRow, public_setup, is_within};
+ghost use Rattle.std.specs.Prelude.{◌≡◌, ◌≤◌, ◌+◌, ◌*◌, None, length, map, OnOk, IfOk, IfErr, slice_index_or};
+ghost use Rattle.clock_setup.specs.Limits.{IsRow, most_supply, most_units, public_setup, is_within};
 ghost use Rattle.clock_setup.specs.Faults.{first_fault, IsFirstFault};
+ghost use Rattle.clock_setup.specs.Eligibility as eligibilities;
 ghost use Rattle.clock_bids.specs.Holding as rules;
 ghost use Rattle.clock_bids.specs.Holding.{holding_of};
-ghost use Rattle.clock_bids.specs.Sheet.{IsGoodSheet, sheet_fault, checks_of_bids};
-ghost use Rattle.clock_bids.specs.Chains.{checks_by_last, step_checks};
+ghost use Rattle.clock_bids.specs.Sheet.{IsGoodSheet, asked_demands, most_bids, sheet_fault, checks_of_bids};
+ghost use Rattle.clock_bids.specs.Chains.{bid_at, checks_by_last, quantity_of, step_checks};
 
-use crate::demands::asked_demands;
 use crate::sheet::{Bid, BidFault, Own, Sheet};
-use clock_setup::{PricePair, Prices, Product, Setup, activity};
+use clock_setup::{PricePair, Prices, Product, Setup};
 use std::alloc::Global;
 
 /// The most bids that a sheet may have.
@@ -43,9 +43,7 @@ pub fn check_sheet(
     if bids.len() > MOST_BIDS {
         return Err(BidFault::TooMany);
     }
-    judge(alloc, setup, prices.as_slice(), own.demands, bids)?;
-    let asked = asked_demands(alloc, setup, bids)?;
-    let taken = activity(setup, asked.as_slice());
+    let taken = judge(alloc, setup, prices.as_slice(), own.demands, bids)?;
     if taken as u128 > activity_limit(setup, own.round, own.eligibility) {
         return Err(BidFault::OverActivity);
     }
@@ -66,30 +64,65 @@ fn activity_limit(setup: &Setup, round: u64, eligibility: u64) -> u128
 
 /// Judges each bid by the last one before it for the same product. Where the earlier bids are
 /// good, their prices rise and their quantities move one way, so that the last one tells whether
-/// the next price is higher and the next step goes on.
+/// the next price is higher and the next step goes on. That one is kept as its place in the sheet,
+/// from 1 on, so that little must be cleared for each sheet, however many products there are.
+/// Good bids ask for demands that take so many bidding units.
 fn judge(
     alloc: Global,
     setup: &Setup,
     prices: &[PricePair],
     demands: &[u64],
     bids: &[Bid],
-) -> Result<(), BidFault>
+) -> Result<u64, BidFault>
     requires prices { length prices.now ≡ length setup.now.products }
     requires demands { IsRow setup.now.products demands.now }
+    requires few { length bids.now ≤ most_bids }
     ensures ok { OnOk result (first_fault (checks_of_bids setup.now.products prices.now demands.now bids.now) ≡ None) }
+    ensures taken { IfOk result (λ taken. taken ≡ eligibilities.activity setup.now.products
+        (asked_demands (length setup.now.products) bids.now)) }
     ensures fault { IfErr result (IsFirstFault BidFault.NoMemory
         (first_fault (checks_of_bids setup.now.products prices.now demands.now bids.now))) }
 {
     let products = setup.products.as_slice();
-    let mut last = Vec::new(alloc);
-    last.resize(products.len(), None)?;
+    let mut places = Vec::new(alloc);
+    places.resize(products.len(), 0)?;
+    let mut taken: u64 = 0;
     for (i, bid) in bids.iter().enumerate() {
-        if let Some(fault) = bid_fault(products, prices, demands, &last, i as u64, bid) {
+        let last = last_bid(bids, &places, bid.product);
+        if let Some(fault) = bid_fault(products, prices, demands, last, i as u64, bid) {
             return Err(fault);
         }
-        last[bid.product as usize] = Some(*bid);
+        let product = bid.product as usize;
+        taken = taken_with(taken, products[product].units, last, bid.quantity);
+        places[product] = i as u16 + 1;
     }
-    Ok(())
+    Ok(taken)
+}
+
+/// The bidding units that demands take once a quantity stands in the place of the last bid's.
+fn taken_with(taken: u64, units: u64, last: Option<Bid>, quantity: u64) -> u64
+    requires limit { taken ≤ most_bids * (most_units * most_supply) }
+    requires units { units ≤ most_units }
+    requires quantity { quantity ≤ most_supply }
+    requires held { units * quantity_of last ≤ taken }
+    ensures exact { result + units * quantity_of last ≡ taken + units * quantity }
+    ensures most { result ≤ taken + most_units * most_supply }
+{
+    match last {
+        Some(last) => taken - units * last.quantity + units * quantity,
+        None => taken + units * quantity,
+    }
+}
+
+/// The bid at the place that is kept for a product, if any.
+fn last_bid(bids: &[Bid], places: &[u16], product: u64) -> Option<Bid>
+    ensures { result ≡ slice_index_or (map (bid_at bids.now) places.now) product None }
+{
+    let place = *places.get(product as usize)?;
+    match place {
+        0 => None,
+        _ => bids.get(place as usize - 1).copied(),
+    }
 }
 
 /// The fault of the bid at a place of the sheet, by the last bid before it for the same product.
@@ -97,15 +130,13 @@ fn bid_fault(
     products: &[Product],
     prices: &[PricePair],
     demands: &[u64],
-    last: &[Option<Bid>],
+    last: Option<Bid>,
     place: u64,
     bid: &Bid,
 ) -> Option<BidFault>
     requires prices { length prices.now ≡ length products.now }
-    requires last { length last.now ≡ length products.now }
     requires demands { IsRow products.now demands.now }
-    ensures { result ≡ first_fault (checks_by_last products.now prices.now demands.now
-        (slice_index_or last.now bid.now.product None) place bid.now) }
+    ensures { result ≡ first_fault (checks_by_last products.now prices.now demands.now last place bid.now) }
 {
     if bid.product >= products.len() as u64 {
         return Some(BidFault::UnknownProduct(place));
@@ -118,13 +149,7 @@ fn bid_fault(
     if bid.quantity > products[product].cap {
         return Some(BidFault::OverCap(place));
     }
-    step_fault(
-        last[product],
-        demands[product],
-        pair.clock.get(),
-        place,
-        bid,
-    )
+    step_fault(last, demands[product], pair.clock.get(), place, bid)
 }
 
 /// Whether a price is from the start price to the clock price.

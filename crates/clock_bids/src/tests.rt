@@ -58,17 +58,27 @@ fn change(product: u32, place: u32, kind: Kind, amount: u64, price: u64) -> Chan
     }
 }
 
-/// The prices of each product of a set-up.
-fn prices_of(alloc: Global, setup: &Setup) -> Result<Prices, Fail> {
-    let pair = PricePair {
-        start: Price::new(100).ok_or("start")?,
-        clock: Price::new(110).ok_or("clock")?,
-    };
+/// A product's prices.
+fn pair() -> Option<PricePair> {
+    Some(PricePair {
+        start: Price::new(100)?,
+        clock: Price::new(110)?,
+    })
+}
+
+/// So many products' prices.
+fn repeated(alloc: Global, pair: &PricePair, count: usize) -> Result<Prices, NoMemory> {
     let mut prices = Prices::new(alloc);
-    for _ in 0..setup.products.as_slice().len() {
-        prices.push(pair)?;
+    for _ in 0..count {
+        prices.push(*pair)?;
     }
     Ok(prices)
+}
+
+/// The prices of each product of a set-up.
+fn prices_of(alloc: Global, setup: &Setup) -> Result<Prices, Fail> {
+    let pair = pair().ok_or("prices")?;
+    Ok(repeated(alloc, &pair, setup.products.as_slice().len())?)
 }
 
 /// Whether there is a demand for each product, none above its cap.
@@ -130,6 +140,7 @@ fn asked_by(
 }
 
 /// The changes that the first bidder asks for without a sheet.
+#[tactic(auto, using(crate::proofs::Good::empty_sheet_good))]
 fn asked_without(
     rt: &impl Abort,
     alloc: Global,
@@ -212,12 +223,22 @@ fn chains_of_two_products_may_be_interleaved(rt: HostRuntime) -> Result<(), Fail
     Ok(())
 }
 
+/// Whether bids ask for these demands.
+fn asks_for_demands(
+    rt: &impl Abort,
+    alloc: Global,
+    bids: &[Bid],
+    wanted: &[u64],
+) -> Result<bool, Fail> {
+    let setup = read_setup(alloc, TWO_PRODUCTS.as_bytes())?;
+    assert!(rt; are_known(&setup, bids));
+    let demands = asked_demands(alloc, &setup, bids)?;
+    Ok(demands.as_slice() == wanted)
+}
+
 #[test]
 fn the_last_quantity_is_the_demand_asked_for(rt: HostRuntime) -> Result<(), Fail> {
-    let setup = read_setup(rt.alloc(), TWO_PRODUCTS.as_bytes())?;
     let bids = [bid(1, 1, 104), bid(1, 2, 110)];
-    assert!(rt; are_known(&setup, &bids));
-    let demands = asked_demands(rt.alloc(), &setup, &bids)?;
-    assert_eq!(rt; demands.as_slice(), [0, 2].as_slice());
+    assert!(rt; asks_for_demands(&rt, rt.alloc(), &bids, &[0, 2])?);
     Ok(())
 }

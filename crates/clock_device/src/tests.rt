@@ -2,27 +2,66 @@
 use crate::{
     Failed, FromReader, Items, ListSink, ListSource, NoMemory, Sink, Source, Stop, Text, ToWriter,
 };
+use std::alloc::{AllocError, Global};
 use std::io;
 use std::io::{ErrorKind, Read, Write};
 use std::test::Fail;
 
-#[test]
-fn lists_grow_and_change(rt: HostRuntime) -> Result<(), Fail> {
-    let alloc = rt.alloc();
+/// Numbers that were put into a list one by one and together.
+fn three(alloc: Global) -> Result<Items<u64>, NoMemory> {
     let mut list = Items::new(alloc);
     list.push(3u64)?;
     list.extend_from_slice(&[4, 5])?;
-    assert_eq!(rt; list.as_slice().len(), 3);
-    assert_eq!(rt; list.copy(alloc)?.as_slice(), [3, 4, 5].as_slice());
+    Ok(list)
+}
+
+/// A list's copy.
+fn copied(alloc: Global, list: &Items<u64>) -> Result<Items<u64>, NoMemory> {
+    list.copy(alloc)
+}
+
+/// A text that ends in a number.
+fn numbered(alloc: Global, number: u64) -> Result<Text, NoMemory> {
     let mut text = Text::from_slice(alloc, b"round ")?;
-    text.push_number(18_446_744_073_709_551_615)?;
+    text.push_number(number)?;
+    Ok(text)
+}
+
+/// A text to which numbers or dashes are added.
+fn dashed(mut text: Text, numbers: &[Option<u64>]) -> Result<Text, NoMemory> {
+    for number in numbers {
+        text.push_or_dash(*number)?;
+    }
+    Ok(text)
+}
+
+/// A list of what is in a vector.
+fn taken(alloc: Global) -> Result<Text, AllocError> {
+    Ok(Items::from_vec(vec![in alloc; 7u8, 8]?))
+}
+
+/// So many zeros.
+fn zeros(alloc: Global, count: usize) -> Result<Items<u64>, NoMemory> {
+    Ok(Items::zeros(alloc, count)?)
+}
+
+#[test]
+fn lists_grow_and_change(rt: HostRuntime) -> Result<(), Fail> {
+    let alloc = rt.alloc();
+    let list = three(alloc)?;
+    assert_eq!(rt; list.as_slice().len(), 3);
+    assert_eq!(rt; copied(alloc, &list)?.as_slice(), [3, 4, 5].as_slice());
+    assert_eq!(rt; zeros(alloc, 2)?.as_slice(), [0, 0].as_slice());
+    assert_eq!(rt; taken(alloc)?.as_slice(), [7, 8].as_slice());
+    Ok(())
+}
+
+#[test]
+fn numbers_and_dashes_are_written(rt: HostRuntime) -> Result<(), Fail> {
+    let text = numbered(rt.alloc(), 18_446_744_073_709_551_615)?;
     assert_eq!(rt; text.as_slice(), b"round 18446744073709551615".as_slice());
-    text.push_or_dash(None)?;
-    text.push_or_dash(Some(0))?;
+    let text = dashed(text, &[None, Some(0)])?;
     assert_eq!(rt; text.as_slice(), b"round 18446744073709551615-0".as_slice());
-    assert_eq!(rt; Items::zeros(alloc, 2)?.as_slice(), [0, 0].as_slice());
-    let taken = Items::from_vec(vec![in alloc; 7u8, 8]?);
-    assert_eq!(rt; taken.as_slice(), [7, 8].as_slice());
     Ok(())
 }
 
@@ -34,18 +73,28 @@ fn an_item_is_put_in_the_place_of_another(rt: HostRuntime) -> Result<(), NoMemor
     Ok(())
 }
 
+/// A read.
+fn read<S: Source>(source: &mut S, buffer: &mut [u8]) -> Result<usize, Stop> {
+    source.read(buffer)
+}
+
+/// A write.
+fn write<S: Sink>(sink: &mut S, bytes: &[u8]) -> Result<usize, Failed> {
+    sink.write(bytes)
+}
+
 #[test]
 fn a_list_source_gives_its_bytes_in_pieces(rt: HostRuntime) {
     let mut source = ListSource::new(b"hello", 2, None);
     let mut buffer = *b"----";
-    assert_eq!(rt; source.read(&mut buffer), Ok(2));
+    assert_eq!(rt; read(&mut source, &mut buffer), Ok(2));
     assert_eq!(rt; buffer, *b"he--");
-    assert_eq!(rt; source.read(&mut buffer[..1]), Ok(1));
+    assert_eq!(rt; read(&mut source, &mut buffer[..1]), Ok(1));
     assert_eq!(rt; buffer, *b"le--");
-    assert_eq!(rt; source.read(&mut buffer), Ok(2));
+    assert_eq!(rt; read(&mut source, &mut buffer), Ok(2));
     assert_eq!(rt; buffer, *b"lo--");
-    assert_eq!(rt; source.read(&mut buffer), Ok(0));
-    assert_eq!(rt; source.read(&mut buffer), Ok(0));
+    assert_eq!(rt; read(&mut source, &mut buffer), Ok(0));
+    assert_eq!(rt; read(&mut source, &mut buffer), Ok(0));
 }
 
 #[test]
@@ -53,20 +102,20 @@ fn a_list_source_stops_at_one_read(rt: HostRuntime) {
     for stop in [Stop::Interrupted, Stop::Failed] {
         let mut source = ListSource::new(b"hello", 4, Some((1, stop)));
         let mut buffer = *b"----";
-        assert_eq!(rt; source.read(&mut buffer), Ok(4));
-        assert_eq!(rt; source.read(&mut buffer), Err(stop));
+        assert_eq!(rt; read(&mut source, &mut buffer), Ok(4));
+        assert_eq!(rt; read(&mut source, &mut buffer), Err(stop));
         assert_eq!(rt; buffer, *b"hell");
-        assert_eq!(rt; source.read(&mut buffer), Ok(1));
+        assert_eq!(rt; read(&mut source, &mut buffer), Ok(1));
     }
 }
 
 #[test]
 fn a_list_sink_takes_pieces_until_it_is_full(rt: HostRuntime) -> Result<(), NoMemory> {
     let mut sink = ListSink::new(rt.alloc(), 3, 2, None)?;
-    assert_eq!(rt; sink.write(b"hello"), Ok(2));
-    assert_eq!(rt; sink.write(b""), Err(Failed));
-    assert_eq!(rt; sink.write(b"llo"), Ok(1));
-    assert_eq!(rt; sink.write(b"lo"), Err(Failed));
+    assert_eq!(rt; write(&mut sink, b"hello"), Ok(2));
+    assert_eq!(rt; write(&mut sink, b""), Err(Failed));
+    assert_eq!(rt; write(&mut sink, b"llo"), Ok(1));
+    assert_eq!(rt; write(&mut sink, b"lo"), Err(Failed));
     assert_eq!(rt; sink.bytes(), b"hel".as_slice());
     Ok(())
 }
@@ -74,8 +123,8 @@ fn a_list_sink_takes_pieces_until_it_is_full(rt: HostRuntime) -> Result<(), NoMe
 #[test]
 fn a_list_sink_fails_at_one_write(rt: HostRuntime) -> Result<(), NoMemory> {
     let mut sink = ListSink::new(rt.alloc(), 8, 8, Some(0))?;
-    assert_eq!(rt; sink.write(b"hello"), Err(Failed));
-    assert_eq!(rt; sink.write(b"hello"), Ok(5));
+    assert_eq!(rt; write(&mut sink, b"hello"), Err(Failed));
+    assert_eq!(rt; write(&mut sink, b"hello"), Ok(5));
     assert_eq!(rt; sink.bytes(), b"hello".as_slice());
     Ok(())
 }
@@ -105,10 +154,10 @@ impl Read for Flaky {
 fn a_reader_is_interrupted_or_fails(rt: HostRuntime) {
     let mut source = FromReader::new(Flaky { reads: 0 });
     let mut buffer = *b"--";
-    assert_eq!(rt; source.read(&mut buffer), Err(Stop::Interrupted));
-    assert_eq!(rt; source.read(&mut buffer), Ok(1));
+    assert_eq!(rt; read(&mut source, &mut buffer), Err(Stop::Interrupted));
+    assert_eq!(rt; read(&mut source, &mut buffer), Ok(1));
     assert_eq!(rt; buffer, *b"x-");
-    assert_eq!(rt; source.read(&mut buffer), Err(Stop::Failed));
+    assert_eq!(rt; read(&mut source, &mut buffer), Err(Stop::Failed));
 }
 
 /// A reader and a writer that tell how many calls they have had: by the byte that a read gives,
@@ -146,9 +195,9 @@ fn each_call_is_one_call_of_the_reader_or_writer_below(rt: HostRuntime) {
     let mut sink = ToWriter::new(Counter { calls: 0 });
     let mut byte = [0];
     for call in 1..=8u8 {
-        assert_eq!(rt; source.read(&mut byte), Ok(1));
+        assert_eq!(rt; read(&mut source, &mut byte), Ok(1));
         assert_eq!(rt; byte, [call]);
-        assert_eq!(rt; sink.write(b"12345678"), Ok(usize::from(call)));
+        assert_eq!(rt; write(&mut sink, b"12345678"), Ok(usize::from(call)));
     }
 }
 
@@ -156,10 +205,10 @@ fn each_call_is_one_call_of_the_reader_or_writer_below(rt: HostRuntime) {
 fn a_slice_is_read_and_a_vector_written(rt: HostRuntime) {
     let mut source = FromReader::new(b"hi".as_slice());
     let mut buffer = *b"---";
-    assert_eq!(rt; source.read(&mut buffer), Ok(2));
+    assert_eq!(rt; read(&mut source, &mut buffer), Ok(2));
     assert_eq!(rt; buffer, *b"hi-");
-    assert_eq!(rt; source.read(&mut buffer), Ok(0));
+    assert_eq!(rt; read(&mut source, &mut buffer), Ok(0));
     let mut sink = ToWriter::new(Vec::new(rt.alloc()));
-    assert_eq!(rt; sink.write(b"hi"), Ok(2));
-    assert_eq!(rt; sink.write(b""), Err(Failed));
+    assert_eq!(rt; write(&mut sink, b"hi"), Ok(2));
+    assert_eq!(rt; write(&mut sink, b""), Err(Failed));
 }

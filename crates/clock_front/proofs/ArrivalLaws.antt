@@ -1,19 +1,12 @@
 -- How the bytes of a request come, read by read.
-use Rattle.std.proofs.Common.{◌≡◌, ℕ, ◌+◌, ◌≤◌, Bool, true, false, ◌||◌, List, [], ◌++◌, Option, Ok, Err, length, refl, sym, subst, ◌∙◌, inl, arith}
-use Rattle.std.proofs.Math.Seq.{take-append_seam}
+use Rattle.std.proofs.Common.{◌≡◌, ℕ, ◌+◌, ◌≤◌, Bool, true, false, ◌||◌, List, [], Option, Ok, Err, length, refl, subst, ◌∙◌, inl, arith}
 use Rattle.clock_device.specs.Streams.{HasRead}
 use Rattle.clock_device.proofs.Streams.{read_nothing, read_twice, same_bytes}
 use Rattle.clock_front.specs.Framing.{framing, known, needs_more}
-use Rattle.clock_front.specs.Shown.{Knows, KnowsOfStart}
-use Rattle.clock_front.specs.declared.progress.Progress.{Progress}
 use Rattle.clock_device.specs.Readings.{Reading}
-use Rattle.clock_front.specs.Arrivals.{IsReadByNeed, Arrives, HasArrived, HasNoRoom, EndsArrival, IsStepOf, is_read_fault}
+use Rattle.clock_front.specs.Arrivals.{IsReadByNeed, HasArrived, HasNoRoom, EndsArrival, IsStepOf, is_read_fault}
 use Rattle.clock_front.specs.declared.reading.Unread.{Unread}
 use Rattle.clock_front.specs.declared.reading.Unread.TheVariants as unread
-
--- what is known of the bytes is known of the beginning of more
-pub knows_start : (old piece : List ℕ) (progress : Progress) → Knows old progress → KnowsOfStart (old ++ piece) progress
-knows_start old piece progress knows = (length old, subst (λ (t : List ℕ). Knows t progress) (sym (take-append_seam old piece)) knows)
 
 pub nothing_needs_more : framing [] ≡ needs_more
 unfolding framing known

@@ -1,18 +1,16 @@
 -- Whose a token is: in a set-up each token stands once.
-use Rattle.std.proofs.Common.{◌≡◌, ℕ, zero, suc, ◌+◌, ◌<◌, ◌≤◌, Bool, true, false, cond, List, [], ◌∷◌, length, map, get_or, refl, sym, ◌∙◌, ap}
+use Rattle.std.proofs.Common.{◌≡◌, ℕ, zero, suc, ◌+◌, ◌<◌, Bool, true, false, cond, List, [], ◌∷◌, length, map, get_or, refl, sym, ◌∙◌, ap}
 use Rattle.std.proofs.Common.{arith, add-zero}
 use Rattle.std.specs.Prelude.{Option, Some, None}
 use Rattle.std.proofs.lemmas.List.{length-map, get_or-map}
 use Rattle.std.specs.Cmp.Lexicographic.{bytes_decides}
-use Rattle.clock_money.specs.PointLaws.{Compared, less, equal, greater, compared}
 use Rattle.clock_setup.specs.declared.setup.Bidder.{Bidder as BidderRow}
 use Rattle.clock_setup.specs.Limits.{SetupFields, IsSetup}
 use Rattle.clock_house.specs.History.{bidder_at}
 use Rattle.clock_front.specs.Heads.{same_bytes}
 use Rattle.clock_front.specs.Views.{has_token}
-use Rattle.clock_front.specs.declared.tokens.Asker.{Asker}
-use Rattle.clock_front.specs.declared.tokens.Asker.TheVariants.{Nobody, Operator, Bidder}
-use Rattle.clock_front.specs.Askers.{bidder_tokens, tokens_of, holder, asker_by, asker}
+use Rattle.clock_front.specs.declared.tokens.Asker.TheVariants.{Operator, Bidder}
+use Rattle.clock_front.specs.Askers.{bidder_tokens, holder, asker}
 
 same : (a b : List ℕ) → same_bytes a b ≡ true → a ≡ b
 same a b e = (bytes_decides a b).0 e

@@ -1,5 +1,5 @@
 -- A closing that was prepared is the closing that was asked for.
-use Rattle.std.proofs.Common.{◌≡◌, ◌≢◌, ℕ, List, ◌∷◌, Option, Result, Ok, Err, refl, sym, ◌∙◌, ap, subst}
+use Rattle.std.proofs.Common.{◌≡◌, ◌≢◌, ℕ, List, Option, Result, Ok, Err, sym, ◌∙◌, ap, subst}
 use Rattle.clock_setup.specs.Limits.{SetupFields}
 use Rattle.clock_setup.specs.declared.increments.Increments.{Increments}
 use Rattle.clock_bids.specs.declared.sheet.Bid.{Bid}
@@ -13,7 +13,7 @@ use Rattle.std.specs.Prelude.{IfOk, OnOk}
 use Rattle.clock_house.specs.declared.fault.CloseFault.TheVariants.{NoMemory}
 use Rattle.clock_views.specs.Refusals.{shown_close}
 use Rattle.clock_front.specs.Replies.{Answer}
-use Rattle.clock_front.specs.Outcomes.{Outcome, close_outcome, done, refused, answer_of}
+use Rattle.clock_front.specs.Outcomes.{close_outcome, done, refused, answer_of}
 use Rattle.clock_views.specs.OperatorPages.{closed_value}
 
 abbrev closing_by : ℕ → Increments → List Tie → SetupFields → List ClosedRound → List (Option (List Bid)) → Result ClosedRound CloseFault

@@ -8,7 +8,9 @@ use Rattle.clock_front.specs.Framing as framed
 use Rattle.clock_front.specs.declared.connections.Conn.{Conn}
 use Rattle.clock_front.specs.Pieces.{is_less, needs_more}
 use Rattle.clock_front.specs.declared.hub_fault.HubFault.{HubFault}
-use Rattle.clock_front.specs.Hubs.{ConnectionFields, HubFields, IsConnected, IsTaken, IsAnswered, AllNeedMore, KeepsOthers, text_of}
+use Rattle.clock_front.specs.declared.fed.Fed.{Fed}
+use Rattle.clock_front.specs.declared.fed.Fed.TheVariants.{More, Reply}
+use Rattle.clock_front.specs.Hubs.{ConnectionFields, HubFields, IsConnected, IsTaken, IsGone, IsAnswered, IsReply, IsFed, AllNeedMore, KeepsOthers, text_of}
 
 -- what is some has a text
 pub some_text : (o : Option (List ℕ)) → is_some o ≡ true → (text : List ℕ) × (o ≡ Some text)
@@ -42,6 +44,22 @@ fed_and_answered house old taken new conn text reply first second = record {
   private = second.private;
   setup = second.setup;
 }
+
+module _ (old new : HubFields) (conn : Conn) (text : List ℕ) where
+  -- the reply that a piece has led to
+  pub fed_reply : (fed : Fed) → needs_more text ≡ false → IsReply fed (IsAnswered old new conn text) → IsFed old new conn text fed
+  fed_reply More whole is = absurd is
+  fed_reply (Reply reply) whole is = (whole, is)
+
+  pub gone_with : (fed : Fed) → IsReply fed (IsAnswered old new conn text) → IsGone old.connections new.connections conn
+  gone_with More is = absurd is
+  gone_with (Reply reply) is = is.gone
+
+-- the piece was taken first
+pub taken_and_replied : (house : HouseFields) (old taken : ConnectionFields) (new : HubFields) (conn : Conn) (text : List ℕ) (fed : Fed)
+    → IsTaken old taken conn text → IsReply fed (IsAnswered (hub_of house taken) new conn text) → IsReply fed (IsAnswered (hub_of house old) new conn text)
+taken_and_replied house old taken new conn text More first is = absurd is
+taken_and_replied house old taken new conn text (Reply reply) first is = fed_and_answered house old taken new conn text reply first is
 
 -- ---- the text of each connection that stands needs more
 

@@ -1,5 +1,5 @@
 -- What a front stands for, and which texts are refused by constant bytes.
-use Rattle.std.proofs.Common.{◌≡◌, ℕ, ◌+◌, Bool, true, false, cond, ◌&&◌, List, ◌∷◌, length, map, take, Option, Some, None, Ok, Err, Result, refl}
+use Rattle.std.proofs.Common.{◌≡◌, ℕ, ◌+◌, true, cond, ◌&&◌, List, ◌∷◌, length, take, Option, Some, None, Ok, Err, Result, refl}
 use Rattle.std.proofs.Common.{sym, ◌∙◌, ap, subst, inl, inr}
 use Rattle.std.specs.Prelude.{nat_lt, codes, option_and_then}
 use Rattle.std.specs.List.{list_all}
@@ -9,16 +9,16 @@ use Rattle.httparse.specs.Grammar.{RequestHead}
 use Rattle.clock_setup.specs.Limits.{SetupFields}
 use Rattle.clock_house.specs.Command.{Command}
 use Rattle.clock_house.specs.declared.closed_round.ClosedRound.{ClosedRound}
-use Rattle.clock_house.specs.History.{history, sheet_in_force, for_each_bidder}
+use Rattle.clock_house.specs.History.{history}
 use Rattle.clock_house.specs.House.{HouseFields, StandsFor, IsFollowedBy, StandsStill}
 use Rattle.clock_bids.specs.declared.sheet.Bid.{Bid}
 use Rattle.clock_views.specs.declared.code.Code.{Code}
 use Rattle.clock_views.specs.declared.code.Code.TheVariants.{LongHead, BadHead, Coding, BadLength, LongBody, CutShort}
-use Rattle.clock_front.specs.Scans.{head_length, line_ends, is_loose}
+use Rattle.clock_front.specs.Scans.{head_length, is_loose}
 use Rattle.clock_front.specs.Heads.{head_of}
 use Rattle.clock_front.specs.HeaderLines.{Values, none, one, many, Pairs, pairs_of, values_of, length_from, within_limit, unless_coded, body_length, body_limit}
 use Rattle.clock_front.specs.Framing.{head_limit, or_bad_head, ended_head, Head, kept, and_length, length_read, head_with_length, Known, unended}
-use Rattle.clock_front.specs.Framing.{waiting, complete, refused, known_with_body, known_with_head, known_with_end, known, Framing, needs_more}
+use Rattle.clock_front.specs.Framing.{waiting, complete, refused, known_with_head, known_with_end, known, Framing, needs_more}
 use Rattle.clock_front.specs.Framing.{refusal, whole, framed, framing, ok_head, ended_at, head_in}
 use Rattle.std.specs.Prelude.{IfOk, OnOk}
 use Rattle.clock_views.specs.Refusals.{alone}

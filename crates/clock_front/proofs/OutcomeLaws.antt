@@ -1,12 +1,11 @@
 -- What is told of a closed round, and of none; which requests are no commands.
-use Rattle.std.proofs.Common.{◌≡◌, ℕ, List, Option, Some, None, refl, sym, ap}
+use Rattle.std.proofs.Common.{◌≡◌, Option, Some, None, refl, sym, ap}
 use Rattle.std.specs.Prelude.{option_map, Result}
 use Rattle.serde_json.specs.Data.{Data}
 use Rattle.clock_setup.specs.Limits.{SetupFields}
 use Rattle.clock_house.specs.Command.{other}
 use Rattle.clock_house.specs.declared.closed_round.ClosedRound.{ClosedRound}
 use Rattle.clock_views.specs.declared.code.Code.{Code}
-use Rattle.clock_views.specs.declared.code.Code.TheVariants.{NoRound}
 use Rattle.clock_views.specs.Refusals.{alone}
 use Rattle.clock_front.specs.declared.routes.Role.TheVariants as role
 use Rattle.clock_front.specs.declared.routes.Page.{Page}

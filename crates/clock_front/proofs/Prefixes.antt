@@ -1,5 +1,5 @@
 -- A decided text stays decided, and what is known of a text follows from what is known of its beginning.
-use Rattle.std.proofs.Common.{◌≡◌, ℕ, ◌+◌, ◌-◌, ◌≤◌, ◌<◌, ◌⊎◌, suc, Bool, true, false, cond, List, [], ◌∷◌, ◌++◌, length, take, drop, Option, Some}
+use Rattle.std.proofs.Common.{◌≡◌, ℕ, ◌+◌, ◌≤◌, ◌⊎◌, suc, Bool, true, false, cond, List, [], ◌∷◌, ◌++◌, length, take, drop, Option, Some}
 use Rattle.std.proofs.Common.{None, Ok, Err, Result, refl, sym, ◌∙◌, ap, arith, inl, inr, zero, length-append, length-drop}
 use Rattle.std.specs.Prelude.{option_map, nat_eq, nat_lt}
 use Rattle.std.specs.List.{starts_with}
@@ -10,8 +10,8 @@ use Rattle.std.proofs.Math.Seq.{take-nil}
 use Rattle.clock_views.specs.declared.code.Code.{Code}
 use Rattle.clock_views.specs.declared.code.Code.TheVariants.{LongHead}
 use Rattle.clock_front.specs.Scans.{empty_line, head_length}
-use Rattle.clock_front.specs.Framing.{IsDecided, ended_at, ok_head, ended_head, head_in, head_limit, head_with_length, Head, Known, unended, waiting}
-use Rattle.clock_front.specs.Framing.{complete, refused, known_with_body, known_with_head, known_with_end, known, advanced, needs_more, refusal}
+use Rattle.clock_front.specs.Framing.{ended_at, ok_head, ended_head, head_in, head_limit, head_with_length, Head, Known, unended, waiting}
+use Rattle.clock_front.specs.Framing.{complete, refused, known_with_body, known_with_head, known_with_end, known, advanced, needs_more}
 use Rattle.clock_front.specs.Framing.{whole, framed, framing}
 use Rattle.clock_front.specs.FramingLaws.{IsDecidedOnce, IsKnownByParts, HasOneHead}
 

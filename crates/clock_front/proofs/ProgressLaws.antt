@@ -1,6 +1,6 @@
 -- What the code's values show of a text and of what follows it.
-use Rattle.std.proofs.Common.{◌≡◌, ℕ, ◌+◌, ◌-◌, ◌≤◌, ◌<◌, Bool, true, false, cond, List, [], ◌∷◌, ◌++◌, length, take, drop, min, Option, Some, None}
-use Rattle.std.proofs.Common.{Ok, Err, Result, refl, sym, ◌∙◌, ap, subst, arith, inl, inr, length-append, length-drop}
+use Rattle.std.proofs.Common.{◌≡◌, ℕ, ◌+◌, ◌-◌, ◌≤◌, ◌<◌, true, false, cond, List, ◌++◌, length, take, drop, min, Option, Some, None}
+use Rattle.std.proofs.Common.{Ok, Err, Result, refl, sym, ◌∙◌, ap, subst, arith, inl, inr, length-drop, append_assoc}
 use Rattle.std.specs.Prelude.{option_map, nat_lt}
 use Rattle.std.proofs.lemmas.Bool.Decides.{nat_tests}
 use Rattle.std.proofs.lemmas.List.{take-append-le, drop-append-le, length-take, take-append-drop, take_all, take_min}
@@ -11,11 +11,12 @@ use Rattle.clock_views.specs.declared.code.Code.{Code}
 use Rattle.clock_views.specs.declared.code.Code.TheVariants.{LongHead}
 use Rattle.clock_front.specs.declared.head.EndedHead.{EndedHead}
 use Rattle.clock_front.specs.declared.progress.Progress.{Progress}
+use Rattle.clock_front.specs.declared.progress.Progress.TheVariants as so_far
 use Rattle.clock_front.specs.Scans.{head_length}
 use Rattle.clock_front.specs.Framing.{head_limit, Head, head_with_length, Known, unended, waiting, complete, refused, known_with_body}
 use Rattle.clock_front.specs.Framing.{known_with_head, known_with_end, known, advanced, whole, framed, framing}
-use Rattle.clock_front.specs.Shown.{shown_ended, shown_read, shown_progress, IsHeadWithin, IsRequestWithin, IsProgressWithin, IsSomeWithin, Knows, KnowsOfStart}
-use Rattle.clock_front.proofs.Prefixes.{cond_cases, head_length_within, known_by_parts, complete_fits}
+use Rattle.clock_front.specs.Shown.{shown_ended, IsHeadWithin, IsRequestWithin, IsSomeWithin, Knows, KnowsOfStart, Waits, WaitsBelow}
+use Rattle.clock_front.proofs.Prefixes.{cond_cases, head_length_within, known_by_parts}
 use Rattle.clock_front.proofs.ScanLaws.{skipped}
 
 -- ---- spans in a longer text
@@ -153,6 +154,10 @@ shown_in text count head is =
 pub head_longer : (n m : ℕ) (head : EndedHead) → n ≤ m → IsHeadWithin n head → IsHeadWithin m head
 head_longer n m head le is = record { method = is.method; path = is.path; token = is.token; fits = omega arith }
 
+-- the first bytes of a text are no more than the text
+pub fewer : (text : List ℕ) (count : ℕ) → length (take count text) ≤ length text
+fewer text count = omega (arith, length-take count text)
+
 pub known_waiting : (text : List ℕ) (count : ℕ) (head : EndedHead)
     → waiting (shown_ended (take count text) head) head.length head.body ≡ known (take count text)
     → IsHeadWithin (length (take count text)) head → known_with_body (length text) (shown_ended text head) head.length head.body ≡ known text
@@ -171,6 +176,20 @@ pub framed_of : (text : List ℕ) (k : Known) → k ≡ known text → framed k 
 unfolding framing
 framed_of text k is = ap (λ k. framed k text) is
 
+-- the body has not come whole
+pub still_waiting : (text : List ℕ) (count : ℕ) (head : EndedHead)
+    → waiting (shown_ended (take count text) head) head.length head.body ≡ known (take count text)
+    → IsHeadWithin (length (take count text)) head → length text < head.length + head.body → Waits text (so_far.Waiting head)
+still_waiting text count head is in_front less =
+    let shown = shown_ended text head in
+    let short : nat_lt (length text) (head.length + head.body) ≡ true = grind (arith, nat_tests) in
+    let knows : Knows text (so_far.Waiting head) = record {
+      is = sym (ap (λ t. cond t (waiting shown head.length head.body) (complete shown head.length head.body)) short)
+          ∙ known_waiting text count head is in_front;
+      within = head_longer (length (take count text)) (length text) head (fewer text count) in_front;
+    } in
+    record { knows = knows; short = sym (framed_of text _ knows.is) }
+
 pub whole_of : (text : List ℕ) (shown head : Head) (n body : ℕ) → shown ≡ head → complete head n body ≡ known text
     → whole shown (take (n + body - n) (drop n text)) ≡ framing text
 whole_of text shown head n body same is =
@@ -180,10 +199,6 @@ whole_of text shown head n body same is =
 pub request_longer : (n m : ℕ) (head : EndedHead) → n ≤ m → IsRequestWithin n head → IsRequestWithin m head
 request_longer n m head le is = record { head = head_longer n m head le is.head; body = (let fits = is.body in omega arith) }
 
--- the first bytes of a text are no more than the text
-pub fewer : (text : List ℕ) (count : ℕ) → length (take count text) ≤ length text
-fewer text count = omega (arith, length-take count text)
-
 -- as many bytes as were looked at are those that were looked at
 pub looked_at : (text : List ℕ) (count n : ℕ) → n ≡ length (take count text) → take n text ≡ take count text
 looked_at text count n is = ap (λ k. take k text) (is ∙ length-take count text) ∙ take_min count text
@@ -191,3 +206,14 @@ looked_at text count n is = ap (λ k. take k text) (is ∙ length-take count tex
 -- what is known of a text is known of the start of each longer one
 pub knows_start : (text more : List ℕ) (progress : Progress) → Knows text progress → KnowsOfStart (text ++ more) progress
 knows_start text more progress knows = (length text, subst (λ front. Knows front progress) (sym (take-append_seam text more)) knows)
+
+-- no text has fewer bytes than none
+pub none_below : (text : List ℕ) (progress : Progress) → WaitsBelow 0 text progress
+none_below text progress more less = absurd (omega arith)
+
+-- what follows a text follows each that begins with it
+pub below_longer : (text piece : List ℕ) (progress : Progress) (awaited : ℕ) → WaitsBelow awaited text progress
+    → WaitsBelow awaited (text ++ piece) progress
+below_longer text piece progress awaited below more less =
+    let same = append_assoc text piece more in
+    subst (λ t. Waits t progress) (sym same) (below (piece ++ more) (subst (λ (t : List ℕ). length t < awaited) same less))

@@ -1,5 +1,5 @@
 -- A run goes on by one text, and each right reply is private.
-use Rattle.std.proofs.Common.{◌≡◌, ◌⊎◌, ℕ, ◌<◌, List, [], ◌∷◌, ◌++◌, length, refl, sym, ◌∙◌, ap, subst, inl, inr}
+use Rattle.std.proofs.Common.{◌≡◌, ℕ, List, [], ◌∷◌, ◌++◌, ◌∙◌, ap, subst, inl, inr}
 use Rattle.clock_setup.specs.Limits.{SetupFields, IsSetup}
 use Rattle.clock_front.specs.Replies.{Answer}
 use Rattle.clock_house.specs.House.{HouseFields}

@@ -1,5 +1,5 @@
 -- How a stream is served, and what that has made of a front.
-use Rattle.std.proofs.Common.{◌≡◌, ℕ, ◌+◌, ◌≤◌, Bool, true, false, ◌||◌, List, [], ◌∷◌, ◌++◌, Ok, Err, length, refl, sym, subst, ◌∙◌, inl, inr, arith}
+use Rattle.std.proofs.Common.{◌≡◌, ℕ, Bool, true, false, ◌||◌, List, [], ◌∷◌, Ok, Err, refl, sym, subst, ◌∙◌, inl, inr, arith}
 use Rattle.clock_device.specs.Streams.{HasWritten, HasWrittenFront}
 use Rattle.clock_house.specs.House.{HouseFields}
 use Rattle.clock_views.specs.declared.code.Code.{Code}

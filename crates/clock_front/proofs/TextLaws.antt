@@ -1,9 +1,9 @@
 -- The steps of reading a text.
-use Rattle.std.proofs.Common.{◌≡◌, ℕ, ◌-◌, ◌<◌, ◌≤◌, Bool, true, false, cond, List, [], ◌++◌, length, map, min, take, drop, Option, Some, None}
+use Rattle.std.proofs.Common.{◌≡◌, ℕ, ◌-◌, ◌≤◌, Bool, true, false, cond, List, [], ◌++◌, length, map, take, drop, Option, Some, None}
 use Rattle.std.proofs.Common.{Result, Ok, Err, refl, sym, ◌∙◌, ap, arith}
 use Rattle.std.specs.Prelude.{nat_lt, codes}
 use Rattle.std.specs.List.{position, position_or_len}
-use Rattle.std.proofs.lemmas.List.{take_all, take_min, length-take}
+use Rattle.std.proofs.lemmas.List.{take_all}
 use Rattle.std.proofs.Math.ListN.{drop_of_length-le}
 use Rattle.std.proofs.lemmas.Bool.Decides.{nat_tests}
 use Rattle.std.proofs.lemmas.Option.{cond_some}
@@ -18,10 +18,9 @@ use Rattle.httparse.specs.Spans.{FindsRequest, IsRequestAt, IsRequestOf, span_by
 use Rattle.clock_front.specs.Heads.{head_of}
 use Rattle.clock_views.specs.declared.code.Code.{Code}
 use Rattle.clock_views.specs.declared.code.Code.TheVariants.{LongHead, BadHead}
-use Rattle.clock_front.specs.Scans.{head_length, line_ends, is_loose}
+use Rattle.clock_front.specs.Scans.{line_ends, is_loose}
 use Rattle.clock_front.specs.HeaderLines.{pairs_of, values_of, body_length, token_from}
-use Rattle.clock_front.specs.Framing.{head_limit, ended_head, or_bad_head, Head, path_of_target, head_with_length, length_read, and_length}
-use Rattle.clock_front.proofs.Prefixes.{head_length_within}
+use Rattle.clock_front.specs.Framing.{ended_head, or_bad_head, Head, path_of_target, head_with_length, length_read, and_length}
 use Rattle.clock_front.proofs.HeadLaws.{head_of_reads, found_of_reads, append_none}
 
 pub before_some : (p : ℕ → Bool) (xs : List ℕ) (i : ℕ) → Some i ≡ position p xs → take i xs ≡ take (position_or_len p xs) xs

@@ -1,8 +1,7 @@
 -- What a bidder knows in the whole run is what its view of the texts tells it.
-use Rattle.std.proofs.Common.{◌≡◌, ◌≢◌, ℕ, ◌<◌, Bool, true, false, cond, List, [], ◌∷◌, ◌++◌, length, map, get_or, refl, sym, ◌∙◌, ap, arith, eqb}
+use Rattle.std.proofs.Common.{◌≡◌, ◌≢◌, ℕ, ◌<◌, Bool, true, false, cond, List, [], ◌∷◌, ◌++◌, length, refl, sym, ◌∙◌, ap, arith, eqb}
 use Rattle.std.proofs.Common.{eq-eqb, append-nil, append_assoc, zero-add}
 use Rattle.std.specs.Prelude.{Option, Some, None, option_map, option_and_then, slice_index_or, Result, Ok, Err}
-use Rattle.std.specs.List.{range_with_len}
 use Rattle.std.proofs.lemmas.Bool.Decides.{nat_tests}
 use Rattle.std.proofs.lemmas.List.FromFn.{get_or-map-range_with_len}
 use Rattle.clock_setup.specs.declared.setup.Bidder.{Bidder}
@@ -31,11 +30,11 @@ use Rattle.clock_front.specs.Askers.{asker}
 use Rattle.clock_front.specs.Routes.{round_named}
 use Rattle.clock_front.specs.Requests.{Ask, request_of}
 use Rattle.clock_front.specs.Requests as ask
-use Rattle.clock_front.specs.Outcomes.{Outcome, done, answer_of, page_or_no_round, in_version, close_command, outcome, command_of}
-use Rattle.clock_front.specs.Fronts.{text_command, commands_of, house_after, reply}
+use Rattle.clock_front.specs.Outcomes.{done, answer_of, page_or_no_round, in_version, close_command, outcome, command_of}
+use Rattle.clock_front.specs.Fronts.{text_command, commands_of, house_after}
 use Rattle.clock_front.specs.Views.{SeenText, own, accepted_close, is_own, closings_of, seen_of_text, text_view, sheet_put, typed_view, Known}
 use Rattle.clock_front.specs.Views.{known_from, bidder_outcome, answer}
-use Rattle.clock_front.specs.Isolation.{IsAnsweredFromView, SeesTheSame, IsIsolated}
+use Rattle.clock_front.specs.Isolation.{IsAnsweredFromView, IsIsolated}
 use Rattle.clock_front.proofs.AskerLaws.{asker_own, asker_other}
 
 -- a view of joined parts

@@ -1,5 +1,5 @@
 -- Tables of tokens.
-use Rattle.std.proofs.Common.{◌≡◌, ℕ, ◌+◌, ◌<◌, ◌≤◌, suc, Bool, true, false, cond, List, [], ◌∷◌, length, get_or, drop, map, Vec, Option, Some, None}
+use Rattle.std.proofs.Common.{◌≡◌, ℕ, ◌+◌, ◌<◌, ◌≤◌, suc, Bool, true, false, cond, List, [], ◌∷◌, length, get_or, drop, Vec, Option, Some, None}
 use Rattle.std.proofs.Common.{refl, sym, ◌∙◌, ap, arith, add-one}
 use Rattle.std.specs.Prelude.{nat_eq, unwrap_or}
 use Rattle.std.specs.declared.alloc.Global.{Global}
@@ -10,8 +10,8 @@ use Rattle.indexmap.specs.IndexMap.{insert_entry}
 use Rattle.clock_setup.specs.declared.setup.Bidder.{Bidder as BidderRow}
 use Rattle.clock_setup.specs.Limits.{SetupFields}
 use Rattle.clock_front.specs.Heads.{same_bytes}
-use Rattle.clock_front.specs.Askers.{holder, bidder_tokens, asker, asker_by, tokens_of, IsKnown}
-use Rattle.clock_front.specs.HeldTokens.{listed, found}
+use Rattle.clock_front.specs.Askers.{holder, bidder_tokens, asker, asker_by, IsKnown}
+use Rattle.clock_front.specs.HeldTokens.{found}
 use Rattle.clock_front.specs.declared.tokens.Asker.{Asker}
 use Rattle.clock_front.specs.declared.tokens.Asker.TheVariants.{Nobody, Operator, Bidder}
 

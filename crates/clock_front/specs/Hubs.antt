@@ -7,7 +7,7 @@
 --     IsAnswered old new conn text reply      the request of a connection was answered, and the connection is gone
 --     IsConnectFault, IsFeedFault, IsFinishFault      when each refusal comes
 -- A connection has a slot, which may be used again, and a serial number, which is not.
-use Rattle.std.specs.Prelude.{◌≡◌, ◌≢◌, ◌⊎◌, ℕ, ◌+◌, ◌++◌, Bool, true, false, ◌||◌, List, [], Option, Some, None, if◌then◌else◌, ◌==◌, nat_lt, nat_le}
+use Rattle.std.specs.Prelude.{◌≡◌, ◌≢◌, ◌⊎◌, ℕ, ◌+◌, Bool, true, false, ◌||◌, List, [], Option, Some, None, if◌then◌else◌, ◌==◌, nat_le}
 use Rattle.std.specs.Prelude.{is_some, IsSome, count_by, slice_index_or}
 use Rattle.clock_house.specs.House.{HouseFields}
 use Rattle.clock_front.specs.Fronts.{AnswersText, IsStruckOut}
@@ -104,6 +104,11 @@ pub record IsAnswered (old new : HubFields) (conn : Conn) (text : List ℕ) (rep
 abbrev pub IsFed : HubFields → HubFields → Conn → List ℕ → Fed → Type 0
 IsFed old new conn text More = (needs_more text ≡ true) × IsTaken old.connections new.connections conn text × (new.house ≡ old.house)
 IsFed old new conn text (Reply reply) = (needs_more text ≡ false) × IsAnswered old new conn text reply
+
+-- what a piece has led to is a reply, of which this holds
+abbrev pub IsReply : Fed → (Answer → Type 0) → Type 0
+IsReply More holds = ⊥
+IsReply (Reply reply) holds = holds reply
 
 -- why no piece was taken
 abbrev pub IsFeedFault : Option (List ℕ) → HubFault → Type 0

@@ -1,7 +1,9 @@
 -- What the code's values show of a text: spans stand for the bytes that they cover.
 --     Knows text progress      the progress is what is known of the text
 --     KnowsOfStart text progress      it is what is known of some beginning of the text
-use Rattle.std.specs.Prelude.{◌≡◌, ◌≤◌, ◌+◌, ℕ, List, take, length, Option, Some, None, option_map, Result, Ok, Err}
+--     Waits text progress      it is what is known of the text, which needs more
+--     IsFollowed text progress awaited      the same is known of each text of fewer bytes that begins with this one
+use Rattle.std.specs.Prelude.{◌≡◌, ◌≤◌, ◌<◌, ◌+◌, ◌++◌, ℕ, List, take, length, Option, Some, None, option_map, Result, Ok, Err}
 use Rattle.std.specs.Borrow.{Bor}
 use Rattle.httparse.specs.Spans.{span_bytes, IsWithin}
 use Rattle.httparse.specs.declared.spans.Span.{Span}
@@ -77,6 +79,20 @@ pub record Knows (text : List ℕ) (progress : Progress) : Type 0 where
 -- the progress is what is known of the first so many bytes of the text
 abbrev pub KnowsOfStart : List ℕ → Progress → Type 0
 KnowsOfStart text progress = (count : ℕ) × Knows (take count text) progress
+
+-- the progress is what is known of the text, which is neither a whole request nor refused
+pub record Waits (text : List ℕ) (progress : Progress) : Type 0 where
+  pub knows : Knows text progress
+  pub short : spec.framing text ≡ spec.needs_more
+
+-- each text of fewer bytes than so many that begins with this one waits as it does
+abbrev pub WaitsBelow : ℕ → List ℕ → Progress → Type 0
+WaitsBelow limit text progress = (more : List ℕ) → length (text ++ more) < limit → Waits (text ++ more) progress
+
+-- the progress is what is known of the text, and of those below a length that begin with it
+pub record IsFollowed (text : List ℕ) (progress : Progress) (awaited : ℕ) : Type 0 where
+  pub knows : Knows text progress
+  pub below : WaitsBelow awaited text progress
 
 abbrev pub shown_bytes : Option (Bor (List ℕ)) → Option (List ℕ)
 shown_bytes bytes = option_map (λ b. b.now) bytes

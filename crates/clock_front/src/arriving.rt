@@ -1,6 +1,6 @@
-ghost use Rattle.std.specs.Prelude.{◌≡◌, ◌++◌, ◌↔◌, [], IsTrue, OnOk, OnErr};
+ghost use Rattle.std.specs.Prelude.{◌≡◌, ◌++◌, ◌↔◌, [], IsTrue, IfOk, OnOk, OnErr};
 ghost use Rattle.clock_front.specs.Framing.{framing as framing_of, needs_more as more};
-ghost use Rattle.clock_front.specs.Shown.{Knows};
+ghost use Rattle.clock_front.specs.Shown.{Knows, KnowsOfStart, WaitsBelow};
 
 use crate::progress::Progress;
 use clock_device::{NoMemory, Text};
@@ -14,17 +14,54 @@ use std::marker::Model;
 pub(crate) struct Arriving {
     text: Text,
     progress: Progress,
+    /// While more of the body comes, and the bytes are fewer than this, nothing else is to be known of them.
+    awaited: usize,
 }
 
 impl Model for Arriving {
     ghost use Rattle.std.specs.Prelude.{ℕ, List};
-    ghost use Rattle.clock_front.specs.Shown.{Knows};
+    ghost use Rattle.clock_front.specs.Shown.{IsFollowed};
 
     ghost Value = { List ℕ };
 
     ghost view = { λ a. a.text };
 
-    ghost invariant = { λ a. Knows a.text a.progress };
+    ghost invariant = { λ a. IsFollowed a.text a.progress a.awaited };
+}
+
+/// Adds bytes at the end, all of them or none. It stands apart, so that what a single byte costs stays small.
+#[inline(never)]
+fn append_all(text: &mut Text, piece: &[u8]) -> Result<(), NoMemory>
+    ensures ok { OnOk result (text.new ≡ text.old ++ piece.now) }
+    ensures err { OnErr result (text.new ≡ text.old) }
+{
+    text.extend_from_slice(piece)
+}
+
+/// Adds bytes at the end, all of them or none. One byte by itself is written in its place, and is no list to be copied.
+#[inline(always)]
+fn append(text: &mut Text, piece: &[u8]) -> Result<(), NoMemory>
+    ensures ok { OnOk result (text.new ≡ text.old ++ piece.now) }
+    ensures err { OnErr result (text.new ≡ text.old) }
+{
+    match piece {
+        [byte] => text.push(*byte),
+        _ => append_all(text, piece),
+    }
+}
+
+/// What is known of the beginning of a text becomes what is known of the text. It tells whether the text needs more. It stands
+/// apart, so that what more of a body costs stays small.
+#[inline(never)]
+fn look_on(text: &[u8], progress: &mut Progress, awaited: &mut usize) -> bool
+    requires { KnowsOfStart text.now progress.old }
+    ensures knows { Knows text.now progress.new }
+    ensures below { WaitsBelow awaited.new text.now progress.new }
+    ensures short { IsTrue result ↔ (framing_of text.now ≡ more) }
+{
+    *progress = progress.advance(text);
+    *awaited = progress.awaited();
+    progress.needs_more()
 }
 
 impl Arriving {
@@ -35,24 +72,24 @@ impl Arriving {
         Arriving {
             text: Text::new(alloc),
             progress: Progress::new(),
+            awaited: 0,
         }
     }
 
-    /// Adds bytes at the end, all of them or none.
-    pub(crate) fn take(&mut self, piece: &[u8]) -> Result<(), NoMemory>
+    /// Adds bytes at the end, all of them or none, and tells whether they are neither a whole request nor refused. Where more of
+    /// a body comes that is awaited only the number of the bytes is looked at.
+    #[inline(always)]
+    pub(crate) fn take(&mut self, piece: &[u8]) -> Result<bool, NoMemory>
         ensures ok { OnOk result (self.new ≡ self.old ++ piece.now) }
+        ensures short { IfOk result (λ short. IsTrue short ↔ (framing_of self.new ≡ more)) }
         ensures err { OnErr result (self.new ≡ self.old) }
     {
-        self.text.extend_from_slice(piece)?;
-        self.progress = self.progress.advance(self.text.as_slice());
-        Ok(())
-    }
-
-    /// Whether the bytes are neither a whole request nor refused.
-    pub(crate) fn needs_more(&self) -> bool
-        ensures { IsTrue result ↔ (framing_of self.now ≡ more) }
-    {
-        self.progress.needs_more()
+        append(&mut self.text, piece)?;
+        if self.text.as_slice().len() < self.awaited {
+            return Ok(true);
+        }
+        let short = look_on(self.text.as_slice(), &mut self.progress, &mut self.awaited);
+        Ok(short)
     }
 
     /// The bytes.

@@ -4,11 +4,11 @@ ghost use Rattle.clock_front.specs.Private.{IsPrivateReply};
 ghost use Rattle.clock_front.specs.Pieces.{needs_more};
 ghost use Rattle.clock_front.specs.Hubs.{text_of, is_full as is_full_of, standing_count, IsConnected, IsConnectFault, IsTaken, IsGone};
 
+use crate::arriving::Arriving;
 use crate::front::Front;
 use crate::hub_fault::HubFault;
-use crate::progress::Progress;
 use crate::reply::Reply;
-use clock_device::{NoMemory, Text};
+use clock_device::NoMemory;
 use clock_processor::Processor;
 use slab::Slab;
 use std::alloc::Global;
@@ -24,23 +24,19 @@ pub struct Conn {
     serial: u64,
 }
 
-/// A request on its way: the bytes that have come over a connection, and what is known of them.
+/// A request on its way over a connection.
 #[derive(Drop)]
 pub struct Partial {
     serial: u64,
-    text: Text,
-    progress: Progress,
+    request: Arriving,
 }
 
 impl Model for Partial {
-    ghost use Rattle.clock_front.specs.Shown.{Knows};
     ghost use Rattle.clock_front.specs.Hubs.{Standing};
 
     ghost Value = { Standing };
 
-    ghost view = { λ p. record { serial = p.serial; text = p.text } };
-
-    ghost invariant = { λ p. Knows p.text p.progress };
+    ghost view = { λ p. record { serial = p.serial; text = p.request } };
 }
 
 impl Partial {
@@ -50,8 +46,7 @@ impl Partial {
     {
         Partial {
             serial,
-            text: Text::new(alloc),
-            progress: Progress::new(),
+            request: Arriving::new(alloc),
         }
     }
 
@@ -63,14 +58,14 @@ impl Partial {
     }
 
     /// Takes a piece whole, or nothing of it, and tells whether the text still needs more. Only the piece is looked at.
+    #[inline(always)]
     fn take(&mut self, piece: &[u8]) -> Result<bool, NoMemory>
         ensures ok { OnOk result (self.new ≡ record self.old { text = self.old.text ++ piece.now }) }
         ensures short { IfOk result (λ short. short ≡ needs_more (self.old.text ++ piece.now)) }
         ensures err { OnErr result (self.new ≡ self.old) }
     {
-        self.text.extend_from_slice(piece)?;
-        self.progress = self.progress.advance(self.text.as_slice());
-        Ok(self.progress.needs_more())
+        let short = self.request.take(piece)?;
+        Ok(short)
     }
 
     /// The reply to the text, after which the input has ended.
@@ -80,7 +75,7 @@ impl Partial {
         ensures setup { front.new.setup ≡ front.old.setup }
         ensures cut_short { needs_more self.now.text ≡ true → IsCutShort result }
     {
-        front.answer_known(self.text.as_slice(), self.progress)
+        front.answer_known(self.request.as_slice(), self.request.progress())
     }
 }
 
@@ -137,6 +132,7 @@ impl Connections {
     }
 
     /// Whether a connection stands.
+    #[inline(always)]
     pub fn stands(&self, conn: Conn) -> bool
         ensures { result ≡ is_some (text_of self.now conn) }
     {
@@ -147,6 +143,7 @@ impl Connections {
     }
 
     /// Takes a piece, or nothing of it, and tells whether the text of its connection still needs more.
+    #[inline(always)]
     pub fn take(&mut self, conn: Conn, piece: &[u8]) -> Result<bool, NoMemory>
         requires { IsSome (text_of self.old conn) }
         ensures taken { (text : List ℕ) → text_of self.old conn ≡ Some text → OnOk result (IsTaken self.old self.new conn (text ++ piece.now)) }

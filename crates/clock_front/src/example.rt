@@ -1,16 +1,40 @@
-//! A request and its reply, as a library's caller makes them.
+//! A front that is opened, asked and let go, as a library's caller does it.
 
 use crate::Front;
 use clock_processor::Plain;
 use clock_setup::fixtures::ONE_PRODUCT;
 use clock_setup::read_setup;
+use std::alloc::Global;
 use std::test::Fail;
 
-#[test]
-fn a_request_in_five_lines(rt: HostRuntime) -> Result<(), Fail> {
-    let setup = read_setup(rt.alloc(), ONE_PRODUCT.as_bytes())?;
-    let mut front = Front::new(rt.alloc(), setup, Plain)?;
+/// A front of a set-up document.
+pub(crate) fn opened(alloc: Global, document: &str) -> Result<Front<Plain>, Fail> {
+    let setup = read_setup(alloc, document.as_bytes())?;
+    Ok(Front::new(alloc, setup, Plain)?)
+}
+
+/// What is done with a front of a set-up document. No other function of the tests lets a front go, since each that does so
+/// proves it anew.
+pub(crate) fn on_front<T, F: FnOnce(&mut Front<Plain>) -> Result<T, Fail>>(
+    alloc: Global,
+    document: &str,
+    act: F,
+) -> Result<T, Fail>
+    requires { F.IsAlwaysCallable act }
+{
+    let mut front = opened(alloc, document)?;
+    act(&mut front)
+}
+
+/// Whether the status page is told.
+fn has_status(front: &mut Front<Plain>) -> bool {
     let reply = front.answer(b"GET /v1/status HTTP/1.1\r\n\r\n");
-    assert!(rt; reply.bytes().starts_with(b"HTTP/1.1 200 OK\r\n"));
+    reply.bytes().starts_with(b"HTTP/1.1 200 OK\r\n")
+}
+
+#[test]
+fn a_front_is_opened_and_asked(rt: HostRuntime) -> Result<(), Fail> {
+    let is_told = on_front(rt.alloc(), ONE_PRODUCT, |front| Ok(has_status(front)))?;
+    assert!(rt; is_told);
     Ok(())
 }

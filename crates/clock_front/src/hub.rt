@@ -1,7 +1,7 @@
 ghost use Rattle.std.specs.Prelude.{◌≡◌, ◌++◌, ℕ, true, List, [], Some, IfOk, IfErr, OnErr, OnOk, IsSome};
 ghost use Rattle.clock_front.specs.Fronts.{IsCutShort};
 ghost use Rattle.clock_front.specs.Pieces.{needs_more};
-ghost use Rattle.clock_front.specs.Hubs.{text_of, IsConnected, IsConnectFault, IsFed, IsFeedFault, IsAnswered, IsFinishFault};
+ghost use Rattle.clock_front.specs.Hubs.{text_of, IsConnected, IsConnectFault, IsFed, IsFeedFault, IsAnswered, IsReply, IsFinishFault};
 
 use crate::connections::{Conn, Connections};
 use crate::fed::Fed;
@@ -33,6 +33,7 @@ impl<P> Model for Hub<P> {
 }
 
 /// Answers the request of a connection that stands, which is gone with it.
+#[inline(never)]
 fn complete<P: Processor>(front: &mut Front<P>, connections: &mut Connections, conn: Conn) -> Reply
     requires { IsSome (text_of connections.old conn) }
     ensures answered { (text : List ℕ) → text_of connections.old conn ≡ Some text
@@ -42,6 +43,21 @@ fn complete<P: Processor>(front: &mut Front<P>, connections: &mut Connections, c
 {
     let partial = connections.remove(conn);
     partial.answer(front)
+}
+
+/// The same, as what a piece has led to. The place of the reply is made here, and so only where there is one.
+#[inline(always)]
+fn complete_fed<P: Processor>(
+    front: &mut Front<P>,
+    connections: &mut Connections,
+    conn: Conn,
+) -> Fed
+    requires { IsSome (text_of connections.old conn) }
+    ensures { (text : List ℕ) → text_of connections.old conn ≡ Some text
+        → IsReply result (IsAnswered (record { house = front.old; connections = connections.old })
+        (record { house = front.new; connections = connections.new }) conn text) }
+{
+    Fed::Reply(complete(front, connections, conn))
 }
 
 impl<P: Processor> Hub<P> {
@@ -68,6 +84,7 @@ impl<P: Processor> Hub<P> {
 
     /// Takes a piece of a request: it needs more, or its reply is told, as [`Front::answer`] gives it. Where there is no
     /// memory the connection stands with the bytes that it had, and the piece can be fed again.
+    #[inline(always)]
     pub fn feed(&mut self, conn: Conn, piece: &[u8]) -> Result<Fed, HubFault>
         ensures fed { (text : List ℕ) → text_of self.old.connections conn ≡ Some text
             → IfOk result (IsFed self.old self.new conn (text ++ piece.now)) }
@@ -81,8 +98,8 @@ impl<P: Processor> Hub<P> {
         if self.connections.take(conn, piece)? {
             return Ok(Fed::More);
         }
-        let reply = complete(&mut self.front, &mut self.connections, conn);
-        Ok(Fed::Reply(reply))
+        let fed = complete_fed(&mut self.front, &mut self.connections, conn);
+        Ok(fed)
     }
 
     /// The reply to a request whose input has ended: it was cut short, since a request that is complete was answered.

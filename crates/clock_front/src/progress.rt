@@ -1,7 +1,7 @@
-ghost use Rattle.std.specs.Prelude.{◌≡◌, ◌+◌, ◌≤◌, ◌<◌, ℕ, List, [], length, take, Some, None};
+ghost use Rattle.std.specs.Prelude.{◌≡◌, ◌+◌, ◌≤◌, ◌<◌, ℕ, List, [], length, take, Some, None, nat_lt};
 ghost use Rattle.clock_front.specs.Scans.{head_length as length_of_head};
 ghost use Rattle.clock_front.specs.Framing as spec;
-ghost use Rattle.clock_front.specs.Shown.{Knows, KnowsOfStart, IsHeadWithin, shown_ended, shown_progress, IsProgressWithin};
+ghost use Rattle.clock_front.specs.Shown.{Knows, KnowsOfStart, Waits, IsHeadWithin, shown_ended, shown_progress, IsProgressWithin};
 
 use crate::head::{EndedHead, read_head};
 use crate::scan::head_length;
@@ -23,6 +23,14 @@ pub enum Progress {
     Refused(Code),
 }
 
+/// Whether the body of an ended head has not come whole in a text of so many bytes.
+fn awaits_body(head: &EndedHead, count: usize) -> bool
+    requires { head.now.length ≤ count }
+    ensures { result ≡ nat_lt count (head.now.length + head.now.body) }
+{
+    count - head.length < head.body
+}
+
 /// What is known where a head has ended in a text of so many bytes.
 fn with_body(head: EndedHead, count: usize) -> Progress
     requires { IsHeadWithin count head }
@@ -30,7 +38,7 @@ fn with_body(head: EndedHead, count: usize) -> Progress
         ≡ spec.known_with_body count (shown_ended text head) head.length head.body }
     ensures within { IsProgressWithin count result }
 {
-    if count - head.length < head.body {
+    if awaits_body(&head, count) {
         Progress::Waiting(head)
     } else {
         Progress::Complete(head)
@@ -78,6 +86,16 @@ impl Progress {
             Progress::Waiting(head) => with_body(head, text.len()),
             Progress::Complete(head) => Progress::Complete(head),
             Progress::Refused(fault) => Progress::Refused(fault),
+        }
+    }
+
+    /// How many bytes a text waits for of which this is known, with its head. With fewer it waits as before.
+    pub(crate) fn awaited(&self) -> usize
+        ensures { (text : List ℕ) → KnowsOfStart text self.now → length text < result → Waits text self.now }
+    {
+        match self {
+            Progress::Waiting(head) => head.length.saturating_add(head.body),
+            _ => 0,
         }
     }
 }

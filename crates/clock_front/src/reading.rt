@@ -65,8 +65,8 @@ fn read_once<R: Source>(
         Err(Stop::Interrupted) => return Ok(false),
         Err(Stop::Failed) => return Err(Unread::Read),
     };
-    request.take(&piece[..count])?;
-    Ok(count == 0 || !request.needs_more())
+    let short = request.take(&piece[..count])?;
+    Ok(count == 0 || !short)
 }
 
 /// Reads until the bytes decide what the request is, or the input ends. An interrupted read is tried again.

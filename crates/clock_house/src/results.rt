@@ -12,9 +12,10 @@ ghost use Rattle.clock_house.specs.declared.fault.CloseFault.TheVariants as clos
 ghost use Rattle.clock_house.specs.Prepared.{AreResults, posting_in, posting_of};
 ghost use Rattle.clock_house.specs.Laws.{demands_of, eligibilities_of};
 
+use crate::blocks::Blocks;
 use crate::fault::CloseFault;
 use crate::house::{House, bidder_count};
-use crate::slip::{Slip, Slips, blocks_of};
+use crate::slip::{Slip, Slips};
 use clock_bids::{Bid, Changes, asked_demands, bids_of, changes_of};
 use clock_device::NoMemory;
 use clock_order::{Ties, ordered};
@@ -229,7 +230,7 @@ impl<P: Processor> House<P> {
             round: own.round,
             activity: used,
             eligibility: next_eligibility(own.eligibility, used, requirement(self.setup())),
-            demands: blocks_of(self.alloc(), demands)?,
+            demands: Blocks::of(self.alloc(), demands)?,
         })
     }
 }

@@ -65,10 +65,10 @@ fn both(alloc: Global, first: &Change, second: &Change) -> Result<Changes, NoMem
     Ok(changes)
 }
 
-/// The tie numbers of a list, in the auction of a set-up document.
-fn ties_of(alloc: Global, document: &str, ties: &[Tie]) -> Result<Ties, Fail> {
+/// The tie numbers of a list, in the auction of a set-up document, or their fault.
+fn ties_of(alloc: Global, document: &str, ties: &[Tie]) -> Result<Result<Ties, TieFault>, Fail> {
     let setup = read_setup(alloc, document.as_bytes())?;
-    Ok(Ties::new(alloc, &setup, ties)?)
+    Ok(Ties::new(alloc, &setup, ties))
 }
 
 /// The bidder of the first of some changes.
@@ -91,14 +91,13 @@ fn first_in(
     x: &Step,
     y: &Step,
 ) -> Result<Option<u32>, Fail> {
-    let ties = ties_of(alloc, document, ties)?;
+    let ties = ties_of(alloc, document, ties)??;
     first_of(alloc, &ties, x, y)
 }
 
 /// The fault of a list of tie numbers, or none.
 fn fault_of(alloc: Global, document: &str, ties: &[Tie]) -> Result<Option<TieFault>, Fail> {
-    let setup = read_setup(alloc, document.as_bytes())?;
-    Ok(Ties::new(alloc, &setup, ties).err())
+    Ok(ties_of(alloc, document, ties)?.err())
 }
 
 #[test]

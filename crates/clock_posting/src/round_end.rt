@@ -78,7 +78,8 @@ impl RoundEnd<'_> {
         ensures exact { IfOk result (λ lines. lines ≡ rules.lines_of_round self.now.products.now self.now.prices.now self.now.grid.now
             self.now.posted.now self.now.increments.now) }
     {
-        let mut lines = Lines::new(alloc);
+        // Each closed round keeps its lines, so they have no more room than they take.
+        let mut lines = Lines::from_vec(Vec::with_capacity(alloc, self.products.len())?);
         for product in 0..self.products.len() {
             lines.push(self.line(product, next))?;
         }

@@ -2,3 +2,4 @@ mod LexLaws
 mod Turns
 mod FieldLaws
 pub mod Steps
+mod RowSteps

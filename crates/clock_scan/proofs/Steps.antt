@@ -1,8 +1,10 @@
 -- Laws of reading: a list item by item, an object member by member, and the whole text.
 use Rattle.std.proofs.Common.{◌≡◌, ℕ, suc, ◌-◌, ◌<◌, ◌≤◌, ◌^◌, true, List, [], ◌∷◌, ◌++◌, length, decimal, map, Option, Some, None, refl, sym, ap}
-use Rattle.std.proofs.Common.{◌∙◌, subst, arith}
+use Rattle.std.proofs.Common.{◌∙◌, subst, arith, Bool, false, not, ◌||◌, ◌+◌, drop, get_or}
+use Rattle.std.proofs.lemmas.Bool.{true≢false, false≢true}
 use Rattle.json.specs.Token.{Token}
-use Rattle.json.specs.Lex.{lex, between, tokens, punctuate, fresh}
+use Rattle.json.specs.Lex.{lex, between, class, tokens, punctuate, fresh}
+use Rattle.json.specs.Align.{is_blank}
 use Rattle.json.specs.Json as json
 use Rattle.json.specs.Json.{after_end_array, read_key, parse_map}
 use Rattle.json.proofs.Grammar.{left, skip_value-shorter, value_is}
@@ -12,6 +14,7 @@ use Rattle.serde_json.proofs.Numbers.{number_of-decimal}
 use Rattle.clock_scan.specs.Reading.{whole, items_before, items_of, Fields, members_of, with_field, is_field, Reads, HasItems, HasMembers, AddsMember}
 use Rattle.clock_scan.proofs.Turns.{converted_some, item_read, items_over, member_read, members_over, object_read, array_read, last, last_read}
 use Rattle.clock_scan.proofs.FieldLaws.{put_in}
+use Rattle.clock_scan.proofs.LexLaws.{space_at, at_end}
 
 -- ---- single values
 
@@ -151,3 +154,17 @@ text_is levels text ts new d enough is reads ended =
 pub blank_is : (text : List ℕ) → lex between text ≡ [] → read text ≡ None
 unfolding punctuate
 blank_is text blank = ap (λ ls. last (json.value 127 (punctuate fresh ls))) blank ∙ ap last (value_is 127 [])
+
+-- one byte more of a text that has been white space so far
+pub blank_more : (bytes : List ℕ) (i : ℕ) (other space : Bool) → i < length bytes → space ≡ is_blank (class (get_or bytes i 0))
+    → (other ≡ false → lex between (drop i bytes) ≡ lex between bytes) → other || not space ≡ false
+    → lex between (drop (i + 1) bytes) ≡ lex between bytes
+blank_more bytes i false true lt is before none = space_at bytes i lt (sym is) ∙ before refl
+blank_more bytes i false false lt is before none = absurd (true≢false none)
+blank_more bytes i true space lt is before none = absurd (true≢false none)
+
+-- a text that has been white space to its end
+pub all_blank : (bytes : List ℕ) (i : ℕ) (other : Bool) → length bytes ≤ i
+    → (other ≡ false → lex between (drop i bytes) ≡ lex between bytes) → not other ≡ true → read bytes ≡ None
+all_blank bytes i false past before known = blank_is bytes (sym (before refl) ∙ at_end bytes i past)
+all_blank bytes i true past before known = absurd (false≢true known)

@@ -4,12 +4,14 @@
 
 mod lists;
 mod place;
+mod rows;
 mod scan;
 mod stop;
 #[cfg(test)]
 mod tests;
 mod words;
 
+pub use rows::FlatRows;
 pub use scan::Scan;
 pub use stop::Stop;
 pub use words::{is_blank, is_key, is_text};

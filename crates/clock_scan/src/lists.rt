@@ -1,7 +1,8 @@
 //! Lists of numbers, and lists of such lists.
-ghost use Rattle.std.specs.Prelude.{◌<◌, length, IfOk, OnOk};
+ghost use Rattle.std.specs.Prelude.{◌≡◌, ◌<◌, ◌++◌, ℕ, List, length, IfOk, OnOk};
 ghost use Rattle.clock_scan.specs.Reading.{numbers, rows, Reads};
 
+use crate::rows::FlatRows;
 use crate::scan::Scan;
 use crate::stop::Stop;
 use clock_device::Items;
@@ -40,5 +41,40 @@ impl<'a> Scan<'a> {
             list.push(Items::from_vec(next))?;
         }
         Ok(list)
+    }
+
+    /// Reads a list of numbers as [`numbers`](Scan::numbers) does, behind those that are there.
+    fn numbers_behind(&mut self, list: &mut Vec<u64>) -> Result<(), Stop>
+        ensures value { OnOk result ((row : List ℕ) × (list.new.items ≡ list.old.items ++ row) × Reads 1 self.old (numbers row) self.new) }
+        ensures shorter { OnOk result (length self.new < length self.old) }
+    {
+        if !self.opens_array() {
+            return Err(Stop::Unusual);
+        }
+        'items: while !self.closes_array() {
+            let Some(next) = self.number() else {
+                return Err(Stop::Unusual);
+            };
+            list.push(next)?;
+        }
+        Ok(())
+    }
+
+    /// Reads a list of such lists, as [`rows`](Scan::rows) does, with all numbers in one list.
+    pub fn flat_rows(&mut self, alloc: Global) -> Result<FlatRows, Stop>
+        ensures value { IfOk result (λ list. Reads 2 self.old (rows list) self.new) }
+        ensures shorter { OnOk result (length self.new < length self.old) }
+    {
+        if !self.opens_array() {
+            return Err(Stop::Unusual);
+        }
+        let mut numbers = Vec::new(alloc);
+        let mut lengths = Vec::new(alloc);
+        'items: while !self.closes_array() {
+            let before = numbers.as_slice().len();
+            self.numbers_behind(&mut numbers)?;
+            lengths.push(numbers.as_slice().len() - before)?;
+        }
+        Ok(FlatRows { lengths, numbers })
     }
 }

@@ -20,6 +20,23 @@ fn rows_of(alloc: Global, text: &[u8]) -> (usize, u64) {
     }
 }
 
+/// The same of rows that are read into one list, and whether the rows have three numbers each.
+fn flat_rows_of(alloc: Global, text: &[u8]) -> (usize, u64, bool) {
+    let mut scan = Scan::new(text);
+    match scan.flat_rows(alloc) {
+        Ok(rows) => {
+            let (count, wide) = (rows.count(), rows.has_lengths(3));
+            let mut sum = 0u64;
+            for number in rows.into_numbers().as_slice() {
+                sum = sum.wrapping_add(*number);
+            }
+            (count, sum, wide)
+        }
+        Err(Stop::Unusual) => (9, 0, false),
+        Err(Stop::NoMemory) => (9, 1, false),
+    }
+}
+
 /// How long the key and the text of an object with one member are, where it is the whole text.
 fn member_of(text: &[u8]) -> Option<(usize, usize)> {
     let mut scan = Scan::new(text);
@@ -50,6 +67,25 @@ fn rows_of_numbers(rt: HostRuntime) -> Result<(), Fail> {
     ];
     for (text, shown) in rows.iter() {
         assert_eq!(rt; rows_of(alloc, text), *shown);
+    }
+    Ok(())
+}
+
+#[test]
+fn rows_in_one_list(rt: HostRuntime) -> Result<(), Fail> {
+    let alloc = rt.alloc();
+    let rows: [(&[u8], (usize, u64, bool)); 8] = [
+        (b"[[1,2],[ 3 ]\n,[]]", (3, 6, false)),
+        (b"[[1,2,3],[4,5,6]]", (2, 21, true)),
+        (b"[[1,2,3],[4,5]]", (2, 15, false)),
+        (b" [ ] ", (0, 0, true)),
+        (b"[[10000000000000000000]]", (9, 0, false)),
+        (b"[[1,],[2]]", (9, 0, false)),
+        (b"[[1][2]]", (9, 0, false)),
+        (b"[1]", (9, 0, false)),
+    ];
+    for (text, shown) in rows.iter() {
+        assert_eq!(rt; flat_rows_of(alloc, text), *shown);
     }
     Ok(())
 }

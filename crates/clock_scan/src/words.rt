@@ -45,18 +45,22 @@ pub(crate) fn after_space(bytes: &[u8], start: usize) -> usize
     at
 }
 
-/// Whether a text has nothing but white space. It is then no JSON.
+/// Whether a text has nothing but white space. It is then no JSON. Each byte is looked at, since a loop that may end early is slow.
 pub fn is_blank(bytes: &[u8]) -> bool
     ensures { IsTrue result → read bytes.now ≡ None }
 {
-    after_space(bytes, 0) >= bytes.len()
+    let mut has_other = false;
+    for byte in bytes {
+        has_other |= !is_space(*byte);
+    }
+    !has_other
 }
 
-/// Whether the bytes of a text are UTF-8, as those of JSON are.
+/// Whether the bytes of a text can be those of JSON: they are UTF-8, and not all white space.
 pub fn is_text(bytes: &[u8]) -> bool
     ensures { IsTrue result → IsUtf8 bytes.now }
 {
-    simdutf8::basic::from_utf8(bytes).is_ok()
+    !is_blank(bytes) && simdutf8::basic::from_utf8(bytes).is_ok()
 }
 
 /// Whether a key is a word.

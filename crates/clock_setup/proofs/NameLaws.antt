@@ -1,10 +1,12 @@
 -- A set of texts is as long as the list that it was made of exactly if no two texts are equal.
-use Rattle.std.proofs.Common.{◌≡◌, ℕ, ◌≤◌, suc, Bool, true, false, not, ◌&&◌, cond, nat_eq, List, [], ◌∷◌, length, map, Bor, refl, ap, ◌∙◌, arith}
+use Rattle.std.proofs.Common.{◌≡◌, ℕ, ◌+◌, ◌<◌, ◌≤◌, suc, Bool, true, false, not, ◌&&◌, ◌||◌, cond, nat_eq, List, [], ◌∷◌, ◌++◌, length, map, get_or, take}
+use Rattle.std.proofs.Common.{Bor, refl, sym, ap, ap₂, ◌∙◌, arith}
 use Rattle.std.specs.List.{list_any}
 use Rattle.std.specs.Str.{bytes_eq}
 use Rattle.std.specs.Set.{distinct_count, unique_keys, is_member}
 use Rattle.std.specs.Cmp.Lexicographic.{pointwise}
-use Rattle.std.specs.HashSet.{HashSet, hash_set_len, IsFromIterResult}
+use Rattle.std.specs.HashSet.{HashSet, hash_set_len, IsEmpty, InsertsAll, IsFromIterResult}
+use Rattle.std.proofs.lemmas.List.{map-append, take_more, take_all}
 use Rattle.std.proofs.lemmas.Bool.Decides.{nat_tests}
 use Rattle.std.proofs.lemmas.Cmp.{nat_list_eq_equiv, on_equiv}
 use Rattle.std.proofs.lemmas.Map.Made.{distinct_count-le, hash_set_len-from_list}
@@ -13,6 +15,12 @@ use Rattle.clock_setup.specs.Limits.{is_distinct}
 -- two borrowed texts have the same bytes
 abbrev pub same_text : Bor (List ℕ) → Bor (List ℕ) → Bool
 same_text a b = pointwise nat_eq a.now b.now
+
+-- what is put into an empty set is all that it has
+pub set_of_empty : {S : Type 0} (texts : List (Bor (List ℕ))) (empty seen : HashSet (Bor (List ℕ)) S) → IsEmpty empty
+    → InsertsAll same_text empty texts seen → IsFromIterResult same_text texts seen
+set_of_empty texts empty seen none all =
+    (λ q. all.0 q ∙ ap (λ keys. is_member same_text keys q || is_member same_text texts q) none, all.1)
 
 -- whether a text stands in a list goes by its bytes
 list_any-now : (x : List ℕ) (texts : List (Bor (List ℕ))) → list_any (λ t. bytes_eq x t.now) texts ≡ list_any (bytes_eq x) (map (λ t. t.now) texts)
@@ -43,3 +51,19 @@ pub set_length_is : {S : Type 0} (texts : List (Bor (List ℕ))) (seen : HashSet
     → nat_eq (hash_set_len seen) (length texts) ≡ is_distinct (map (λ t. t.now) texts)
 set_length_is texts seen made =
     ap (λ n. nat_eq n (length texts)) (hash_set_len-from_list (on_equiv (λ t. t.now) nat_list_eq_equiv) texts seen made) ∙ count_is texts
+
+-- ---- texts of entries, one by one
+
+module _ {E : Type 0} (text_of : E → List ℕ) (texts : List (Bor (List ℕ))) (entries : List E) (i : ℕ) where
+  -- the text of the next entry
+  pub text_pushed : (pushed : List (Bor (List ℕ))) (t : Bor (List ℕ)) (entry : E) → pushed ≡ texts ++ t ∷ [] → i < length entries
+      → entry ≡ get_or entries i entry → t.now ≡ text_of entry → map (λ u. u.now) texts ≡ map text_of (take i entries)
+      → map (λ u. u.now) pushed ≡ map text_of (take (i + 1) entries)
+  text_pushed pushed t entry is lt at same so_far =
+      ap (map (λ u. u.now)) is ∙ map-append (λ u. u.now) texts (t ∷ [])
+      ∙ ap₂ (λ before text. before ++ text ∷ []) so_far (same ∙ ap text_of at)
+      ∙ sym (ap (map text_of) (take_more entries i entry lt) ∙ map-append text_of (take i entries) (get_or entries i entry ∷ []))
+
+  -- no entry is left
+  pub texts_end : length entries ≤ i → map (λ u. u.now) texts ≡ map text_of (take i entries) → map (λ u. u.now) texts ≡ map text_of entries
+  texts_end past so_far = so_far ∙ ap (map text_of) (take_all i entries past)

@@ -1,6 +1,6 @@
 -- Laws of the checks of an opening document.
 use Rattle.std.proofs.Common.{◌≡◌, ℕ, ◌+◌, ◌<◌, ◌≤◌, All, ◌==◌, Bool, true, false, nat_le, if◌then◌else◌, List, length, get_or, drop, zip, Option}
-use Rattle.std.proofs.Common.{Some, None, Ok, Err, refl, sym, ap, ◌∙◌, subst, arith}
+use Rattle.std.proofs.Common.{Some, None, Result, Ok, Err, IfOk, IfErr, ◌≢◌, refl, sym, ap, ◌∙◌, subst, arith}
 use Rattle.std.specs.List.{list_all, AllPass}
 use Rattle.std.proofs.lemmas.Bool.{and_parts, le-leb, lt-leb}
 use Rattle.std.proofs.lemmas.Bool.Decides.{nat_tests}
@@ -11,9 +11,9 @@ use Rattle.serde_json.specs.Data.{Data}
 use Rattle.clock_setup.specs.declared.setup.Product.{Product}
 use Rattle.clock_setup.specs.declared.opening.Opening.{Opening}
 use Rattle.clock_setup.specs.declared.opening.OpeningFault.{OpeningFault}
-use Rattle.clock_setup.specs.declared.opening.OpeningFault.TheVariants.{Shape, Demand, Increment}
+use Rattle.clock_setup.specs.declared.opening.OpeningFault.TheVariants.{Shape, Demand, Increment, NoMemory}
 use Rattle.clock_setup.specs.Demands.{IsGrid}
-use Rattle.clock_setup.specs.Faults.{first_fault, in_turn, unless, or_fault}
+use Rattle.clock_setup.specs.Faults.{IsRefusal, first_fault, in_turn, unless, or_fault}
 use Rattle.clock_setup.specs.Limits.{SetupFields, IsProduct, IsRow, is_within, cap_of, no_product, most_supply, least_increment, most_increment}
 use Rattle.clock_setup.specs.SetupDocument.{setup_of}
 use Rattle.clock_setup.specs.OpeningShape.{OpeningParts, parts_of}
@@ -136,6 +136,19 @@ opening_increment value parts setup b read held counts rows increment =
     opening_at value parts setup read held
     ∙ rw counts (ap (λ (o : Option OpeningFault). unless o (whole setup parts))
     (passed (in_turn (row_checks setup.products) 0 (zip setup.bidders parts.demands)) _ rows) ∙ rw increment (by_increment (whole setup parts) b))
+
+-- what is known of every document with these parts is known of one of them
+pub parts_ok : (value : Data) (parts : OpeningParts) (result : Result Opening OpeningFault) → parts_of value ≡ Some parts
+    → IfOk result (λ opening. (other : Data) → parts_of other ≡ Some parts → opening_of other ≡ Ok opening)
+    → IfOk result (λ opening. opening_of value ≡ Ok opening)
+parts_ok value parts (Err fault) read known = tt
+parts_ok value parts (Ok opening) read known = known value read
+
+pub parts_err : (value : Data) (parts : OpeningParts) (result : Result Opening OpeningFault) → parts_of value ≡ Some parts
+    → IfErr result (λ fault. fault ≢ NoMemory → (other : Data) → parts_of other ≡ Some parts → opening_of other ≡ Err fault)
+    → IfErr result (IsRefusal NoMemory (opening_of value))
+parts_err value parts (Ok opening) read known = tt
+parts_err value parts (Err fault) read known = λ other. known other value read
 
 -- a row within the caps is within the most that a product's supply may be
 pub row_small : (products : List Product) (row : List ℕ) → All IsProduct products → IsRow products row → All (λ demand. demand ≤ most_supply) row

@@ -1,6 +1,6 @@
 -- What the value of a set-up means as a document.
-use Rattle.std.proofs.Common.{◌≡◌, ℕ, ◌≤◌, ◌⊎◌, inl, inr, Bool, true, false, ◌==◌, List, [], ◌∷◌, map, All, Option, Some, None, Result, Ok, Err, IfOk}
-use Rattle.std.proofs.Common.{IfErr, codes, refl, sym, ap, ◌∙◌, subst, arith}
+use Rattle.std.proofs.Common.{◌≡◌, ℕ, ◌⊎◌, inl, inr, Bool, true, false, ◌==◌, List, [], ◌∷◌, map, All, Option, Some, None, Result, Ok, Err, IfOk}
+use Rattle.std.proofs.Common.{IfErr, codes, refl, sym, ap, ◌∙◌, subst}
 use Rattle.std.specs.Prelude.{⊤, if◌then◌else◌}
 use Rattle.std.proofs.lemmas.Bool.{eqb-true}
 use Rattle.std.proofs.lemmas.List.Elements.{All-nil, All-head, All-tail}
@@ -8,7 +8,7 @@ use Rattle.serde_json.specs.Data.{Data, object}
 use Rattle.clock_scan.specs.Reading.{items_of, members_of}
 use Rattle.clock_setup.specs.declared.setup.Product.{Product}
 use Rattle.clock_setup.specs.declared.setup.Bidder.{Bidder}
-use Rattle.clock_setup.specs.Limits.{SetupFields, IsWithin, IsOfFirstVersion, latest_version, first_granule, first_limit}
+use Rattle.clock_setup.specs.Limits.{SetupFields, IsWithin, IsOfFirstVersion, latest_version, first_granule}
 use Rattle.clock_setup.specs.declared.fault.SetupFault.{SetupFault}
 use Rattle.clock_setup.specs.declared.fault.SetupFault.TheVariants.{NoMemory}
 use Rattle.clock_setup.specs.Faults.{first_fault, unless, IsFirstFault, IsRefusal}

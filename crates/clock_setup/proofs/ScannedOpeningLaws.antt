@@ -1,5 +1,5 @@
 -- What the value of an opening means as a document.
-use Rattle.std.proofs.Common.{◌≡◌, ℕ, List, map, Option, Some, Result, Ok, Err, IfOk, IfErr, refl, ap, ◌∙◌}
+use Rattle.std.proofs.Common.{◌≡◌, ℕ, List, map, Some, Result, Ok, Err, IfOk, IfErr, refl, ◌∙◌}
 use Rattle.std.specs.Prelude.{⊤}
 use Rattle.serde_json.specs.Data.{Data}
 use Rattle.clock_scan.specs.Reading.{whole, numbers, items_of}

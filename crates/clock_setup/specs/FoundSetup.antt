@@ -1,5 +1,5 @@
 -- What was found of a set-up that is being read.
-use Rattle.std.specs.Prelude.{Option, option_map}
+use Rattle.std.specs.Prelude.{option_map}
 use Rattle.clock_scan.specs.Reading.{Fields}
 use Rattle.clock_setup.specs.declared.scanned_setup.SetupParts.{SetupParts}
 use Rattle.clock_setup.specs.SetupData.{products_data, bidders_data, setup_fields}

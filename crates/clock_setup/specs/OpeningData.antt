@@ -1,7 +1,7 @@
 -- The value of JSON that an opening is, whose meaning as a document is this opening.
 --     opening_fields demands increment setup      its keys, each with its value where one was found
 --     opening_data setup demands increment      the whole document, over the value of its set-up
---     held_data, entries_data, source_data      the values that the code's parts of an opening stand for
+--     held_data, parts_data, entries_data, source_data      what the code's parts of an opening stand for
 use Rattle.std.specs.Prelude.{ℕ, List, [], ◌∷◌, Option, Some, option_map, codes}
 use Rattle.serde_json.specs.Data.{Data, object}
 use Rattle.serde_json.specs.View.{view}
@@ -12,6 +12,7 @@ use Rattle.clock_setup.specs.declared.source.OpeningEntries.{OpeningEntries}
 use Rattle.clock_setup.specs.declared.source.Source.{Source}
 use Rattle.clock_setup.specs.declared.source.Source.TheVariants.{Document, Entries}
 use Rattle.clock_setup.specs.declared.scanned_opening.OpeningFound.{OpeningFound}
+use Rattle.clock_setup.specs.OpeningShape.{OpeningParts}
 use Rattle.clock_setup.specs.SetupData.{setup_data}
 
 abbrev pub opening_fields : Option Data → Option ℕ → Option Data → Fields
@@ -29,9 +30,13 @@ abbrev pub held_data : HeldSetup → Data
 held_data (Tree value) = view value.now
 held_data (Scanned setup) = setup_data setup.entries
 
+-- what the code's parts of an opening are
+abbrev pub parts_data : OpeningEntries → OpeningParts
+parts_data parts = record { setup = held_data parts.setup; demands = parts.demands; increment = parts.increment }
+
 -- the value of an opening's parts
 abbrev pub entries_data : OpeningEntries → Data
-entries_data entries = opening_data (held_data entries.setup) entries.demands.items entries.increment
+entries_data entries = opening_data (held_data entries.setup) entries.demands entries.increment
 
 -- the value that an opening is read from
 abbrev pub source_data : Source → Data
@@ -41,4 +46,4 @@ source_data (Entries entries) = entries_data entries
 -- the keys of an opening that is being read
 abbrev pub found_opening : OpeningFound → Fields
 found_opening parts =
-    opening_fields (option_map (λ list. rows list.items) parts.demands) parts.increment (option_map (λ setup. setup_data setup.entries) parts.setup)
+    opening_fields (option_map rows parts.demands) parts.increment (option_map (λ setup. setup_data setup.entries) parts.setup)

@@ -1,5 +1,6 @@
-ghost use Rattle.std.specs.Prelude.{◌≡◌, codes, None, Some, Ok, IfOk, IfErr};
+ghost use Rattle.std.specs.Prelude.{◌≡◌, ◌<◌, length, codes, None, Some, Ok, IfOk, IfErr, OnOk};
 ghost use Rattle.serde_json.specs.View.{view};
+ghost use Rattle.clock_scan.specs.Reading.{Reads};
 ghost use Rattle.clock_setup.specs.Faults.{IsFirstFault, IsRefusal, first_fault};
 ghost use Rattle.clock_setup.specs.Limits.{SetupFields, IsOfFirstVersion, IsSetup, IsWithin, latest_version};
 ghost use Rattle.clock_setup.specs.Members.{number_at};
@@ -96,6 +97,21 @@ fn scanned_entries(alloc: Global, bytes: &[u8]) -> Result<SetupEntries<'_>, Stop
         return Err(Stop::Unusual);
     }
     Ok(entries)
+}
+
+/// The set-up that is next in a document, where it is within its limits, none of its texts has an escape, and each of
+/// its numbers is written in digits alone. Anything else is `Unusual`: then a tree of values tells what it means.
+pub fn next_setup(alloc: Global, scan: &mut Scan<'_>) -> Result<Setup, Stop>
+    ensures value { IfOk result (λ setup. Reads 3 scan.old (setup_data setup) scan.new) }
+    ensures accepted { IfOk result (λ setup. document.setup_of (setup_data setup) ≡ Ok setup) }
+    ensures shorter { OnOk result (length scan.new < length scan.old) }
+{
+    let entries = scanned_setup(alloc, scan)?;
+    match within_limits(alloc, &entries) {
+        Ok(setup) => Ok(setup),
+        Err(SetupFault::NoMemory) => Err(Stop::NoMemory),
+        Err(_) => Err(Stop::Unusual),
+    }
 }
 
 /// What [`read_setup`] answers, by a tree of the document's values.

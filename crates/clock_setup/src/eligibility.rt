@@ -28,6 +28,19 @@ pub fn next_eligibility(held: u64, activity: u64, requirement: u64) -> u64
     held.min((100 * activity + (requirement - 1)) / requirement)
 }
 
+/// The bidding units of so many blocks of a product. Where there are none the product needs no look: most bidders hold few of the products.
+fn units_of(product: &Product, blocks: u64) -> u64
+    requires product { IsProduct product.now }
+    requires small { blocks ≤ most_supply }
+    ensures { result ≡ product.now.units * blocks }
+{
+    if blocks == 0 {
+        0
+    } else {
+        product.units * blocks
+    }
+}
+
 /// What [`activity`] is of a set-up with these products, where the set-up itself is not at hand.
 pub fn units_taken(products: &[Product], demands: &[u64]) -> u64
     requires limits { All IsProduct products.now }
@@ -38,7 +51,7 @@ pub fn units_taken(products: &[Product], demands: &[u64]) -> u64
 {
     let mut total: u64 = 0;
     for (i, product) in products.iter().enumerate() {
-        total += product.units * demands[i];
+        total += units_of(product, demands[i]);
     }
     total
 }

@@ -1,16 +1,17 @@
-ghost use Rattle.std.specs.Prelude.{◌≡◌, ◌≤◌, codes, Some, All, IfOk, IfErr, IfSome};
+ghost use Rattle.std.specs.Prelude.{◌≡◌, ◌≤◌, codes, Some, option_map, IfOk, IfErr};
 ghost use Rattle.serde_json.specs.View.{view, items_view};
 ghost use Rattle.clock_setup.specs.Faults.{IsRefusal, or_fault};
+ghost use Rattle.clock_setup.specs.Limits.{IsOfFirstVersion};
 ghost use Rattle.clock_setup.specs.Members as members;
 ghost use Rattle.clock_setup.specs.Members.{each};
-ghost use Rattle.clock_setup.specs.Limits.{IsOfFirstVersion, first_granule};
 ghost use Rattle.clock_setup.specs.SetupShape as shape;
 ghost use Rattle.clock_setup.specs.SetupShape.{product_of, bidder_of, fields_of};
 
 use crate::fault::SetupFault;
 use crate::members::{each_of, has_members, items_at, number_at, text_at};
+use clock_device::NoMemory;
 use serde_json::Value;
-use std::alloc::{AllocError, AllocFailed, Global};
+use std::alloc::Global;
 use std::marker::Model;
 
 /// The limit of a set-up of version 1, in percent.
@@ -106,8 +107,7 @@ fn has_keys(value: &Value, version: u64, in_first: usize) -> bool
 /// A product of the right shape.
 #[tactic(auto, unfolding(crate::specs::SetupShape::product_of))]
 fn product_entry(value: &Value, version: u64) -> Option<ProductEntry<'_>>
-    ensures value { result ≡ product_of version (view value.now) }
-    ensures first_version { IfSome result (λ entry. version ≡ 1 → entry.granule ≡ first_granule) }
+    ensures { result ≡ product_of version (view value.now) }
 {
     let name = text_at(value, "name")?;
     let units = number_at(value, "units")?;
@@ -148,36 +148,74 @@ fn bidder_entry(value: &Value) -> Option<BidderEntry<'_>>
     }
 }
 
-/// Products of the right shape.
+/// Products of the right shape, or none.
 fn product_entries(
     alloc: Global,
     items: &[Value],
     version: u64,
-) -> Result<Vec<ProductEntry<'_>>, SetupFault>
-    ensures ok { IfOk result (λ entries. each (product_of version) (items_view items.now) ≡ Some entries.items) }
-    ensures first_version { IfOk result (λ entries. version ≡ 1 → All (λ entry. entry.granule ≡ first_granule) entries.items) }
-    ensures err { IfErr result (IsRefusal SetupFault.NoMemory
-        (or_fault SetupFault.Shape (each (product_of version) (items_view items.now)))) }
+) -> Result<Option<Vec<ProductEntry<'_>>>, NoMemory>
+    ensures { IfOk result (λ entries. option_map (λ list. list.items) entries ≡ each (product_of version) (items_view items.now)) }
 {
     let mut entries = Vec::new(alloc);
     for item in items {
-        let entry = product_entry(item, version).ok_or(SetupFault::Shape)?;
+        let Some(entry) = product_entry(item, version) else {
+            return Ok(None);
+        };
         entries.push(entry)?;
     }
-    Ok(entries)
+    Ok(Some(entries))
 }
 
-/// Bidders of the right shape.
-fn bidder_entries(alloc: Global, items: &[Value]) -> Result<Vec<BidderEntry<'_>>, SetupFault>
-    ensures ok { IfOk result (λ entries. each bidder_of (items_view items.now) ≡ Some entries.items) }
-    ensures err { IfErr result (IsRefusal SetupFault.NoMemory
-        (or_fault SetupFault.Shape (each bidder_of (items_view items.now)))) }
+/// Bidders of the right shape, or none.
+fn bidder_entries(alloc: Global, items: &[Value]) -> Result<Option<Vec<BidderEntry<'_>>>, NoMemory>
+    ensures { IfOk result (λ entries. option_map (λ list. list.items) entries ≡ each bidder_of (items_view items.now)) }
 {
-    each_of(alloc, items, bidder_entry)?.ok_or(SetupFault::Shape)
+    each_of(alloc, items, bidder_entry)
+}
+
+/// A set-up document of the right shape, or none.
+#[tactic(auto, unfolding(crate::specs::SetupShape::fields_of))]
+fn entries_of(alloc: Global, value: &Value) -> Result<Option<SetupEntries<'_>>, NoMemory>
+    ensures { IfOk result (λ entries. entries ≡ fields_of (view value.now)) }
+{
+    let Some(version) = number_at(value, "version") else {
+        return Ok(None);
+    };
+    let Some(limit) = added_number(value, version, FIRST_LIMIT, "limit") else {
+        return Ok(None);
+    };
+    let Some(requirement) = number_at(value, "requirement") else {
+        return Ok(None);
+    };
+    let Some(operator) = text_at(value, "operator") else {
+        return Ok(None);
+    };
+    let Some(items) = items_at(value, "products") else {
+        return Ok(None);
+    };
+    let Some(products) = product_entries(alloc, items, version)? else {
+        return Ok(None);
+    };
+    let Some(items) = items_at(value, "bidders") else {
+        return Ok(None);
+    };
+    let Some(bidders) = bidder_entries(alloc, items)? else {
+        return Ok(None);
+    };
+    if !has_keys(value, version, 5) {
+        return Ok(None);
+    }
+    Ok(Some(SetupEntries {
+        version,
+        limit,
+        requirement,
+        operator,
+        products,
+        bidders,
+    }))
 }
 
 /// A set-up document of the right shape.
-#[tactic(auto, unfolding(crate::specs::SetupShape::fields_of))]
 pub(crate) fn setup_entries(alloc: Global, value: &Value) -> Result<SetupEntries<'_>, SetupFault>
     ensures ok { IfOk result (λ entries. fields_of (view value.now) ≡ Some entries) }
     ensures first_version { IfOk result (λ entries. entries.version ≡ 1 → IsOfFirstVersion entries) }
@@ -185,23 +223,8 @@ pub(crate) fn setup_entries(alloc: Global, value: &Value) -> Result<SetupEntries
         (λ entries. members.number_at (codes "version") (view value.now) ≡ Some entries.version) }
     ensures err { IfErr result (IsRefusal SetupFault.NoMemory (or_fault SetupFault.Shape (fields_of (view value.now)))) }
 {
-    let version = number_at(value, "version").ok_or(SetupFault::Shape)?;
-    let limit = added_number(value, version, FIRST_LIMIT, "limit").ok_or(SetupFault::Shape)?;
-    let requirement = number_at(value, "requirement").ok_or(SetupFault::Shape)?;
-    let operator = text_at(value, "operator").ok_or(SetupFault::Shape)?;
-    let products = items_at(value, "products").ok_or(SetupFault::Shape)?;
-    let products = product_entries(alloc, products, version)?;
-    let bidders = items_at(value, "bidders").ok_or(SetupFault::Shape)?;
-    let bidders = bidder_entries(alloc, bidders)?;
-    if !has_keys(value, version, 5) {
-        return Err(SetupFault::Shape);
+    match entries_of(alloc, value)? {
+        Some(entries) => Ok(entries),
+        None => Err(SetupFault::Shape),
     }
-    Ok(SetupEntries {
-        version,
-        limit,
-        requirement,
-        operator,
-        products,
-        bidders,
-    })
 }

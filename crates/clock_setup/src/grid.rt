@@ -1,6 +1,6 @@
-ghost use Rattle.std.specs.Prelude.{◌≡◌, List, ℕ, ◌*◌, ◌≤◌, ◌<◌, length, All, IfOk, slice_set};
+ghost use Rattle.std.specs.Prelude.{◌≡◌, List, ℕ, ◌+◌, ◌*◌, ◌≤◌, ◌<◌, length, take, drop, All, IfOk, slice_index, slice_set};
 ghost use Rattle.clock_setup.specs.Limits.{most_bidders, most_products, most_supply};
-ghost use Rattle.clock_setup.specs.Demands.{total_of, demand_at, row_of, with_demand, no_demands};
+ghost use Rattle.clock_setup.specs.Demands.{total_of, demand_at, row_of, rows_of, with_demand, no_demands};
 
 use crate::setup::Setup;
 use clock_device::{Items, NoMemory};
@@ -18,6 +18,32 @@ fn demands_before(bidder: usize, products: usize) -> usize
     ensures small { result ≤ most_bidders * most_products }
 {
     bidder * products
+}
+
+/// A bidder's row of demands that stand in one list, where each bidder has one for each product.
+pub(crate) fn row_at(demands: &[u64], bidder: usize, products: usize) -> &[u64]
+    requires bidder { bidder ≤ most_bidders }
+    requires products { products ≤ most_products }
+    requires within { bidder * products + products ≤ length demands.now }
+    ensures { result.now ≡ take products (drop (bidder * products) demands.now) }
+{
+    let start = demands_before(bidder, products);
+    &demands[start..start + products]
+}
+
+/// Adds a row of demands to the products' totals.
+fn add_row(totals: &mut Amounts, row: &[u64])
+    requires lengths { length row.now ≡ length totals.old }
+    requires small { All (λ demand. demand ≤ most_supply) row.now }
+    requires few { All (λ total. total ≤ most_bidders * most_supply) totals.old }
+    ensures length { length totals.new ≡ length totals.old }
+    ensures sums { (product : ℕ) → product < length totals.old
+        → slice_index totals.new product ≡ slice_index totals.old product + slice_index row.now product }
+{
+    for (product, demand) in row.iter().enumerate() {
+        let total = totals.as_slice()[product] + *demand;
+        totals.set(product, total);
+    }
 }
 
 /// A row of demands for each bidder, and in it the demand in blocks for each product. Contracts see the list of rows,
@@ -52,6 +78,30 @@ impl Grid {
             bidders,
             demands: Amounts::zeros(alloc, demands_before(bidders, products))?,
             totals: Amounts::zeros(alloc, products)?,
+        })
+    }
+
+    /// The grid of a set-up whose demands stand in one list, bidder by bidder. The list is taken over and not copied.
+    pub(crate) fn of_numbers(
+        alloc: Global,
+        setup: &Setup,
+        demands: Amounts,
+    ) -> Result<Grid, NoMemory>
+        requires full { length demands ≡ length setup.now.bidders * length setup.now.products }
+        requires small { All (λ row. All (λ demand. demand ≤ most_supply) row)
+            (rows_of (length setup.now.bidders) (length setup.now.products) demands) }
+        ensures { IfOk result (λ grid. grid ≡ rows_of (length setup.now.bidders) (length setup.now.products) demands) }
+    {
+        let bidders = setup.bidders.as_slice().len();
+        let products = setup.products.as_slice().len();
+        let mut totals = Amounts::zeros(alloc, products)?;
+        for bidder in 0..bidders {
+            add_row(&mut totals, row_at(demands.as_slice(), bidder, products));
+        }
+        Ok(Grid {
+            bidders,
+            demands,
+            totals,
         })
     }
 

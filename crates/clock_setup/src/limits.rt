@@ -159,7 +159,6 @@ fn bidder_within(alloc: Global, i: u64, entry: &BidderEntry) -> Result<Bidder, S
 }
 
 /// Products within their limits, or the first fault.
-#[tactic(auto, using(crate::proofs::FaultLaws::fault_steps))]
 pub(crate) fn products_within(
     alloc: Global,
     entries: &[ProductEntry],
@@ -177,7 +176,6 @@ pub(crate) fn products_within(
 }
 
 /// Bidders within their limits, or the first fault.
-#[tactic(auto, using(crate::proofs::FaultLaws::fault_steps))]
 pub(crate) fn bidders_within(alloc: Global, entries: &[BidderEntry]) -> Result<Bidders, SetupFault>
     ensures same { IfOk result (λ bidders. bidders ≡ entries.now) }
     ensures ok { IfOk result (λ _. first_fault (in_turn bidder_checks 0 entries.now) ≡ None) }

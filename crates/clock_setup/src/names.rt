@@ -11,7 +11,10 @@ use std::collections::HashSet;
 fn set_of<'v>(alloc: Global, texts: &[&'v str]) -> Result<HashSet<&'v str>, AllocError>
     ensures { IfOk result (IsFromIterResult (λ a b. pointwise nat_eq a.now b.now) texts.now) }
 {
-    texts.iter().copied().collect(alloc)
+    // Collecting asks again for less where there is no room for all, so the room is made here.
+    let mut seen = HashSet::with_capacity(alloc, texts.len())?;
+    seen.extend(texts.iter().copied())?;
+    Ok(seen)
 }
 
 /// Whether no two texts are equal.

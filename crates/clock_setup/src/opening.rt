@@ -1,9 +1,11 @@
 ghost use Rattle.std.specs.Prelude.{◌≡◌, ◌≢◌, ◌≤◌, None, Some, length, Ok, Err, All, IfOk, IfErr};
+ghost use Rattle.serde_json.specs.Data.{Data};
 ghost use Rattle.clock_setup.specs.Demands.{IsGrid};
 ghost use Rattle.clock_setup.specs.Faults.{IsRefusal, first_fault};
 ghost use Rattle.clock_setup.specs.Limits.{IsWithin, least_increment, most_increment};
 ghost use Rattle.clock_setup.specs.OpeningData.{held_data, source_data};
 ghost use Rattle.clock_setup.specs.OpeningDocument.{document_opening, opening_of, in_opening};
+ghost use Rattle.clock_setup.specs.OpeningShape.{parts_of};
 ghost use Rattle.clock_setup.specs.SetupDocument as document;
 
 use crate::document::{setup_of, within_limits};
@@ -18,7 +20,7 @@ use crate::setup::Setup;
 use crate::source::{HeldSetup, Source};
 use clock_device::NoMemory;
 use clock_money::{LEAST_INCREMENT, MOST_INCREMENT};
-use clock_scan::Stop;
+use clock_scan::{FlatRows, Stop};
 use std::alloc::{AllocError, AllocFailed, Global};
 use thiserror::Error;
 
@@ -124,6 +126,39 @@ fn held_setup(alloc: Global, held: &HeldSetup<'_>) -> Result<Setup, OpeningFault
     }
 }
 
+/// The opening that parts of a document make, or the first fault behind that of its shape.
+fn opening_of_parts(
+    alloc: Global,
+    held: &HeldSetup<'_>,
+    demands: FlatRows,
+    increment: u64,
+) -> Result<Opening, OpeningFault>
+    ensures ok { IfOk result (λ opening. (value : Data) → parts_of value
+        ≡ Some (record { setup = held_data held.now; demands = demands; increment = increment })
+        → opening_of value ≡ Ok opening) }
+    ensures grid { IfOk result
+        (λ opening. IsGrid (length opening.setup.bidders) (length opening.setup.products) opening.grid) }
+    ensures increment { IfOk result (λ opening. IsWithin least_increment most_increment opening.increment) }
+    ensures err { IfErr result (λ fault. fault ≢ OpeningFault.NoMemory → (value : Data)
+        → parts_of value ≡ Some (record { setup = held_data held.now; demands = demands; increment = increment })
+        → opening_of value ≡ Err fault) }
+    ensures held { IfErr result (λ fault. fault ≢ OpeningFault.Setup SetupFault.NoMemory) }
+{
+    let setup = held_setup(alloc, held)?;
+    if !has_counts(&setup, &demands) {
+        return Err(OpeningFault::Shape);
+    }
+    let grid = grid_within(alloc, &setup, demands)?;
+    if !is_within(LEAST_INCREMENT, MOST_INCREMENT, increment) {
+        return Err(OpeningFault::Increment);
+    }
+    Ok(Opening {
+        setup,
+        grid,
+        increment,
+    })
+}
+
 /// The opening that a value of JSON means, or its first fault.
 fn opening_in(alloc: Global, source: Source<'_>) -> Result<Opening, OpeningFault>
     ensures ok { IfOk result (λ opening. opening_of (source_data source.entry) ≡ Ok opening) }
@@ -135,19 +170,8 @@ fn opening_in(alloc: Global, source: Source<'_>) -> Result<Opening, OpeningFault
     ensures held { IfErr result (λ fault. fault ≢ OpeningFault.Setup SetupFault.NoMemory) }
 {
     let parts = source_parts(alloc, source)?;
-    let setup = held_setup(alloc, &parts.setup)?;
-    if !has_counts(&setup, parts.demands.as_slice()) {
-        return Err(OpeningFault::Shape);
-    }
-    let grid = grid_within(alloc, &setup, parts.demands.as_slice())?;
-    if !is_within(LEAST_INCREMENT, MOST_INCREMENT, parts.increment) {
-        return Err(OpeningFault::Increment);
-    }
-    Ok(Opening {
-        setup,
-        grid,
-        increment: parts.increment,
-    })
+    let demands = parts.demands;
+    opening_of_parts(alloc, &parts.setup, demands, parts.increment)
 }
 
 /// What [`read_opening`] answers, by a tree of the document's values.

@@ -10,6 +10,7 @@ use crate::grid::Amounts;
 use crate::members::{has_members, items_at, number_at, numbers_of};
 use crate::opening::OpeningFault;
 use crate::source::{HeldSetup, OpeningEntries, Source};
+use clock_scan::FlatRows;
 use serde_json::Value;
 use std::alloc::Global;
 
@@ -42,13 +43,14 @@ fn row_entries(alloc: Global, items: &[Value]) -> Result<Vec<Amounts>, OpeningFa
 #[tactic(auto, unfolding(crate::specs::OpeningShape::parts_of))]
 fn opening_parts(alloc: Global, value: &Value) -> Result<OpeningEntries<'_>, OpeningFault>
     ensures ok { IfOk result (λ parts. shape.parts_of (view value.now)
-        ≡ Some (record { setup = held_data parts.setup; demands = parts.demands.items; increment = parts.increment })) }
+        ≡ Some (record { setup = held_data parts.setup; demands = parts.demands; increment = parts.increment })) }
     ensures err { IfErr result (IsRefusal OpeningFault.NoMemory (or_fault OpeningFault.Shape (shape.parts_of (view value.now)))) }
     ensures held { IfErr result (λ fault. fault ≢ OpeningFault.Setup SetupFault.NoMemory) }
 {
     let setup = value.get("setup").ok_or(OpeningFault::Shape)?;
     let items = items_at(value, "demands").ok_or(OpeningFault::Shape)?;
-    let demands = row_entries(alloc, items)?;
+    let rows = row_entries(alloc, items)?;
+    let demands = FlatRows::from_lists(alloc, rows.as_slice())?;
     let increment = number_at(value, "increment").ok_or(OpeningFault::Shape)?;
     if !has_members(value, 3) {
         return Err(OpeningFault::Shape);
@@ -66,7 +68,7 @@ pub(crate) fn source_parts<'v>(
     source: Source<'v>,
 ) -> Result<OpeningEntries<'v>, OpeningFault>
     ensures ok { IfOk result (λ parts. shape.parts_of (source_data source.entry)
-        ≡ Some (record { setup = held_data parts.setup; demands = parts.demands.items; increment = parts.increment })) }
+        ≡ Some (record { setup = held_data parts.setup; demands = parts.demands; increment = parts.increment })) }
     ensures err { IfErr result (IsRefusal OpeningFault.NoMemory (or_fault OpeningFault.Shape (shape.parts_of (source_data source.entry)))) }
     ensures held { IfErr result (λ fault. fault ≢ OpeningFault.Setup SetupFault.NoMemory) }
 {

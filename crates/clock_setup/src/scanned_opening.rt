@@ -5,16 +5,15 @@ ghost use Rattle.clock_scan.specs.Reading.{members_of, Reads, AddsMember};
 ghost use Rattle.clock_setup.specs.OpeningData.{entries_data, found_opening};
 ghost use Rattle.clock_setup.specs.SetupDocument.{json};
 
-use crate::grid::Amounts;
 use crate::scanned_setup::scanned_setup;
 use crate::source::{HeldSetup, OpeningEntries, ScannedSetup};
-use clock_scan::{Scan, Stop, is_key, is_text};
+use clock_scan::{FlatRows, Scan, Stop, is_key, is_text};
 use std::alloc::Global;
 
 /// What was found of an opening.
 #[derive(Drop)]
 struct OpeningFound<'v> {
-    demands: Option<Vec<Amounts>>,
+    demands: Option<FlatRows>,
     increment: Option<u64>,
     setup: Option<ScannedSetup<'v>>,
 }
@@ -29,7 +28,7 @@ impl<'v> OpeningFound<'v> {
             return Err(Stop::Unusual);
         };
         if is_key(key, "demands") {
-            self.demands = Some(scan.rows(alloc)?);
+            self.demands = Some(scan.flat_rows(alloc)?);
             return Ok(());
         }
         if is_key(key, "setup") {

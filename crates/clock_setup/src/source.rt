@@ -3,7 +3,7 @@ ghost use Rattle.std.specs.Prelude.{◌≡◌};
 ghost use Rattle.clock_setup.specs.Limits.{IsWithin, IsOfFirstVersion, latest_version};
 
 use crate::entries::SetupEntries;
-use crate::grid::Amounts;
+use clock_scan::FlatRows;
 use serde_json::Value;
 
 /// The entries of a set-up of a known version.
@@ -25,7 +25,7 @@ pub(crate) enum HeldSetup<'v> {
 #[derive(Drop)]
 pub(crate) struct OpeningEntries<'v> {
     pub setup: HeldSetup<'v>,
-    pub demands: Vec<Amounts>,
+    pub demands: FlatRows,
     pub increment: u64,
 }
 

@@ -2,7 +2,7 @@
 use Rattle.std.proofs.Common.{◌≡◌, ℕ, ◌+◌, ◌<◌, ◌≤◌, All, ◌&&◌, ◌==◌, Bool, true, false, nat_le, if◌then◌else◌, List, [], ◌∷◌, zero, suc, length}
 use Rattle.std.proofs.Common.{get_or, drop, zip, None, Some, refl, sym, ap, subst, ◌∙◌, arith}
 use Rattle.std.specs.Prelude.{EachIndex}
-use Rattle.std.specs.List.{list_all, AllPass}
+use Rattle.std.specs.List.{list_all}
 use Rattle.std.proofs.lemmas.Bool.{and_parts, le-leb, lt-leb, leb-true, eqb-true}
 use Rattle.std.proofs.lemmas.List.{drop_more, drop_all, get_or_default}
 use Rattle.std.proofs.lemmas.List.Elements.{All-nil, All-cons}
@@ -12,13 +12,12 @@ use Rattle.std.proofs.lemmas.Slice.Zip.{get_or-zip, length-zip}
 use Rattle.clock_setup.specs.declared.setup.Product.{Product}
 use Rattle.clock_setup.specs.Demands.{row_of}
 use Rattle.clock_setup.specs.Faults.{first_fault, in_turn}
-use Rattle.clock_setup.specs.Limits.{SetupFields, IsSetup, cap_of}
-use Rattle.clock_setup.proofs.FaultLaws.{passed, failed, both_pass, turn_passed, turn_failed, turn_none}
+use Rattle.clock_setup.specs.Limits.{IsSetup, cap_of}
+use Rattle.clock_setup.proofs.FaultLaws.{both_pass, turn_passed, turn_failed, turn_none}
 use Rattle.clock_sim.specs.declared.script.Script.{Script}
 use Rattle.clock_sim.specs.declared.script.Script.TheVariants.{Literal, Sincere}
-use Rattle.clock_sim.specs.declared.fault.ScriptFault.{ScriptFault}
 use Rattle.clock_sim.specs.declared.fault.ScriptFault.TheVariants.{Shape, Scripts, Limits}
-use Rattle.clock_sim.specs.Replays.{NeverRises, IsLimits, IsScript, ReplayFields, IsReplay, is_of_version}
+use Rattle.clock_sim.specs.Replays.{NeverRises, IsScript, ReplayFields, IsReplay, is_of_version}
 use Rattle.clock_sim.specs.ReplayChecks.{never_rises, are_of_version, has_lists, limit_checks, script_checks, replay_checks}
 
 -- ---- prices that never rise

@@ -1,7 +1,7 @@
 -- Laws of what a replay document means.
-use Rattle.std.proofs.Common.{◌≡◌, Some, None, Ok, Err, refl, sym, ap, ◌∙◌}
+use Rattle.std.proofs.Common.{◌≡◌, Some, None, Ok, Err, refl}
 use Rattle.serde_json.specs.Data.{Data}
-use Rattle.clock_setup.specs.Faults.{first_fault, unless, or_fault}
+use Rattle.clock_setup.specs.Faults.{first_fault, unless}
 use Rattle.clock_setup.specs.Limits.{SetupFields}
 use Rattle.clock_setup.specs.SetupDocument.{setup_of}
 use Rattle.clock_sim.specs.declared.fault.ScriptFault.{ScriptFault}
@@ -11,7 +11,7 @@ use Rattle.clock_sim.specs.ReplayChecks.{replay_checks}
 use Rattle.clock_sim.specs.ReplayDocument.{replay_with, in_replay, replay_of}
 
 -- a document whose parts and set-up are known is judged by its other checks
-replay_at : (value : Data) (parts : ReplayParts) (setup : SetupFields) → parts_of value ≡ Some parts → setup_of parts.setup ≡ Ok setup
+pub replay_at : (value : Data) (parts : ReplayParts) (setup : SetupFields) → parts_of value ≡ Some parts → setup_of parts.setup ≡ Ok setup
     → replay_of value ≡ unless (first_fault (replay_checks (replay_with setup parts))) (replay_with setup parts)
 unfolding replay_of
 replay_at value parts setup read held = rw (read, held) refl
@@ -26,15 +26,3 @@ pub replay_setup : (value : Data) (parts : ReplayParts) (fault : ScriptFault) �
     → in_replay (setup_of parts.setup) ≡ Err fault → replay_of value ≡ Err fault
 unfolding replay_of
 replay_setup value parts fault read refused = rw (read, refused) refl
-
--- a document that one of the other checks refuses
-pub replay_refused : (value : Data) (parts : ReplayParts) (setup : SetupFields) (fault : ScriptFault) → parts_of value ≡ Some parts
-    → setup_of parts.setup ≡ Ok setup → Some fault ≡ first_fault (replay_checks (replay_with setup parts)) → replay_of value ≡ Err fault
-replay_refused value parts setup fault read held first =
-    replay_at value parts setup read held ∙ ap (λ fault. unless fault (replay_with setup parts)) (sym first)
-
--- a document that none of them refuses
-pub replay_taken : (value : Data) (parts : ReplayParts) (setup : SetupFields) → parts_of value ≡ Some parts
-    → setup_of parts.setup ≡ Ok setup → None ≡ first_fault (replay_checks (replay_with setup parts)) → replay_of value ≡ Ok (replay_with setup parts)
-replay_taken value parts setup read held first =
-    replay_at value parts setup read held ∙ ap (λ fault. unless fault (replay_with setup parts)) (sym first)

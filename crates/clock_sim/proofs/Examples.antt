@@ -1,12 +1,11 @@
 -- The checks of replay documents and the text of a report, computed on small ones.
-use Rattle.std.specs.Prelude.{◌≡◌, ℕ, List, [], ◌∷◌, Some, None, true, codes, refl}
+use Rattle.std.specs.Prelude.{◌≡◌, List, [], ◌∷◌, Some, None, true, codes, refl}
 use Rattle.std.specs.Fmt.{digits}
-use Rattle.clock_setup.specs.declared.increments.Increments.TheVariants.{Single, PerProduct}
+use Rattle.clock_setup.specs.declared.increments.Increments.TheVariants.{PerProduct}
 use Rattle.clock_setup.specs.Examples.{one_product}
 use Rattle.clock_setup.specs.Faults.{first_fault}
 use Rattle.clock_sim.specs.declared.script.Script.{Script}
 use Rattle.clock_sim.specs.declared.script.Script.TheVariants.{Literal, Sincere}
-use Rattle.clock_sim.specs.declared.closing.Closing.{Closing}
 use Rattle.clock_sim.specs.declared.fault.ScriptFault.TheVariants.{Shape, Scripts, Limits}
 use Rattle.clock_sim.specs.Replays.{ReplayFields}
 use Rattle.clock_sim.specs.ReplayChecks.{replay_checks, limit_checks, script_checks}

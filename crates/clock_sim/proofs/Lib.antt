@@ -1,5 +1,6 @@
 pub mod CheckLaws
 pub mod DocumentLaws
+mod ReplayDataLaws
 mod Examples
 pub mod Leaving
 pub mod TextPieces

@@ -1,10 +1,9 @@
 -- A request that comes in pieces is answered as its whole text is.
-use Rattle.std.proofs.Common.{◌≡◌, ◌≢◌, ℕ, true, false, List, ◌∷◌, ◌++◌, Option, ◌⊎◌, Result, Ok, Err, inl, inr, sym, ◌∙◌, ap, subst, true≢false}
+use Rattle.std.proofs.Common.{◌≡◌, ℕ, false, List, ◌∷◌, ◌++◌, Option, ◌⊎◌, Result, Ok, Err, inl, inr, sym, ◌∙◌, ap, subst, true≢false}
 use Rattle.std.specs.Prelude.{option_and_then, IfOk}
 use Rattle.clock_house.specs.House.{HouseFields, StandsFor}
 use Rattle.clock_front.specs.Askers.{asker}
 use Rattle.clock_front.specs.Framing.{Framing, Head, framing, head_in, IsDecided}
-use Rattle.clock_front.specs.Framing as framed
 use Rattle.clock_front.specs.FramingLaws.{IsDecidedOnce, HasOneHead}
 use Rattle.clock_front.specs.Fronts.{AnswersText, IsStruckOut, house_after, commands_of}
 use Rattle.clock_front.specs.Outcomes.{answer_of, outcome, command_of}

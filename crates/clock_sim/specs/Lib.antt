@@ -1,6 +1,7 @@
 pub mod Replays
 pub mod Reports
 pub mod ReplayShape
+pub mod ReplayData
 pub mod ReplayChecks
 pub mod ReplayDocument
 pub mod ReportText

@@ -1,14 +1,19 @@
 ghost use Rattle.std.specs.Prelude.{◌≡◌, ◌≢◌, Ok, IfOk, IfErr};
 ghost use Rattle.serde_json.specs.View.{view};
-ghost use Rattle.clock_setup.specs.Faults.{IsRefusal};
+ghost use Rattle.clock_setup.specs.Faults.{IsRefusal, first_fault, unless};
 ghost use Rattle.clock_setup.specs.SetupDocument as document;
-ghost use Rattle.clock_sim.specs.Replays.{IsReplay};
+ghost use Rattle.clock_sim.specs.Replays.{IsReplay, ReplayFields};
+ghost use Rattle.clock_sim.specs.ReplayChecks.{replay_checks};
 ghost use Rattle.clock_sim.specs.ReplayDocument.{document_replay, in_replay, replay_of};
 
 use crate::checks::replay_fault;
+use crate::closing::Closings;
 use crate::fault::ScriptFault;
 use crate::replay::Replay;
-use crate::shape::{ReplayEntries, replay_entries};
+use crate::scanned_replay::scanned_replay;
+use crate::script::Scripts;
+use crate::shape::replay_entries;
+use clock_scan::Stop;
 use clock_setup::members::read_value;
 use clock_setup::{Setup, SetupFault, setup_of};
 use serde_json::Value;
@@ -32,6 +37,24 @@ fn held_setup(alloc: Global, value: &Value) -> Result<Setup, ScriptFault>
     }
 }
 
+/// The replay of a set-up, or the first fault of what is looked at behind it.
+fn compared(setup: Setup, scripts: Scripts, closings: Closings) -> Result<Replay, ScriptFault>
+    ensures ok { let all : ReplayFields = record { setup = setup; scripts = scripts; closings = closings } in
+        IfOk result (λ replay. unless (first_fault (replay_checks all)) all ≡ Ok replay) }
+    ensures err { let all : ReplayFields = record { setup = setup; scripts = scripts; closings = closings } in
+        IfErr result (IsRefusal ScriptFault.NoMemory (unless (first_fault (replay_checks all)) all)) }
+    ensures held { IfErr result (λ fault. fault ≢ ScriptFault.Setup SetupFault.NoMemory) }
+{
+    match replay_fault(&setup, scripts.as_slice(), closings.as_slice()) {
+        Some(fault) => Err(fault),
+        None => Ok(Replay {
+            setup,
+            scripts,
+            closings,
+        }),
+    }
+}
+
 /// The replay that a JSON value means, or its first fault.
 #[tactic(auto, using(crate::proofs::DocumentLaws::replay_shape))]
 fn replay_in(alloc: Global, value: &Value) -> Result<Replay, ScriptFault>
@@ -43,19 +66,18 @@ fn replay_in(alloc: Global, value: &Value) -> Result<Replay, ScriptFault>
         return Err(ScriptFault::Shape);
     };
     let setup = held_setup(alloc, entries.setup)?;
-    let ReplayEntries {
-        scripts,
-        closings,
-        ..
-    } = entries;
-    match replay_fault(&setup, scripts.as_slice(), closings.as_slice()) {
-        Some(fault) => Err(fault),
-        None => Ok(Replay {
-            setup,
-            scripts,
-            closings,
-        }),
-    }
+    compared(setup, entries.scripts, entries.closings)
+}
+
+/// What [`read_replay`] answers, by a tree of the document's values.
+#[tactic(auto, unfolding(crate::specs::ReplayDocument::document_replay))]
+fn replay_by_tree(alloc: Global, bytes: &[u8]) -> Result<Replay, ScriptFault>
+    ensures ok { IfOk result (λ replay. document_replay bytes.now ≡ Ok replay) }
+    ensures err { IfErr result (IsRefusal ScriptFault.NoMemory (document_replay bytes.now)) }
+    ensures held { IfErr result (λ fault. fault ≢ ScriptFault.Setup SetupFault.NoMemory) }
+{
+    let value = read_value(alloc, bytes)?.ok_or(ScriptFault::NotJson)?;
+    replay_in(alloc, &value)
 }
 
 /// The replay that the bytes of a document mean, or the document's first fault.
@@ -69,13 +91,15 @@ fn replay_in(alloc: Global, value: &Value) -> Result<Replay, ScriptFault>
 ///
 /// [`ScriptFault`] has the faults in the order in which they are looked at. Nothing is kept of a document that is
 /// refused.
-#[tactic(auto, unfolding(crate::specs::ReplayDocument::document_replay))]
 pub fn read_replay(alloc: Global, bytes: &[u8]) -> Result<Replay, ScriptFault>
     ensures ok { IfOk result (λ replay. document_replay bytes.now ≡ Ok replay) }
     ensures replay { IfOk result IsReplay }
     ensures err { IfErr result (IsRefusal ScriptFault.NoMemory (document_replay bytes.now)) }
     ensures held { IfErr result (λ fault. fault ≢ ScriptFault.Setup SetupFault.NoMemory) }
 {
-    let value = read_value(alloc, bytes)?.ok_or(ScriptFault::NotJson)?;
-    replay_in(alloc, &value)
+    match scanned_replay(alloc, bytes) {
+        Ok(found) => compared(found.held.setup, found.scripts, found.closings),
+        Err(Stop::NoMemory) => Err(ScriptFault::NoMemory),
+        Err(Stop::Unusual) => replay_by_tree(alloc, bytes),
+    }
 }

@@ -1,6 +1,6 @@
 //! The sheets of sincere bidders.
 
-ghost use Rattle.std.specs.Prelude.{◌≡◌, ◌≤◌, ◌++◌, ◌∷◌, [], length, take, reverse, All, OnOk, option_copied};
+ghost use Rattle.std.specs.Prelude.{◌≡◌, ◌≤◌, ◌<◌, ◌==◌, ◌++◌, ◌∷◌, [], false, length, take, reverse, All, OnOk, option_copied};
 ghost use Rattle.clock_sim.specs.Sincere as rules;
 ghost use Rattle.clock_sim.specs.Replays.{NeverRises};
 ghost use Rattle.clock_sim.specs.Blocks as one_by_one;
@@ -171,8 +171,8 @@ fn push_opening(
     Ok(())
 }
 
-/// Adds the bids for a product.
-fn push_product(
+/// Adds the bids for a product at its prices.
+fn push_priced(
     bids: &mut Vec<Bid>,
     product: u64,
     round: u64,
@@ -188,6 +188,44 @@ fn push_product(
         return Ok(());
     }
     push_later(bids, product, pair, held, limits)?;
+    Ok(())
+}
+
+/// Whether there may be bids for a product of which so many blocks are held.
+fn may_bid(round: u64, held: u64) -> bool
+    ensures first { result ≡ false → (round == 1) ≡ false }
+    ensures held { result ≡ false → held ≡ 0 }
+{
+    if round == 1 {
+        return true;
+    }
+    held > 0
+}
+
+/// Adds the bids for a product. A bidder holds few of the products in a later round, and looks at nothing of the others.
+fn push_product(
+    bids: &mut Vec<Bid>,
+    products: &[Product],
+    last: Option<&RoundSheet>,
+    round: u64,
+    demands: &[u64],
+    limits: &[Amounts],
+    product: usize,
+) -> Result<(), NoMemory>
+    requires line { product < length (prices_after products.now (option_copied last)) }
+    requires held { product < length demands.now }
+    requires each { product < length limits.now }
+    requires falling { All NeverRises limits.now }
+    ensures { OnOk result (bids.new.items ≡ bids.old.items ++ rules.bids_for round
+        (prices_after products.now (option_copied last.entry)) demands.now limits.now product) }
+{
+    let held = demands[product];
+    if !may_bid(round, held) {
+        return Ok(());
+    }
+    let pair = price_range(products, last, product);
+    let wanted = limits[product].as_slice();
+    push_priced(bids, product as u64, round, &pair, held, wanted)?;
     Ok(())
 }
 
@@ -208,15 +246,14 @@ pub(crate) fn push_sincere(
         (prices_after products.now (option_copied last.entry)) own.entry.demands.now limits.now) }
 {
     for product in 0..products.len() {
-        let pair = price_range(products, last, product);
-        let wanted = limits[product].as_slice();
         push_product(
             bids,
-            product as u64,
+            products,
+            last,
             own.round,
-            &pair,
-            own.demands[product],
-            wanted,
+            own.demands,
+            limits,
+            product,
         )?;
     }
     Ok(())

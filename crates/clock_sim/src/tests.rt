@@ -10,6 +10,10 @@ use std::test::Fail;
 const GOOD: &str =
     r#"[{"kind":"literal","sheets":[[{"price":100,"product":0,"quantity":2}],null,[]]},{"limits":[[120,120]],"kind":"sincere"}]"#;
 
+/// The same where each round has a sheet.
+const EACH_ROUND: &str =
+    r#"[{"kind":"literal","sheets":[[{"price":100,"product":0,"quantity":2}],[]]},{"limits":[[120,120]],"kind":"sincere"}]"#;
+
 /// A script that never puts a sheet, for each of three bidders.
 const SILENT: &str =
     r#"[{"kind":"literal","sheets":[]},{"kind":"literal","sheets":[]},{"kind":"literal","sheets":[]}]"#;
@@ -26,6 +30,8 @@ const TWO_LISTS: &str =
 
 const OTHER_KIND: &str = r#"[{"kind":"random","sheets":[]}]"#;
 
+const BOTH_LISTS: &str = r#"[{"kind":"literal","sheets":[],"limits":[]}]"#;
+
 const SINGLE: &str = r#"[{"increment":51,"ties":[[7,8,9]]}]"#;
 
 const PER_PRODUCT: &str = r#"[{"increments":[10,20],"ties":[]}]"#;
@@ -38,56 +44,75 @@ const NEITHER_KEY: &str = r#"[{"ties":[]}]"#;
 const LOW: &str =
     r#"{"version":1,"requirement":49,"operator":"OPERATOROPERATOR","products":[],"bidders":[]}"#;
 
-/// A document with these closings, scripts and set-up.
-fn document(alloc: Global, closings: &str, scripts: &str, setup: &str) -> Result<Text, NoMemory> {
-    let mut text = Text::from_slice(alloc, b"{\"closings\":")?;
-    text.extend_from_slice(closings.as_bytes())?;
-    text.extend_from_slice(b",\"scripts\":")?;
-    text.extend_from_slice(scripts.as_bytes())?;
-    text.extend_from_slice(b",\"setup\":")?;
-    text.extend_from_slice(setup.as_bytes())?;
-    text.push(b'}')?;
+const REQUIREMENT: Option<ScriptFault> = Some(ScriptFault::Setup(SetupFault::Range(
+    Place::Requirement,
+)));
+
+const SHAPE: Option<ScriptFault> = Some(ScriptFault::Shape);
+
+/// The closings, the scripts and the set-up of a document, and its first fault.
+const ROWS: [(&str, &str, &str, Option<ScriptFault>); 14] = [
+    (SINGLE, GOOD, ONE_PRODUCT, None),
+    (SINGLE, EACH_ROUND, ONE_PRODUCT, None),
+    (PER_PRODUCT, SILENT, GRANULES_AND_INCREMENTS, None),
+    (SINGLE, RISING, ONE_PRODUCT, Some(ScriptFault::Limits(0, 0))),
+    (SINGLE, LONG, ONE_PRODUCT, Some(ScriptFault::Limits(1, 0))),
+    (SINGLE, TWO_LISTS, ONE_PRODUCT, SHAPE),
+    (SINGLE, ALONE, ONE_PRODUCT, Some(ScriptFault::Scripts)),
+    (PER_PRODUCT, ALONE, ONE_PRODUCT, SHAPE),
+    (SINGLE, SILENT, GRANULES_AND_INCREMENTS, SHAPE),
+    (PER_PRODUCT, ALONE, LOW, REQUIREMENT),
+    (BOTH_KEYS, ALONE, LOW, SHAPE),
+    (NEITHER_KEY, ALONE, LOW, SHAPE),
+    (SINGLE, OTHER_KIND, LOW, SHAPE),
+    (SINGLE, BOTH_LISTS, LOW, SHAPE),
+];
+
+/// Pieces of a text, one after the other.
+pub(crate) fn joined(alloc: Global, pieces: &[&str]) -> Result<Text, NoMemory> {
+    let mut text = Text::new(alloc);
+    for piece in pieces {
+        text.extend_from_slice(piece.as_bytes())?;
+    }
     Ok(text)
 }
 
-/// Why a document is refused, or nothing where it is not.
-fn fault_of(
+/// A document with these closings, scripts and set-up.
+pub(crate) fn document(
     alloc: Global,
     closings: &str,
     scripts: &str,
     setup: &str,
-) -> Result<Option<ScriptFault>, NoMemory> {
-    let text = document(alloc, closings, scripts, setup)?;
-    Ok(read_replay(alloc, text.as_slice()).err())
+) -> Result<Text, NoMemory> {
+    joined(
+        alloc,
+        &[
+            "{\"closings\":",
+            closings,
+            ",\"scripts\":",
+            scripts,
+            ",\"setup\":",
+            setup,
+            "}",
+        ],
+    )
+}
+
+/// Why a document is refused, or nothing where it is not.
+fn fault_of(alloc: Global, document: &[u8]) -> Option<ScriptFault> {
+    read_replay(alloc, document).err()
 }
 
 #[test]
 fn bytes_that_are_no_value(rt: HostRuntime) {
-    assert_eq!(rt;
-        read_replay(rt.alloc(), b"{").err(),
-        Some(ScriptFault::NotJson)
-    );
+    assert_eq!(rt; fault_of(rt.alloc(), b"{"), Some(ScriptFault::NotJson));
 }
 
 #[test]
 fn the_first_fault_is_told(rt: HostRuntime) -> Result<(), Fail> {
-    let requirement = Some(ScriptFault::Setup(SetupFault::Range(Place::Requirement)));
-    let shape = Some(ScriptFault::Shape);
-    for (closings, scripts, setup, fault) in [
-        (SINGLE, GOOD, ONE_PRODUCT, None),
-        (PER_PRODUCT, SILENT, GRANULES_AND_INCREMENTS, None),
-        (SINGLE, RISING, ONE_PRODUCT, Some(ScriptFault::Limits(0, 0))),
-        (SINGLE, LONG, ONE_PRODUCT, Some(ScriptFault::Limits(1, 0))),
-        (SINGLE, TWO_LISTS, ONE_PRODUCT, shape),
-        (SINGLE, ALONE, ONE_PRODUCT, Some(ScriptFault::Scripts)),
-        (PER_PRODUCT, ALONE, ONE_PRODUCT, shape),
-        (SINGLE, SILENT, GRANULES_AND_INCREMENTS, shape),
-        (PER_PRODUCT, ALONE, LOW, requirement),
-        (BOTH_KEYS, ALONE, LOW, shape),
-        (NEITHER_KEY, ALONE, LOW, shape),
-        (SINGLE, OTHER_KIND, LOW, shape),
-    ] {
-        assert_eq!(rt; fault_of(rt.alloc(), closings, scripts, setup)?, fault);
+    for (closings, scripts, setup, fault) in ROWS.iter() {
+        let text = document(rt.alloc(), closings, scripts, setup)?;
+        assert_eq!(rt; fault_of(rt.alloc(), text.as_slice()), *fault);
     }
     Ok(())
 }

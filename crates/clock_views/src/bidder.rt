@@ -173,7 +173,7 @@ pub fn push_slip_page(text: &mut Text, slip: &Slip) -> Result<(), NoMemory>
     ensures { OnOk result (Adds (compact_text (slip_value slip.now)) text.old text.new) }
 {
     push_number(text, b"{\"activity\":", slip.activity)?;
-    push_blocks(text, b",\"demands\":", slip.demands.as_slice())?;
+    push_blocks(text, b",\"demands\":", &slip.demands)?;
     push_number(text, b",\"eligibility\":", slip.eligibility)?;
     push_number(text, b",\"round\":", slip.round)?;
     push_label(text, b"}")?;

@@ -4,9 +4,11 @@ ghost use Rattle.std.specs.Prelude.{◌≡◌, ◌++◌, decimal, length, OnOk};
 ghost use Rattle.serde_json.specs.Data.{string};
 ghost use Rattle.serde_json.specs.Written.{compact_text, comma_if};
 ghost use Rattle.clock_setup.specs.Limits.{IsName};
-ghost use Rattle.clock_views.specs.Values.{whole, whole_or_null, list_of, number_if, true_or_false, Adds, item_text};
+ghost use Rattle.clock_house.specs.Blocks.{numbers_in};
+ghost use Rattle.clock_views.specs.Values.{whole, whole_or_null, list_of, number_if, true_or_false, Adds, AddsNumbers, item_text};
 
 use clock_device::{NoMemory, Text};
+use clock_house::{Blocks, blocks_in, zeros_in};
 
 /// Adds a label, as `{"bids":`, or a closing bracket.
 pub(crate) fn push_label(text: &mut Text, label: &[u8]) -> Result<(), NoMemory>
@@ -106,14 +108,28 @@ pub(crate) fn push_numbers(text: &mut Text, label: &[u8], numbers: &[u64]) -> Re
     Ok(())
 }
 
+/// Adds the numbers of a cell, as items of an array.
+fn push_cell(text: &mut Text, later: bool, cell: u16) -> Result<(), NoMemory>
+    ensures { OnOk result (AddsNumbers later (numbers_in cell) text.old text.new) }
+{
+    let mut behind = later;
+    for _zero in 0..zeros_in(cell) {
+        push_item(text, behind, 0)?;
+        behind = true;
+    }
+    push_item(text, behind, blocks_in(cell))?;
+    Ok(())
+}
+
 /// Adds a label and the array of numbers of blocks behind it.
-pub(crate) fn push_blocks(text: &mut Text, label: &[u8], blocks: &[u16]) -> Result<(), NoMemory>
+pub(crate) fn push_blocks(text: &mut Text, label: &[u8], blocks: &Blocks) -> Result<(), NoMemory>
     ensures { OnOk result (Adds (label.now ++ compact_text (list_of whole blocks.now)) text.old text.new) }
 {
+    let cells = blocks.cells();
     text.extend_from_slice(label)?;
     text.push(b'[')?;
-    for (i, number) in blocks.iter().enumerate() {
-        push_item(text, i > 0, *number as u64)?;
+    for (i, cell) in cells.iter().enumerate() {
+        push_cell(text, i > 0, *cell)?;
     }
     text.push(b']')?;
     Ok(())

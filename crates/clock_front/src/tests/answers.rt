@@ -1,6 +1,7 @@
 //! What requests are answered with, one after the other.
-use super::requests::{compare, fields_of, on_front, reply_of, setup_of, text_of};
+use super::requests::{compare, fields_of, reply_of, setup_of, text_of};
 use super::texts::{ACCEPTED, PUT};
+use crate::example::on_front;
 use crate::{Front, run};
 use clock_device::{Items, Text};
 use clock_processor::Plain;

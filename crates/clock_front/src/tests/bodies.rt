@@ -1,4 +1,5 @@
 //! What the bodies of requests mean.
+use super::rows::have_meanings;
 use crate::{BodyFault, read_close, read_put};
 use clock_bids::Bid;
 use clock_setup::Increments;
@@ -50,8 +51,8 @@ fn told_bids(alloc: Global, bids: &[Bid]) -> Result<String, Fail> {
 }
 
 /// What the body of a sheet means.
-fn told_sheet(alloc: Global, body: &[u8]) -> Result<String, Fail> {
-    match read_put(alloc, body) {
+fn told_sheet(alloc: Global, body: &str) -> Result<String, Fail> {
+    match read_put(alloc, body.as_bytes()) {
         Ok(sheet) => {
             let bids = told_bids(alloc, sheet.bids.as_slice())?;
             Ok(format!(in alloc; "{}{}", bids.as_str(), sheet.round)?)
@@ -61,8 +62,8 @@ fn told_sheet(alloc: Global, body: &[u8]) -> Result<String, Fail> {
 }
 
 /// What the body of a closing means.
-fn told_closing(alloc: Global, body: &[u8]) -> Result<String, Fail> {
-    match read_close(alloc, body) {
+fn told_closing(alloc: Global, body: &str) -> Result<String, Fail> {
+    match read_close(alloc, body.as_bytes()) {
         Ok(closing) => {
             let increments = match &closing.increments {
                 Increments::Single(_) => 0,
@@ -77,12 +78,7 @@ fn told_closing(alloc: Global, body: &[u8]) -> Result<String, Fail> {
 
 #[test]
 fn a_sheet_is_its_bids_and_round(rt: HostRuntime) -> Result<(), Fail> {
-    for row in SHEETS.split('\n') {
-        let (body, meaning) = row.rsplit_once('|').unwrap_or((row, ""));
-        let told = told_sheet(rt.alloc(), body.as_bytes())?;
-        assert_eq!(rt; told.as_str(), meaning, "{body}");
-    }
-    Ok(())
+    have_meanings(&rt, rt.alloc(), SHEETS, told_sheet)
 }
 
 #[test]
@@ -97,10 +93,5 @@ fn a_body_that_is_no_text_is_no_json(rt: HostRuntime) {
 
 #[test]
 fn a_closing_has_one_form_of_increments(rt: HostRuntime) -> Result<(), Fail> {
-    for row in CLOSINGS.split('\n') {
-        let (body, meaning) = row.rsplit_once('|').unwrap_or((row, ""));
-        let told = told_closing(rt.alloc(), body.as_bytes())?;
-        assert_eq!(rt; told.as_str(), meaning, "{body}");
-    }
-    Ok(())
+    have_meanings(&rt, rt.alloc(), CLOSINGS, told_closing)
 }

@@ -2,10 +2,10 @@
 ghost use Rattle.std.specs.Prelude.{None, false};
 ghost use Rattle.clock_device.specs.Calls.{IsUnread};
 
-use super::requests::on_front;
 use super::texts::LONG_HEAD;
+use crate::example::on_front;
 use crate::{Front, StreamFault, serve_stream};
-use clock_device::{ListSink, Source, Stop, Text};
+use clock_device::{ListSink, Source, Stop};
 use clock_processor::Plain;
 use clock_setup::fixtures::ONE_PRODUCT;
 use clock_views::Code;
@@ -59,25 +59,29 @@ impl Source for Interrupted {
     }
 }
 
-/// How a source is served, and what was written.
-fn serve<R: Source>(
+/// A source is served so, and this is written.
+fn is_served<R: Source>(
+    rt: &impl Abort,
     alloc: Global,
     front: &mut Front<Plain>,
     source: &mut R,
-) -> Result<(Result<Code, StreamFault>, Text), Fail>
+    answer: Result<Code, StreamFault>,
+    written: &[u8],
+) -> Result<(), Fail>
     requires { IsUnread (R.calls source.old) (R.interruptions source.old) (R.has_failed source.old) }
 {
     let mut sink = ListSink::new(alloc, 1024, 1024, None)?;
-    let answer = serve_stream(alloc, front, source, &mut sink);
-    Ok((answer, Text::from_slice(alloc, sink.bytes())?))
+    let served = serve_stream(alloc, front, source, &mut sink);
+    assert_eq!(rt; served, answer);
+    assert_eq!(rt; sink.bytes(), written);
+    Ok(())
 }
 
 fn serve_spaces(rt: &impl Abort, alloc: Global, front: &mut Front<Plain>) -> Result<(), Fail> {
     let mut source = Spaces { calls: 0 };
-    let (answer, written) = serve(alloc, front, &mut source)?;
-    assert_eq!(rt; answer, Ok(Code::LongHead));
+    let answer = Ok(Code::LongHead);
+    is_served(rt, alloc, front, &mut source, answer, LONG_HEAD.as_bytes())?;
     assert_eq!(rt; source.calls, 16_384);
-    assert_eq!(rt; written.as_slice(), LONG_HEAD.as_bytes());
     Ok(())
 }
 
@@ -87,10 +91,8 @@ fn serve_interruptions(
     front: &mut Front<Plain>,
 ) -> Result<(), Fail> {
     let mut source = Interrupted { calls: 0 };
-    let (answer, written) = serve(alloc, front, &mut source)?;
-    assert_eq!(rt; answer, Err(StreamFault::Read));
+    is_served(rt, alloc, front, &mut source, Err(StreamFault::Read), b"")?;
     assert_eq!(rt; source.calls, 2_000_000);
-    assert!(rt; written.as_slice().is_empty());
     Ok(())
 }
 

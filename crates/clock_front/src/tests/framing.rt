@@ -2,7 +2,7 @@
 ghost use Rattle.std.specs.Prelude.{◌≤◌, length};
 ghost use Rattle.clock_front.specs.Shown.{Knows};
 
-use super::requests::on_front;
+use crate::example::on_front;
 use crate::{Framing, Front, Head, Progress, frame};
 use clock_processor::Plain;
 use clock_setup::fixtures::ONE_PRODUCT;

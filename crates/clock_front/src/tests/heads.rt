@@ -1,5 +1,6 @@
 //! What is answered where a head is at a limit or past it, or is none.
-use super::requests::{compare, fields_of, on_front};
+use super::requests::{compare, fields_of};
+use crate::example::on_front;
 use clock_setup::fixtures::ONE_PRODUCT;
 use std::alloc::Global;
 use std::process::Abort;
@@ -82,28 +83,53 @@ fn answers_row(rt: &impl Abort, alloc: Global, row: &str) -> Result<(), Fail> {
     answers(rt, alloc, text.as_str(), status, page)
 }
 
+/// A text is too long a head, or its head is read.
+fn is_answered(rt: &impl Abort, alloc: Global, text: &str, is_long: bool) -> Result<(), Fail> {
+    if is_long {
+        is_too_long(rt, alloc, text)
+    } else {
+        is_read(rt, alloc, text)
+    }
+}
+
+/// A head of so many lines behind a beginning.
+fn has_lines(
+    rt: &impl Abort,
+    alloc: Global,
+    front: &str,
+    count: usize,
+    is_long: bool,
+) -> Result<(), Fail> {
+    let head = head_of_lines(alloc, count)?;
+    let text = format!(in alloc; "{front}{}", head.as_str())?;
+    is_answered(rt, alloc, text.as_str(), is_long)
+}
+
 #[test]
 fn a_head_has_at_most_64_lines(rt: HostRuntime) -> Result<(), Fail> {
-    let alloc = rt.alloc();
-    let most = head_of_lines(alloc, 64)?;
-    is_read(&rt, alloc, most.as_str())?;
-    let more = head_of_lines(alloc, 65)?;
-    is_too_long(&rt, alloc, more.as_str())?;
-    let loose = format!(in alloc; "\n{}", more.as_str())?;
-    is_too_long(&rt, alloc, loose.as_str())
+    has_lines(&rt, rt.alloc(), "", 64, false)?;
+    has_lines(&rt, rt.alloc(), "", 65, true)?;
+    has_lines(&rt, rt.alloc(), "\n", 65, true)
+}
+
+/// A head with such a filling and end has so many bytes.
+fn has_bytes(
+    rt: &impl Abort,
+    alloc: Global,
+    filling: (usize, &str),
+    length: usize,
+    is_long: bool,
+) -> Result<(), Fail> {
+    let text = head_filled(alloc, filling.0, filling.1)?;
+    assert_eq!(rt; text.len(), length);
+    is_answered(rt, alloc, text.as_str(), is_long)
 }
 
 #[test]
 fn a_head_has_at_most_16384_bytes(rt: HostRuntime) -> Result<(), Fail> {
-    let alloc = rt.alloc();
-    let longest = head_filled(alloc, 16_361, "\r\n\r\n")?;
-    assert_eq!(rt; longest.len(), 16_384);
-    is_read(&rt, alloc, longest.as_str())?;
-    let longer = head_filled(alloc, 16_362, "\r\n\r\n")?;
-    is_too_long(&rt, alloc, longer.as_str())?;
-    let unended = head_filled(alloc, 16_365, "")?;
-    assert_eq!(rt; unended.len(), 16_384);
-    is_too_long(&rt, alloc, unended.as_str())
+    has_bytes(&rt, rt.alloc(), (16_361, "\r\n\r\n"), 16_384, false)?;
+    has_bytes(&rt, rt.alloc(), (16_362, "\r\n\r\n"), 16_385, true)?;
+    has_bytes(&rt, rt.alloc(), (16_365, ""), 16_384, true)
 }
 
 #[test]

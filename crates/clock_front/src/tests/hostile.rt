@@ -1,7 +1,8 @@
 //! Truncated and malicious texts: over whole bytes, over a stream and over a connection the reply is the same.
 use super::hubs::{connected, on_hub};
-use super::requests::{fields_of, on_front, reply_with};
+use super::requests::{fields_of, reply_with};
 use super::texts::{ACCEPTED, BIDS_OF_X, CUT_SHORT, LONG_HEAD, NO_SHEET, PUT, SHEET};
+use crate::example::on_front;
 use crate::{Conn, Fed, Front, Hub, serve_stream};
 use clock_device::{ListSink, ListSource, Text};
 use clock_processor::Plain;
@@ -93,28 +94,55 @@ fn by_hub(alloc: Global, hub: &mut Hub<Plain>, text: &[u8]) -> Result<Text, Fail
     finished(alloc, hub, conn)
 }
 
-/// Compares a reply, and X's page of its bids behind it.
-fn compare(rt: &impl Abort, told: &(Text, Text), reply: &[u8], page: &str) {
-    assert_eq!(rt; told.0.as_slice(), reply);
-    assert!(rt; told.1.as_slice().ends_with(page.as_bytes()));
+/// What a text is told: the reply, and how the one to X's question for its bids ends then.
+type Told<'a> = (&'a str, &'a str);
+
+/// Compares a reply, and the one to X's question for its bids.
+fn compare(rt: &impl Abort, reply: &[u8], bids: &[u8], told: Told<'_>) {
+    assert_eq!(rt; reply, told.0.as_bytes());
+    assert!(rt; bids.ends_with(told.1.as_bytes()));
 }
 
-/// The reply to a text that comes whole, and the one to X's question for its bids.
-fn whole(alloc: Global, front: &mut Front<Plain>, text: &[u8]) -> Result<(Text, Text), Fail> {
+/// Compares the reply to a text that comes whole, and the one to X's question for its bids.
+fn whole(
+    rt: &impl Abort,
+    alloc: Global,
+    front: &mut Front<Plain>,
+    text: &[u8],
+    told: Told<'_>,
+) -> Result<(), Fail> {
     let reply = by_answer(alloc, front, text)?;
-    Ok((reply, by_answer(alloc, front, BIDS_OF_X.as_bytes())?))
+    let bids = by_answer(alloc, front, BIDS_OF_X.as_bytes())?;
+    compare(rt, reply.as_slice(), bids.as_slice(), told);
+    Ok(())
 }
 
 /// The same over streams.
-fn streamed(alloc: Global, front: &mut Front<Plain>, text: &[u8]) -> Result<(Text, Text), Fail> {
+fn streamed(
+    rt: &impl Abort,
+    alloc: Global,
+    front: &mut Front<Plain>,
+    text: &[u8],
+    told: Told<'_>,
+) -> Result<(), Fail> {
     let reply = by_stream(alloc, front, text)?;
-    Ok((reply, by_stream(alloc, front, BIDS_OF_X.as_bytes())?))
+    let bids = by_stream(alloc, front, BIDS_OF_X.as_bytes())?;
+    compare(rt, reply.as_slice(), bids.as_slice(), told);
+    Ok(())
 }
 
 /// The same over connections.
-fn in_pieces(alloc: Global, hub: &mut Hub<Plain>, text: &[u8]) -> Result<(Text, Text), Fail> {
+fn in_pieces(
+    rt: &impl Abort,
+    alloc: Global,
+    hub: &mut Hub<Plain>,
+    text: &[u8],
+    told: Told<'_>,
+) -> Result<(), Fail> {
     let reply = by_hub(alloc, hub, text)?;
-    Ok((reply, by_hub(alloc, hub, BIDS_OF_X.as_bytes())?))
+    let bids = by_hub(alloc, hub, BIDS_OF_X.as_bytes())?;
+    compare(rt, reply.as_slice(), bids.as_slice(), told);
+    Ok(())
 }
 
 /// However a text comes, its reply and X's page of its bids are these.
@@ -125,13 +153,18 @@ fn is_told(
     reply: &str,
     page: &str,
 ) -> Result<(), Fail> {
-    let told = on_front(alloc, ONE_PRODUCT, |front| whole(alloc, front, text))?;
-    compare(rt, &told, reply.as_bytes(), page);
-    let told = on_front(alloc, ONE_PRODUCT, |front| streamed(alloc, front, text))?;
-    compare(rt, &told, reply.as_bytes(), page);
-    let told = on_hub(alloc, |hub| in_pieces(alloc, hub, text))?;
-    compare(rt, &told, reply.as_bytes(), page);
-    Ok(())
+    let told = (reply, page);
+    on_front(
+        alloc,
+        ONE_PRODUCT,
+        |front| whole(rt, alloc, front, text, told),
+    )?;
+    on_front(
+        alloc,
+        ONE_PRODUCT,
+        |front| streamed(rt, alloc, front, text, told),
+    )?;
+    on_hub(alloc, |hub| in_pieces(rt, alloc, hub, text, told))
 }
 
 /// The text of a row is refused as the row says, and no sheet is in force.

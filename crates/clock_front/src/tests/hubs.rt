@@ -1,10 +1,16 @@
 //! What a hub tells of pieces, as words.
-use super::requests::opened;
+use crate::example::opened;
 use crate::{Conn, Fed, Hub, HubFault, Reply};
 use clock_processor::Plain;
 use clock_setup::fixtures::ONE_PRODUCT;
 use std::alloc::Global;
 use std::test::Fail;
+
+/// A hub of the one product.
+fn hub_of(alloc: Global) -> Result<Hub<Plain>, Fail> {
+    let front = opened(alloc, ONE_PRODUCT)?;
+    Ok(Hub::new(alloc, front))
+}
 
 /// What is done with a hub of the one product, which has no connection. No other function of the tests lets a hub go.
 pub(super) fn on_hub<T, F: FnOnce(&mut Hub<Plain>) -> Result<T, Fail>>(
@@ -13,7 +19,7 @@ pub(super) fn on_hub<T, F: FnOnce(&mut Hub<Plain>) -> Result<T, Fail>>(
 ) -> Result<T, Fail>
     requires { F.IsAlwaysCallable act }
 {
-    let mut hub = Hub::new(alloc, opened(alloc, ONE_PRODUCT)?);
+    let mut hub = hub_of(alloc)?;
     act(&mut hub)
 }
 

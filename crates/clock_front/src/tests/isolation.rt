@@ -1,10 +1,12 @@
 //! One bidder's replies in two runs in which it sees the same.
 mod in_pieces;
 
-use super::requests::{fields_of, on_front, reply_of, text_of};
+use super::requests::{fields_of, reply_of, text_of};
 use crate::Front;
+use crate::example::on_front;
 use clock_processor::Plain;
 use std::alloc::Global;
+use std::process::Abort;
 use std::test::Fail;
 
 /// What is public in the first version, and in the second.
@@ -197,50 +199,49 @@ fn has_pages(told: &str) -> bool {
     PAGES.split('\n').all(|page| told.contains(page))
 }
 
-#[test]
-fn rivals_show_in_no_reply(rt: HostRuntime) -> Result<(), Fail> {
-    let alloc = rt.alloc();
-    let one = told_x(alloc, PUBLIC, X_AND_Y, BY_Y)?;
+/// A run: what is public, its bidders, and what the others send.
+type Run = (&'static str, &'static str, &'static str);
+
+/// X is told the same in both runs, its pages among it.
+fn is_told_alike(rt: &impl Abort, alloc: Global, one: Run, two: Run) -> Result<(), Fail> {
+    let one = told_x(alloc, one.0, one.1, one.2)?;
     assert!(rt; has_pages(one.as_str()), "{}", one.as_str());
-    let two = told_x(alloc, PUBLIC, V_X_AND_W, BY_W)?;
+    let two = told_x(alloc, two.0, two.1, two.2)?;
     assert_eq!(rt; one.as_str(), two.as_str());
     Ok(())
+}
+
+#[test]
+fn rivals_show_in_no_reply(rt: HostRuntime) -> Result<(), Fail> {
+    let one = (PUBLIC, X_AND_Y, BY_Y);
+    is_told_alike(&rt, rt.alloc(), one, (PUBLIC, V_X_AND_W, BY_W))
 }
 
 #[test]
 fn refused_requests_show_in_no_reply(rt: HostRuntime) -> Result<(), Fail> {
-    let alloc = rt.alloc();
-    let one = told_x(alloc, PUBLIC, X_AND_Y, BY_Y_AND_STRANGERS)?;
-    let two = told_x(alloc, PUBLIC, V_X_AND_W, BY_W)?;
-    assert_eq!(rt; one.as_str(), two.as_str());
-    Ok(())
+    let one = (PUBLIC, X_AND_Y, BY_Y_AND_STRANGERS);
+    is_told_alike(&rt, rt.alloc(), one, (PUBLIC, V_X_AND_W, BY_W))
 }
 
 #[test]
 fn rivals_show_in_no_reply_of_version_2(rt: HostRuntime) -> Result<(), Fail> {
-    let alloc = rt.alloc();
-    let one = told_x(alloc, PUBLIC_2, X_AND_Y, BY_Y_2)?;
-    assert!(rt; has_pages(one.as_str()), "{}", one.as_str());
-    let two = told_x(alloc, PUBLIC_2, V_X_AND_W, BY_W_2)?;
-    assert_eq!(rt; one.as_str(), two.as_str());
-    Ok(())
+    let one = (PUBLIC_2, X_AND_Y, BY_Y_2);
+    is_told_alike(&rt, rt.alloc(), one, (PUBLIC_2, V_X_AND_W, BY_W_2))
 }
 
 #[test]
 fn its_number_shows_in_no_reply(rt: HostRuntime) -> Result<(), Fail> {
-    let alloc = rt.alloc();
-    let one = told_x(alloc, PUBLIC, X_AND_Y, BY_Y)?;
-    let two = told_x(alloc, PUBLIC, Y_AND_X, BY_Y)?;
-    assert_eq!(rt; one.as_str(), two.as_str());
-    Ok(())
+    let one = (PUBLIC, X_AND_Y, BY_Y);
+    is_told_alike(&rt, rt.alloc(), one, (PUBLIC, Y_AND_X, BY_Y))
 }
 
 #[test]
 fn faults_and_ties_of_others_show_in_no_reply(rt: HostRuntime) -> Result<(), Fail> {
-    let alloc = rt.alloc();
-    let one = told_x(alloc, PUBLIC, X_AND_Y, BY_Y_WITH_FAULTS)?;
-    assert!(rt; has_pages(one.as_str()), "{}", one.as_str());
-    let two = told_x(alloc, PUBLIC, X_AND_Y, BY_Y_WITH_OTHER_FAULTS)?;
-    assert_eq!(rt; one.as_str(), two.as_str());
-    Ok(())
+    let one = (PUBLIC, X_AND_Y, BY_Y_WITH_FAULTS);
+    is_told_alike(
+        &rt,
+        rt.alloc(),
+        one,
+        (PUBLIC, X_AND_Y, BY_Y_WITH_OTHER_FAULTS),
+    )
 }

@@ -11,5 +11,6 @@ mod pieces;
 mod replies;
 mod requests;
 mod routes;
+mod rows;
 mod streams;
 mod texts;

@@ -4,6 +4,7 @@ use crate::reply::Reply;
 use crate::routes::Page;
 use clock_views::Code;
 use std::alloc::Global;
+use std::process::Abort;
 use std::test::Fail;
 
 /// The reply with a page.
@@ -15,46 +16,38 @@ fn reply_of(alloc: Global, code: Code, allowed: Option<Page>, page: &[u8]) -> Re
     Ok(Reply::written(code, allowed, text))
 }
 
+/// A reply with a page is these bytes.
+fn is_written(
+    rt: &impl Abort,
+    alloc: Global,
+    code: Code,
+    allowed: Option<Page>,
+    page: &[u8],
+    bytes: &[u8],
+) -> Result<(), Fail> {
+    let reply = reply_of(alloc, code, allowed, page)?;
+    assert_eq!(rt; reply.bytes(), bytes);
+    Ok(())
+}
+
+const ACCEPTED: &[u8] = b"HTTP/1.1 200 OK\r\nconnection: close\r\n\
+    content-length: 36\r\ncontent-type: application/json\r\n\r\n{\"accepted\":true,\"bids\":1,\"round\":1}";
+
+const METHOD: &[u8] = b"HTTP/1.1 405 Method Not Allowed\r\nallow: GET, PUT\r\nconnection: close\r\n\
+    content-length: 30\r\ncontent-type: application/json\r\n\r\n{\"code\":\"method\",\"status\":405}";
+
+const TOKEN: &[u8] = b"HTTP/1.1 401 Unauthorized\r\nconnection: close\r\n\
+    content-length: 29\r\ncontent-type: application/json\r\nwww-authenticate: Bearer\r\n\r\n{\"code\":\"token\",\"status\":401}";
+
 #[test]
 fn a_reply_is_its_head_and_page(rt: HostRuntime) -> Result<(), Fail> {
-    let alloc = rt.alloc();
-    let accepted = reply_of(
-        alloc,
-        Code::Done,
-        None,
-        b"{\"accepted\":true,\"bids\":1,\"round\":1}",
-    )?;
-    assert_eq!(rt;
-        accepted.bytes(),
-        b"HTTP/1.1 200 OK\r\nconnection: close\r\n\
-          content-length: 36\r\ncontent-type: application/json\r\n\r\n{\"accepted\":true,\"bids\":1,\"round\":1}"
-            .as_slice()
-    );
-    let method = reply_of(
-        alloc,
-        Code::Method,
-        Some(Page::Bids),
-        b"{\"code\":\"method\",\"status\":405}",
-    )?;
-    assert_eq!(rt;
-        method.bytes(),
-        b"HTTP/1.1 405 Method Not Allowed\r\nallow: GET, PUT\r\nconnection: close\r\n\
-          content-length: 30\r\ncontent-type: application/json\r\n\r\n{\"code\":\"method\",\"status\":405}"
-            .as_slice()
-    );
-    let token = reply_of(
-        alloc,
-        Code::Token,
-        None,
-        b"{\"code\":\"token\",\"status\":401}",
-    )?;
-    assert_eq!(rt;
-        token.bytes(),
-        b"HTTP/1.1 401 Unauthorized\r\nconnection: close\r\n\
-          content-length: 29\r\ncontent-type: application/json\r\nwww-authenticate: Bearer\r\n\r\n{\"code\":\"token\",\"status\":401}"
-            .as_slice()
-    );
-    Ok(())
+    let page = b"{\"accepted\":true,\"bids\":1,\"round\":1}";
+    is_written(&rt, rt.alloc(), Code::Done, None, page, ACCEPTED)?;
+    let page = b"{\"code\":\"method\",\"status\":405}";
+    let allowed = Some(Page::Bids);
+    is_written(&rt, rt.alloc(), Code::Method, allowed, page, METHOD)?;
+    let page = b"{\"code\":\"token\",\"status\":401}";
+    is_written(&rt, rt.alloc(), Code::Token, None, page, TOKEN)
 }
 
 #[test]

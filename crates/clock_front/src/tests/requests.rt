@@ -1,4 +1,4 @@
-//! Requests as rows of text, and the fronts that they are sent to.
+//! Requests as rows of text, and their replies.
 use crate::Front;
 use clock_processor::Plain;
 use clock_setup::{Setup, read_setup};
@@ -9,25 +9,6 @@ use std::test::Fail;
 /// The set-up of a document.
 pub(super) fn setup_of(alloc: Global, document: &str) -> Result<Setup, Fail> {
     Ok(read_setup(alloc, document.as_bytes())?)
-}
-
-/// A front of a set-up.
-pub(super) fn opened(alloc: Global, document: &str) -> Result<Front<Plain>, Fail> {
-    let setup = setup_of(alloc, document)?;
-    Ok(Front::new(alloc, setup, Plain)?)
-}
-
-/// What is done with a front of a set-up. No other function of the tests lets a front go, since each that does so proves it
-/// anew.
-pub(super) fn on_front<T, F: FnOnce(&mut Front<Plain>) -> Result<T, Fail>>(
-    alloc: Global,
-    document: &str,
-    act: F,
-) -> Result<T, Fail>
-    requires { F.IsAlwaysCallable act }
-{
-    let mut front = opened(alloc, document)?;
-    act(&mut front)
 }
 
 /// The fields of a row, with `|` between two.

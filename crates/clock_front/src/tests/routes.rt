@@ -1,46 +1,47 @@
 //! Which page a path names, and by which methods.
+use super::rows::have_meanings;
 use crate::Page;
 use crate::routes::{Routes, last_segment, round_named};
 use std::alloc::Global;
 use std::test::Fail;
 
 /// Paths, and the pages that they name.
-const PATHS: &str = "/v1/status Some(Status)
-/v1/products Some(Products)
-/v1/rounds/12 Some(Sheet)
-/v1/rounds/x Some(Sheet)
-/v1/me Some(Account)
-/v1/me/bids Some(Bids)
-/v1/me/rounds/01 Some(Slip)
-/v1/close Some(Close)
-/v1/results Some(Results)
- None
-* None
-/ None
-/v1/status/ None
-//v1/status None
-/v1/%73tatus None
-/V1/status None
-/v1/rounds None
-/v1/rounds/ None
-/v1/rounds/1/2 None
-http://x/v1/status None";
+const PATHS: &str = "/v1/status|Some(Status)
+/v1/products|Some(Products)
+/v1/rounds/12|Some(Sheet)
+/v1/rounds/x|Some(Sheet)
+/v1/me|Some(Account)
+/v1/me/bids|Some(Bids)
+/v1/me/rounds/01|Some(Slip)
+/v1/close|Some(Close)
+/v1/results|Some(Results)
+|None
+*|None
+/|None
+/v1/status/|None
+//v1/status|None
+/v1/%73tatus|None
+/V1/status|None
+/v1/rounds|None
+/v1/rounds/|None
+/v1/rounds/1/2|None
+http://x/v1/status|None";
 
 /// Methods, and the pages that have them.
-const METHODS: &str = "GET Status Products Sheet Account Bids Slip Results
-PUT Bids
-POST Close
-put
-HEAD";
+const METHODS: &str = "GET| Status Products Sheet Account Bids Slip Results
+PUT| Bids
+POST| Close
+put|
+HEAD|";
 
 /// Paths, and the rounds that their last segments name.
-const SEGMENTS: &str = "/v1/rounds/12 Some(12)
-/v1/rounds/0 Some(0)
-/v1/me/rounds/18446744073709551615 Some(18446744073709551615)
-18446744073709551616 None
-01 None
-+1 None
-1a None";
+const SEGMENTS: &str = "/v1/rounds/12|Some(12)
+/v1/rounds/0|Some(0)
+/v1/me/rounds/18446744073709551615|Some(18446744073709551615)
+18446744073709551616|None
+01|None
++1|None
+1a|None";
 
 /// The page that a path names.
 fn page_of(alloc: Global, path: &str) -> Result<String, Fail> {
@@ -48,9 +49,9 @@ fn page_of(alloc: Global, path: &str) -> Result<String, Fail> {
     Ok(format!(in alloc; "{page:?}")?)
 }
 
-/// A method, and the pages that have it.
+/// The pages that have a method, with a space before each.
 fn pages_with(alloc: Global, method: &str) -> Result<String, Fail> {
-    let mut row = String::from_str(alloc, method)?;
+    let mut pages = String::new(alloc);
     for page in [
         Page::Status,
         Page::Products,
@@ -63,10 +64,10 @@ fn pages_with(alloc: Global, method: &str) -> Result<String, Fail> {
     ] {
         if page.has_method(method.as_bytes()) {
             let name = format!(in alloc; " {page:?}")?;
-            row.push_str(name.as_str())?;
+            pages.push_str(name.as_str())?;
         }
     }
-    Ok(row)
+    Ok(pages)
 }
 
 /// The round that a path's last segment names.
@@ -77,30 +78,15 @@ fn round_of(alloc: Global, path: &str) -> Result<String, Fail> {
 
 #[test]
 fn a_path_names_a_page_or_none(rt: HostRuntime) -> Result<(), Fail> {
-    for row in PATHS.split('\n') {
-        let (path, page) = row.rsplit_once(' ').unwrap_or((row, ""));
-        let named = page_of(rt.alloc(), path)?;
-        assert_eq!(rt; named.as_str(), page, "{path}");
-    }
-    Ok(())
+    have_meanings(&rt, rt.alloc(), PATHS, page_of)
 }
 
 #[test]
 fn a_page_has_its_methods(rt: HostRuntime) -> Result<(), Fail> {
-    for row in METHODS.split('\n') {
-        let method = row.split(' ').next().unwrap_or("");
-        let pages = pages_with(rt.alloc(), method)?;
-        assert_eq!(rt; pages.as_str(), row);
-    }
-    Ok(())
+    have_meanings(&rt, rt.alloc(), METHODS, pages_with)
 }
 
 #[test]
 fn a_round_is_named_by_plain_digits(rt: HostRuntime) -> Result<(), Fail> {
-    for row in SEGMENTS.split('\n') {
-        let (path, round) = row.rsplit_once(' ').unwrap_or((row, ""));
-        let named = round_of(rt.alloc(), path)?;
-        assert_eq!(rt; named.as_str(), round, "{path}");
-    }
-    Ok(())
+    have_meanings(&rt, rt.alloc(), SEGMENTS, round_of)
 }

@@ -1,8 +1,9 @@
 //! One request over one stream, whose reads and writes bring little, fail or are interrupted.
 ghost use Rattle.std.specs.Prelude.{◌≤◌};
 
-use super::requests::{on_front, reply_of};
+use super::requests::reply_of;
 use super::texts::{ACCEPTED, BIDS_OF_X, NO_SHEET, PUT, SHEET};
+use crate::example::on_front;
 use crate::{Front, StreamFault, serve_stream};
 use clock_device::{ListSink, ListSource, Stop, Text};
 use clock_processor::Plain;

@@ -1,7 +1,8 @@
 //! A replay is played, and its report or its first fault is told.
 
 use super::simulate_with;
-use crate::{Replay, SimFault, read_replay, report_text, simulate};
+use crate::tests::{document, joined};
+use crate::{Replay, Report, SimFault, read_replay, report_text, simulate};
 use clock_device::{NoMemory, Text};
 use clock_processor::Plain;
 use clock_setup::fixtures::ONE_PRODUCT;
@@ -13,48 +14,77 @@ const FALLING_LIMITS: &str = r#"{"kind":"sincere","limits":[[120,115]]}"#;
 
 const OVER_CAP: &str = r#"{"kind":"literal","sheets":[[{"price":100,"product":0,"quantity":3}]]}"#;
 
-const TWO_CLOSINGS: &str = r#"{"increment":10,"ties":[]},{"increment":10,"ties":[]}"#;
+/// Y wants one block up to 130.
+const ONE_BLOCK: &str = r#"{"kind":"sincere","limits":[[130]]}"#;
+
+const TWO_CLOSINGS: &str = r#"[{"increment":10,"ties":[]},{"increment":10,"ties":[]}]"#;
 
 const THREE_CLOSINGS: &str =
-    r#"{"increment":10,"ties":[]},{"increment":10,"ties":[]},{"increment":10,"ties":[]}"#;
+    r#"[{"increment":10,"ties":[]},{"increment":10,"ties":[]},{"increment":10,"ties":[]}]"#;
 
-const STEEP_CLOSING: &str = r#"{"increment":51,"ties":[]}"#;
+const STEEP_CLOSING: &str = r#"[{"increment":51,"ties":[]}]"#;
 
 const REPORT: &str =
     "round 1\nA 100 100 100 3 110\nround 2\nA 100 110 110 3 121\nround 3\nA 110 121 115 - -\nwon X 1 115\nwon Y 1 115\n";
 
-/// A replay of one product in which Y wants one block up to 130.
-fn replay_of(alloc: Global, script: &str, closings: &str) -> Result<Replay, Fail> {
-    let document = format!(in alloc;
-        "{{\"closings\":[{closings}],\"scripts\":[{script},{{\"kind\":\"sincere\",\"limits\":[[130]]}}],\"setup\":{ONE_PRODUCT}}}"
-    )?;
-    Ok(read_replay(alloc, document.as_bytes())?)
+/// The text of a report, or the fault in its place.
+fn told(alloc: Global, report: Result<Report, SimFault>) -> Result<Text, SimFault> {
+    match report {
+        Ok(report) => Ok(report_text(alloc, &report)?),
+        Err(fault) => Err(fault),
+    }
 }
 
-/// The text of its report.
-fn report_of(alloc: Global, replay: &Replay) -> Result<Text, Fail> {
-    let report = simulate(alloc, replay)?;
-    Ok(report_text(alloc, &report)?)
+/// How rounds are settled.
+#[derive(Clone, Copy)]
+enum Settled {
+    Woken,
+    Rescanned,
 }
 
-/// The text of its report, where rounds are settled by the rescanned list.
-fn rescanned_report_of(alloc: Global, replay: &Replay) -> Result<Text, Fail> {
-    let report = simulate_with(alloc, replay, Plain)?;
-    Ok(report_text(alloc, &report)?)
+/// What a replay comes to.
+fn played(alloc: Global, replay: &Replay, settled: Settled) -> Result<Text, SimFault> {
+    let report = match settled {
+        Settled::Woken => simulate(alloc, replay),
+        Settled::Rescanned => simulate_with(alloc, replay, Plain),
+    };
+    told(alloc, report)
 }
 
-/// Its first fault, or none.
-fn fault_of(alloc: Global, replay: &Replay) -> Option<SimFault> {
-    simulate(alloc, replay).err()
+/// What a document comes to. Each of these documents is a replay.
+fn outcome(alloc: Global, document: &[u8], settled: Settled) -> Result<Text, SimFault> {
+    match read_replay(alloc, document) {
+        Ok(replay) => played(alloc, &replay, settled),
+        Err(_) => Err(SimFault::NoMemory),
+    }
+}
+
+/// The first fault of a document, or none.
+fn fault_of(alloc: Global, document: &[u8]) -> Option<SimFault> {
+    outcome(alloc, document, Settled::Woken).err()
+}
+
+/// A document of one product with these scripts.
+fn with_scripts(
+    alloc: Global,
+    closings: &str,
+    first: &str,
+    second: &str,
+) -> Result<Text, NoMemory> {
+    let scripts = joined(alloc, &["[", first, ",", second, "]"])?;
+    let Ok(scripts) = str::from_utf8(scripts.as_slice()) else {
+        return Err(NoMemory);
+    };
+    document(alloc, closings, scripts, ONE_PRODUCT)
 }
 
 #[test]
 fn sincere_bidders_leave_at_their_limits(rt: HostRuntime) -> Result<(), Fail> {
-    let replay = replay_of(rt.alloc(), FALLING_LIMITS, THREE_CLOSINGS)?;
-    let text = report_of(rt.alloc(), &replay)?;
-    assert_eq!(rt; text.as_slice(), REPORT.as_bytes());
-    let rescanned = rescanned_report_of(rt.alloc(), &replay)?;
-    assert_eq!(rt; rescanned.as_slice(), REPORT.as_bytes());
+    let document = with_scripts(rt.alloc(), THREE_CLOSINGS, FALLING_LIMITS, ONE_BLOCK)?;
+    for settled in [Settled::Woken, Settled::Rescanned] {
+        let text = outcome(rt.alloc(), document.as_slice(), settled)?;
+        assert_eq!(rt; text.as_slice(), REPORT.as_bytes());
+    }
     Ok(())
 }
 
@@ -75,9 +105,9 @@ const FAULTS: [(&str, &str, SimFault); 3] = [
 
 #[test]
 fn the_first_fault_is_told(rt: HostRuntime) -> Result<(), Fail> {
-    for (script, closings, fault) in FAULTS {
-        let replay = replay_of(rt.alloc(), script, closings)?;
-        assert_eq!(rt; fault_of(rt.alloc(), &replay), Some(fault));
+    for (script, closings, fault) in FAULTS.iter() {
+        let document = with_scripts(rt.alloc(), closings, script, ONE_BLOCK)?;
+        assert_eq!(rt; fault_of(rt.alloc(), document.as_slice()), Some(*fault));
     }
     Ok(())
 }
@@ -85,97 +115,132 @@ fn the_first_fault_is_told(rt: HostRuntime) -> Result<(), Fail> {
 /// How many bidders put a sheet: two groups of 64, and one of two.
 const MANY: u64 = 130;
 
+/// Adds an item with a number in it.
+fn push_item(text: &mut Text, before: &str, number: u64, after: &str) -> Result<(), NoMemory> {
+    text.extend_from_slice(before.as_bytes())?;
+    text.push_number(number)?;
+    text.extend_from_slice(after.as_bytes())?;
+    Ok(())
+}
+
+/// The comma before an item, where it is a later one than the first.
+fn comma_before(bidder: u64) -> &'static str {
+    if bidder == 0 { "" } else { "," }
+}
+
+/// The row of a bidder.
+fn push_bidder(text: &mut Text, bidder: u64) -> Result<(), NoMemory> {
+    text.extend_from_slice(comma_before(bidder).as_bytes())?;
+    push_item(
+        text,
+        "{\"eligibility\":1,\"name\":\"B",
+        bidder,
+        "\",\"token\":\"TOKENTOKENTOKENS",
+    )?;
+    push_item(text, "", bidder, "\"}")
+}
+
+/// The script of a bidder that puts so many blocks.
+fn push_script(text: &mut Text, bidder: u64, quantity: u64) -> Result<(), NoMemory> {
+    text.extend_from_slice(comma_before(bidder).as_bytes())?;
+    push_item(
+        text,
+        "{\"kind\":\"literal\",\"sheets\":[[{\"price\":100,\"product\":0,\"quantity\":",
+        quantity,
+        "}]]}",
+    )
+}
+
 /// The rows of many bidders.
-fn push_bidders(alloc: Global, text: &mut Text) -> Result<(), NoMemory> {
+fn push_bidders(text: &mut Text) -> Result<(), NoMemory> {
     for bidder in 0..MANY {
-        let comma = if bidder == 0 { "" } else { "," };
-        let row = format!(in alloc;
-            "{comma}{{\"eligibility\":1,\"name\":\"B{bidder}\",\"token\":\"TOKENTOKENTOKENS{bidder}\"}}"
-        )?;
-        text.extend_from_slice(row.as_bytes())?;
+        push_bidder(text, bidder)?;
     }
     Ok(())
 }
 
 /// Their scripts: each puts one block, and those from some number on one block too many.
-fn push_scripts(alloc: Global, text: &mut Text, faulty: u64) -> Result<(), NoMemory> {
+fn push_scripts(text: &mut Text, faulty: u64) -> Result<(), NoMemory> {
     for bidder in 0..MANY {
-        let comma = if bidder == 0 { "" } else { "," };
-        let quantity = if bidder < faulty { 1 } else { 2 };
-        let script = format!(in alloc;
-            "{comma}{{\"kind\":\"literal\",\"sheets\":[[{{\"price\":100,\"product\":0,\"quantity\":{quantity}}}]]}}"
-        )?;
-        text.extend_from_slice(script.as_bytes())?;
+        push_script(text, bidder, if bidder < faulty { 1 } else { 2 })?;
     }
     Ok(())
 }
 
+const BEFORE_SCRIPTS: &str = "{\"closings\":[{\"increment\":10,\"ties\":[]}],\"scripts\":[";
+
+const BEFORE_PRODUCT: &str =
+    "],\"setup\":{\"version\":1,\"requirement\":95,\"operator\":\"OPERATOROPERATOR\",\"products\":[";
+
+const BEFORE_BIDDERS: &str =
+    "{\"name\":\"A\",\"units\":1,\"supply\":200,\"cap\":1,\"opening\":100}],\"bidders\":[";
+
 /// A document of a round with many sheets.
 fn many_sheets(alloc: Global, faulty: u64) -> Result<Text, NoMemory> {
-    let mut text = Text::from_slice(
-        alloc,
-        b"{\"closings\":[{\"increment\":10,\"ties\":[]}],\"scripts\":[",
-    )?;
-    push_scripts(alloc, &mut text, faulty)?;
-    text.extend_from_slice(
-        b"],\"setup\":{\"version\":1,\"requirement\":95,\"operator\":\"OPERATOROPERATOR\",\"products\":[",
-    )?;
-    text.extend_from_slice(
-        b"{\"name\":\"A\",\"units\":1,\"supply\":200,\"cap\":1,\"opening\":100}],\"bidders\":[",
-    )?;
-    push_bidders(alloc, &mut text)?;
+    let mut text = Text::new(alloc);
+    text.extend_from_slice(BEFORE_SCRIPTS.as_bytes())?;
+    push_scripts(&mut text, faulty)?;
+    text.extend_from_slice(BEFORE_PRODUCT.as_bytes())?;
+    text.extend_from_slice(BEFORE_BIDDERS.as_bytes())?;
+    push_bidders(&mut text)?;
     text.extend_from_slice(b"]}}")?;
     Ok(text)
 }
 
-/// What it comes to.
-fn fault_of_many(alloc: Global, faulty: u64) -> Result<Option<SimFault>, Fail> {
-    let document = many_sheets(alloc, faulty)?;
-    let replay = read_replay(alloc, document.as_slice())?;
-    Ok(fault_of(alloc, &replay))
-}
+/// From which bidder on sheets are refused, and the fault.
+const FAULTY: [(u64, Option<SimFault>); 6] = [
+    (0, Some(SimFault::Refused(0, 1, Code::OverCap))),
+    (1, Some(SimFault::Refused(1, 1, Code::OverCap))),
+    (63, Some(SimFault::Refused(63, 1, Code::OverCap))),
+    (64, Some(SimFault::Refused(64, 1, Code::OverCap))),
+    (129, Some(SimFault::Refused(129, 1, Code::OverCap))),
+    (MANY, None),
+];
 
 #[test]
 fn groups_are_answered_in_the_order_of_the_bidders(rt: HostRuntime) -> Result<(), Fail> {
-    for faulty in [0, 1, 63, 64, 129] {
-        let fault = fault_of_many(rt.alloc(), faulty)?;
-        assert_eq!(rt; fault, Some(SimFault::Refused(faulty, 1, Code::OverCap)));
+    for (faulty, fault) in FAULTY.iter() {
+        let document = many_sheets(rt.alloc(), *faulty)?;
+        assert_eq!(rt; fault_of(rt.alloc(), document.as_slice()), *fault);
     }
-    assert_eq!(rt; fault_of_many(rt.alloc(), MANY)?, None);
     Ok(())
 }
 
-/// A literal script of one sheet whose body is too long.
-fn long_script(alloc: Global) -> Result<Text, NoMemory> {
-    let mut text = Text::from_slice(
-        alloc,
-        b"{\"kind\":\"literal\",\"sheets\":[[{\"price\":100,\"product\":0,\"quantity\":1}",
-    )?;
+const BEFORE_LONG: &str =
+    ",{\"kind\":\"literal\",\"sheets\":[[{\"price\":100,\"product\":0,\"quantity\":1}";
+
+/// Adds bids enough for a body that is too long.
+fn push_many_bids(text: &mut Text) -> Result<(), NoMemory> {
     for _bid in 0..28_000 {
         text.extend_from_slice(b",{\"price\":100,\"product\":0,\"quantity\":1}")?;
     }
-    text.extend_from_slice(b"]]}")?;
+    Ok(())
+}
+
+/// A document with a script of X where Y's sheet is too long.
+fn before_long(alloc: Global, script: &str) -> Result<Text, NoMemory> {
+    let mut text = joined(
+        alloc,
+        &["{\"closings\":[],\"scripts\":[", script, BEFORE_LONG],
+    )?;
+    push_many_bids(&mut text)?;
+    text.extend_from_slice(b"]]}],\"setup\":")?;
+    text.extend_from_slice(ONE_PRODUCT.as_bytes())?;
+    text.push(b'}')?;
     Ok(text)
 }
 
-/// What comes of a script of X where Y's sheet is too long.
-fn fault_before_long(alloc: Global, script: &str) -> Result<Option<SimFault>, Fail> {
-    let mut text = Text::from_slice(alloc, b"{\"closings\":[],\"scripts\":[")?;
-    text.extend_from_slice(script.as_bytes())?;
-    text.push(b',')?;
-    text.extend_from_slice(long_script(alloc)?.as_slice())?;
-    text.extend_from_slice(b"],\"setup\":")?;
-    text.extend_from_slice(ONE_PRODUCT.as_bytes())?;
-    text.push(b'}')?;
-    let replay = read_replay(alloc, text.as_slice())?;
-    Ok(fault_of(alloc, &replay))
-}
+/// A script of X where Y's sheet is too long, and the fault.
+const BEFORE: [(&str, SimFault); 2] = [
+    (FALLING_LIMITS, SimFault::Refused(1, 1, Code::LongBody)),
+    (OVER_CAP, SimFault::Refused(0, 1, Code::OverCap)),
+];
 
 #[test]
 fn a_sheet_that_is_too_long_waits_for_those_before_it(rt: HostRuntime) -> Result<(), Fail> {
-    let long = Some(SimFault::Refused(1, 1, Code::LongBody));
-    let over_cap = Some(SimFault::Refused(0, 1, Code::OverCap));
-    assert_eq!(rt; fault_before_long(rt.alloc(), FALLING_LIMITS)?, long);
-    assert_eq!(rt; fault_before_long(rt.alloc(), OVER_CAP)?, over_cap);
+    for (script, fault) in BEFORE.iter() {
+        let document = before_long(rt.alloc(), script)?;
+        assert_eq!(rt; fault_of(rt.alloc(), document.as_slice()), Some(*fault));
+    }
     Ok(())
 }

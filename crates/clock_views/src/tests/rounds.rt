@@ -17,10 +17,17 @@ const X: u32 = 0;
 
 const Y: u32 = 1;
 
-/// A house before its first round.
-fn opened(alloc: Global, document: &str) -> Result<House<Plain>, Fail> {
-    let setup = read_setup(alloc, document.as_bytes())?;
-    Ok(House::new(alloc, setup, Plain)?)
+/// What is done with an auction of one product before its first round. No other function of these tests lets a house go, since each that
+/// does so proves it anew.
+fn on_house<F: FnOnce(&mut House<Plain>) -> Result<(), Fail>>(
+    alloc: Global,
+    act: F,
+) -> Result<(), Fail>
+    requires { F.IsAlwaysCallable act }
+{
+    let setup = read_setup(alloc, ONE_PRODUCT.as_bytes())?;
+    let mut house = House::new(alloc, setup, Plain)?;
+    act(&mut house)
 }
 
 /// A bidder of the house puts a sheet for the current round.
@@ -45,22 +52,18 @@ fn bid(quantity: u64, price: u64) -> Bid {
     }
 }
 
-/// The auction in its second round, in which X holds two blocks and Y one.
-fn second_round(rt: &impl Abort, alloc: Global) -> Result<House<Plain>, Fail> {
-    let mut house = opened(alloc, ONE_PRODUCT)?;
-    put(rt, &mut house, X, &[bid(2, 100)])?;
-    put(rt, &mut house, Y, &[bid(1, 100)])?;
-    close(&mut house)?;
-    Ok(house)
+/// Plays the first round, after which X holds two blocks and Y one.
+fn play_first_round(rt: &impl Abort, house: &mut House<Plain>) -> Result<(), Fail> {
+    put(rt, house, X, &[bid(2, 100)])?;
+    put(rt, house, Y, &[bid(1, 100)])?;
+    close(house)
 }
 
-/// The auction after X's drop, at its end.
-fn ended(rt: &impl Abort, alloc: Global) -> Result<House<Plain>, Fail> {
-    let mut house = second_round(rt, alloc)?;
-    put(rt, &mut house, X, &[bid(0, 103)])?;
-    put(rt, &mut house, Y, &[bid(1, 110)])?;
-    close(&mut house)?;
-    Ok(house)
+/// Plays the second round, with X's drop, after which the auction ends.
+fn play_last_round(rt: &impl Abort, house: &mut House<Plain>) -> Result<(), Fail> {
+    put(rt, house, X, &[bid(0, 103)])?;
+    put(rt, house, Y, &[bid(1, 110)])?;
+    close(house)
 }
 
 /// The account page of a bidder.
@@ -115,6 +118,9 @@ fn sheet_of(
 const ACCOUNT: &[u8] =
     b"{\"activity\":2,\"demands\":[2],\"eligibility\":3,\"ended\":false,\"name\":\"X\",\"round\":2}";
 
+/// X's sheet in the first round.
+const BIDS: &[u8] = b"{\"bids\":[{\"price\":100,\"product\":0,\"quantity\":2}],\"round\":1}";
+
 /// X's slip of the second round, its sheet, and the results.
 const SLIP: &[u8] = b"{\"activity\":1,\"demands\":[1],\"eligibility\":2,\"round\":2}";
 
@@ -126,38 +132,40 @@ const RESULTS: &[u8] =
 
 #[test]
 fn account_in_the_second_round_with_no_bids_in_force(rt: HostRuntime) -> Result<(), Fail> {
-    let house = second_round(&rt, rt.alloc())?;
-    let account = account_of(&rt, rt.alloc(), &house, X)?;
-    reads(&rt, &account, ACCOUNT);
-    let bids = bids_of(&rt, rt.alloc(), &house, X)?;
-    reads(&rt, &bids, b"{\"bids\":null,\"round\":2}");
-    Ok(())
+    on_house(rt.alloc(), |house| {
+        play_first_round(&rt, house)?;
+        let account = account_of(&rt, rt.alloc(), house, X)?;
+        reads(&rt, &account, ACCOUNT);
+        let bids = bids_of(&rt, rt.alloc(), house, X)?;
+        reads(&rt, &bids, b"{\"bids\":null,\"round\":2}");
+        Ok(())
+    })
 }
 
 #[test]
 fn bids_in_force(rt: HostRuntime) -> Result<(), Fail> {
-    let mut house = opened(rt.alloc(), ONE_PRODUCT)?;
-    put(&rt, &mut house, X, &[bid(2, 100)])?;
-    let page = bids_of(&rt, rt.alloc(), &house, X)?;
-    reads(
-        &rt,
-        &page,
-        b"{\"bids\":[{\"price\":100,\"product\":0,\"quantity\":2}],\"round\":1}",
-    );
-    put(&rt, &mut house, X, &[])?;
-    let page = bids_of(&rt, rt.alloc(), &house, X)?;
-    reads(&rt, &page, b"{\"bids\":[],\"round\":1}");
-    Ok(())
+    on_house(rt.alloc(), |house| {
+        put(&rt, house, X, &[bid(2, 100)])?;
+        let page = bids_of(&rt, rt.alloc(), house, X)?;
+        reads(&rt, &page, BIDS);
+        put(&rt, house, X, &[])?;
+        let page = bids_of(&rt, rt.alloc(), house, X)?;
+        reads(&rt, &page, b"{\"bids\":[],\"round\":1}");
+        Ok(())
+    })
 }
 
 #[test]
 fn slip_sheet_and_results_after_the_partial_drop(rt: HostRuntime) -> Result<(), Fail> {
-    let house = ended(&rt, rt.alloc())?;
-    let slip = slip_of(&rt, rt.alloc(), &house, X, 2)?;
-    reads(&rt, &slip, SLIP);
-    let sheet = sheet_of(&rt, rt.alloc(), &house, 2)?;
-    reads(&rt, &sheet, SHEET);
-    let results = results_page(rt.alloc(), &house)?;
-    reads(&rt, &results, RESULTS);
-    Ok(())
+    on_house(rt.alloc(), |house| {
+        play_first_round(&rt, house)?;
+        play_last_round(&rt, house)?;
+        let slip = slip_of(&rt, rt.alloc(), house, X, 2)?;
+        reads(&rt, &slip, SLIP);
+        let sheet = sheet_of(&rt, rt.alloc(), house, 2)?;
+        reads(&rt, &sheet, SHEET);
+        let results = results_page(rt.alloc(), house)?;
+        reads(&rt, &results, RESULTS);
+        Ok(())
+    })
 }

@@ -1,4 +1,4 @@
-use Rattle.std.proofs.Common.{sym, ◌∙◌, ap, arith}
+use Rattle.std.proofs.Common.{sym, ◌∙◌, ap}
 use Rattle.clock_front.specs.HeaderLines.{token_from}
 use Rattle.clock_front.specs.Shown.{shown_values}
 use Rattle.clock_front.proofs.HeaderLaws.{token_at}

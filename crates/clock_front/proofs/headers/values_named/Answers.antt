@@ -1,6 +1,6 @@
-use Rattle.std.proofs.Common.{◌≡◌, true, false, map, drop, ◌+◌, ◌∙◌, ap, subst, sym, length}
-use Rattle.httparse.specs.Spans.{header_bytes, span_bytes}
-use Rattle.clock_front.specs.HeaderLines.{Values, and_one, values_after}
+use Rattle.std.proofs.Common.{true, false, map, drop, ◌+◌, ◌∙◌, ap, subst, sym, length}
+use Rattle.httparse.specs.Spans.{header_bytes}
+use Rattle.clock_front.specs.HeaderLines.{Values, values_after}
 use Rattle.clock_front.specs.Shown.{shown_values, IsFoundWithin}
 use Rattle.clock_front.specs.declared.headers.Values.{Values as Found}
 use Rattle.clock_front.proofs.HeaderLaws.{values_next}

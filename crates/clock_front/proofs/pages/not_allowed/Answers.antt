@@ -1,5 +1,5 @@
-use Rattle.std.proofs.Common.{sym, ap, ◌∙◌, ℕ, Bool, List, Option, length, None, Some}
-use Rattle.clock_views.specs.declared.code.Code.TheVariants.{Done, Method}
+use Rattle.std.proofs.Common.{ap, ◌∙◌, Some}
+use Rattle.clock_views.specs.declared.code.Code.TheVariants.{Method}
 use Rattle.clock_front.specs.Outcomes.{with_page}
 use Rattle.clock_views.specs.Refusals.{Shown}
 use Rattle.clock_views.specs.RefusalPage.{refusal_value}

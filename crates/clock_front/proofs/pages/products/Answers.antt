@@ -1,4 +1,4 @@
-use Rattle.std.proofs.Common.{sym, ap, ◌∙◌, ℕ, Option, None}
+use Rattle.std.proofs.Common.{ap, ◌∙◌, None}
 use Rattle.clock_setup.specs.Limits.{SetupFields, public_setup}
 use Rattle.clock_views.specs.declared.code.Code.TheVariants.{Done}
 use Rattle.clock_views.specs.PublicPages.{products_value}

@@ -1,4 +1,4 @@
-use Rattle.std.proofs.Common.{sym, ap, ◌∙◌, ℕ, Bool, List, Option, length, None, Some}
+use Rattle.std.proofs.Common.{ap, ◌∙◌, None}
 use Rattle.clock_views.specs.Refusals.{Shown}
 use Rattle.clock_views.specs.RefusalPage.{refusal_value}
 use Rattle.clock_front.specs.Outcomes.{with_page}

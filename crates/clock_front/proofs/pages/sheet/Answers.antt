@@ -1,4 +1,4 @@
-use Rattle.std.proofs.Common.{sym, ap, ◌∙◌, ℕ, Option, None}
+use Rattle.std.proofs.Common.{ap, ◌∙◌, ℕ, Option, None}
 use Rattle.std.specs.Prelude.{option_map, option_and_then}
 use Rattle.clock_setup.specs.Limits.{SetupFields, public_setup}
 use Rattle.clock_house.specs.History.{round_at}

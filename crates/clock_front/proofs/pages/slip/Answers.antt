@@ -1,4 +1,4 @@
-use Rattle.std.proofs.Common.{sym, ap, ◌∙◌, ℕ, Option}
+use Rattle.std.proofs.Common.{ap, ◌∙◌, ℕ, Option}
 use Rattle.std.specs.Prelude.{option_map, option_and_then}
 use Rattle.clock_house.specs.History.{slip_of, round_at}
 use Rattle.clock_views.specs.BidderPages.{slip_value}

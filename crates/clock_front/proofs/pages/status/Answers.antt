@@ -1,5 +1,5 @@
-use Rattle.std.proofs.Common.{sym, ap, ◌∙◌, ℕ, Bool, List, Option, length, None, Some}
-use Rattle.clock_views.specs.declared.code.Code.TheVariants.{Done, Method}
+use Rattle.std.proofs.Common.{ap, ◌∙◌, ℕ, Bool, None}
+use Rattle.clock_views.specs.declared.code.Code.TheVariants.{Done}
 use Rattle.clock_front.specs.Outcomes.{with_page}
 use Rattle.clock_setup.specs.Limits.{SetupFields, public_setup}
 use Rattle.clock_house.specs.House.{standing_in}

@@ -1,6 +1,4 @@
-use Rattle.std.proofs.Common.{sym, ◌∙◌, ap, arith}
-use Rattle.clock_front.specs.Framing.{head_with_length}
-use Rattle.clock_front.specs.Shown.{shown_read}
+use Rattle.std.proofs.Common.{sym, ◌∙◌, arith}
 use Rattle.clock_front.proofs.ProgressLaws.{scan_from, known_unended, known_long, known_refused, known_headed, all_taken}
 use Rattle.clock_front.proofs.progress.read_on.Goals as goal
 

@@ -1,4 +1,4 @@
-use Rattle.std.proofs.Common.{◌≡◌, ◌-◌, List, ℕ, ◌++◌, length, drop, ap, sym, ◌∙◌, arith, length-drop, codes, decimal}
+use Rattle.std.proofs.Common.{◌≡◌, ◌-◌, List, ℕ, ◌++◌, length, drop, ap, sym, ◌∙◌, length-drop, codes, decimal}
 use Rattle.clock_front.specs.Replies.{allow_line}
 use Rattle.clock_front.proofs.reply.put_lines.Goals as goal
 

@@ -1,4 +1,4 @@
-use Rattle.std.proofs.Common.{sym, ◌∙◌, arith}
+use Rattle.std.proofs.Common.{sym, ◌∙◌}
 use Rattle.clock_front.proofs.RouteLaws.{named, too_long_named, all_digits_read}
 use Rattle.clock_front.proofs.routes.round_named.Goals as goal
 

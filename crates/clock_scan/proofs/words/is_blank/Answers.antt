@@ -1,8 +1,10 @@
-use Rattle.std.proofs.Common.{sym, ◌∙◌}
-use Rattle.std.proofs.lemmas.Bool.{leb-true}
-use Rattle.clock_scan.proofs.LexLaws.{at_end}
-use Rattle.clock_scan.proofs.Steps.{blank_is}
+use Rattle.std.proofs.Common.{arith}
+use Rattle.clock_scan.proofs.Steps.{blank_more, all_blank}
 use Rattle.clock_scan.proofs.words.is_blank.Goals as goal
 
+pub loop-byte-preserved : goal.loop-byte-preserved
+loop-byte-preserved c = blank_more c.args.bytes.now c.loop-byte.byte-index c.loop-byte.has_other c.is_space.result (omega arith)
+    c.is_space.ensures c.loop-byte.invariant
+
 pub returns : goal.returns
-returns c = λ is. blank_is c.args.bytes.now (sym c.after_space.ensures ∙ at_end c.args.bytes.now c.after_space.result (leb-true _ _ is))
+returns c = all_blank c.args.bytes.now c.loop-byte.byte-index c.loop-byte.has_other (omega arith) c.loop-byte.invariant

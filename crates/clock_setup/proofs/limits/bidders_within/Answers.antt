@@ -2,7 +2,7 @@ use Rattle.std.proofs.Common.{sym, ◌∙◌, arith}
 use Rattle.std.proofs.lemmas.Grind.{common_steps}
 use Rattle.std.proofs.lemmas.Result.{err_from_is_err_and}
 use Rattle.clock_setup.specs.SetupDocument.{bidder_checks}
-use Rattle.clock_setup.proofs.FaultLaws.{turn_passed, turn_failed}
+use Rattle.clock_setup.proofs.FaultLaws.{turn_passed, turn_failed, turn_none}
 use Rattle.clock_setup.proofs.limits.bidders_within.Goals as goal
 
 pub returns-in_err-bidder-clause-err : goal.returns-in_err-bidder-clause-err
@@ -18,3 +18,6 @@ loop-i-preserved c = record {
   rest = sym (turn_passed bidder_checks c.args.entries.now c.loop-i.i _ c.loop-i-test.true c.index-entries-i.is c.in_ok-bidder.ensures.ok)
       ∙ c.loop-i.invariant.rest;
 }
+
+pub returns-clause-ok : goal.returns-clause-ok
+returns-clause-ok c = sym c.loop-i.invariant.rest ∙ turn_none bidder_checks c.args.entries.now c.loop-i.i c.loop-i-test.false

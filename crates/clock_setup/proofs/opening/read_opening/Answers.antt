@@ -1,4 +1,3 @@
-use Rattle.std.proofs.Common.{◌≡◌}
 use Rattle.clock_setup.specs.OpeningData.{entries_data}
 use Rattle.clock_setup.proofs.ScannedOpeningLaws.{read_ok, read_err}
 use Rattle.clock_setup.proofs.opening.read_opening.Goals as goal

@@ -7,4 +7,4 @@ use Rattle.clock_setup.proofs.parts.source_parts.Goals as goal
 pub returns-in-Entries-clause-ok : goal.returns-in-Entries-clause-ok
 returns-in-Entries-clause-ok c =
     let entries = c.in-Entries.entries in
-    ap (λ s. parts_of (source_data s)) c.in-Entries.is ∙ parts_are (held_data entries.setup) entries.demands.items entries.increment
+    ap (λ s. parts_of (source_data s)) c.in-Entries.is ∙ parts_are (held_data entries.setup) entries.demands entries.increment

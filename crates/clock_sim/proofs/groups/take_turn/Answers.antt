@@ -1,8 +1,5 @@
-use Rattle.std.proofs.Common.{◌++◌, subst}
-use Rattle.std.proofs.lemmas.Result.{err_from_is_err_and}
 use Rattle.clock_sim.specs.RequestTexts.{whole_text}
-use Rattle.clock_sim.specs.Groups.{after_group}
-use Rattle.clock_sim.proofs.TurnLaws.{sent_after, refused_before, waits_after}
+use Rattle.clock_sim.proofs.TurnLaws.{waits_after}
 use Rattle.clock_sim.proofs.groups.take_turn.Goals as goal
 
 pub returns-then-needs_body-clause-way : goal.returns-then-needs_body-clause-way

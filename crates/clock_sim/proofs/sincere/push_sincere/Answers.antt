@@ -1,9 +1,7 @@
-use Rattle.std.proofs.Common.{◌≡◌, ℕ, ◌+◌, ◌-◌, ◌<◌, suc, List, [], ◌++◌, length, flat_map, slice_index, option_copied, append_assoc, ap, ap₂, ◌∙◌, arith}
+use Rattle.std.proofs.Common.{◌≡◌, ℕ, ◌+◌, ◌-◌, ◌<◌, suc, List, ◌++◌, length, flat_map, option_copied, append_assoc, ap, ◌∙◌, arith}
 use Rattle.std.specs.List.{range_with_len}
-use Rattle.std.proofs.lemmas.List.{get_or_read}
-use Rattle.clock_setup.specs.declared.prices.PricePair.{PricePair}
 use Rattle.clock_bids.specs.declared.sheet.Bid.{Bid}
-use Rattle.clock_sim.specs.Sincere.{product_bids, bids_for}
+use Rattle.clock_sim.specs.Sincere.{bids_for}
 use Rattle.clock_sim.specs.RoundPrices.{prices_after}
 use Rattle.clock_sim.proofs.sincere.push_sincere.Goals as goal
 
@@ -18,13 +16,7 @@ next_product f bids next all p n below added rest =
 pub loop-product-preserved : goal.loop-product-preserved
 loop-product-preserved c =
     let p = c.loop-product.product in
-    let bids = c.loop-product.bids.items in
-    let limits = c.args.limits.now in
-    let demands = c.args.own.demands.now in
-    let f = bids_for c.args.own.round (prices_after c.args.products.now (option_copied c.args.last)) demands limits in
-    let row = c.as_slice-wanted.ensures ∙ get_or_read limits p c.index-limits-product.result (omega arith) c.index-limits-product.is [] in
-    next_product f bids c.push_product.new.bids.items
+    let f = bids_for c.args.own.round (prices_after c.args.products.now (option_copied c.args.last)) c.args.own.demands.now c.args.limits.now in
+    next_product f c.loop-product.bids.items c.push_product.new.bids.items
     (c.args.bids.now.items ++ flat_map f (range_with_len 0 (length c.args.products.now))) p (length c.args.products.now) c.loop-product-test.true
-    (c.in_ok-push_product.ensures
-    ∙ ap₂ (λ (pair : PricePair) (wanted : List ℕ). bids ++ product_bids c.args.own.round p pair (slice_index demands p) wanted) c.price_range-pair.ensures row)
-    c.loop-product.invariant
+    c.in_ok-push_product.ensures c.loop-product.invariant

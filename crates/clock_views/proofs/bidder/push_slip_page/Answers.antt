@@ -6,6 +6,6 @@ pub returns : goal.returns
 returns c =
     together (slip_in_pieces c.args.slip.now)
     (before c.in_ok-push_number.ensures
-    (before (rw c.as_slice.ensures at c.in_ok-push_blocks.ensures)
+    (before c.in_ok-push_blocks.ensures
     (before c.in_ok-push_number-2.ensures
     (before c.in_ok-push_number-3.ensures c.in_ok-push_label.ensures))))

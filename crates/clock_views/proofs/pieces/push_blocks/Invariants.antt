@@ -1,9 +1,10 @@
 use Rattle.std.proofs.Common.{◌≡◌, ◌++◌, drop, nat_lt, false}
+use Rattle.clock_house.specs.Blocks.{numbers_of}
 use Rattle.clock_views.specs.Values.{whole}
 use Rattle.clock_views.proofs.Lists.{rest_text}
 use Rattle.clock_views.proofs.pieces.push_blocks.Given as goal
 
--- with the other numbers it is the whole array
+-- with the numbers of the other cells it is the whole array
 abbrev pub invariant-loop-i : goal.invariant-loop-i
 invariant-loop-i l =
-    l.text ++ rest_text whole (nat_lt 0 l.i) (drop l.i l.blocks) ≡ l.initial.text ++ rest_text whole false l.blocks
+    l.text ++ rest_text whole (nat_lt 0 l.i) (numbers_of (drop l.i l.cells)) ≡ l.initial.text ++ rest_text whole false (numbers_of l.cells)

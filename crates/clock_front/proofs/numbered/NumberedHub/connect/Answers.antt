@@ -1,4 +1,4 @@
-use Rattle.std.proofs.Common.{◌++◌, List, [], ◌∷◌, Option, Some, None, sym, ap, subst}
+use Rattle.std.proofs.Common.{◌++◌, [], ◌∷◌, Option, None, sym, subst}
 use Rattle.clock_front.specs.declared.connections.Conn.{Conn}
 use Rattle.clock_front.specs.Pieces.{opened}
 use Rattle.clock_front.specs.Hubs.{HubFields, IsConnectFault}

@@ -1,4 +1,4 @@
-use Rattle.std.proofs.Common.{◌≤◌, List, ℕ, take, length, sym, ◌∙◌, ap, subst, arith}
+use Rattle.std.proofs.Common.{take, length, sym, ◌∙◌, ap, subst, arith}
 use Rattle.clock_front.specs.Framing as spec
 use Rattle.clock_front.specs.Scans.{head_length}
 use Rattle.clock_front.specs.Shown.{shown_progress, IsProgressWithin}

@@ -1,4 +1,4 @@
-use Rattle.std.proofs.Common.{◌∷◌, codes, refl, sym, ap, ◌∙◌, option_map}
+use Rattle.std.proofs.Common.{◌∷◌, codes, refl, ap, ◌∙◌, option_map}
 use Rattle.serde_json.specs.Data.{string}
 use Rattle.clock_scan.specs.Reading.{Token, whole}
 use Rattle.clock_scan.proofs.Steps.{adds_member}

@@ -1,4 +1,4 @@
-use Rattle.std.proofs.Common.{◌∷◌, codes, refl, sym, ap, ◌∙◌, arith}
+use Rattle.std.proofs.Common.{◌∷◌, codes, refl, ap, ◌∙◌, arith}
 use Rattle.clock_scan.specs.Reading.{Token, whole, rows}
 use Rattle.clock_scan.proofs.Steps.{adds_member, reads_deeper}
 use Rattle.clock_setup.specs.SetupData.{setup_data}
@@ -7,9 +7,9 @@ use Rattle.clock_setup.proofs.scanned_opening.OpeningFound.read_member.Goals as 
 
 pub returns-then-is_key-clause-value : goal.returns-then-is_key-clause-value
 returns-then-is_key-clause-value c =
-    adds_member 3 c.args.scan.now c.key.new.self c.rows.new.self (found_opening c.args.self.now) (codes "demands") (rows c.in_ok-rows.field-0.items)
+    adds_member 3 c.args.scan.now c.key.new.self c.flat_rows.new.self (found_opening c.args.self.now) (codes "demands") (rows c.in_ok-flat_rows.field-0)
     (c.in-Some.ensures ∙ ap (λ k. Token.key k ∷ c.key.new.self) (c.is_key.ensures c.if-is_key.true))
-    (reads_deeper 2 3 c.key.new.self (rows c.in_ok-rows.field-0.items) c.rows.new.self (omega arith) c.in_ok-rows.ensures.value) refl
+    (reads_deeper 2 3 c.key.new.self (rows c.in_ok-flat_rows.field-0) c.flat_rows.new.self (omega arith) c.in_ok-flat_rows.ensures.value) refl
 
 pub returns-then-is_key-2-clause-value : goal.returns-then-is_key-2-clause-value
 returns-then-is_key-2-clause-value c =

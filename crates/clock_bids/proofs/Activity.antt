@@ -1,0 +1,100 @@
+-- What the demands that a sheet asks for take, where a further bid changes one of them.
+use Rattle.std.proofs.Common.{◌≡◌, ℕ, zero, suc, ◌+◌, ◌*◌, ◌<◌, ◌≤◌, List, [], ◌∷◌, length, take, refl, ap, sym, subst, ◌∙◌, arith, get_or, set}
+use Rattle.std.specs.Prelude.{Option, None, zip}
+use Rattle.std.proofs.lemmas.List.{get_or_default}
+use Rattle.std.proofs.lemmas.List.Sums.{sum_by-cons}
+use Rattle.std.proofs.lemmas.List.FromFn.{get_or-map-range_with_len}
+use Rattle.clock_setup.specs.declared.setup.Product.{Product}
+use Rattle.clock_setup.specs.Limits.{units_of, no_product}
+use Rattle.clock_setup.specs.Eligibility.{activity}
+use Rattle.clock_bids.specs.declared.sheet.Bid.{Bid}
+use Rattle.clock_bids.specs.Sheet.{chain_of, last_quantity, asked_demands}
+use Rattle.clock_bids.specs.Chains.{last_of, last_bids, quantity_of}
+use Rattle.clock_bids.proofs.Chains.{last_quantity-after}
+use Rattle.clock_bids.proofs.Tables.{no_bid, asked_demands-more, length-asked_demands}
+
+-- the activity of a row in which one demand changes
+pub activity-set : (products : List Product) (row : List ℕ) (p v : ℕ) → p < length products → p < length row →
+    activity products (set row p v) + units_of products p * get_or row p 0 ≡ activity products row + units_of products p * v
+activity-set [] row p v a b = absurd (omega (arith, a))
+activity-set (x ∷ products) [] p v a b = absurd (omega (arith, b))
+activity-set (x ∷ products) (y ∷ row) zero v a b =
+    omega (
+      arith,
+      sum_by-cons (λ (line : Product × ℕ). line.0.units * line.1) (x, v) (zip products row),
+      sum_by-cons (λ (line : Product × ℕ). line.0.units * line.1) (x, y) (zip products row),
+    )
+activity-set (x ∷ products) (y ∷ row) (suc p) v a b =
+    omega (
+      arith,
+      activity-set products row p v (omega (arith, a)) (omega (arith, b)),
+      sum_by-cons (λ (line : Product × ℕ). line.0.units * line.1) (x, y) (zip products row),
+      sum_by-cons (λ (line : Product × ℕ). line.0.units * line.1) (x, y) (zip products (set row p v)),
+    )
+
+-- one demand takes no more than all do
+pub demand_taken : (products : List Product) (row : List ℕ) (p : ℕ) → p < length products → p < length row →
+    units_of products p * get_or row p 0 ≤ activity products row
+demand_taken products row p a b = omega (arith, activity-set products row p 0 a b)
+
+-- the last bid of a chain has the quantity that the chain ends with
+last_quantity-of : (chain : List Bid) → last_quantity 0 chain ≡ quantity_of (last_of chain)
+last_quantity-of [] = refl
+last_quantity-of (bid ∷ bids) = last_quantity-after bid bids
+
+module _ (products : List Product) (bids : List Bid) (i : ℕ) (known : (get_or bids i no_bid).product < length products) where
+  abbrev product : ℕ
+  product = (get_or bids i no_bid).product
+
+  abbrev before : List ℕ
+  before = asked_demands (length products) (take i bids)
+
+  -- what was asked for before is the quantity of the last bid for the product
+  asked_last : get_or before product 0 ≡ quantity_of (get_or (last_bids (length products) (take i bids)) product None)
+  asked_last =
+      get_or-map-range_with_len (λ p. last_quantity 0 (chain_of p (take i bids))) 0 (length products) product product 0 known (omega arith)
+      ∙ last_quantity-of (chain_of product (take i bids))
+      ∙ sym (ap quantity_of (get_or-map-range_with_len (λ p. last_of (chain_of p (take i bids))) 0 (length products) product product None known (omega arith)))
+
+  -- that takes no more than all
+  pub asked_least : units_of products product * quantity_of (get_or (last_bids (length products) (take i bids)) product None) ≤ activity products before
+  asked_least =
+      let least = demand_taken products before product known (omega (arith, known, length-asked_demands (length products) (take i bids))) in
+      subst (λ (q : ℕ). units_of products product * q ≤ activity products before) asked_last least
+
+  -- the next bid's quantity stands in its place
+  pub asked_more : i < length bids →
+      activity products (asked_demands (length products) (take (i + 1) bids))
+      + units_of products product * quantity_of (get_or (last_bids (length products) (take i bids)) product None)
+      ≡ activity products before + units_of products product * (get_or bids i no_bid).quantity
+  asked_more within =
+      let next = asked_demands-more (length products) bids i within known in
+      let changed = activity-set products before product (get_or bids i no_bid).quantity known
+      (omega (arith, known, length-asked_demands (length products) (take i bids))) in
+      subst (λ (q : ℕ). activity products (asked_demands (length products) (take (i + 1) bids)) + units_of products product * q
+      ≡ activity products before + units_of products product * (get_or bids i no_bid).quantity) asked_last
+      (ap (λ (row : List ℕ). activity products row + units_of products product * get_or before product 0) next ∙ changed)
+
+-- what a product is read as has its units
+pub units_read : (read products : List Product) (p : ℕ) (one : Product) → read ≡ products → p < length products →
+    (get_or read p one).units ≡ units_of products p
+units_read read products p one same known =
+    ap (λ (list : List Product). (get_or list p one).units) same
+    ∙ ap (λ (product : Product). product.units) (get_or_default products p one no_product known)
+
+-- one step of a pass over the bids
+module _ (products : List Product) (bids : List Bid) (i units taken : ℕ) (last : Option Bid) (known : (get_or bids i no_bid).product < length products)
+    (units_are : units ≡ units_of products (get_or bids i no_bid).product)
+    (last_is : last ≡ get_or (last_bids (length products) (take i bids)) (get_or bids i no_bid).product None)
+    (taken_is : taken ≡ activity products (asked_demands (length products) (take i bids))) where
+  pub held_least : units * quantity_of last ≤ taken
+  held_least = rw (units_are, last_is, taken_is) (asked_least products bids i known)
+
+  pub taken_more : i < length bids → (next : ℕ) → next + units * quantity_of last ≡ taken + units * (get_or bids i no_bid).quantity →
+      next ≡ activity products (asked_demands (length products) (take (i + 1) bids))
+  taken_more within next is =
+      let sum : next + units_of products (get_or bids i no_bid).product
+      * quantity_of (get_or (last_bids (length products) (take i bids)) (get_or bids i no_bid).product None)
+      ≡ activity products (asked_demands (length products) (take i bids)) + units_of products (get_or bids i no_bid).product * (get_or bids i no_bid).quantity =
+      rw (← units_are, ← last_is, ← taken_is) is in
+      omega (arith, sum, asked_more products bids i known within)

@@ -1,0 +1,13 @@
+use Rattle.std.proofs.Common.{◌≡◌, length, map, ◌≤◌}
+use Rattle.clock_scan.specs.Reading.{numbers, HasItems}
+use Rattle.clock_scan.specs.Rows.{cut, numbers_in}
+use Rattle.clock_scan.proofs.scan.Scan.flat_rows.Given as goal
+
+abbrev pub invariant-items : goal.invariant-items
+invariant-items l =
+    HasItems 1 l.initial.self (map numbers (cut l.lengths.items l.numbers.items)) l.self
+    × (numbers_in l.lengths.items ≡ length l.numbers.items)
+    × (length l.self ≤ length l.initial.self)
+
+abbrev pub decreases-items : goal.decreases-items
+decreases-items l = length l.self

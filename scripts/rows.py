@@ -1,0 +1,49 @@
+"""The set-ups, requests and replays that are tried with growths refused."""
+import json
+import pathlib
+
+EXAMPLES = pathlib.Path(__file__).resolve().parent.parent / "examples"
+ONE = (EXAMPLES / "one_product.json").read_text()
+TWO = (EXAMPLES / "two_products.json").read_text()
+GRANULES = (EXAMPLES / "granules_and_increments.json").read_text()
+OPENING = (EXAMPLES / "opening.json").read_text()
+HIGHEST = 1_000_000_000_000
+ONE_AT_HIGHEST = ONE.replace('"opening": 100', f'"opening": {HIGHEST}')
+REPLAY = json.dumps({
+    "setup": json.loads(ONE),
+    "scripts": [{"kind": "sincere", "limits": [[120, 115]]}, {"kind": "sincere", "limits": [[130]]}],
+    "closings": [{"increment": 10, "ties": []}] * 3,
+})
+
+
+def compact(value):
+    return json.dumps(value, separators=(",", ":"), sort_keys=True)
+
+
+def sheet(number, *bids):
+    """The body of a sheet, of products, quantities and prices."""
+    return compact({"bids": [{"product": product, "quantity": quantity, "price": price} for product, quantity, price in bids], "round": number})
+
+
+def closing(number, ties=(), **increments):
+    """The body of a closing."""
+    return compact({**(increments or {"increment": 10}), "round": number, "ties": ties})
+
+
+def request(line, letter="", body=None):
+    """A request with the token of a bidder's letter or of the operator, and a body."""
+    token = {"": "", "O": "authorization: Bearer OPERATOROPERATOR\r\n"}.get(letter, f"authorization: Bearer {letter * 16}\r\n")
+    length = "" if body is None else f"content-length: {len(body)}\r\n"
+    return f"{line} HTTP/1.1\r\n{token}{length}\r\n{body or ''}"
+
+
+def put(letter, number, *bids):
+    return request("PUT /v1/me/bids", letter, sheet(number, *bids))
+
+
+def close(number, ties=(), **increments):
+    return request("POST /v1/close", "O", closing(number, ties, **increments))
+
+
+SHORT_PUT = put("X", 1, (0, 2, 100))
+assert len(SHORT_PUT) == 147
