@@ -1,14 +1,24 @@
 """One request over one connection to a server of this machine."""
+import itertools
+import os
 import socket
 
 SECONDS = 60
 
+# Ports below those that the system gives to clients (from 32,768 on), and none of them twice: servers that are started side by side would
+# else race for one. Two scripts at once begin at two places.
+PORTS = itertools.count(10_000 + os.getpid() % 1_000 * 20)
+
 
 def free_port():
-    """A port that nobody listens on."""
-    with socket.socket() as free:
-        free.bind(("127.0.0.1", 0))
-        return free.getsockname()[1]
+    """A port that nobody listens on, and that no other call has given."""
+    for port in PORTS:
+        with socket.socket() as free:
+            try:
+                free.bind(("127.0.0.1", port))
+                return port
+            except OSError:
+                pass
 
 
 def reply_to(port, text, cut=None):
