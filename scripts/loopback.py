@@ -1,24 +1,28 @@
 """One request over one connection to a server of this machine."""
-import itertools
-import os
+import random
 import socket
 
 SECONDS = 60
 
-# Ports below those that the system gives to clients (from 32,768 on), and none of them twice: servers that are started side by side would
-# else race for one. Two scripts at once begin at two places.
-PORTS = itertools.count(10_000 + os.getpid() % 1_000 * 20)
+# Ports below those that the system gives to clients (from 32,768 on), drawn at random and none of them twice: servers that are started side
+# by side, by one script or by several, would else race for one.
+PORTS = range(10_000, 32_768)
+DRAW = random.SystemRandom()
+TAKEN = set()
 
 
 def free_port():
     """A port that nobody listens on, and that no other call has given."""
-    for port in PORTS:
+    while True:
+        port = DRAW.choice(PORTS)
         with socket.socket() as free:
             try:
                 free.bind(("127.0.0.1", port))
-                return port
             except OSError:
-                pass
+                continue
+        if port not in TAKEN:
+            TAKEN.add(port)
+            return port
 
 
 def reply_to(port, text, cut=None):

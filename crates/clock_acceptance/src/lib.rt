@@ -8,7 +8,11 @@ mod documents;
 #[cfg(test)]
 mod example;
 #[cfg(test)]
+mod front;
+#[cfg(test)]
 mod refusals;
+#[cfg(test)]
+mod replays;
 #[cfg(test)]
 mod rounds;
 #[cfg(test)]

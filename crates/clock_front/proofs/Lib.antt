@@ -8,6 +8,7 @@ mod RouteLaws
 mod TieLaws
 mod BodyScanLaws
 mod ReplyLaws
+mod Examples
 mod TokenLaws
 mod OutcomeLaws
 mod FrontLaws

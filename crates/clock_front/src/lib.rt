@@ -18,8 +18,6 @@ mod close_body;
 mod close_scan;
 mod connections;
 mod events;
-#[cfg(test)]
-mod example;
 mod fed;
 mod front;
 mod head;
@@ -41,8 +39,6 @@ mod scan;
 mod stream;
 mod stream_fault;
 mod telling;
-#[cfg(test)]
-mod tests;
 mod tokens;
 
 pub use body_fault::BodyFault;

@@ -29,8 +29,6 @@ mod shape;
 mod sim_fault;
 mod simulation;
 mod sincere;
-#[cfg(test)]
-mod tests;
 
 pub use closing::{Closing, Closings, TieList};
 pub use fault::ScriptFault;
@@ -40,4 +38,4 @@ pub use report::{Report, RoundSheets};
 pub use report_lines::report_text;
 pub use script::{BidList, LimitLists, Script, Scripts, SheetList};
 pub use sim_fault::SimFault;
-pub use simulation::simulate;
+pub use simulation::{simulate, simulate_with};

@@ -18,9 +18,6 @@ use clock_processor::Processor;
 use clock_queue::Woken;
 use std::alloc::Global;
 
-#[cfg(test)]
-mod tests;
-
 /// Plays an auction before its first request.
 fn played<P: Processor>(
     alloc: Global,
@@ -41,8 +38,8 @@ fn played<P: Processor>(
     Ok(final_report(alloc, hub.front().house())?)
 }
 
-/// Plays an auction whose rounds are settled by a processor.
-fn simulate_with<P: Processor + Drop>(
+/// Plays an auction as [`simulate`] does, with its rounds settled by a processor.
+pub fn simulate_with<P: Processor + Drop>(
     alloc: Global,
     replay: &Replay,
     processor: P,

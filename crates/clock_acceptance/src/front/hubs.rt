@@ -1,6 +1,6 @@
 //! What a hub tells of pieces, as words.
-use crate::example::opened;
-use crate::{Conn, Fed, Hub, HubFault, Reply};
+use crate::front::example::opened;
+use clock_front::{Conn, Fed, Hub, HubFault, Reply};
 use clock_processor::Plain;
 use clock_setup::fixtures::ONE_PRODUCT;
 use std::alloc::Global;

@@ -1,7 +1,7 @@
 //! What the bodies of requests mean.
 use super::rows::have_meanings;
-use crate::{BodyFault, read_close, read_put};
 use clock_bids::Bid;
+use clock_front::{BodyFault, read_close, read_put};
 use clock_setup::Increments;
 use std::alloc::Global;
 use std::test::Fail;

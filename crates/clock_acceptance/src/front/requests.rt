@@ -1,5 +1,5 @@
 //! Requests as rows of text, and their replies.
-use crate::Front;
+use clock_front::Front;
 use clock_processor::Plain;
 use clock_setup::{Setup, read_setup};
 use std::alloc::Global;

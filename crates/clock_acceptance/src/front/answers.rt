@@ -1,9 +1,9 @@
 //! What requests are answered with, one after the other.
 use super::requests::{compare, fields_of, reply_of, setup_of, text_of};
 use super::texts::{ACCEPTED, PUT};
-use crate::example::on_front;
-use crate::{Front, run};
+use crate::front::example::on_front;
 use clock_device::{Items, Text};
+use clock_front::{Front, run};
 use clock_processor::Plain;
 use clock_setup::fixtures::{ACTIVITY_LIMIT, GRANULES_AND_INCREMENTS, ONE_PRODUCT};
 use clock_views::Code;

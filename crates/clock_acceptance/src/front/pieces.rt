@@ -4,7 +4,7 @@ use super::hubs;
 use super::hubs::{fed, finished, on_hub, shown};
 use super::requests::setup_of;
 use super::texts::{BIDS_OF_Y, PUT, STATUS};
-use crate::{Conn, Event, EventReplies, Hub, HubFault, run_events};
+use clock_front::{Conn, Event, EventReplies, Hub, HubFault, run_events};
 use clock_processor::Plain;
 use clock_setup::fixtures::ONE_PRODUCT;
 use std::alloc::Global;

@@ -2,8 +2,8 @@
 mod in_pieces;
 
 use super::requests::{fields_of, reply_of, text_of};
-use crate::Front;
-use crate::example::on_front;
+use crate::front::example::on_front;
+use clock_front::Front;
 use clock_processor::Plain;
 use std::alloc::Global;
 use std::process::Abort;

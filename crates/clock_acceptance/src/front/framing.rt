@@ -2,8 +2,8 @@
 ghost use Rattle.std.specs.Prelude.{◌≤◌, length};
 ghost use Rattle.clock_front.specs.Shown.{Knows};
 
-use crate::example::on_front;
-use crate::{Framing, Front, Head, Progress, frame};
+use crate::front::example::on_front;
+use clock_front::{Framing, Front, Head, Progress, frame};
 use clock_processor::Plain;
 use clock_setup::fixtures::ONE_PRODUCT;
 use std::alloc::Global;
@@ -52,11 +52,16 @@ GET / HTTP/1.1~authorization: Bearer abc~authorization: Bearer abc~~|GET / - []"
 const STATUS: &str =
     "GET /v1/status HTTP/1.1\r\nauthorization: Bearer XXXXXXXXXXXXXXXX\r\ncontent-length: 3\r\n\r\n{} GET /";
 
+/// A text with a mark replaced.
+fn replaced(alloc: Global, text: &str, mark: &str, meaning: &str) -> Result<String, Fail> {
+    Ok(text.replace(alloc, mark, meaning)?)
+}
+
 /// The row with its line ends.
 fn with_line_ends(alloc: Global, row: &str) -> Result<String, Fail> {
-    let row = row.replace(alloc, "~", "\r\n")?;
-    let row = row.as_str().replace(alloc, "$", "\n")?;
-    Ok(row.as_str().replace(alloc, "^", "\r")?)
+    let row = replaced(alloc, row, "~", "\r\n")?;
+    let row = replaced(alloc, row.as_str(), "$", "\n")?;
+    replaced(alloc, row.as_str(), "^", "\r")
 }
 
 /// The parts of a request.

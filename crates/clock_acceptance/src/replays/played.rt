@@ -1,11 +1,10 @@
 //! A replay is played, and its report or its first fault is told.
 
-use super::simulate_with;
-use crate::tests::{document, joined};
-use crate::{Replay, Report, SimFault, read_replay, report_text, simulate};
+use super::documents::{document, joined};
 use clock_device::{NoMemory, Text};
 use clock_processor::Plain;
 use clock_setup::fixtures::ONE_PRODUCT;
+use clock_sim::{Replay, Report, SimFault, read_replay, report_text, simulate, simulate_with};
 use clock_views::Code;
 use std::alloc::Global;
 use std::test::Fail;

@@ -1,6 +1,6 @@
 //! What is answered where a head is at a limit or past it, or is none.
 use super::requests::{compare, fields_of};
-use crate::example::on_front;
+use crate::front::example::on_front;
 use clock_setup::fixtures::ONE_PRODUCT;
 use std::alloc::Global;
 use std::process::Abort;

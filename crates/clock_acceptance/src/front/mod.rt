@@ -1,14 +1,15 @@
+//! Requests, hubs and streams, from their bytes to those of their replies.
 mod answers;
 mod bodies;
 mod endless;
 mod events;
+mod example;
 mod framing;
 mod heads;
 mod hostile;
 mod hubs;
 mod isolation;
 mod pieces;
-mod replies;
 mod requests;
 mod routes;
 mod rows;

@@ -2,9 +2,9 @@
 use super::hubs::{connected, on_hub};
 use super::requests::{fields_of, reply_with};
 use super::texts::{ACCEPTED, BIDS_OF_X, CUT_SHORT, LONG_HEAD, NO_SHEET, PUT, SHEET};
-use crate::example::on_front;
-use crate::{Conn, Fed, Front, Hub, serve_stream};
+use crate::front::example::on_front;
 use clock_device::{ListSink, ListSource, Text};
+use clock_front::{Conn, Fed, Front, Hub, serve_stream};
 use clock_processor::Plain;
 use clock_setup::fixtures::ONE_PRODUCT;
 use std::alloc::Global;
@@ -210,12 +210,16 @@ fn what_follows_a_request_is_ignored(rt: HostRuntime) -> Result<(), Fail> {
     is_told(&rt, rt.alloc(), text.as_slice(), ACCEPTED, SHEET)
 }
 
+/// So many spaces are told this reply.
+fn spaces_are_told(rt: &impl Abort, alloc: Global, count: usize, reply: &str) -> Result<(), Fail> {
+    let spaces = followed_by(alloc, "", b' ', count)?;
+    is_told(rt, alloc, spaces.as_slice(), reply, NO_SHEET)
+}
+
 #[test]
 fn spaces_are_too_long_a_head_at_the_limit(rt: HostRuntime) -> Result<(), Fail> {
-    let most = followed_by(rt.alloc(), "", b' ', 16_383)?;
-    is_told(&rt, rt.alloc(), most.as_slice(), CUT_SHORT, NO_SHEET)?;
-    let more = followed_by(rt.alloc(), "", b' ', 16_384)?;
-    is_told(&rt, rt.alloc(), more.as_slice(), LONG_HEAD, NO_SHEET)
+    spaces_are_told(&rt, rt.alloc(), 16_383, CUT_SHORT)?;
+    spaces_are_told(&rt, rt.alloc(), 16_384, LONG_HEAD)
 }
 
 #[test]

@@ -1,8 +1,8 @@
 //! The same where each request comes over a connection of its own, in single bytes.
 use super::{BY_W, BY_Y, OWN, PUBLIC, V_X_AND_W, X_AND_Y, text_of_row, told_x};
-use crate::tests::events::{connected, push_byte};
-use crate::tests::requests::setup_of;
-use crate::{Event, EventReplies, run_events};
+use crate::front::events::{connected, push_byte};
+use crate::front::requests::setup_of;
+use clock_front::{Event, EventReplies, run_events};
 use clock_processor::Plain;
 use std::alloc::Global;
 use std::process::Abort;

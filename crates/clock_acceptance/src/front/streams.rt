@@ -3,9 +3,9 @@ ghost use Rattle.std.specs.Prelude.{◌≤◌};
 
 use super::requests::reply_of;
 use super::texts::{ACCEPTED, BIDS_OF_X, NO_SHEET, PUT, SHEET};
-use crate::example::on_front;
-use crate::{Front, StreamFault, serve_stream};
+use crate::front::example::on_front;
 use clock_device::{ListSink, ListSource, Stop, Text};
+use clock_front::{Front, StreamFault, serve_stream};
 use clock_processor::Plain;
 use clock_setup::fixtures::ONE_PRODUCT;
 use clock_views::Code;

@@ -3,9 +3,9 @@ ghost use Rattle.std.specs.Prelude.{None, false};
 ghost use Rattle.clock_device.specs.Calls.{IsUnread};
 
 use super::texts::LONG_HEAD;
-use crate::example::on_front;
-use crate::{Front, StreamFault, serve_stream};
+use crate::front::example::on_front;
 use clock_device::{ListSink, Source, Stop};
+use clock_front::{Front, StreamFault, serve_stream};
 use clock_processor::Plain;
 use clock_setup::fixtures::ONE_PRODUCT;
 use clock_views::Code;

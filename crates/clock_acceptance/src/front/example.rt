@@ -1,6 +1,6 @@
 //! A front that is opened, asked and let go, as a library's caller does it.
 
-use crate::Front;
+use clock_front::Front;
 use clock_processor::Plain;
 use clock_setup::fixtures::ONE_PRODUCT;
 use clock_setup::read_setup;

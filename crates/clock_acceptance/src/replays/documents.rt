@@ -1,8 +1,8 @@
 //! What documents of replays mean.
-use crate::{ScriptFault, read_replay};
 use clock_device::{NoMemory, Text};
 use clock_setup::fixtures::{GRANULES_AND_INCREMENTS, ONE_PRODUCT};
 use clock_setup::{Place, SetupFault};
+use clock_sim::{ScriptFault, read_replay};
 use std::alloc::Global;
 use std::test::Fail;
 
@@ -69,7 +69,7 @@ const ROWS: [(&str, &str, &str, Option<ScriptFault>); 14] = [
 ];
 
 /// Pieces of a text, one after the other.
-pub(crate) fn joined(alloc: Global, pieces: &[&str]) -> Result<Text, NoMemory> {
+pub(super) fn joined(alloc: Global, pieces: &[&str]) -> Result<Text, NoMemory> {
     let mut text = Text::new(alloc);
     for piece in pieces {
         text.extend_from_slice(piece.as_bytes())?;
@@ -78,7 +78,7 @@ pub(crate) fn joined(alloc: Global, pieces: &[&str]) -> Result<Text, NoMemory> {
 }
 
 /// A document with these closings, scripts and set-up.
-pub(crate) fn document(
+pub(super) fn document(
     alloc: Global,
     closings: &str,
     scripts: &str,

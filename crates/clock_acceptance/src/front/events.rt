@@ -1,6 +1,6 @@
 //! Pieces of one byte, as events.
-use crate::Event;
 use clock_device::Text;
+use clock_front::Event;
 use std::alloc::Global;
 use std::test::Fail;
 
