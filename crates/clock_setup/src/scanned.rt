@@ -79,11 +79,15 @@ impl<'v> ProductParts<'v> {
         ensures version { IfSome result (λ r. IsWithin 1 latest_version r.0) }
         ensures first_version { IfSome result (λ r. r.0 ≡ 1 → r.1.granule ≡ first_granule) }
     {
-        let name = self.name?;
-        let units = self.units?;
-        let supply = self.supply?;
-        let cap = self.cap?;
-        let opening = self.opening?;
+        let (Some(name), Some(units), Some(supply), Some(cap), Some(opening)) = (
+            self.name,
+            self.units,
+            self.supply,
+            self.cap,
+            self.opening,
+        ) else {
+            return None;
+        };
         match self.granule {
             None => Some((
                 1,
@@ -226,9 +230,10 @@ impl<'v> BidderParts<'v> {
         ensures { IfSome result (λ entry. object (members_of
             (bidder_fields self.entry.eligibility (option_map (λ t. t.now) self.entry.name) (option_map (λ t. t.now) self.entry.token))) ≡ bidder_data entry) }
     {
-        let name = self.name?;
-        let token = self.token?;
-        let eligibility = self.eligibility?;
+        let (Some(name), Some(token), Some(eligibility)) = (self.name, self.token, self.eligibility)
+        else {
+            return None;
+        };
         Some(BidderEntry {
             name,
             token,
