@@ -18,7 +18,7 @@ use Rattle.clock_setup.specs.Limits.{SetupFields, IsProduct, IsRow, is_within, c
 use Rattle.clock_setup.specs.SetupDocument.{setup_of}
 use Rattle.clock_setup.specs.OpeningShape.{OpeningParts, parts_of}
 use Rattle.clock_setup.specs.OpeningDocument.{has_counts, demand_checks, row_checks, opening_checks, in_opening, opening_of}
-use Rattle.clock_setup.proofs.FaultLaws.{passed, failed, turn_passed, turn_failed, turn_none}
+use Rattle.clock_setup.proofs.FaultLaws.{turn_passed, turn_failed, turn_none}
 
 -- a pair of two lists
 pub zip_at : {A B : Type 0} (ks : List A) (vs : List B) (i : ℕ) (a : A) (b : B) → i < length ks → i < length vs → a ≡ get_or ks i a → b ≡ get_or vs i b
