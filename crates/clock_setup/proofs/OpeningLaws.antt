@@ -1,6 +1,6 @@
 -- Laws of the checks of an opening document.
-use Rattle.std.proofs.Common.{◌≡◌, ℕ, ◌+◌, ◌<◌, ◌≤◌, All, ◌==◌, Bool, true, false, nat_le, if◌then◌else◌, List, [], ◌∷◌, ◌++◌, length, get_or, drop, zip, Option}
-use Rattle.std.proofs.Common.{Some, None, Result, Ok, Err, IfOk, IfErr, ◌≢◌, refl, sym, ap, ◌∙◌, subst, arith}
+use Rattle.std.proofs.Common.{◌≡◌, ℕ, ◌+◌, ◌<◌, ◌≤◌, All, ◌==◌, Bool, true, false, nat_le, if◌then◌else◌, List, [], ◌∷◌, ◌++◌, length, get_or, drop}
+use Rattle.std.proofs.Common.{zip, Option, Some, None, Result, Ok, Err, IfOk, IfErr, ◌≢◌, refl, sym, ap, ◌∙◌, subst, arith}
 use Rattle.std.specs.List.{list_all, AllPass}
 use Rattle.std.proofs.lemmas.Bool.{and_parts, le-leb, lt-leb}
 use Rattle.std.proofs.lemmas.Bool.Decides.{nat_tests}
