@@ -1,5 +1,5 @@
 -- A set-up whose checks all pass is within the limits that the type of set-ups keeps.
-use Rattle.std.proofs.Common.{◌≡◌, ℕ, ◌+◌, Bool, true, false, not, ◌||◌, List, [], ◌∷◌, length, map, Some, None, refl, ◌∙◌, Ok, codes}
+use Rattle.std.proofs.Common.{◌≡◌, ℕ, ◌+◌, Bool, true, false, not, ◌||◌, List, [], ◌∷◌, ◌++◌, length, map, All, Option, Some, None, refl, ◌∙◌, Ok, codes}
 use Rattle.std.specs.List.{list_any, list_all, IsDistinct, AllByRecursion}
 use Rattle.std.specs.Str.{bytes_eq}
 use Rattle.std.proofs.lemmas.Bool.{and_parts, leb-true, le-leb}
@@ -12,6 +12,8 @@ use Rattle.clock_money.specs.Price.{highest_price}
 use Rattle.clock_setup.specs.declared.setup.Product.{Product}
 use Rattle.clock_setup.specs.declared.setup.Bidder.{Bidder}
 use Rattle.clock_setup.specs.declared.fault.SetupFault.{SetupFault}
+use Rattle.clock_setup.specs.declared.fault.SetupFault.TheVariants.{Range}
+use Rattle.clock_setup.specs.declared.fault.Place.TheVariants.{Products, Bidders}
 use Rattle.clock_setup.specs.Limits.{SetupFields, IsWithin, is_within, IsName, is_name, IsToken, is_token, is_name_character}
 use Rattle.clock_setup.specs.Limits.{is_letter_or_digit, AreDistinct, is_distinct, IsProduct}
 use Rattle.clock_setup.specs.Limits.{IsBidder, IsSetup, IsOfFirstVersion, longest_name, shortest_token, longest_token, latest_version}
@@ -23,6 +25,7 @@ use Rattle.clock_setup.specs.SetupShape.{fields_of}
 use Rattle.clock_setup.proofs.FaultLaws.{passed, failed, both_pass}
 use Rattle.clock_setup.specs.Faults.{first_fault, in_turn}
 use Rattle.clock_setup.specs.SetupDocument.{product_checks, bidder_checks, setup_checks, has_distinct_names, has_distinct_tokens, setup_of}
+use Rattle.clock_setup.specs.SetupDocument.{head_checks, products_checks, bidders_checks, distinct_checks}
 
 -- every check passes
 abbrev pub Passing : {F : Type 0} → List (F × Bool) → Type 0
@@ -95,49 +98,103 @@ bidder_of_checks i bidder h =
       eligibility = leb-true bidder.eligibility most_eligibility pass.1.1.0;
     }
 
+-- where the counts of a list are within their limits, its items decide
+pub products_counted : (products : List Product) (first : Option SetupFault) → is_within 1 most_products (length products) ≡ true
+    → first_fault (in_turn product_checks 0 products) ≡ first → first_fault (products_checks products) ≡ first
+unfolding products_checks
+products_counted products first counted is = rw counted is
+
+pub products_uncounted : (products : List Product) → is_within 1 most_products (length products) ≡ false
+    → first_fault (products_checks products) ≡ Some (Range Products)
+unfolding products_checks
+products_uncounted products counted = rw counted refl
+
+pub bidders_counted : (bidders : List Bidder) (first : Option SetupFault) → is_within 1 most_bidders (length bidders) ≡ true
+    → first_fault (in_turn bidder_checks 0 bidders) ≡ first → first_fault (bidders_checks bidders) ≡ first
+unfolding bidders_checks
+bidders_counted bidders first counted is = rw counted is
+
+pub bidders_uncounted : (bidders : List Bidder) → is_within 1 most_bidders (length bidders) ≡ false
+    → first_fault (bidders_checks bidders) ≡ Some (Range Bidders)
+unfolding bidders_checks
+bidders_uncounted bidders counted = rw counted refl
+
+products_of_checks : (products : List Product) → first_fault (products_checks products) ≡ None
+    → IsWithin 1 most_products (length products) × All IsProduct products
+unfolding products_checks
+products_of_checks products h =
+    let counted = (Range Products, is_within 1 most_products (length products)) ∷ [] in
+    let both = both_pass counted (in_turn product_checks 0 products) h in (
+      within_of_test 1 most_products (length products) (passing counted both.0).0,
+      All-from_recursion IsProduct products (each_passes product_checks IsProduct product_of_checks 0 products both.1),
+    )
+
+bidders_of_checks : (bidders : List Bidder) → first_fault (bidders_checks bidders) ≡ None
+    → IsWithin 1 most_bidders (length bidders) × All IsBidder bidders
+unfolding bidders_checks
+bidders_of_checks bidders h =
+    let counted = (Range Bidders, is_within 1 most_bidders (length bidders)) ∷ [] in
+    let both = both_pass counted (in_turn bidder_checks 0 bidders) h in (
+      within_of_test 1 most_bidders (length bidders) (passing counted both.0).0,
+      All-from_recursion IsBidder bidders (each_passes bidder_checks IsBidder bidder_of_checks 0 bidders both.1),
+    )
+
 -- a set-up of a known version of which every check passes
 pub setup_within : (setup : SetupFields) → IsWithin 1 latest_version setup.version → (setup.version ≡ 1 → IsOfFirstVersion setup)
-    → is_within least_requirement most_requirement setup.requirement ≡ true
-    → is_within least_limit most_limit setup.limit ≡ true → is_token setup.operator ≡ true
-    → is_within 1 most_products (length setup.products) ≡ true → first_fault (in_turn product_checks 0 setup.products) ≡ None
-    → is_within 1 most_bidders (length setup.bidders) ≡ true → first_fault (in_turn bidder_checks 0 setup.bidders) ≡ None
-    → has_distinct_names setup ≡ true → has_distinct_tokens setup ≡ true → IsSetup setup
-setup_within setup version first_version requirement limit operator product_count products bidder_count bidders names tokens =
-    let apart = and_parts (is_distinct (map (λ product. product.name) setup.products)) (is_distinct (map (λ bidder. bidder.name) setup.bidders)) names in
+    → first_fault (head_checks setup) ≡ None → first_fault (products_checks setup.products) ≡ None → first_fault (bidders_checks setup.bidders) ≡ None
+    → first_fault (distinct_checks setup) ≡ None → IsSetup setup
+unfolding head_checks distinct_checks
+setup_within setup version first_version head_none products_none bidders_none distinct_none =
+    let head = passing (head_checks setup) head_none in
+    let products = products_of_checks setup.products products_none in
+    let bidders = bidders_of_checks setup.bidders bidders_none in
+    let distinct = passing (distinct_checks setup) distinct_none in
+    let apart = and_parts (is_distinct (map (λ product. product.name) setup.products)) (is_distinct (map (λ bidder. bidder.name) setup.bidders)) distinct.0 in
     record {
       version = version;
       first_version = first_version;
-      requirement = within_of_test least_requirement most_requirement setup.requirement requirement;
-      limit = within_of_test least_limit most_limit setup.limit limit;
-      operator = token_of_test setup.operator operator;
-      product_count = within_of_test 1 most_products (length setup.products) product_count;
-      products = All-from_recursion IsProduct setup.products (each_passes product_checks IsProduct product_of_checks 0 setup.products products);
-      bidder_count = within_of_test 1 most_bidders (length setup.bidders) bidder_count;
-      bidders = All-from_recursion IsBidder setup.bidders (each_passes bidder_checks IsBidder bidder_of_checks 0 setup.bidders bidders);
+      requirement = within_of_test least_requirement most_requirement setup.requirement head.0;
+      limit = within_of_test least_limit most_limit setup.limit head.1.0;
+      operator = token_of_test setup.operator head.1.1.0;
+      product_count = products.0;
+      products = products.1;
+      bidder_count = bidders.0;
+      bidders = bidders.1;
       product_names = distinct_of_test (map (λ product. product.name) setup.products) apart.0;
       bidder_names = distinct_of_test (map (λ bidder. bidder.name) setup.bidders) apart.1;
-      tokens = distinct_of_test (setup.operator ∷ map (λ bidder. bidder.token) setup.bidders) tokens;
+      tokens = distinct_of_test (setup.operator ∷ map (λ bidder. bidder.token) setup.bidders) distinct.1.0;
     }
 
--- the first fault of a set-up, where it is a product's
-pub product_fault_first : (setup : SetupFields) (fault : SetupFault) → is_within least_requirement most_requirement setup.requirement ≡ true
-    → is_within least_limit most_limit setup.limit ≡ true → is_token setup.operator ≡ true
-    → is_within 1 most_products (length setup.products) ≡ true → first_fault (in_turn product_checks 0 setup.products) ≡ Some fault
-    → first_fault (setup_checks setup) ≡ Some fault
-unfolding setup_checks
-product_fault_first setup fault requirement limit operator product_count products =
-    rw (requirement, limit, operator, product_count) (failed (in_turn product_checks 0 setup.products) _ fault products)
+checks_are : (setup : SetupFields) → first_fault (setup_checks setup)
+    ≡ first_fault (head_checks setup ++ (products_checks setup.products ++ (bidders_checks setup.bidders ++ distinct_checks setup)))
+unfolding setup_checks head_checks products_checks bidders_checks distinct_checks
+checks_are setup = refl
 
--- the first fault of a set-up, where it is a bidder's
-pub bidder_fault_first : (setup : SetupFields) (fault : SetupFault) → is_within least_requirement most_requirement setup.requirement ≡ true
-    → is_within least_limit most_limit setup.limit ≡ true → is_token setup.operator ≡ true
-    → is_within 1 most_products (length setup.products) ≡ true → first_fault (in_turn product_checks 0 setup.products) ≡ None
-    → is_within 1 most_bidders (length setup.bidders) ≡ true → first_fault (in_turn bidder_checks 0 setup.bidders) ≡ Some fault
+-- the first fault of a set-up, where it is one of its head
+pub head_first : (setup : SetupFields) (fault : SetupFault) → first_fault (head_checks setup) ≡ Some fault → first_fault (setup_checks setup) ≡ Some fault
+head_first setup fault head = checks_are setup ∙ failed (head_checks setup) _ fault head
+
+-- where it is one of the products
+pub products_first : (setup : SetupFields) (fault : SetupFault) → first_fault (head_checks setup) ≡ None
+    → first_fault (products_checks setup.products) ≡ Some fault → first_fault (setup_checks setup) ≡ Some fault
+products_first setup fault head products =
+    checks_are setup ∙ passed (head_checks setup) _ head ∙ failed (products_checks setup.products) _ fault products
+
+-- where it is one of the bidders
+pub bidders_first : (setup : SetupFields) (fault : SetupFault) → first_fault (head_checks setup) ≡ None
+    → first_fault (products_checks setup.products) ≡ None → first_fault (bidders_checks setup.bidders) ≡ Some fault
     → first_fault (setup_checks setup) ≡ Some fault
-unfolding setup_checks
-bidder_fault_first setup fault requirement limit operator product_count products bidder_count bidders =
-    rw (requirement, limit, operator, product_count)
-    (passed (in_turn product_checks 0 setup.products) _ products ∙ rw bidder_count (failed (in_turn bidder_checks 0 setup.bidders) _ fault bidders))
+bidders_first setup fault head products bidders =
+    checks_are setup ∙ passed (head_checks setup) _ head ∙ passed (products_checks setup.products) _ products
+    ∙ failed (bidders_checks setup.bidders) _ fault bidders
+
+-- behind those the names and tokens decide
+pub distinct_decide : (setup : SetupFields) (first : Option SetupFault) → first_fault (head_checks setup) ≡ None
+    → first_fault (products_checks setup.products) ≡ None → first_fault (bidders_checks setup.bidders) ≡ None
+    → first_fault (distinct_checks setup) ≡ first → first_fault (setup_checks setup) ≡ first
+distinct_decide setup first head products bidders is =
+    checks_are setup ∙ passed (head_checks setup) _ head ∙ passed (products_checks setup.products) _ products
+    ∙ passed (bidders_checks setup.bidders) _ bidders ∙ is
 
 -- ---- the other way: what is within the limits passes every check
 

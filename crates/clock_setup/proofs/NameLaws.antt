@@ -67,3 +67,16 @@ module _ {E : Type 0} (text_of : E → List ℕ) (texts : List (Bor (List ℕ)))
   -- no entry is left
   pub texts_end : length entries ≤ i → map (λ u. u.now) texts ≡ map text_of (take i entries) → map (λ u. u.now) texts ≡ map text_of entries
   texts_end past so_far = so_far ∙ ap (map text_of) (take_all i entries past)
+
+  -- the same behind a first text
+  pub text_pushed_behind : (first : List ℕ) (pushed : List (Bor (List ℕ))) (t : Bor (List ℕ)) (entry : E) → pushed ≡ texts ++ t ∷ [] → i < length entries
+      → entry ≡ get_or entries i entry → t.now ≡ text_of entry → map (λ u. u.now) texts ≡ first ∷ map text_of (take i entries)
+      → map (λ u. u.now) pushed ≡ first ∷ map text_of (take (i + 1) entries)
+  text_pushed_behind first pushed t entry is lt at same so_far =
+      ap (map (λ u. u.now)) is ∙ map-append (λ u. u.now) texts (t ∷ [])
+      ∙ ap₂ (λ before text. before ++ text ∷ []) so_far (same ∙ ap text_of at)
+      ∙ ap (λ rest. first ∷ rest) (sym (ap (map text_of) (take_more entries i entry lt) ∙ map-append text_of (take i entries) (get_or entries i entry ∷ [])))
+
+  pub texts_end_behind : (first : List ℕ) → length entries ≤ i → map (λ u. u.now) texts ≡ first ∷ map text_of (take i entries)
+      → map (λ u. u.now) texts ≡ first ∷ map text_of entries
+  texts_end_behind first past so_far = so_far ∙ ap (λ rest. first ∷ map text_of rest) (take_all i entries past)

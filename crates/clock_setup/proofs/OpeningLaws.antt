@@ -1,6 +1,6 @@
 -- Laws of the checks of an opening document.
-use Rattle.std.proofs.Common.{◌≡◌, ℕ, ◌+◌, ◌<◌, ◌≤◌, All, ◌==◌, Bool, true, false, nat_le, if◌then◌else◌, List, length, get_or, drop, zip, Option}
-use Rattle.std.proofs.Common.{Some, None, Result, Ok, Err, IfOk, IfErr, ◌≢◌, refl, sym, ap, ◌∙◌, subst, arith}
+use Rattle.std.proofs.Common.{◌≡◌, ℕ, ◌+◌, ◌<◌, ◌≤◌, All, ◌==◌, Bool, true, false, nat_le, if◌then◌else◌, List, [], ◌∷◌, ◌++◌, length, get_or, drop}
+use Rattle.std.proofs.Common.{zip, Option, Some, None, Result, Ok, Err, IfOk, IfErr, ◌≢◌, refl, sym, ap, ◌∙◌, subst, arith}
 use Rattle.std.specs.List.{list_all, AllPass}
 use Rattle.std.proofs.lemmas.Bool.{and_parts, le-leb, lt-leb}
 use Rattle.std.proofs.lemmas.Bool.Decides.{nat_tests}
@@ -18,7 +18,7 @@ use Rattle.clock_setup.specs.Limits.{SetupFields, IsProduct, IsRow, is_within, c
 use Rattle.clock_setup.specs.SetupDocument.{setup_of}
 use Rattle.clock_setup.specs.OpeningShape.{OpeningParts, parts_of}
 use Rattle.clock_setup.specs.OpeningDocument.{has_counts, demand_checks, row_checks, opening_checks, in_opening, opening_of}
-use Rattle.clock_setup.proofs.FaultLaws.{passed, failed, turn_passed, turn_failed, turn_none}
+use Rattle.clock_setup.proofs.FaultLaws.{turn_passed, turn_failed, turn_none}
 
 -- a pair of two lists
 pub zip_at : {A B : Type 0} (ks : List A) (vs : List B) (i : ℕ) (a : A) (b : B) → i < length ks → i < length vs → a ≡ get_or ks i a → b ≡ get_or vs i b
@@ -88,15 +88,15 @@ grid_of_counts setup demands h =
 abbrev pub whole : SetupFields → OpeningParts → Opening
 whole setup parts = record { setup = setup; grid = parts.demands; increment = parts.increment }
 
-by_increment : (opening : Opening) (b : Bool) → unless (if b then None else Some Increment) opening ≡ (if b then Ok opening else Err Increment)
-by_increment opening true = refl
-by_increment opening false = refl
-
 -- a document whose parts and set-up are known is judged by its other checks
 opening_at : (value : Data) (parts : OpeningParts) (setup : SetupFields) → parts_of value ≡ Some parts → setup_of parts.setup ≡ Ok setup
     → opening_of value ≡ unless (first_fault (opening_checks setup parts)) (whole setup parts)
 unfolding opening_of
 opening_at value parts setup read held = rw (read, held) refl
+
+pub opening_judged : (value : Data) (parts : OpeningParts) (setup : SetupFields) (first : Option OpeningFault) → parts_of value ≡ Some parts
+    → setup_of parts.setup ≡ Ok setup → first_fault (opening_checks setup parts) ≡ first → opening_of value ≡ unless first (whole setup parts)
+opening_judged value parts setup first read held is = opening_at value parts setup read held ∙ ap (λ fault. unless fault (whole setup parts)) is
 
 -- a document of another shape
 pub opening_shape : (value : Data) (fault : OpeningFault) → or_fault Shape (parts_of value) ≡ Err fault → opening_of value ≡ Err fault
@@ -109,33 +109,19 @@ pub opening_setup : (value : Data) (parts : OpeningParts) (fault : OpeningFault)
 unfolding opening_of
 opening_setup value parts fault read refused = rw (read, refused) refl
 
--- a document whose rows do not fit its set-up
-pub opening_counts : (value : Data) (parts : OpeningParts) (setup : SetupFields) → parts_of value ≡ Some parts → setup_of parts.setup ≡ Ok setup
-    → has_counts setup parts.demands ≡ false → opening_of value ≡ Err Shape
+-- rows that do not fit the set-up
+pub counts_fault : (setup : SetupFields) (parts : OpeningParts) → has_counts setup parts.demands ≡ false → first_fault (opening_checks setup parts) ≡ Some Shape
 unfolding opening_checks
-opening_counts value parts setup read held counts = opening_at value parts setup read held ∙ rw counts refl
+counts_fault setup parts counts = rw counts refl
 
--- a document with a fault of its rows
-pub opening_rows : (value : Data) (parts : OpeningParts) (setup : SetupFields) (fault : OpeningFault) → parts_of value ≡ Some parts
-    → setup_of parts.setup ≡ Ok setup
-    → has_counts setup parts.demands ≡ true → first_fault (in_turn (row_checks setup.products) 0 (zip setup.bidders parts.demands)) ≡ Some fault
-    → opening_of value ≡ Err fault
+-- behind counts that fit, the rows and the increment decide
+pub later_fault : (setup : SetupFields) (parts : OpeningParts) (rows : List (List ℕ)) (first : Option OpeningFault) → has_counts setup parts.demands ≡ true
+    → rows ≡ parts.demands
+    → first ≡ first_fault (in_turn (row_checks setup.products) 0 (zip setup.bidders rows)
+    ++ ((Increment, is_within least_increment most_increment parts.increment) ∷ []))
+    → first_fault (opening_checks setup parts) ≡ first
 unfolding opening_checks
-opening_rows value parts setup fault read held counts rows =
-    opening_at value parts setup read held
-    ∙ rw counts (ap (λ (o : Option OpeningFault). unless o (whole setup parts))
-    (failed (in_turn (row_checks setup.products) 0 (zip setup.bidders parts.demands)) _ fault rows))
-
--- a document with rows within their limits is judged by its increment
-pub opening_increment : (value : Data) (parts : OpeningParts) (setup : SetupFields) (b : Bool) → parts_of value ≡ Some parts → setup_of parts.setup ≡ Ok setup
-    → has_counts setup parts.demands ≡ true → first_fault (in_turn (row_checks setup.products) 0 (zip setup.bidders parts.demands)) ≡ None
-    → is_within least_increment most_increment parts.increment ≡ b
-    → opening_of value ≡ (if b then Ok (whole setup parts) else Err Increment)
-unfolding opening_checks
-opening_increment value parts setup b read held counts rows increment =
-    opening_at value parts setup read held
-    ∙ rw counts (ap (λ (o : Option OpeningFault). unless o (whole setup parts))
-    (passed (in_turn (row_checks setup.products) 0 (zip setup.bidders parts.demands)) _ rows) ∙ rw increment (by_increment (whole setup parts) b))
+later_fault setup parts rows first counts same is = rw (counts, ← same) (sym is)
 
 -- what is known of every document with these parts is known of one of them
 pub parts_ok : (value : Data) (parts : OpeningParts) (result : Result Opening OpeningFault) → parts_of value ≡ Some parts

@@ -1,13 +1,15 @@
 -- What is known of a set-up that a value of JSON has the shape of.
 use Rattle.std.proofs.Common.{◌≡◌, ℕ, Bool, true, false, List, ◌∷◌, All, Option, Some, None, codes, refl, sym, ap, ◌∙◌, subst}
-use Rattle.std.specs.Prelude.{if◌then◌else◌, option_and_then}
+use Rattle.std.specs.Prelude.{if◌then◌else◌, option_and_then, option_map}
 use Rattle.std.proofs.lemmas.List.Elements.{All-nil, All-cons}
 use Rattle.serde_json.specs.Data.{Data, Items, no_items, item}
+use Rattle.serde_json.specs.Find.{get}
 use Rattle.clock_setup.specs.declared.setup.Product.{Product}
 use Rattle.clock_setup.specs.declared.setup.Bidder.{Bidder}
 use Rattle.clock_setup.specs.Limits.{SetupFields, IsOfFirstVersion, first_granule, first_limit}
 use Rattle.clock_setup.specs.Members.{number_at, text_at, items_at, has_members, each, ◌>>=◌}
 use Rattle.clock_setup.specs.SetupShape.{added_number, key_count, product_of, bidder_of, fields_of}
+use Rattle.clock_setup.specs.OpeningShape.{OpeningParts, row_of, parts_of}
 
 if_some : {A : Type 0} (b : Bool) (x y : A) → (if b then Some x else None) ≡ Some y → x ≡ y
 if_some true x y h = cc
@@ -110,3 +112,64 @@ of_first_version value setup h first =
       limit = first_added setup.version setup.limit first_limit (codes "limit") value first shape.1;
       granules = listed setup.version (items_at (codes "products") value) setup.products first shape.2;
     }
+
+-- the opening that its members make
+abbrev parts_from : Option Data → Option (List (List ℕ)) → Option ℕ → Bool → Option OpeningParts
+parts_from setup demands increment count =
+    setup >>= λ setup. (demands >>= λ demands. (increment >>= λ increment.
+    if count then Some (record { setup = setup; demands = demands; increment = increment }) else None))
+
+without_demands : (setup : Option Data) (increment : Option ℕ) (count : Bool) → parts_from setup None increment count ≡ None
+without_demands None increment count = refl
+without_demands (Some setup) increment count = refl
+
+without_increment : (setup : Option Data) (demands : Option (List (List ℕ))) (count : Bool) → parts_from setup demands None count ≡ None
+without_increment None demands count = refl
+without_increment (Some setup) None count = refl
+without_increment (Some setup) (Some demands) count = refl
+
+without_count : (setup : Option Data) (demands : Option (List (List ℕ))) (increment : Option ℕ) → parts_from setup demands increment false ≡ None
+without_count None demands increment = refl
+without_count (Some setup) None increment = refl
+without_count (Some setup) (Some demands) None = refl
+without_count (Some setup) (Some demands) (Some increment) = refl
+
+abbrev rows_in : Data → Option (List (List ℕ))
+rows_in value = option_and_then (each row_of) (items_at (codes "demands") value)
+
+-- a document with no set-up is no opening
+pub no_setup : (value : Data) → get (codes "setup") value ≡ None → parts_of value ≡ None
+unfolding parts_of
+no_setup value is = rw is refl
+
+-- nor is one with no rows
+pub no_rows : (value : Data) → items_at (codes "demands") value ≡ None → parts_of value ≡ None
+unfolding parts_of
+no_rows value is =
+    ap (λ items. parts_from (get (codes "setup") value) (option_and_then (each row_of) items) (number_at (codes "increment") value) (has_members 3 value)) is
+    ∙ without_demands (get (codes "setup") value) (number_at (codes "increment") value) (has_members 3 value)
+
+-- nor is one with no increment
+pub no_increment : (value : Data) → number_at (codes "increment") value ≡ None → parts_of value ≡ None
+unfolding parts_of
+no_increment value is =
+    ap (λ increment. parts_from (get (codes "setup") value) (rows_in value) increment (has_members 3 value)) is
+    ∙ without_increment (get (codes "setup") value) (rows_in value) (has_members 3 value)
+
+-- nor is one with more or fewer members
+pub no_count : (value : Data) → has_members 3 value ≡ false → parts_of value ≡ None
+unfolding parts_of
+no_count value is =
+    ap (parts_from (get (codes "setup") value) (rows_in value) (number_at (codes "increment") value)) is
+    ∙ without_count (get (codes "setup") value) (rows_in value) (number_at (codes "increment") value)
+
+-- where all else is there, the rows decide
+pub rows_decide : (value setup : Data) (items : Items) (demands : Option (List (List ℕ))) (increment : ℕ) → get (codes "setup") value ≡ Some setup
+    → items_at (codes "demands") value ≡ Some items
+    → each row_of items ≡ demands
+    → number_at (codes "increment") value ≡ Some increment
+    → has_members 3 value ≡ true
+    → parts_of value ≡ option_map (λ demands. record { setup = setup; demands = demands; increment = increment }) demands
+unfolding parts_of
+rows_decide value setup items None increment found listed rows number count = rw (found, listed, rows) refl
+rows_decide value setup items (Some demands) increment found listed rows number count = rw (found, listed, rows, number, count) refl

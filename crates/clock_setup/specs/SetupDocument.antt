@@ -48,7 +48,27 @@ has_distinct_names setup =
 abbrev pub has_distinct_tokens : SetupFields → Bool
 has_distinct_tokens setup = is_distinct (setup.operator ∷ map (λ bidder. bidder.token) setup.bidders)
 
--- the limits of a set-up, in the order in which they are looked at
+-- its parts that stand before the products
+unfoldable pub head_checks : SetupFields → List (SetupFault × Bool)
+head_checks setup =
+    (Range Requirement, is_within least_requirement most_requirement setup.requirement)
+    ∷ (Range Limit, is_within least_limit most_limit setup.limit)
+    ∷ (Range Operator, is_token setup.operator)
+    ∷ []
+
+-- how many products there are, then each of them
+unfoldable pub products_checks : List Product → List (SetupFault × Bool)
+products_checks products = (Range Products, is_within 1 most_products (length products)) ∷ in_turn product_checks 0 products
+
+-- how many bidders there are, then each of them
+unfoldable pub bidders_checks : List Bidder → List (SetupFault × Bool)
+bidders_checks bidders = (Range Bidders, is_within 1 most_bidders (length bidders)) ∷ in_turn bidder_checks 0 bidders
+
+-- its names, then its tokens
+unfoldable pub distinct_checks : SetupFields → List (SetupFault × Bool)
+distinct_checks setup = (DuplicateName, has_distinct_names setup) ∷ (DuplicateToken, has_distinct_tokens setup) ∷ []
+
+-- the limits of a set-up, in the order in which they are looked at: those four lists, one behind the other
 unfoldable pub setup_checks : SetupFields → List (SetupFault × Bool)
 setup_checks setup =
     (Range Requirement, is_within least_requirement most_requirement setup.requirement)

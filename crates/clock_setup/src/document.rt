@@ -11,8 +11,8 @@ ghost use Rattle.clock_setup.specs.SetupDocument as document;
 use crate::entries::{SetupEntries, setup_entries};
 use crate::fault::{Place, SetupFault};
 use crate::limits::{
-    LATEST_VERSION, LEAST_LIMIT, LEAST_REQUIREMENT, MOST_BIDDERS, MOST_LIMIT, MOST_PRODUCTS,
-    MOST_REQUIREMENT, bidders_within, is_token, is_within, products_within,
+    LATEST_VERSION, LEAST_LIMIT, LEAST_REQUIREMENT, MOST_LIMIT, MOST_REQUIREMENT, bidders_within,
+    is_token, is_within, products_within,
 };
 use crate::members::{number_at, read_value};
 use crate::names::{bidder_names, is_distinct, product_names, tokens};
@@ -40,8 +40,39 @@ fn has_distinct_tokens(alloc: Global, entries: &SetupEntries) -> Result<bool, Al
     is_distinct(alloc, tokens.as_slice())
 }
 
+/// The first fault of the parts that stand before the products.
+#[tactic(auto, unfolding(crate::specs::SetupDocument::head_checks))]
+fn head_fault(entries: &SetupEntries) -> Option<SetupFault>
+    ensures { result ≡ first_fault (document.head_checks entries.now) }
+{
+    if !is_within(LEAST_REQUIREMENT, MOST_REQUIREMENT, entries.requirement) {
+        return Some(SetupFault::Range(Place::Requirement));
+    }
+    if !is_within(LEAST_LIMIT, MOST_LIMIT, entries.limit) {
+        return Some(SetupFault::Range(Place::Limit));
+    }
+    if !is_token(entries.operator) {
+        return Some(SetupFault::Range(Place::Operator));
+    }
+    None
+}
+
+/// Refuses names, and then tokens, that are not distinct.
+#[tactic(auto, unfolding(crate::specs::SetupDocument::distinct_checks))]
+fn check_distinct(alloc: Global, entries: &SetupEntries) -> Result<(), SetupFault>
+    ensures ok { OnOk result (first_fault (document.distinct_checks entries.now) ≡ None) }
+    ensures err { IfErr result (IsFirstFault SetupFault.NoMemory (first_fault (document.distinct_checks entries.now))) }
+{
+    if !has_distinct_names(alloc, entries)? {
+        return Err(SetupFault::DuplicateName);
+    }
+    if !has_distinct_tokens(alloc, entries)? {
+        return Err(SetupFault::DuplicateToken);
+    }
+    Ok(())
+}
+
 /// The set-up, where it is within its limits, or the first fault.
-#[tactic(auto, using(crate::proofs::FaultLaws::fault_lists), unfolding(crate::specs::SetupDocument::setup_checks))]
 pub(crate) fn within_limits(alloc: Global, entries: &SetupEntries) -> Result<Setup, SetupFault>
     requires version { IsWithin 1 latest_version entries.now.version }
     requires first_version { entries.now.version ≡ 1 → IsOfFirstVersion entries.now }
@@ -49,29 +80,12 @@ pub(crate) fn within_limits(alloc: Global, entries: &SetupEntries) -> Result<Set
     ensures ok { IfOk result (λ _. first_fault (document.setup_checks entries.now) ≡ None) }
     ensures err { IfErr result (IsFirstFault SetupFault.NoMemory (first_fault (document.setup_checks entries.now))) }
 {
-    if !is_within(LEAST_REQUIREMENT, MOST_REQUIREMENT, entries.requirement) {
-        return Err(SetupFault::Range(Place::Requirement));
-    }
-    if !is_within(LEAST_LIMIT, MOST_LIMIT, entries.limit) {
-        return Err(SetupFault::Range(Place::Limit));
-    }
-    if !is_token(entries.operator) {
-        return Err(SetupFault::Range(Place::Operator));
-    }
-    if !is_within(1, MOST_PRODUCTS, entries.products.len() as u64) {
-        return Err(SetupFault::Range(Place::Products));
+    if let Some(fault) = head_fault(entries) {
+        return Err(fault);
     }
     let products = products_within(alloc, entries.products.as_slice())?;
-    if !is_within(1, MOST_BIDDERS, entries.bidders.len() as u64) {
-        return Err(SetupFault::Range(Place::Bidders));
-    }
     let bidders = bidders_within(alloc, entries.bidders.as_slice())?;
-    if !has_distinct_names(alloc, entries)? {
-        return Err(SetupFault::DuplicateName);
-    }
-    if !has_distinct_tokens(alloc, entries)? {
-        return Err(SetupFault::DuplicateToken);
-    }
+    check_distinct(alloc, entries)?;
     Ok(Setup {
         version: entries.version,
         limit: entries.limit,

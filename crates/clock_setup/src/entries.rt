@@ -109,12 +109,16 @@ fn has_keys(value: &Value, version: u64, in_first: usize) -> bool
 fn product_entry(value: &Value, version: u64) -> Option<ProductEntry<'_>>
     ensures { result ≡ product_of version (view value.now) }
 {
-    let name = text_at(value, "name")?;
-    let units = number_at(value, "units")?;
-    let supply = number_at(value, "supply")?;
-    let cap = number_at(value, "cap")?;
-    let opening = number_at(value, "opening")?;
-    let granule = added_number(value, version, FIRST_GRANULE, "granule")?;
+    let (Some(name), Some(units), Some(supply), Some(cap), Some(opening), Some(granule)) = (
+        text_at(value, "name"),
+        number_at(value, "units"),
+        number_at(value, "supply"),
+        number_at(value, "cap"),
+        number_at(value, "opening"),
+        added_number(value, version, FIRST_GRANULE, "granule"),
+    ) else {
+        return None;
+    };
     if has_keys(value, version, 5) {
         Some(ProductEntry {
             name,
@@ -134,9 +138,13 @@ fn product_entry(value: &Value, version: u64) -> Option<ProductEntry<'_>>
 fn bidder_entry(value: &Value) -> Option<BidderEntry<'_>>
     ensures { result ≡ bidder_of (view value.now) }
 {
-    let name = text_at(value, "name")?;
-    let token = text_at(value, "token")?;
-    let eligibility = number_at(value, "eligibility")?;
+    let (Some(name), Some(token), Some(eligibility)) = (
+        text_at(value, "name"),
+        text_at(value, "token"),
+        number_at(value, "eligibility"),
+    ) else {
+        return None;
+    };
     if has_members(value, 3) {
         Some(BidderEntry {
             name,

@@ -1,8 +1,8 @@
 ghost use Rattle.std.specs.Prelude.{◌≡◌, None, IfOk, IfErr};
 ghost use Rattle.std.specs.List.{list_all};
 ghost use Rattle.clock_setup.specs.Limits as limits;
-ghost use Rattle.clock_setup.specs.Faults.{IsFirstFault, first_fault, in_turn};
-ghost use Rattle.clock_setup.specs.SetupDocument.{product_checks, bidder_checks};
+ghost use Rattle.clock_setup.specs.Faults.{IsFirstFault, first_fault};
+ghost use Rattle.clock_setup.specs.SetupDocument.{product_checks, bidder_checks, products_checks, bidders_checks};
 
 use crate::entries::{BidderEntry, ProductEntry};
 use crate::fault::{Place, SetupFault};
@@ -158,15 +158,18 @@ fn bidder_within(alloc: Global, i: u64, entry: &BidderEntry) -> Result<Bidder, S
     })
 }
 
-/// Products within their limits, or the first fault.
+/// Products of which there are so many as there may be, within their limits, or the first fault.
 pub(crate) fn products_within(
     alloc: Global,
     entries: &[ProductEntry],
 ) -> Result<Products, SetupFault>
     ensures same { IfOk result (λ products. products ≡ entries.now) }
-    ensures ok { IfOk result (λ _. first_fault (in_turn product_checks 0 entries.now) ≡ None) }
-    ensures err { IfErr result (IsFirstFault SetupFault.NoMemory (first_fault (in_turn product_checks 0 entries.now))) }
+    ensures ok { IfOk result (λ _. first_fault (products_checks entries.now) ≡ None) }
+    ensures err { IfErr result (IsFirstFault SetupFault.NoMemory (first_fault (products_checks entries.now))) }
 {
+    if !is_within(1, MOST_PRODUCTS, entries.len() as u64) {
+        return Err(SetupFault::Range(Place::Products));
+    }
     let mut products = Vec::with_capacity(alloc, entries.len())?;
     for (i, entry) in entries.iter().enumerate() {
         let product = product_within(alloc, i as u64, entry)?;
@@ -175,12 +178,15 @@ pub(crate) fn products_within(
     Ok(Products::from_vec(products))
 }
 
-/// Bidders within their limits, or the first fault.
+/// Bidders of whom there are so many as there may be, within their limits, or the first fault.
 pub(crate) fn bidders_within(alloc: Global, entries: &[BidderEntry]) -> Result<Bidders, SetupFault>
     ensures same { IfOk result (λ bidders. bidders ≡ entries.now) }
-    ensures ok { IfOk result (λ _. first_fault (in_turn bidder_checks 0 entries.now) ≡ None) }
-    ensures err { IfErr result (IsFirstFault SetupFault.NoMemory (first_fault (in_turn bidder_checks 0 entries.now))) }
+    ensures ok { IfOk result (λ _. first_fault (bidders_checks entries.now) ≡ None) }
+    ensures err { IfErr result (IsFirstFault SetupFault.NoMemory (first_fault (bidders_checks entries.now))) }
 {
+    if !is_within(1, MOST_BIDDERS, entries.len() as u64) {
+        return Err(SetupFault::Range(Place::Bidders));
+    }
     let mut bidders = Vec::with_capacity(alloc, entries.len())?;
     for (i, entry) in entries.iter().enumerate() {
         let bidder = bidder_within(alloc, i as u64, entry)?;

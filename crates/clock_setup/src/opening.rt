@@ -11,15 +11,13 @@ ghost use Rattle.clock_setup.specs.SetupDocument as document;
 use crate::document::{setup_of, within_limits};
 use crate::fault::SetupFault;
 use crate::grid::Grid;
-use crate::limits::is_within;
 use crate::members::read_value;
 use crate::parts::source_parts;
-use crate::rows::{grid_within, has_counts};
+use crate::rows::grid_within;
 use crate::scanned_opening::scanned_opening;
 use crate::setup::Setup;
 use crate::source::{HeldSetup, Source};
 use clock_device::NoMemory;
-use clock_money::{LEAST_INCREMENT, MOST_INCREMENT};
 use clock_scan::{FlatRows, Stop};
 use std::alloc::{AllocError, AllocFailed, Global};
 use thiserror::Error;
@@ -145,13 +143,7 @@ fn opening_of_parts(
     ensures held { IfErr result (λ fault. fault ≢ OpeningFault.Setup SetupFault.NoMemory) }
 {
     let setup = held_setup(alloc, held)?;
-    if !has_counts(&setup, &demands) {
-        return Err(OpeningFault::Shape);
-    }
-    let grid = grid_within(alloc, &setup, demands)?;
-    if !is_within(LEAST_INCREMENT, MOST_INCREMENT, increment) {
-        return Err(OpeningFault::Increment);
-    }
+    let grid = grid_within(alloc, &setup, demands, increment)?;
     Ok(Opening {
         setup,
         grid,

@@ -1,20 +1,23 @@
-ghost use Rattle.std.specs.Prelude.{◌≡◌, ◌≢◌, ◌*◌, ◌≤◌, None, Some, length, zip, All, IfOk, IfErr, IfNone};
+ghost use Rattle.std.specs.Prelude.{◌≡◌, ◌≢◌, ◌*◌, ◌≤◌, ◌++◌, ◌∷◌, [], None, Some, length, zip, All, IfOk, IfErr, IfNone};
+ghost use Rattle.serde_json.specs.Data.{Data};
 ghost use Rattle.clock_setup.specs.Demands.{rows_of, IsGrid};
-ghost use Rattle.clock_setup.specs.Faults.{IsFirstFault, first_fault, in_turn};
-ghost use Rattle.clock_setup.specs.Limits.{IsRow, most_supply};
+ghost use Rattle.clock_setup.specs.Faults.{first_fault, in_turn};
+ghost use Rattle.clock_setup.specs.Limits.{IsRow, IsWithin, is_within, least_increment, most_increment, most_supply};
 ghost use Rattle.clock_setup.specs.OpeningDocument as document;
-ghost use Rattle.clock_setup.specs.OpeningDocument.{demand_checks, row_checks};
+ghost use Rattle.clock_setup.specs.OpeningDocument.{demand_checks, row_checks, opening_checks};
 
 use crate::eligibility::activity;
 use crate::fault::SetupFault;
 use crate::grid::{Amounts, Grid, row_at};
+use crate::limits::is_within;
 use crate::opening::OpeningFault;
 use crate::setup::{Bidder, Product, Setup};
+use clock_money::{LEAST_INCREMENT, MOST_INCREMENT};
 use clock_scan::FlatRows;
 use std::alloc::Global;
 
 /// Whether there is a row for each bidder, and in each row a number for each product.
-pub(crate) fn has_counts(setup: &Setup, demands: &FlatRows) -> bool
+fn has_counts(setup: &Setup, demands: &FlatRows) -> bool
     ensures { result ≡ document.has_counts setup.now demands.now }
 {
     demands.count() == setup.bidders.as_slice().len()
@@ -74,22 +77,47 @@ fn rows_fault(setup: &Setup, demands: &[u64]) -> Option<OpeningFault>
     None
 }
 
-/// The grid of rows that have no fault, or their first fault.
+/// The first fault of the rows that stand in one list, or else of the increment.
+fn fault_of(setup: &Setup, demands: &[u64], increment: u64) -> Option<OpeningFault>
+    requires { length setup.now.bidders * length setup.now.products ≤ length demands.now }
+    ensures fault { result ≡ first_fault (in_turn (row_checks setup.now.products) 0
+        (zip setup.now.bidders (rows_of (length setup.now.bidders) (length setup.now.products) demands.now))
+        ++ ((OpeningFault.Increment, is_within least_increment most_increment increment) ∷ [])) }
+    ensures small { IfNone result (All (λ row. All (λ demand. demand ≤ most_supply) row)
+        (rows_of (length setup.now.bidders) (length setup.now.products) demands.now)) }
+    ensures increment { IfNone result (IsWithin least_increment most_increment increment) }
+    ensures held { result ≢ Some (OpeningFault.Setup SetupFault.NoMemory) }
+{
+    if let Some(fault) = rows_fault(setup, demands) {
+        return Some(fault);
+    }
+    if !is_within(LEAST_INCREMENT, MOST_INCREMENT, increment) {
+        return Some(OpeningFault::Increment);
+    }
+    None
+}
+
+/// The grid of a set-up's demands, or the first fault that these or the increment have.
 pub(crate) fn grid_within(
     alloc: Global,
     setup: &Setup,
     demands: FlatRows,
+    increment: u64,
 ) -> Result<Grid, OpeningFault>
-    requires { IsGrid (length setup.now.bidders) (length setup.now.products) demands }
     ensures same { IfOk result (λ grid. grid ≡ demands) }
-    ensures ok { IfOk result (λ _. first_fault
-        (in_turn (row_checks setup.now.products) 0 (zip setup.now.bidders demands)) ≡ None) }
-    ensures err { IfErr result (IsFirstFault OpeningFault.NoMemory (first_fault
-        (in_turn (row_checks setup.now.products) 0 (zip setup.now.bidders demands)))) }
+    ensures grid { IfOk result (λ grid. IsGrid (length setup.now.bidders) (length setup.now.products) grid) }
+    ensures increment { IfOk result (λ _. IsWithin least_increment most_increment increment) }
+    ensures ok { IfOk result (λ _. (held : Data)
+        → first_fault (opening_checks setup.now (record { setup = held; demands = demands; increment = increment })) ≡ None) }
+    ensures err { IfErr result (λ fault. fault ≢ OpeningFault.NoMemory → (held : Data)
+        → first_fault (opening_checks setup.now (record { setup = held; demands = demands; increment = increment })) ≡ Some fault) }
     ensures held { IfErr result (λ fault. fault ≢ OpeningFault.Setup SetupFault.NoMemory) }
 {
+    if !has_counts(setup, &demands) {
+        return Err(OpeningFault::Shape);
+    }
     let numbers = Amounts::from_vec(demands.into_numbers());
-    if let Some(fault) = rows_fault(setup, numbers.as_slice()) {
+    if let Some(fault) = fault_of(setup, numbers.as_slice(), increment) {
         return Err(fault);
     }
     let grid = Grid::of_numbers(alloc, setup, numbers)?;

@@ -1,9 +1,10 @@
 //! The parts of a set-up read without a tree, where no text has an escape and each number is written in digits alone.
-ghost use Rattle.std.specs.Prelude.{◌≡◌, ◌⊎◌, ◌<◌, length, option_map, All, IfSome, IfOk, OnOk};
+ghost use Rattle.std.specs.Prelude.{◌≡◌, ◌⊎◌, ◌<◌, length, All, IfSome, IfOk, OnOk};
 ghost use Rattle.clock_scan.specs.Reading.{members_of, Reads, AddsMember};
 ghost use Rattle.serde_json.specs.Data.{object};
 ghost use Rattle.clock_setup.specs.Limits.{IsWithin, latest_version, first_granule};
-ghost use Rattle.clock_setup.specs.SetupData.{product_fields, product_data, products_data, bidder_fields, bidder_data, bidders_data};
+ghost use Rattle.clock_setup.specs.SetupData.{product_data, products_data, bidder_data, bidders_data};
+ghost use Rattle.clock_setup.specs.FoundEntries.{found_product, found_bidder};
 
 use crate::entries::{BidderEntry, FIRST_GRANULE, ProductEntry};
 use clock_scan::{Scan, Stop, is_key};
@@ -21,69 +22,56 @@ struct ProductParts<'v> {
 }
 
 impl<'v> ProductParts<'v> {
-    /// What was found, with the next member.
-    fn with(self, scan: &mut Scan<'v>) -> Option<ProductParts<'v>>
-        ensures value { IfSome result (λ parts. AddsMember 0 scan.old
-            (product_fields self.entry.cap self.entry.granule (option_map (λ t. t.now) self.entry.name)
-            self.entry.opening self.entry.supply self.entry.units) scan.new
-            (product_fields parts.cap parts.granule (option_map (λ t. t.now) parts.name) parts.opening parts.supply parts.units)) }
+    /// Reads the next member.
+    fn read_member(&mut self, scan: &mut Scan<'v>) -> Option<()>
+        ensures value { IfSome result (λ _. AddsMember 0 scan.old (found_product self.old) scan.new (found_product self.new)) }
         ensures shorter { IfSome result (λ _. length scan.new < length scan.old) }
     {
         let key = scan.key()?;
         if is_key(key, "name") {
             let text = scan.text()?;
-            return Some(ProductParts {
-                name: Some(text),
-                ..self
-            });
+            self.name = Some(text);
+            return Some(());
         }
         let number = scan.number()?;
         if is_key(key, "cap") {
-            return Some(ProductParts {
-                cap: Some(number),
-                ..self
-            });
+            self.cap = Some(number);
+            return Some(());
         }
         if is_key(key, "opening") {
-            return Some(ProductParts {
-                opening: Some(number),
-                ..self
-            });
+            self.opening = Some(number);
+            return Some(());
         }
         if is_key(key, "supply") {
-            return Some(ProductParts {
-                supply: Some(number),
-                ..self
-            });
+            self.supply = Some(number);
+            return Some(());
         }
         if is_key(key, "units") {
-            return Some(ProductParts {
-                units: Some(number),
-                ..self
-            });
+            self.units = Some(number);
+            return Some(());
         }
         if is_key(key, "granule") {
-            return Some(ProductParts {
-                granule: Some(number),
-                ..self
-            });
+            self.granule = Some(number);
+            return Some(());
         }
         None
     }
 
     /// The product, and the first version of documents in which one has these keys.
     fn entry(self) -> Option<(u64, ProductEntry<'v>)>
-        ensures value { IfSome result (λ r. object (members_of
-            (product_fields self.entry.cap self.entry.granule (option_map (λ t. t.now) self.entry.name)
-            self.entry.opening self.entry.supply self.entry.units)) ≡ product_data r.0 r.1) }
+        ensures value { IfSome result (λ r. object (members_of (found_product self.entry)) ≡ product_data r.0 r.1) }
         ensures version { IfSome result (λ r. IsWithin 1 latest_version r.0) }
         ensures first_version { IfSome result (λ r. r.0 ≡ 1 → r.1.granule ≡ first_granule) }
     {
-        let name = self.name?;
-        let units = self.units?;
-        let supply = self.supply?;
-        let cap = self.cap?;
-        let opening = self.opening?;
+        let (Some(name), Some(units), Some(supply), Some(cap), Some(opening)) = (
+            self.name,
+            self.units,
+            self.supply,
+            self.cap,
+            self.opening,
+        ) else {
+            return None;
+        };
         match self.granule {
             None => Some((
                 1,
@@ -130,7 +118,7 @@ fn product<'v>(scan: &mut Scan<'v>) -> Option<(u64, ProductEntry<'v>)>
         units: None,
     };
     'members: while !scan.closes_object() {
-        parts = parts.with(scan)?;
+        parts.read_member(scan)?;
     }
     let (version, entry) = parts.entry()?;
     Some((version, entry))
@@ -190,45 +178,37 @@ struct BidderParts<'v> {
 }
 
 impl<'v> BidderParts<'v> {
-    /// What was found, with the next member.
-    fn with(self, scan: &mut Scan<'v>) -> Option<BidderParts<'v>>
-        ensures value { IfSome result (λ parts. AddsMember 0 scan.old
-            (bidder_fields self.entry.eligibility (option_map (λ t. t.now) self.entry.name) (option_map (λ t. t.now) self.entry.token)) scan.new
-            (bidder_fields parts.eligibility (option_map (λ t. t.now) parts.name) (option_map (λ t. t.now) parts.token))) }
+    /// Reads the next member.
+    fn read_member(&mut self, scan: &mut Scan<'v>) -> Option<()>
+        ensures value { IfSome result (λ _. AddsMember 0 scan.old (found_bidder self.old) scan.new (found_bidder self.new)) }
         ensures shorter { IfSome result (λ _. length scan.new < length scan.old) }
     {
         let key = scan.key()?;
         if is_key(key, "eligibility") {
             let number = scan.number()?;
-            return Some(BidderParts {
-                eligibility: Some(number),
-                ..self
-            });
+            self.eligibility = Some(number);
+            return Some(());
         }
         let text = scan.text()?;
         if is_key(key, "name") {
-            return Some(BidderParts {
-                name: Some(text),
-                ..self
-            });
+            self.name = Some(text);
+            return Some(());
         }
         if is_key(key, "token") {
-            return Some(BidderParts {
-                token: Some(text),
-                ..self
-            });
+            self.token = Some(text);
+            return Some(());
         }
         None
     }
 
     /// The bidder.
     fn entry(self) -> Option<BidderEntry<'v>>
-        ensures { IfSome result (λ entry. object (members_of
-            (bidder_fields self.entry.eligibility (option_map (λ t. t.now) self.entry.name) (option_map (λ t. t.now) self.entry.token))) ≡ bidder_data entry) }
+        ensures { IfSome result (λ entry. object (members_of (found_bidder self.entry)) ≡ bidder_data entry) }
     {
-        let name = self.name?;
-        let token = self.token?;
-        let eligibility = self.eligibility?;
+        let (Some(name), Some(token), Some(eligibility)) = (self.name, self.token, self.eligibility)
+        else {
+            return None;
+        };
         Some(BidderEntry {
             name,
             token,
@@ -251,7 +231,7 @@ fn bidder<'v>(scan: &mut Scan<'v>) -> Option<BidderEntry<'v>>
         token: None,
     };
     'members: while !scan.closes_object() {
-        parts = parts.with(scan)?;
+        parts.read_member(scan)?;
     }
     let entry = parts.entry()?;
     Some(entry)

@@ -50,9 +50,13 @@ impl<'v> OpeningFound<'v> {
     fn entries(self) -> Option<OpeningEntries<'v>>
         ensures { IfSome result (λ entries. object (members_of (found_opening self.entry)) ≡ entries_data entries) }
     {
-        let demands = self.demands?;
-        let increment = self.increment?;
-        let setup = self.setup?;
+        let (Some(demands), Some(increment), Some(setup)) = (
+            self.demands,
+            self.increment,
+            self.setup,
+        ) else {
+            return None;
+        };
         Some(OpeningEntries {
             setup: HeldSetup::Scanned(setup),
             demands,

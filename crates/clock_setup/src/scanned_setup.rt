@@ -83,11 +83,16 @@ impl<'v> SetupParts<'v> {
         ensures version { IfSome result (λ entries. IsWithin 1 latest_version entries.version) }
         ensures first_version { IfSome result (λ entries. entries.version ≡ 1 → IsOfFirstVersion entries) }
     {
-        let version = self.version?;
-        let requirement = self.requirement?;
-        let operator = self.operator?;
-        let products = self.products?;
-        let bidders = self.bidders?;
+        let (Some(version), Some(requirement), Some(operator)) = (
+            self.version,
+            self.requirement,
+            self.operator,
+        ) else {
+            return None;
+        };
+        let (Some(products), Some(bidders)) = (self.products, self.bidders) else {
+            return None;
+        };
         let limit = limit_of(version, self.limit)?;
         if products.version != version {
             return None;

@@ -1,7 +1,7 @@
-use Rattle.std.proofs.Common.{◌≡◌, ◌∷◌, length, option_map, sym, ap, subst, arith}
+use Rattle.std.proofs.Common.{◌≡◌, ◌∷◌, length, sym, ap, subst, arith}
 use Rattle.clock_scan.specs.Reading.{Token, members_of, Reads, HasMembers}
 use Rattle.clock_scan.proofs.Steps.{members_start, members_end}
-use Rattle.clock_setup.specs.SetupData.{bidder_fields}
+use Rattle.clock_setup.specs.FoundEntries.{found_bidder}
 use Rattle.clock_setup.proofs.scanned.bidder.Goals as goal
 
 pub members-init : goal.members-init
@@ -10,21 +10,19 @@ members-init c = (members_start 0 c.opens_object.new.self, omega arith)
 pub members-preserved : goal.members-preserved
 members-preserved c =
     let l = c.members in
-    let p = l.parts in
     let start = c.opens_object.new.self in
     let same : c.closes_object.new.self ≡ l.scan = grind arith in (
-      c.in_ok-parts.ensures.value start
-          (subst (λ ts. HasMembers 0 start (members_of (bidder_fields p.eligibility (option_map (λ t. t.now) p.name) (option_map (λ t. t.now) p.token))) ts)
+      c.in_ok-read_member.ensures.value start
+          (subst (λ ts. HasMembers 0 start (members_of (found_bidder l.parts)) ts)
           (sym same) l.invariant.0),
-      omega (arith, l.invariant.1, c.in_ok-parts.ensures.shorter, ap length same),
+      omega (arith, l.invariant.1, c.in_ok-read_member.ensures.shorter, ap length same),
     )
 
 pub returns-clause-value : goal.returns-clause-value
 returns-clause-value c =
     let l = c.members in
-    let p = l.parts in
     let closed : l.scan ≡ Token.end_object ∷ c.closes_object.new.self = grind arith in
     subst (λ d. Reads 1 c.args.scan.now d c.closes_object.new.self) c.in_ok-entry.ensures
     (members_end 0 c.args.scan.now c.opens_object.new.self l.scan c.closes_object.new.self
-    (members_of (bidder_fields p.eligibility (option_map (λ t. t.now) p.name) (option_map (λ t. t.now) p.token)))
+    (members_of (found_bidder l.parts))
     (c.opens_object.ensures (grind arith)) l.invariant.0 closed)
