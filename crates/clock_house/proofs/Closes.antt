@@ -13,7 +13,8 @@ use Rattle.clock_house.specs.declared.fault.CloseFault.TheVariants as close_faul
 use Rattle.clock_house.specs.Command.{Command, close}
 use Rattle.clock_house.specs.Closing.{OpenRound, closing}
 use Rattle.clock_house.specs.History.{ClosedRound, history, standing, closing_of, after_closing, for_each_bidder, sheet_in_force}
-use Rattle.clock_house.specs.House.{HouseFields, StandsFor, IsFollowedBy, StandsStill, IsUnchanged, HasClosed, AnswersClose, ToHistory, standing_in, open_round_in, closing_in}
+use Rattle.clock_house.specs.House.{HouseFields, StandsFor, IsFollowedBy, StandsStill, IsUnchanged, HasClosed, AnswersClose, ToHistory}
+use Rattle.clock_house.specs.House.{standing_in, open_round_in, closing_in}
 use Rattle.clock_house.specs.Prepared.{PreparedClosing, FitsClosing, Answers}
 use Rattle.clock_house.proofs.Closings.{IsClosing, closing_passed}
 use Rattle.std.proofs.lemmas.List.FromFn.{length-map-range_with_len}
@@ -118,7 +119,8 @@ pub still_unchanged : (old new : HouseFields) → IsUnchanged old new → Stands
 still_unchanged old new same = record { setup = same.setup; stands = λ commands stands. stands_unchanged old new commands same stands }
 
 -- a prepared closing answers as a closing does
-pub answers-close : (closing : Result ClosedRound CloseFault) (result : Result PreparedClosing CloseFault) → Answers closing result → AnswersClose closing result
+pub answers-close : (closing : Result ClosedRound CloseFault) (result : Result PreparedClosing CloseFault) → Answers closing result →
+    AnswersClose closing result
 answers-close closing (Ok prepared) is = rw is refl
 answers-close closing (Err fault) is = is
 

@@ -4,7 +4,8 @@ use Rattle.clock_views.proofs.public.push_offer.Goals as goal
 
 pub returns : goal.returns
 returns c =
-    together_last c.push_label-3.result _ _ (products_in_pieces (record { version = c.args.version; limit = c.args.limit; requirement = c.args.requirement; products = c.args.products.now }))
+    together_last c.push_label-3.result _ _ (products_in_pieces
+    (record { version = c.args.version; limit = c.args.limit; requirement = c.args.requirement; products = c.args.products.now }))
     (before_last c.push_label-3.result _ _ c.in_ok-push_label.ensures
     (before_last c.push_label-3.result _ _ (rw c.from_version_2.ensures at c.in_ok-push_limit.ensures)
     (before_last c.push_label-3.result _ _ c.in_ok-push_label-2.ensures

@@ -3,7 +3,8 @@ use Rattle.std.proofs.lemmas.Result.{err_from_is_err_and}
 use Rattle.clock_setup.specs.Limits.{SetupFields}
 use Rattle.clock_setup.specs.Increments.{are_increments}
 use Rattle.clock_house.specs.Standing.{Standing}
-use Rattle.clock_house.proofs.Closes.{closing_same, close-followed, standing_unchanged, still_unchanged, answers-close, answers-same, answers-history, refused-followed}
+use Rattle.clock_house.proofs.Closes.{closing_same, close-followed, standing_unchanged, still_unchanged}
+use Rattle.clock_house.proofs.Closes.{answers-close, answers-same, answers-history, refused-followed}
 use Rattle.clock_house.proofs.house.House.prepare.Goals as goal
 
 pub returns-in_err-check_closing-clause-answer : goal.returns-in_err-check_closing-clause-answer

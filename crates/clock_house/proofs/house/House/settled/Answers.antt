@@ -34,7 +34,8 @@ returns-in_err-results-clause-answer g c =
     let told = err_from_is_err_and c.from_residual-in_err-results.result c.from_residual-in_err-results.ensures.1 in
     let good = subst (λ (setup : SetupFields). tie_fault (length setup.bidders) (length setup.products) c.args.ties.now ≡ None) c.setup.ensures
     c.in_ok-ties.ensures.good in
-    let posts : closing_in c.args.self.now c.args.round c.args.increments.now c.args.ties.now ≡ posting_in c.args.self.now c.args.increments.now c.args.ties.now =
+    let posts : closing_in c.args.self.now c.args.round c.args.increments.now c.args.ties.now
+    ≡ posting_in c.args.self.now c.args.increments.now c.args.ties.now =
     closes-fair (public_setup c.args.self.now.setup) (open_round_in c.args.self.now) c.args.round c.args.increments.now c.args.ties.now c.requires.going
     c.requires.current c.requires.increments
     (ap (λ (n : ℕ). tie_fault n (length c.args.self.now.setup.products) c.args.ties.now) (in-many c.args.self.now) ∙ good) in
@@ -45,7 +46,8 @@ pub returns-clause-answer : goal.returns-clause-answer
 returns-clause-answer g c =
     let good = subst (λ (setup : SetupFields). tie_fault (length setup.bidders) (length setup.products) c.args.ties.now ≡ None) c.setup.ensures
     c.in_ok-ties.ensures.good in
-    let posts : closing_in c.args.self.now c.args.round c.args.increments.now c.args.ties.now ≡ posting_in c.args.self.now c.args.increments.now c.args.ties.now =
+    let posts : closing_in c.args.self.now c.args.round c.args.increments.now c.args.ties.now
+    ≡ posting_in c.args.self.now c.args.increments.now c.args.ties.now =
     closes-fair (public_setup c.args.self.now.setup) (open_round_in c.args.self.now) c.args.round c.args.increments.now c.args.ties.now c.requires.going
     c.requires.current c.requires.increments
     (ap (λ (n : ℕ). tie_fault n (length c.args.self.now.setup.products) c.args.ties.now) (in-many c.args.self.now) ∙ good) in
