@@ -1,6 +1,6 @@
 -- What a closing does to the commands that a house stands for.
-use Rattle.std.proofs.Common.{◌≡◌, ℕ, List, ◌∷◌, Bool, true, false, length, refl, ap, sym, subst, ◌∙◌}
-use Rattle.std.specs.Prelude.{Option, Some, None, Result, Ok, Err, ◌↔◌, IsNone, IsTrue, IfSome, IfOk, map, unwrap_or}
+use Rattle.std.proofs.Common.{◌≡◌, ◌≢◌, ℕ, List, ◌∷◌, Bool, true, false, length, refl, ap, sym, subst, ◌∙◌}
+use Rattle.std.specs.Prelude.{Option, Some, None, Result, Ok, Err, ◌↔◌, IsNone, IsTrue, IfSome, IfOk, IfErr, map, unwrap_or}
 use Rattle.clock_setup.specs.declared.prices.PricePair.{PricePair}
 use Rattle.clock_posting.specs.Posting.{next_pair}
 use Rattle.clock_posting.specs.declared.sheet.Line.{Line}
@@ -9,11 +9,13 @@ use Rattle.clock_setup.specs.Limits.{SetupFields, IsSetup, public_setup}
 use Rattle.clock_bids.specs.declared.sheet.Bid.{Bid}
 use Rattle.clock_order.specs.declared.ties.Tie.{Tie}
 use Rattle.clock_house.specs.declared.fault.CloseFault.{CloseFault}
+use Rattle.clock_house.specs.declared.fault.CloseFault.TheVariants as close_faults
 use Rattle.clock_house.specs.Command.{Command, close}
 use Rattle.clock_house.specs.Closing.{OpenRound, closing}
-use Rattle.clock_house.specs.History.{ClosedRound, history, closing_of, after_closing, for_each_bidder, sheet_in_force}
-use Rattle.clock_house.specs.House.{HouseFields, StandsFor, IsFollowedBy, StandsStill, IsUnchanged, HasClosed, standing_in, open_round_in, closing_in}
-use Rattle.clock_house.specs.Prepared.{PreparedClosing, FitsClosing}
+use Rattle.clock_house.specs.History.{ClosedRound, history, standing, closing_of, after_closing, for_each_bidder, sheet_in_force}
+use Rattle.clock_house.specs.House.{HouseFields, StandsFor, IsFollowedBy, StandsStill, IsUnchanged, HasClosed, AnswersClose, ToHistory}
+use Rattle.clock_house.specs.House.{standing_in, open_round_in, closing_in}
+use Rattle.clock_house.specs.Prepared.{PreparedClosing, FitsClosing, Answers}
 use Rattle.clock_house.proofs.Closings.{IsClosing, closing_passed}
 use Rattle.std.proofs.lemmas.List.FromFn.{length-map-range_with_len}
 use Rattle.clock_house.proofs.InHouse.{in-many}
@@ -106,6 +108,42 @@ closing_unchanged old new same round increments ties =
     ap (λ (setup : SetupFields). by setup new.closed new.sheets) same.setup
     ∙ ap (λ (closed : List ClosedRound). by old.setup closed new.sheets) same.closed
     ∙ ap (by old.setup old.closed) same.sheets
+
+-- where the auction stands is the same where all but the room is
+pub standing_unchanged : (old new : HouseFields) → IsUnchanged old new → standing_in new ≡ standing_in old
+standing_unchanged old new same =
+    ap (λ (setup : SetupFields). standing setup.products new.closed) same.setup ∙ ap (standing old.setup.products) same.closed
+
+-- what a house stood for it stands for with other room
+pub still_unchanged : (old new : HouseFields) → IsUnchanged old new → StandsStill old new
+still_unchanged old new same = record { setup = same.setup; stands = λ commands stands. stands_unchanged old new commands same stands }
+
+-- a prepared closing answers as a closing does
+pub answers-close : (closing : Result ClosedRound CloseFault) (result : Result PreparedClosing CloseFault) → Answers closing result →
+    AnswersClose closing result
+answers-close closing (Ok prepared) is = rw is refl
+answers-close closing (Err fault) is = is
+
+-- an answer of a house in which room was taken
+module _ (old new : HouseFields) (limits : IsSetup old.setup) (same : IsUnchanged old new) (round : ℕ) (increments : Increments) (ties : List Tie)
+    (result : Result PreparedClosing CloseFault) (is : Answers (closing_in new round increments ties) result) where
+  pub answers-same : Answers (closing_in old round increments ties) result
+  answers-same = subst (λ (closing : Result ClosedRound CloseFault). Answers closing result) (closing_unchanged old new same round increments ties) is
+
+  pub answers-history : ToHistory old (λ auction. Answers (closing_of old.setup auction round increments ties) result)
+  answers-history = λ commands stands. subst (λ (closing : Result ClosedRound CloseFault). Answers closing result)
+      (sym (closing_same old limits round increments ties commands stands)) answers-same
+
+-- a refused closing of a house in which room was taken is one more command
+pub refused-followed : (old new : HouseFields) → IsSetup old.setup → IsUnchanged old new → (round : ℕ) (increments : Increments) (ties : List Tie)
+    (result : Result PreparedClosing CloseFault) → Answers (closing_in new round increments ties) result →
+    IfErr result (λ told. told ≢ close_faults.NoMemory → IsFollowedBy (close round increments ties) old new)
+refused-followed old new limits same round increments ties (Ok prepared) is = tt
+refused-followed old new limits same round increments ties (Err fault) is = λ other. record {
+  setup = same.setup;
+  stands = λ commands stands. close-refused new (subst IsSetup (sym same.setup) limits) round increments ties commands
+      (stands_unchanged old new commands same stands) fault (is other);
+}
 
 -- a closing that is prepared and then made
 module _ (old mid new : HouseFields) (round : ℕ) (increments : Increments) (ties : List Tie) (prepared : PreparedClosing)

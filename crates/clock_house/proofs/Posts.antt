@@ -1,5 +1,5 @@
 -- What is posted is the round of the closing.
-use Rattle.std.proofs.Common.{◌≡◌, ℕ, List, Bool, true, false, ◌==◌, refl, ap, sym, ◌∙◌, eq-eqb}
+use Rattle.std.proofs.Common.{◌≡◌, ℕ, List, Bool, true, false, ◌==◌, refl, ap, sym, subst, ◌∙◌, eq-eqb}
 use Rattle.std.specs.Prelude.{Option, Some, None, Result, Ok, length}
 use Rattle.std.proofs.lemmas.Option.{none-some}
 use Rattle.clock_setup.specs.declared.increments.Increments.{Increments}
@@ -18,6 +18,7 @@ use Rattle.clock_posting.specs.Posting.{IsPosting, IsConsistent, post_fault, pri
 use Rattle.clock_house.specs.declared.slip.Slip.{Slip}
 use Rattle.clock_house.specs.declared.fault.CloseFault.{CloseFault}
 use Rattle.clock_house.specs.declared.fault.CloseFault.TheVariants as close_faults
+use Rattle.clock_house.specs.declared.results.Results.{Results}
 use Rattle.clock_house.specs.Faults.{fault_check, told_of_post, told_of_tie}
 use Rattle.clock_house.specs.Closing.{OpenRound, Outcome, outcome, closed_round, closing, slips_after}
 use Rattle.clock_house.specs.History.{ClosedRound}
@@ -43,6 +44,19 @@ module _ (setup : PublicSetup) (now : OpenRound) (increments : Increments) (resu
         Ok round in done) (sym are);
     laws = laws;
   }
+
+  -- results of a posting and its slips
+  pub posts-results : (posting : Posting) (results : Results) →
+      IsPosting now.standing.round setup.products now.standing.prices result.grid result.posted increments posting → IsConsistent posting →
+      results.posting ≡ posting → results.slips ≡ slips_after setup now result.grid →
+      AreResults (by_limit (price_limit_fault setup.products result.grid result.posted increments)) results
+  posts-results posting results is laws same are =
+      let all : AreResults (by_limit (price_limit_fault setup.products result.grid result.posted increments))
+      (record { posting = results.posting; slips = results.slips; grid = results.grid }) =
+      posts results.posting results.slips results.grid
+      (subst (IsPosting now.standing.round setup.products now.standing.prices result.grid result.posted increments) (sym same) is) are
+      (subst IsConsistent (sym same) laws) in
+      record { closes = all.closes; laws = all.laws }
 
   -- a refusal of the posting
   posts_told : (limit : Option ℕ) (fault : PostFault) → IsFirstFault post_faults.NoMemory (post_fault limit) fault →

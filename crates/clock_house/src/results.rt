@@ -5,12 +5,12 @@ ghost use Rattle.clock_setup.specs.Faults.{IsRefusal};
 ghost use Rattle.clock_setup.specs.Increments.{AreIncrements};
 ghost use Rattle.clock_setup.specs.Eligibility as eligibilities;
 ghost use Rattle.clock_bids.specs.Sheet as sheets;
-ghost use Rattle.clock_processor.specs.Board.{IsWithinEligibility};
+ghost use Rattle.clock_processor.specs.Board.{IsWithinEligibility, new_board};
 ghost use Rattle.clock_house.specs.Closing as rules;
 ghost use Rattle.clock_house.specs.House.{standing_in, holding_in, open_round_in};
 ghost use Rattle.clock_house.specs.declared.fault.CloseFault.TheVariants as close_faults;
-ghost use Rattle.clock_house.specs.Prepared.{AreResults, posting_in, posting_of};
-ghost use Rattle.clock_house.specs.Laws.{demands_of, eligibilities_of};
+ghost use Rattle.clock_house.specs.Prepared.{AreRequests, AreResults, posting_in, posting_of};
+ghost use Rattle.clock_house.specs.Laws.{demands_of, eligibilities_of, grid_of};
 
 use crate::blocks::Blocks;
 use crate::fault::CloseFault;
@@ -20,7 +20,7 @@ use clock_bids::{Bid, Changes, asked_demands, bids_of, changes_of};
 use clock_device::NoMemory;
 use clock_order::{Ties, ordered};
 use clock_posting::{Posting, post, post_first};
-use clock_processor::{Board, Processor};
+use clock_processor::{Board, Processor, Settled};
 use clock_setup::{Amounts, Grid, Increments, Setup, activity, next_eligibility};
 
 /// What a round comes to: its sheet with the prices of the next round, the slip of each bidder, and all demands.
@@ -73,12 +73,7 @@ impl<P: Processor> House<P> {
         self.keeps();
         let grid = self.asked_grid()?;
         let posting = post_first(self.alloc(), self.setup(), &grid, increments)?;
-        let slips = self.slips(&grid)?;
-        Ok(Results {
-            posting,
-            slips,
-            grid,
-        })
+        Ok(self.with_slips(posting, grid)?)
     }
 
     /// What a later round comes to: all bidders' requests are settled in their order.
@@ -96,22 +91,94 @@ impl<P: Processor> House<P> {
             (rules.requests (open_round_in self.now) ties.now)))) }
         ensures kept { IfOk result (λ results. results.grid ≡ demands_of results.slips) }
     {
+        let requests = self.requests(ties)?;
+        self.settled_results(increments, &requests)
+    }
+
+    /// All bidders' requests in the order of processing.
+    fn requests(&self, ties: &Ties) -> Result<Changes, NoMemory>
+        requires going { (standing_in self.now).ended ≡ false }
+        requires later { 2 ≤ (standing_in self.now).round }
+        ensures { IfOk result (λ list. list ≡ rules.requests (open_round_in self.now) ties.now) }
+    {
         self.keeps();
         let changes = self.changes()?;
-        let requests = ordered(self.alloc(), &changes, ties)?;
-        let eligibilities = self.eligibilities()?;
-        let board = Board::new(self.alloc(), self.setup(), &eligibilities, self.demands())?;
-        let settled = self.processor().settle(self.alloc(), board, &requests)?;
+        ordered(self.alloc(), &changes, ties)
+    }
+
+    /// What a later round comes to where these requests are settled.
+    fn settled_results(
+        &self,
+        increments: &Increments,
+        requests: &Changes,
+    ) -> Result<Results, CloseFault>
+        requires going { (standing_in self.now).ended ≡ false }
+        requires later { 2 ≤ (standing_in self.now).round }
+        requires increments { AreIncrements (length self.now.setup.products) increments.now }
+        requires requests { AreRequests (open_round_in self.now) requests.now }
+
+        ensures ok { IfOk result (AreResults (posting_of self.now increments.now
+            (rules.later_outcome self.now.setup.products (open_round_in self.now) requests.now))) }
+        ensures err { IfErr result (IsRefusal close_faults.NoMemory
+            (posting_of self.now increments.now
+            (rules.later_outcome self.now.setup.products (open_round_in self.now) requests.now))) }
+        ensures kept { IfOk result (λ results. results.grid ≡ demands_of results.slips) }
+    {
+        self.keeps();
+        let settled = self.settled_requests(requests)?;
         let posting = post(
             self.alloc(),
             self.setup(),
             self.round(),
             self.prices(),
-            &requests,
+            requests,
             &settled,
             increments,
         )?;
         let grid = settled.into_grid();
+        Ok(self.with_slips(posting, grid)?)
+    }
+
+    /// The demands that the settling of these requests leaves, and what is left of each.
+    fn settled_requests(&self, requests: &Changes) -> Result<Settled, NoMemory>
+        requires going { (standing_in self.now).ended ≡ false }
+        requires later { 2 ≤ (standing_in self.now).round }
+        requires requests { AreRequests (open_round_in self.now) requests.now }
+
+        ensures grid { IfOk result (λ settled. settled.grid ≡
+            (rules.settlement self.now.setup.products (open_round_in self.now) requests.now).grid) }
+        ensures left { IfOk result (λ settled. settled.left ≡
+            (rules.settlement self.now.setup.products (open_round_in self.now) requests.now).left) }
+        ensures within { IfOk result (λ settled. IsWithinEligibility self.now.setup.products
+            (eligibilities_of (open_round_in self.now)) settled.grid) }
+        ensures each { IfOk result (λ settled. length settled.left ≡ length requests.now) }
+    {
+        self.keeps();
+        let board = self.board()?;
+        self.processor().settle(self.alloc(), board, requests)
+    }
+
+    /// The board before the round.
+    fn board(&self) -> Result<Board, NoMemory>
+        requires { (standing_in self.now).ended ≡ false }
+        ensures { IfOk result (λ board. board ≡ new_board self.now.setup.products
+            (eligibilities_of (open_round_in self.now)) (grid_of (open_round_in self.now))) }
+    {
+        self.keeps();
+        let eligibilities = self.eligibilities()?;
+        Board::new(self.alloc(), self.setup(), &eligibilities, self.demands())
+    }
+
+    /// A posting together with the slips after a round with these demands.
+    fn with_slips(&self, posting: Posting, grid: Grid) -> Result<Results, NoMemory>
+        requires going { (standing_in self.now).ended ≡ false }
+        requires within { IsWithinEligibility self.now.setup.products
+            (eligibilities_of (open_round_in self.now)) grid }
+        ensures posting { IfOk result (λ results. results.posting ≡ posting) }
+        ensures slips { IfOk result (λ results. results.slips ≡
+            rules.slips_after (public_setup self.now.setup) (open_round_in self.now) grid) }
+        ensures kept { IfOk result (λ results. results.grid ≡ demands_of results.slips) }
+    {
         let slips = self.slips(&grid)?;
         Ok(Results {
             posting,

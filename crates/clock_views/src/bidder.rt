@@ -58,8 +58,7 @@ pub fn push_account_page(
     push_truth(text, b",\"ended\":", ended)?;
     push_name(text, b",\"name\":", name_of(setup, bidder))?;
     push_number(text, b",\"round\":", own.round)?;
-    push_label(text, b"}")?;
-    Ok(())
+    push_label(text, b"}")
 }
 
 /// The name of a bidder of the set-up.
@@ -91,8 +90,7 @@ pub fn push_bids_page(text: &mut Text, round: u64, sheet: Option<&Sheet>) -> Res
     push_label(text, b"{\"bids\":")?;
     push_sheet_or_null(text, sheet)?;
     push_number(text, b",\"round\":", round)?;
-    push_label(text, b"}")?;
-    Ok(())
+    push_label(text, b"}")
 }
 
 /// Adds the array of a sheet's bids, or null where there is no sheet.
@@ -125,8 +123,7 @@ fn push_bid(text: &mut Text, later: bool, bid: &Bid) -> Result<(), NoMemory>
     push_number(text, b"{\"price\":", bid.price)?;
     push_number(text, b",\"product\":", bid.product)?;
     push_number(text, b",\"quantity\":", bid.quantity)?;
-    push_label(text, b"}")?;
-    Ok(())
+    push_label(text, b"}")
 }
 
 /// What answers a sheet that was accepted: how many bids it has, and the current round.
@@ -150,8 +147,7 @@ pub fn push_accepted_page(text: &mut Text, round: u64, bids: u64) -> Result<(), 
 {
     push_number(text, b"{\"accepted\":true,\"bids\":", bids)?;
     push_number(text, b",\"round\":", round)?;
-    push_label(text, b"}")?;
-    Ok(())
+    push_label(text, b"}")
 }
 
 /// What a closed round has left a bidder with: its activity and demands, and its eligibility for the
@@ -176,6 +172,5 @@ pub fn push_slip_page(text: &mut Text, slip: &Slip) -> Result<(), NoMemory>
     push_blocks(text, b",\"demands\":", &slip.demands)?;
     push_number(text, b",\"eligibility\":", slip.eligibility)?;
     push_number(text, b",\"round\":", slip.round)?;
-    push_label(text, b"}")?;
-    Ok(())
+    push_label(text, b"}")
 }

@@ -35,8 +35,7 @@ pub fn push_closed_page(text: &mut Text, round: u64, ended: bool) -> Result<(), 
 {
     push_number(text, b"{\"closed\":", round)?;
     push_truth(text, b",\"ended\":", ended)?;
-    push_label(text, b"}")?;
-    Ok(())
+    push_label(text, b"}")
 }
 
 /// What each bidder holds now: its demands, its eligibility and its name, in the order of the
@@ -61,8 +60,7 @@ pub fn push_results_page<P>(text: &mut Text, house: &House<P>) -> Result<(), NoM
     push_results(text, house)?;
     push_truth(text, b",\"ended\":", house.ended())?;
     push_number(text, b",\"round\":", house.round())?;
-    push_label(text, b"}")?;
-    Ok(())
+    push_label(text, b"}")
 }
 
 /// Adds the array of what each bidder holds.
@@ -87,8 +85,7 @@ fn push_result<P>(text: &mut Text, house: &House<P>, bidder: u32) -> Result<(), 
     push_numbers(text, b"{\"demands\":", own.demands)?;
     push_number(text, b",\"eligibility\":", own.eligibility)?;
     push_name(text, b",\"name\":", name_of(house.setup(), bidder))?;
-    push_label(text, b"}")?;
-    Ok(())
+    push_label(text, b"}")
 }
 
 /// How many bidders a set-up has.

@@ -43,8 +43,7 @@ pub fn push_status_page(
     push_truth(text, b"{\"ended\":", ended)?;
     push_number(text, b",\"round\":", round)?;
     push_number(text, b",\"version\":", version_of(setup))?;
-    push_label(text, b"}")?;
-    Ok(())
+    push_label(text, b"}")
 }
 
 /// What is auctioned: the products in the order of the set-up, and the activity requirement, with the
@@ -92,8 +91,7 @@ fn push_offer(
     push_products(text, version, products)?;
     push_number(text, b",\"requirement\":", requirement)?;
     push_number(text, b",\"version\":", version)?;
-    push_label(text, b"}")?;
-    Ok(())
+    push_label(text, b"}")
 }
 
 /// Adds the activity limit and the comma behind it, where there is one.
@@ -141,8 +139,7 @@ fn push_product(
     push_number(text, b",\"opening\":", product.opening.get())?;
     push_number(text, b",\"supply\":", product.supply)?;
     push_number(text, b",\"units\":", product.units)?;
-    push_label(text, b"}")?;
-    Ok(())
+    push_label(text, b"}")
 }
 
 /// What a closed round has posted. There is a line for each product of the set-up.
@@ -168,8 +165,7 @@ pub fn push_sheet_page(text: &mut Text, setup: &Setup, sheet: &RoundSheet) -> Re
     push_label(text, b",\"products\":")?;
     push_lines(text, products_of(setup), sheet.lines.as_slice())?;
     push_number(text, b",\"round\":", sheet.round)?;
-    push_label(text, b"}")?;
-    Ok(())
+    push_label(text, b"}")
 }
 
 /// Adds the array of the lines of some products.
@@ -198,8 +194,7 @@ fn push_line(text: &mut Text, later: bool, product: &Product, line: &Line) -> Re
     push_number_or_null(text, b",\"next\":", line.next)?;
     push_number(text, b",\"posted\":", line.posted.get())?;
     push_number(text, b",\"start\":", line.start.get())?;
-    push_label(text, b"}")?;
-    Ok(())
+    push_label(text, b"}")
 }
 
 /// A number that set-up documents have from version 2 on.

@@ -56,6 +56,5 @@ fn push_refusal(
     push_number_if(text, b",\"place\":", place)?;
     push_number_if(text, b",\"round\":", round)?;
     push_number(text, b",\"status\":", u64::from(code.status()))?;
-    push_label(text, b"}")?;
-    Ok(())
+    push_label(text, b"}")
 }

@@ -1,15 +1,15 @@
 use Rattle.clock_house.specs.History.{bidder_at}
-use Rattle.clock_views.proofs.Pushes.{before, together}
+use Rattle.clock_views.proofs.Pushes.{before_last, together_last}
 use Rattle.clock_views.proofs.Texts.{account_in_pieces}
 use Rattle.clock_views.proofs.bidder.push_account_page.Goals as goal
 
 pub returns : goal.returns
 returns c =
-    together (account_in_pieces c.args.setup.now.products (bidder_at c.args.setup.now c.args.bidder).name c.args.own.round
+    together_last c.push_label.result _ _ (account_in_pieces c.args.setup.now.products (bidder_at c.args.setup.now c.args.bidder).name c.args.own.round
     (record { eligibility = c.args.own.eligibility; demands = c.args.own.demands.now }) c.args.ended)
-    (before (rw c.activity.ensures at c.in_ok-push_number.ensures)
-    (before c.in_ok-push_numbers.ensures
-    (before c.in_ok-push_number-2.ensures
-    (before c.in_ok-push_truth.ensures
-    (before (rw c.name_of.ensures.value at c.in_ok-push_name.ensures)
-    (before c.in_ok-push_number-3.ensures c.in_ok-push_label.ensures))))))
+    (before_last c.push_label.result _ _ (rw c.activity.ensures at c.in_ok-push_number.ensures)
+    (before_last c.push_label.result _ _ c.in_ok-push_numbers.ensures
+    (before_last c.push_label.result _ _ c.in_ok-push_number-2.ensures
+    (before_last c.push_label.result _ _ c.in_ok-push_truth.ensures
+    (before_last c.push_label.result _ _ (rw c.name_of.ensures.value at c.in_ok-push_name.ensures)
+    (before_last c.push_label.result _ _ c.in_ok-push_number-3.ensures c.push_label.ensures))))))

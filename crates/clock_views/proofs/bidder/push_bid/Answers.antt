@@ -1,11 +1,11 @@
-use Rattle.clock_views.proofs.Pushes.{before, together}
+use Rattle.clock_views.proofs.Pushes.{before_last, together_last}
 use Rattle.clock_views.proofs.Texts.{bid_in_pieces}
 use Rattle.clock_views.proofs.bidder.push_bid.Goals as goal
 
 pub returns : goal.returns
 returns c =
-    before c.in_ok-push_comma_if.ensures
-    (together (bid_in_pieces c.args.bid.now)
-    (before c.in_ok-push_number.ensures
-    (before c.in_ok-push_number-2.ensures
-    (before c.in_ok-push_number-3.ensures c.in_ok-push_label.ensures))))
+    before_last c.push_label.result _ _ c.in_ok-push_comma_if.ensures
+    (together_last c.push_label.result _ _ (bid_in_pieces c.args.bid.now)
+    (before_last c.push_label.result _ _ c.in_ok-push_number.ensures
+    (before_last c.push_label.result _ _ c.in_ok-push_number-2.ensures
+    (before_last c.push_label.result _ _ c.in_ok-push_number-3.ensures c.push_label.ensures))))

@@ -80,3 +80,18 @@ returns-clause-followed g c =
       setup = refl;
       stands = λ commands stands. close-accepted _ limits asked.round asked.increments asked.ties commands stands done _ _ _ fits added none;
     })
+
+pub push_round-requires : goal.push_round-requires
+push_round-requires g c =
+    let room = rw (← c.self.view_is) at c.requires.room in
+    omega (arith, room)
+
+pub returns-clause-closed : goal.returns-clause-closed
+returns-clause-closed g c =
+    let added : reverse c.push_round.new.rounds.items ≡ closed_by c.prepared.inside.results.posting c.prepared.inside.results.slips
+    ∷ reverse c.self.inside.rounds.items =
+    ap reverse c.push_round.ensures ∙ reverse-append c.self.inside.rounds.items
+    (closed_by c.prepared.inside.results.posting c.prepared.inside.results.slips ∷ []) in
+    let none = c.clear.ensures ∙ ap (λ (n : ℕ). map (λ (bidder : ℕ). let sheet : Option (List Bid) = None in sheet) (range_with_len 0 n))
+    (stands_sheets _ c.self.invariant.commands c.self.invariant.stands) in
+    rw (← c.self.view_is, ← c.prepared.view_is) (record { setup = refl; closed = added; sheets = none })

@@ -12,8 +12,8 @@ post_first-requires-clause-grid g c =
     rw (c.setup.ensures, c.in_ok-grid.ensures) (within_grid c.args.self.now _
     (asked_within (public_setup c.args.self.now.setup) (open_round_in c.args.self.now) (c.keeps.ensures.going c.requires.going) c.requires.first))
 
-pub slips-requires-clause-within : goal.slips-requires-clause-within
-slips-requires-clause-within g c =
+pub with_slips-requires-clause-within : goal.with_slips-requires-clause-within
+with_slips-requires-clause-within g c =
     rw c.in_ok-grid.ensures (asked_within (public_setup c.args.self.now.setup) (open_round_in c.args.self.now)
     (c.keeps.ensures.going c.requires.going) c.requires.first)
 
