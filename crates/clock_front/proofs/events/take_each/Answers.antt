@@ -33,5 +33,6 @@ returns g c =
     let way = c.loop-event.invariant in
     let hub = c.loop-event.hub in
     let same = ap (λ (house : HouseFields). house.setup) (c.house-2.ensures ∙ c.front-2.ensures) ∙ way.underway.kept in
-    ends c.args.hub.now.hub.house.setup c.args.events.now c.loop-event.event-index c.loop-event.replies hub.hub.connections hub.conns hub.hub.house way (omega arith)
+    ends c.args.hub.now.hub.house.setup c.args.events.now c.loop-event.event-index c.loop-event.replies
+    hub.hub.connections hub.conns hub.hub.house way (omega arith)
     (λ commands. subst (λ (setup : SetupFields). IsSound setup (history setup commands)) same (c.keeps-2.ensures.sound commands))

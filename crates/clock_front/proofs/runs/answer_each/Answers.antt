@@ -33,7 +33,8 @@ loop-text-preserved g c =
     step c.args.front.now.setup limits (take i texts) c.loop-text.replies front c.answer.new.self text c.answer.result c.loop-text.invariant
     c.answer.ensures.setup c.answer.ensures.answered in
     subst (λ (so_far : List (List ℕ)). IsUnderWay c.args.front.now.setup so_far c.push.new.self c.answer.new.self) (sym more)
-    (subst (λ (answers : List Answer). IsUnderWay c.args.front.now.setup (take i texts ++ text ∷ []) answers c.answer.new.self) (sym c.in_ok-push.ensures.ok) next)
+    (subst (λ (answers : List Answer). IsUnderWay c.args.front.now.setup (take i texts ++ text ∷ []) answers c.answer.new.self)
+    (sym c.in_ok-push.ensures.ok) next)
 
 pub returns : goal.returns
 returns g c =
