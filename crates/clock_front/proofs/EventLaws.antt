@@ -46,6 +46,9 @@ no_more_than_one numbered Connect = omega (arith, length-append {A = Option (Lis
 no_more_than_one numbered (Piece number piece) = omega (arith, length-set {A = Option (List ℕ)})
 no_more_than_one numbered (Finish number) = omega (arith, length-set {A = Option (List ℕ)})
 
+one_longer : (before now index : ℕ) → before ≤ index → now ≤ before + 1 → now ≤ index + 1
+one_longer before now index few longer = omega arith
+
 -- each reply has the number of its request
 next_numbers : (done : List (ℕ × List ℕ)) (replies : List EventReply) (o : Option (ℕ × List ℕ)) (told : Option EventReply) (house next : HouseFields)
     → HasCompleted o house next told → numbers_of replies ≡ numbers_of_requests done
@@ -85,7 +88,7 @@ goes_on setup limits events index replies connections later conns more house nex
   numbered = after before.numbered event;
   done = with_request before.done (completed before.numbered event);
   stands = stands;
-  few = (let le = before.few in let size = no_more_than_one before.numbered event in omega arith);
+  few = one_longer (length before.numbered) (length (after before.numbered event)) index before.few (no_more_than_one before.numbered event);
   rest = with_later before.done (completed before.numbered event) (requests_from (after before.numbered event) (drop (index + 1) events))
       ∙ ap (λ rest. before.done ++ requests_from before.numbered rest) (sym split) ∙ before.rest;
   numbers = next_numbers before.done replies (completed before.numbered event) told house next is before.numbers;

@@ -144,11 +144,16 @@ fn close_round<P: Processor>(
     ensures still { OnErr result (StandsStill house.old house.new) }
 {
     match house.prepare(closing.round, &closing.increments, closing.ties.as_slice()) {
-        Ok(prepared) => {
-            let reply = closed(alloc, closing.round, prepared.ended())?;
-            house.commit(prepared);
-            Ok(reply)
-        }
+        Ok(prepared) => match closed(alloc, closing.round, prepared.ended()) {
+            Ok(reply) => {
+                house.commit(prepared);
+                Ok(reply)
+            }
+            Err(refused) => {
+                drop(prepared);
+                Err(refused)
+            }
+        },
         Err(fault) => close_refusal(alloc, fault),
     }
 }

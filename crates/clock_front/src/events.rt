@@ -1,5 +1,7 @@
-ghost use Rattle.std.specs.Prelude.{◌≡◌, IfOk, OnOk};
+ghost use Rattle.std.specs.Prelude.{◌≡◌, [], IfOk, OnOk};
 ghost use Rattle.clock_front.specs.EventRuns.{IsEventRun, kept};
+ghost use Rattle.clock_front.specs.Fronts.{StandsForTexts};
+ghost use Rattle.clock_front.specs.NumberedHubs.{Stands};
 
 use crate::front::Front;
 use crate::numbered::NumberedHub;
@@ -43,6 +45,26 @@ fn keep(replies: &mut EventReplies, told: Option<EventReply>) -> Result<(), NoMe
     }
 }
 
+/// Takes events in turn by a hub over which nothing has come.
+fn take_each<P: Processor>(
+    alloc: Global,
+    hub: &mut NumberedHub<P>,
+    events: &[Event],
+) -> Result<EventReplies, NoMemory>
+    requires none { Stands [] hub.old.hub.connections hub.old.conns }
+    requires new { StandsForTexts [] hub.old.hub.house }
+    ensures { IfOk result (IsEventRun hub.old.hub.house.setup events.now) }
+{
+    hub.front().house().keeps();
+    let mut replies = EventReplies::new(alloc);
+    for event in events {
+        let told = hub.take_event(event)?;
+        keep(&mut replies, told)?;
+    }
+    hub.front().house().keeps();
+    Ok(replies)
+}
+
 /// Answers the requests that come in pieces over connections, in the order in which they are complete, as [`run`](crate::run)
 /// answers their texts. There is no memory where a connection, a piece or a list found none; a request that finds none while
 /// it is answered has a reply that says so.
@@ -55,13 +77,9 @@ pub fn run_events<P: Processor>(
     ensures { IfOk result (IsEventRun setup events.now) }
 {
     let front = Front::new(alloc, setup, processor)?;
-    front.house().keeps();
     let mut hub = NumberedHub::new(alloc, front);
-    let mut replies = EventReplies::new(alloc);
-    for event in events {
-        let told = hub.take_event(event)?;
-        keep(&mut replies, told)?;
-    }
-    hub.front().house().keeps();
-    Ok(replies)
+    let replies = take_each(alloc, &mut hub, events);
+    // let go by a call: at the end of the scope it would be proved part by part
+    drop(hub);
+    replies
 }

@@ -11,6 +11,7 @@ ghost use Rattle.clock_front.specs.Requests.{ask_by_route, request_of};
 ghost use Rattle.clock_front.specs.Routes.{page_of};
 ghost use Rattle.clock_front.specs.Shown.{Knows, shown_head, shown_bytes};
 ghost use Rattle.clock_front.specs.ShownAsked.{shown_asked};
+ghost use Rattle.clock_front.specs.TokenTable.{IsTableOf};
 
 use crate::asked::{Asked, asked_of};
 use crate::changes::{close, put};
@@ -105,21 +106,34 @@ fn answer_head<P: Processor>(
     answer_asked(alloc, house, asker, asked_of(page, head, body))
 }
 
+/// Whose the tokens of a set-up are, and the routes of all pages.
+fn tables(alloc: Global, setup: &Setup) -> Result<(Tokens, Routes), NoMemory>
+    ensures { IfOk result (λ both. IsTableOf setup.now both.0) }
+{
+    let tokens = Tokens::new(alloc, setup)?;
+    let routes = Routes::new(alloc)?;
+    Ok((tokens, routes))
+}
+
 impl<P: Processor> Front<P> {
     /// A front before its first text: it stands for the empty list.
     pub fn new(alloc: Global, setup: Setup, processor: P) -> Result<Front<P>, NoMemory>
         ensures setup { IfOk result (λ front. front.setup ≡ setup) }
         ensures stands { IfOk result (StandsForTexts []) }
     {
-        let tokens = Tokens::new(alloc, &setup)?;
-        let routes = Routes::new(alloc)?;
         let house = House::new(alloc, setup, processor)?;
-        Ok(Front {
-            alloc,
-            house,
-            routes,
-            tokens,
-        })
+        match tables(alloc, house.setup()) {
+            Ok((tokens, routes)) => Ok(Front {
+                alloc,
+                house,
+                routes,
+                tokens,
+            }),
+            Err(refused) => {
+                drop(house);
+                Err(refused)
+            }
+        }
     }
 
     /// The reply to a text of which this is known, where there is memory for it.

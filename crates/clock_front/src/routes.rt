@@ -1,4 +1,4 @@
-ghost use Rattle.std.specs.Prelude.{◌≡◌, ◌≤◌, ◌+◌, ◌-◌, ◌*◌, ◌^◌, IfOk, MatchOption, Some, None, codes};
+ghost use Rattle.std.specs.Prelude.{◌≡◌, ◌≤◌, ◌+◌, ◌-◌, ◌*◌, ◌^◌, [], IfOk, OnOk, MatchOption, Some, None, codes};
 ghost use Rattle.clock_front.specs.Heads.{same_bytes};
 ghost use Rattle.clock_front.specs.Routes as spec;
 
@@ -40,11 +40,11 @@ pub enum Role {
     Operator,
 }
 
-/// The routes of all pages.
-fn router(alloc: Global) -> Result<Router<Page>, InsertError>
-    ensures { IfOk result (λ router. router ≡ spec.table) }
+/// Adds the routes of all pages to a router with none.
+fn add_routes(router: &mut Router<Page>) -> Result<(), InsertError>
+    requires { router.old ≡ [] }
+    ensures { OnOk result (router.new ≡ spec.table) }
 {
-    let mut router = Router::new(alloc);
     router.insert("/v1/status", Page::Status)?;
     router.insert("/v1/products", Page::Products)?;
     router.insert("/v1/rounds/{n}", Page::Sheet)?;
@@ -53,6 +53,15 @@ fn router(alloc: Global) -> Result<Router<Page>, InsertError>
     router.insert("/v1/me/rounds/{n}", Page::Slip)?;
     router.insert("/v1/close", Page::Close)?;
     router.insert("/v1/results", Page::Results)?;
+    Ok(())
+}
+
+/// The routes of all pages.
+fn router(alloc: Global) -> Result<Router<Page>, InsertError>
+    ensures { IfOk result (λ router. router ≡ spec.table) }
+{
+    let mut router = Router::new(alloc);
+    add_routes(&mut router)?;
     Ok(router)
 }
 

@@ -1,4 +1,5 @@
-ghost use Rattle.std.specs.Prelude.{IfOk};
+ghost use Rattle.std.specs.Prelude.{[], IfOk};
+ghost use Rattle.clock_front.specs.Fronts.{StandsForTexts};
 ghost use Rattle.clock_front.specs.Runs.{IsRun};
 
 use crate::front::Front;
@@ -10,6 +11,24 @@ use std::alloc::Global;
 
 /// Replies in the order of their requests.
 pub type Replies = Items<Reply>;
+
+/// Answers texts in turn by a front that has answered none.
+fn answer_each<P: Processor>(
+    alloc: Global,
+    front: &mut Front<P>,
+    texts: &[Text],
+) -> Result<Replies, NoMemory>
+    requires { StandsForTexts [] front.old }
+    ensures { IfOk result (IsRun front.old.setup texts.now) }
+{
+    let mut replies = Replies::new(alloc);
+    for text in texts {
+        front.house().keeps();
+        replies.push(front.answer(text.as_slice()))?;
+    }
+    front.house().keeps();
+    Ok(replies)
+}
 
 /// Answers request texts in turn, each by what those before it have made of the auction: one reply for each, in order.
 ///
@@ -25,11 +44,8 @@ pub fn run<P: Processor>(
     ensures { IfOk result (IsRun setup texts.now) }
 {
     let mut front = Front::new(alloc, setup, processor)?;
-    let mut replies = Replies::new(alloc);
-    for text in texts {
-        front.house().keeps();
-        replies.push(front.answer(text.as_slice()))?;
-    }
-    front.house().keeps();
-    Ok(replies)
+    let replies = answer_each(alloc, &mut front, texts);
+    // let go by a call: at the end of the scope it would be proved part by part
+    drop(front);
+    replies
 }

@@ -2,12 +2,12 @@ use Rattle.std.proofs.Common.{codes, ◌∙◌, ap}
 use Rattle.clock_front.specs.declared.routes.Page.TheVariants.{Status, Products, Sheet, Account, Bids, Slip, Close, Results}
 use Rattle.clock_front.specs.Routes.{with_route, table}
 use Rattle.clock_front.proofs.RouteLaws.{added}
-use Rattle.clock_front.proofs.routes.router.Goals as goal
+use Rattle.clock_front.proofs.routes.add_routes.Goals as goal
 
 pub returns : goal.returns
 unfolding table
 returns c =
-    let a1 = added _ _ _ _ _ c.in_ok-insert.ensures ∙ ap (with_route (codes "/v1/status") Status) c.new-router.ensures in
+    let a1 = added _ _ _ _ _ c.in_ok-insert.ensures ∙ ap (with_route (codes "/v1/status") Status) c.requires in
     let a2 = added _ _ _ _ _ c.in_ok-insert-2.ensures ∙ ap (with_route (codes "/v1/products") Products) a1 in
     let a3 = added _ _ _ _ _ c.in_ok-insert-3.ensures ∙ ap (with_route (codes "/v1/rounds/{n}") Sheet) a2 in
     let a4 = added _ _ _ _ _ c.in_ok-insert-4.ensures ∙ ap (with_route (codes "/v1/me") Account) a3 in
