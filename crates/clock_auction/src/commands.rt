@@ -1,6 +1,6 @@
 //! The commands and options of the program, as clap is told of them.
 ghost use Rattle.std.specs.Prelude.{◌≡◌, codes, false, IfOk, IfErr};
-ghost use Rattle.clap.specs.Words.{app_of, kind_of, new_app, rule_of};
+ghost use Rattle.clap.specs.Words.{app_of, kind_of, new_app, rule_of, with_subcommand};
 ghost use Rattle.clap.specs.Simple.{on_top};
 ghost use Rattle.clap.specs.declared.builder.Command.TheViews.{out-Command};
 ghost use Rattle.clock_auction.specs.Words.{asks_for_a_command, grammar, needed_rule, number_rule, prices_grammar, serve_grammar};
@@ -125,24 +125,77 @@ fn program_alone<'a>(alloc: Global) -> Result<Command<'a>, Error>
     )
 }
 
+/// A program with `prices`.
+fn with_prices<'a>(
+    alloc: Global,
+    program: Command<'a>,
+    helps: &'a NumberHelps,
+) -> Result<Command<'a>, Error>
+    ensures shape { IfOk result (λ command. app_of command ≡ with_subcommand (app_of program.entry) prices_grammar.top) }
+    ensures err { IfErr result (λ error. kind_of error ≡ ErrorKind.OutOfMemory) }
+{
+    match prices_command(alloc, helps) {
+        Ok(prices) => Ok(program.subcommand(prices)?),
+        Err(error) => {
+            drop(program);
+            Err(error)
+        }
+    }
+}
+
+/// A program with a command that takes no words.
+fn with_plain<'a>(
+    alloc: Global,
+    program: Command<'a>,
+    name: &'a str,
+    about: &'a str,
+    help: &'a str,
+) -> Result<Command<'a>, Error>
+    ensures shape { IfOk result (λ command. app_of command ≡ with_subcommand (app_of program.entry) (new_app name.now).top) }
+    ensures err { IfErr result (λ error. kind_of error ≡ ErrorKind.OutOfMemory) }
+{
+    let command = Command::new(alloc, name).about(about).after_help(help);
+    Ok(program.subcommand(command)?)
+}
+
+/// A program with `serve`.
+fn with_serve<'a>(
+    alloc: Global,
+    program: Command<'a>,
+    helps: &'a NumberHelps,
+) -> Result<Command<'a>, Error>
+    ensures shape { IfOk result (λ command. app_of command ≡ with_subcommand (app_of program.entry) serve_grammar.top) }
+    ensures err { IfErr result (λ error. kind_of error ≡ ErrorKind.OutOfMemory) }
+{
+    match serve_command(alloc, helps) {
+        Ok(serve) => Ok(program.subcommand(serve)?),
+        Err(error) => {
+            drop(program);
+            Err(error)
+        }
+    }
+}
+
 /// The program's commands.
 pub fn program<'a>(alloc: Global, helps: &'a NumberHelps) -> Result<Command<'a>, Error>
     ensures shape { IfOk result (λ command. app_of command ≡ grammar) }
     ensures err { IfErr result (λ error. kind_of error ≡ ErrorKind.OutOfMemory) }
 {
-    let prices = prices_command(alloc, helps)?;
-    let serve = serve_command(alloc, helps)?;
-    let opening = Command::new(alloc, "opening")
-        .about("Prints the sheet of round 1")
-        .after_help(OPENING_HELP);
-    let replay = Command::new(alloc, "replay")
-        .about("Plays an auction of scripted bidders and prints its rounds and what each won")
-        .after_help(REPLAY_HELP);
-    Ok(
-        program_alone(alloc)?
-            .subcommand(prices)?
-            .subcommand(opening)?
-            .subcommand(replay)?
-            .subcommand(serve)?,
-    )
+    let priced = with_prices(alloc, program_alone(alloc)?, helps)?;
+    let opened = with_plain(
+        alloc,
+        priced,
+        "opening",
+        "Prints the sheet of round 1",
+        OPENING_HELP,
+    )?;
+    let replayed = with_plain(
+        alloc,
+        opened,
+        "replay",
+        "Plays an auction of scripted bidders and prints its rounds and what each won",
+        REPLAY_HELP,
+    )?;
+    let served = with_serve(alloc, replayed, helps)?;
+    Ok(served)
 }

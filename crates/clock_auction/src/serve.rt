@@ -19,15 +19,30 @@ pub fn serve<R>(rt: &R, serving: &Serving) -> Result<(), Fault>
 where
     R: Files + Print + Net<Listener = TcpListener, Stream = TcpStream> + Alloc<A = Global>,
 {
-    let document = file_bytes(rt, serving.setup)?;
+    let mut front = front_of(rt, serving.setup)?;
+    let served = listen(rt, &mut front, serving);
+    // let go by a call: at the end of the scope it would be proved part by part
+    drop(front);
+    served
+}
+
+/// The front of the set-up in a file.
+fn front_of<R: Files + Alloc<A = Global>>(rt: &R, path: &str) -> Result<Front<Woken>, Fault> {
+    let document = file_bytes(rt, path)?;
     let setup = setup_in(rt.alloc(), document.as_slice())?;
-    let mut front = Front::new(rt.alloc(), setup, Woken)?;
-    let listener = match TcpListener::bind(rt, (Ipv4Addr::LOCALHOST, serving.port)) {
-        Ok(listener) => listener,
-        Err(_) => return Err(Fault::Bind),
+    Ok(Front::new(rt.alloc(), setup, Woken)?)
+}
+
+/// Listens on a port, tells it, and serves connections by a front.
+fn listen<R>(rt: &R, front: &mut Front<Woken>, serving: &Serving) -> Result<(), Fault>
+where
+    R: Print + Net<Listener = TcpListener, Stream = TcpStream> + Alloc<A = Global>,
+{
+    let Ok(listener) = TcpListener::bind(rt, (Ipv4Addr::LOCALHOST, serving.port)) else {
+        return Err(Fault::Bind);
     };
     announce(rt, serving.port)?;
-    match serve_on(rt.alloc(), &mut front, &listener, serving.connections) {
+    match serve_on(rt.alloc(), front, &listener, serving.connections) {
         Ok(()) => Ok(()),
         Err(ServeFault::Accept) => Err(Fault::Accept),
     }
