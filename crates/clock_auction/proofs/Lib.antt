@@ -1,5 +1,3 @@
-mod NumberText
-mod Grammar
 mod Reading
 mod Outcomes
 mod Limited

@@ -6,7 +6,7 @@ use Rattle.clock_auction.specs.Input.{IsReadingOf}
 use Rattle.clock_auction.specs.Output.{IsUntouched, Writing}
 use Rattle.clock_auction.specs.Run.{ComesTo, IsRunOf, Shows, stopped}
 use Rattle.clock_auction.specs.FaultLines.{fault_line}
-use Rattle.clock_auction.specs.declared.words.Job.{Job}
+use Rattle.clock_words.specs.declared.words.Job.{Job}
 use Rattle.clock_auction.specs.declared.fault.Fault.{Fault}
 use Rattle.clock_auction.specs.declared.fault.Fault.TheVariants as fault
 use Rattle.clock_device.proofs.Streams.{read_nothing, same_bytes}

@@ -19,8 +19,8 @@ use Rattle.clock_sim.specs.ReportText.{report_text}
 use Rattle.clock_sim.specs.declared.fault.ScriptFault.{ScriptFault}
 use Rattle.clock_sim.specs.declared.sim_fault.SimFault.{SimFault}
 use Rattle.clock_auction.specs.PriceLines.{price_lines}
-use Rattle.clock_auction.specs.declared.words.Job.{Job}
-use Rattle.clock_auction.specs.declared.words.Job.TheVariants as job
+use Rattle.clock_words.specs.declared.words.Job.{Job}
+use Rattle.clock_words.specs.declared.words.Job.TheVariants as job
 use Rattle.clock_auction.specs.declared.fault.Fault.{Fault}
 use Rattle.clock_auction.specs.declared.fault.Fault.TheVariants as fault
 

@@ -1,4 +1,3 @@
-pub mod Words
 pub mod Input
 pub mod Output
 pub mod PriceLines

@@ -9,7 +9,7 @@ use Rattle.clock_auction.specs.Input.{IsReadingOf, ReadsWhole}
 use Rattle.clock_auction.specs.Output.{IsUntouched, Writing, WritesFront, WritesWhole}
 use Rattle.clock_auction.specs.Answers.{answer_of}
 use Rattle.clock_auction.specs.FaultLines.{fault_line}
-use Rattle.clock_auction.specs.declared.words.Job.{Job}
+use Rattle.clock_words.specs.declared.words.Job.{Job}
 use Rattle.clock_auction.specs.declared.fault.Fault.{Fault}
 use Rattle.clock_auction.specs.declared.fault.Fault.TheVariants as fault
 

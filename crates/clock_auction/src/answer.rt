@@ -1,11 +1,11 @@
 ghost use Rattle.std.specs.Prelude.{◌≡◌, ◌≢◌, ◌≤◌, Ok, Err, IfOk, IfErr};
 ghost use Rattle.clock_setup.specs.SetupDocument.{document_setup};
 ghost use Rattle.clock_auction.specs.Answers.{answer_of, read_in};
-ghost use Rattle.clock_auction.specs.Words.{IsJob};
+ghost use Rattle.clock_words.specs.Words.{IsJob};
 
 use crate::fault::Fault;
 use crate::prices::prices_text;
-use crate::words::Job;
+use clock_words::Job;
 use clock_device::Text;
 use clock_posting::{PostFault, post_first, sheet_lines};
 use clock_setup::{Increments, OpeningFault, Setup, SetupFault, read_opening, read_setup};

@@ -3,13 +3,13 @@ ghost use Rattle.clock_device.specs.Calls.{IsUnread, IsUnused};
 ghost use Rattle.clock_auction.specs.FaultLines.{fault_line};
 ghost use Rattle.clock_auction.specs.Input.{most_reads};
 ghost use Rattle.clock_auction.specs.Run.{ComesTo, IsRunOf, Shows};
-ghost use Rattle.clock_auction.specs.Words.{IsJob, job_of};
+ghost use Rattle.clock_words.specs.Words.{IsJob, job_of};
 
 use crate::answer::answer;
 use crate::fault::Fault;
 use crate::fault_lines::write_fault;
 use crate::input::read_all;
-use crate::words::{Job, job_asked};
+use clock_words::{Job, job_asked};
 use clap::error::ErrorKind;
 use clock_device::{Sink, Source, write_all};
 use std::alloc::Global;

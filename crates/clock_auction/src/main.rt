@@ -5,10 +5,8 @@ ghost use Rattle.std.specs.Prelude.{◌≡◌, map, string_bytes, IfOk};
 
 mod answer;
 mod command;
-mod commands;
 mod fault;
 mod fault_lines;
-mod help;
 mod input;
 #[cfg(test)]
 mod loopback;
@@ -17,19 +15,17 @@ mod serve;
 mod serving;
 #[cfg(test)]
 mod tests;
-mod words;
 
 use clap::error::ErrorKind;
 use clock_device::{FromReader, ToWriter};
 use command::{command, show_fault};
-use commands::number_helps;
+use clock_words::{number_helps, serving_asked};
 use fault::Fault;
 use serve::serve;
 use std::alloc::{AllocError, Global};
 use std::process::ExitCode;
 use std::rt::Env;
 use std::{env, io};
-use words::serving_asked;
 
 /// Standard input is the document's, standard output the text's, and standard error the fault's.
 fn main(rt: HostRuntime) -> io::Result<ExitCode> {

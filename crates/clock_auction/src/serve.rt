@@ -3,7 +3,7 @@ use crate::answer::setup_in;
 use crate::fault::Fault;
 use crate::input::read_all;
 use crate::serving::{ServeFault, serve_on};
-use crate::words::Serving;
+use clock_words::Serving;
 use clock_device::{FromReader, Text};
 use clock_front::Front;
 use clock_queue::Woken;

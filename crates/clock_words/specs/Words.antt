@@ -13,9 +13,9 @@ use Rattle.clap.specs.ValueTests.{is_unsigned_in}
 use Rattle.clap.specs.declared.builder.value_parser.ValueParser.TheVariants as parser
 use Rattle.clock_setup.specs.Increments.{IsIncrement}
 use Rattle.clock_setup.specs.Limits.{least_increment, most_increment}
-use Rattle.clock_auction.specs.declared.words.Job.{Job}
-use Rattle.clock_auction.specs.declared.words.Serving.{Serving}
-use Rattle.clock_auction.specs.declared.words.Job.TheVariants.{Prices, Opening, Replay}
+use Rattle.clock_words.specs.declared.words.Job.{Job}
+use Rattle.clock_words.specs.declared.words.Serving.{Serving}
+use Rattle.clock_words.specs.declared.words.Job.TheVariants.{Prices, Opening, Replay}
 
 -- `--increment N`, within its limits, and 10 where it is not given
 abbrev pub increment_option : Rule

@@ -1,7 +1,7 @@
 use Rattle.std.proofs.Common.{◌∙◌, ap, codes}
 use Rattle.clap.specs.Words.{App, new_app, with_subcommand}
-use Rattle.clock_auction.specs.Words.{prices_grammar, serve_grammar}
-use Rattle.clock_auction.proofs.commands.program.Goals as goal
+use Rattle.clock_words.specs.Words.{prices_grammar, serve_grammar}
+use Rattle.clock_words.proofs.commands.program.Goals as goal
 
 pub returns-clause-shape : goal.returns-clause-shape
 returns-clause-shape c =

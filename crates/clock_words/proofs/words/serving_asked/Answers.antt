@@ -1,9 +1,9 @@
 use Rattle.std.proofs.Common.{◌∙◌, ap, map}
 use Rattle.std.proofs.lemmas.Result.{err_from_is_err_and}
 use Rattle.clap.specs.Words.{kind_of}
-use Rattle.clock_auction.proofs.Grammar.{meant_as_taken, none_meant}
-use Rattle.clock_auction.specs.Words.{serving_met}
-use Rattle.clock_auction.proofs.words.serving_asked.Goals as goal
+use Rattle.clock_words.proofs.Grammar.{meant_as_taken, none_meant}
+use Rattle.clock_words.specs.Words.{serving_met}
+use Rattle.clock_words.proofs.words.serving_asked.Goals as goal
 
 pub returns-in_err-matches-clause-err : goal.returns-in_err-matches-clause-err
 returns-in_err-matches-clause-err c =

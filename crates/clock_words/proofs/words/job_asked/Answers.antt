@@ -1,9 +1,9 @@
 use Rattle.std.proofs.Common.{◌≡◌, ◌<◌, ◌∙◌, [], length, map, sym, rules}
 use Rattle.std.proofs.lemmas.Bool.{eqb-true}
 use Rattle.std.proofs.lemmas.Result.{IfErr-weaker, IfOk-weaker}
-use Rattle.clock_auction.proofs.Grammar.{asked_with, asked_without}
-use Rattle.clock_auction.specs.Words.{given}
-use Rattle.clock_auction.proofs.words.job_asked.Goals as goal
+use Rattle.clock_words.proofs.Grammar.{asked_with, asked_without}
+use Rattle.clock_words.specs.Words.{given}
+use Rattle.clock_words.proofs.words.job_asked.Goals as goal
 
 pub returns-then-is_empty-clause-ok : goal.returns-then-is_empty-clause-ok
 returns-then-is_empty-clause-ok c =

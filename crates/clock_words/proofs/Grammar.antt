@@ -5,7 +5,7 @@ use Rattle.clap.specs.Words.{App, HasKind, Kinds, Row, Text, fault_of, is_simple
 use Rattle.clap.specs.declared.error.Error.{Error}
 use Rattle.clap.specs.declared.error.kind.ErrorKind.TheVariants.{OutOfMemory}
 use Rattle.clap.proofs.OnLiterals.{clap_on_literals}
-use Rattle.clock_auction.specs.Words.{given, grammar, job_meant, job_of, unless_refused}
+use Rattle.clock_words.specs.Words.{given, grammar, job_meant, job_of, unless_refused}
 
 grammar_free : is_simple_and_free grammar ≡ true
 unfolding clap_on_literals

@@ -3,7 +3,7 @@ ghost use Rattle.std.specs.Prelude.{◌≡◌, codes, false, IfOk, IfErr};
 ghost use Rattle.clap.specs.Words.{app_of, kind_of, new_app, rule_of, with_subcommand};
 ghost use Rattle.clap.specs.Simple.{on_top};
 ghost use Rattle.clap.specs.declared.builder.Command.TheViews.{out-Command};
-ghost use Rattle.clock_auction.specs.Words.{asks_for_a_command, grammar, needed_rule, number_rule, prices_grammar, serve_grammar};
+ghost use Rattle.clock_words.specs.Words.{asks_for_a_command, grammar, needed_rule, number_rule, prices_grammar, serve_grammar};
 
 use crate::help::{OPENING_HELP, PRICES_HELP, PROGRAM_HELP, REPLAY_HELP, SERVE_HELP, number_help};
 use clap::builder::ValueParser;

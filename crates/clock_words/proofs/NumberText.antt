@@ -8,7 +8,7 @@ use Rattle.clap.specs.ValueTests.{is_unsigned_in}
 use Rattle.clap.specs.declared.builder.value_parser.ValueParser.TheVariants as parser
 use Rattle.clap.proofs.ValueTestLemmas.{accepts-Accepts, Accepts-accepts}
 use Rattle.clap.proofs.WalkLemmas.{both}
-use Rattle.clock_auction.specs.Words.{number_from}
+use Rattle.clock_words.specs.Words.{number_from}
 
 -- the number, where it is within the limits
 abbrev pub within_limits : ℕ → ℕ → Option ℕ → Option ℕ

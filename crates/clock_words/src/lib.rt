@@ -1,0 +1,9 @@
+//! What the words after the program's name ask for: its commands and options, as clap reads them.
+#![tactic(auto)]
+
+mod commands;
+mod help;
+mod words;
+
+pub use commands::{NumberHelps, number_helps};
+pub use words::{Job, Serving, job_asked, serving_asked};
