@@ -5,8 +5,6 @@ mod HeaderLaws
 mod TextLaws
 pub mod ProgressLaws
 mod RouteLaws
-mod TieLaws
-mod BodyScanLaws
 mod ReplyLaws
 mod Examples
 mod TokenLaws

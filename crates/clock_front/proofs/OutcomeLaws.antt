@@ -13,9 +13,9 @@ use Rattle.clock_front.specs.declared.tokens.Asker.{Asker}
 use Rattle.clock_front.specs.declared.tokens.Asker.TheVariants.{Nobody, Operator, Bidder}
 use Rattle.clock_front.specs.declared.asked.Reading.{Reading}
 use Rattle.clock_front.specs.declared.asked.Reading.TheVariants as reading
-use Rattle.clock_front.specs.declared.put_body.PutBody.{PutBody}
-use Rattle.clock_front.specs.declared.close_body.CloseBody.{CloseBody}
-use Rattle.clock_front.specs.declared.body_fault.BodyFault.{BodyFault}
+use Rattle.clock_bodies.specs.declared.put_body.PutBody.{PutBody}
+use Rattle.clock_bodies.specs.declared.close_body.CloseBody.{CloseBody}
+use Rattle.clock_bodies.specs.declared.body_fault.BodyFault.{BodyFault}
 use Rattle.clock_front.specs.Requests as asked
 use Rattle.clock_front.specs.ShownAsked.{shown_reading}
 use Rattle.clock_front.specs.Outcomes.{Outcome, done, refused, page_or_no_round, turned_away_by, unless_turned_away, command_of}

@@ -17,7 +17,7 @@ use Rattle.clock_front.specs.Private.{IsToldByView, IsToldAsker, IsPrivateReply}
 use Rattle.clock_front.specs.Replies.{Answer}
 use Rattle.clock_front.specs.Requests.{Ask, request_of, put}
 use Rattle.clock_front.specs.Views.{bidder_outcome}
-use Rattle.clock_front.specs.declared.put_body.PutBody.{PutBody}
+use Rattle.clock_bodies.specs.declared.put_body.PutBody.{PutBody}
 use Rattle.clock_front.specs.declared.tokens.Asker.{Asker}
 use Rattle.clock_front.specs.declared.tokens.Asker.TheVariants.{Nobody, Operator, Bidder}
 use Rattle.clock_front.proofs.FrontLaws.{outcome_after}

@@ -21,9 +21,9 @@ use Rattle.clock_house.specs.View as typed
 use Rattle.clock_house.proofs.Isolation.{seen}
 use Rattle.clock_views.specs.PublicPages.{sheet_value}
 use Rattle.clock_views.specs.BidderPages.{bids_value, slip_value}
-use Rattle.clock_front.specs.declared.put_body.PutBody.{PutBody}
-use Rattle.clock_front.specs.declared.close_body.CloseBody.{CloseBody}
-use Rattle.clock_front.specs.declared.body_fault.BodyFault.{BodyFault}
+use Rattle.clock_bodies.specs.declared.put_body.PutBody.{PutBody}
+use Rattle.clock_bodies.specs.declared.close_body.CloseBody.{CloseBody}
+use Rattle.clock_bodies.specs.declared.body_fault.BodyFault.{BodyFault}
 use Rattle.clock_front.specs.declared.tokens.Asker.{Asker}
 use Rattle.clock_front.specs.declared.tokens.Asker.TheVariants as who
 use Rattle.clock_front.specs.Askers.{asker}

@@ -5,11 +5,8 @@ pub mod Framing
 pub mod FramingLaws
 pub mod Shown
 pub mod Routes
-pub mod Bodies
 pub mod Replies
 pub mod ShownReply
-pub mod CloseBodies
-pub mod QuickBodies
 pub mod Askers
 pub mod HeldTokens
 pub mod TokenTable

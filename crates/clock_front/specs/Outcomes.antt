@@ -29,10 +29,10 @@ use Rattle.clock_front.specs.declared.routes.Role.{Role}
 use Rattle.clock_front.specs.declared.routes.Role.TheVariants as role
 use Rattle.clock_front.specs.declared.tokens.Asker.{Asker}
 use Rattle.clock_front.specs.declared.tokens.Asker.TheVariants.{Nobody, Operator, Bidder}
-use Rattle.clock_front.specs.declared.put_body.PutBody.{PutBody}
-use Rattle.clock_front.specs.declared.close_body.CloseBody.{CloseBody}
-use Rattle.clock_front.specs.declared.body_fault.BodyFault.{BodyFault}
-use Rattle.clock_front.specs.declared.body_fault.BodyFault.TheVariants.{NotJson, Shape, NoMemory}
+use Rattle.clock_bodies.specs.declared.put_body.PutBody.{PutBody}
+use Rattle.clock_bodies.specs.declared.close_body.CloseBody.{CloseBody}
+use Rattle.clock_bodies.specs.declared.body_fault.BodyFault.{BodyFault}
+use Rattle.clock_bodies.specs.declared.body_fault.BodyFault.TheVariants.{NotJson, Shape, NoMemory}
 use Rattle.clock_front.specs.Routes.{round_named}
 use Rattle.clock_front.specs.Replies.{Answer, reply_bytes}
 use Rattle.clock_front.specs.Requests.{Ask}

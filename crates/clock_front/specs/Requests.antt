@@ -9,13 +9,13 @@ use Rattle.clock_views.specs.declared.code.Code.TheVariants.{CutShort, NoPage}
 use Rattle.clock_front.specs.Heads.{same_bytes}
 use Rattle.clock_front.specs.Framing.{Framing, needs_more, refusal, whole, Head, framing, head_in}
 use Rattle.clock_front.specs.Routes.{page_of, last_segment, has_method}
-use Rattle.clock_front.specs.Bodies.{put_body}
-use Rattle.clock_front.specs.CloseBodies.{close_body}
+use Rattle.clock_bodies.specs.Bodies.{put_body}
+use Rattle.clock_bodies.specs.CloseBodies.{close_body}
 use Rattle.clock_front.specs.declared.routes.Page.{Page}
 use Rattle.clock_front.specs.declared.routes.Page.TheVariants.{Status, Products, Sheet, Account, Bids, Slip, Close, Results}
-use Rattle.clock_front.specs.declared.put_body.PutBody.{PutBody}
-use Rattle.clock_front.specs.declared.close_body.CloseBody.{CloseBody}
-use Rattle.clock_front.specs.declared.body_fault.BodyFault.{BodyFault}
+use Rattle.clock_bodies.specs.declared.put_body.PutBody.{PutBody}
+use Rattle.clock_bodies.specs.declared.close_body.CloseBody.{CloseBody}
+use Rattle.clock_bodies.specs.declared.body_fault.BodyFault.{BodyFault}
 
 -- a text that no page answers, or a page by a method that it has not; a page; a sheet or a closing, whose body is looked at
 -- only once the sender may send it

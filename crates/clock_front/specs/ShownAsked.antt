@@ -1,6 +1,6 @@
 -- What is asked for, as the code keeps it: a body is not read yet.
-use Rattle.clock_front.specs.Bodies.{put_body}
-use Rattle.clock_front.specs.CloseBodies.{close_body}
+use Rattle.clock_bodies.specs.Bodies.{put_body}
+use Rattle.clock_bodies.specs.CloseBodies.{close_body}
 use Rattle.clock_front.specs.Requests.{Ask}
 use Rattle.clock_front.specs.Requests as asked
 use Rattle.clock_front.specs.declared.asked.Reading.{Reading}

@@ -4,19 +4,17 @@ ghost use Rattle.std.specs.Prelude.{◌≡◌, ◌≢◌, ◌<◌, None, length,
 ghost use Rattle.clock_house.specs.House.{put_fault_in, closing_in, IsFollowedBy, StandsStill};
 ghost use Rattle.clock_house.specs.Command as command;
 ghost use Rattle.clock_views.specs.Refusals.{shown_put, shown_close};
-ghost use Rattle.clock_front.specs.Bodies.{put_body};
-ghost use Rattle.clock_front.specs.CloseBodies.{close_body};
+ghost use Rattle.clock_bodies.specs.Bodies.{put_body};
+ghost use Rattle.clock_bodies.specs.CloseBodies.{close_body};
 ghost use Rattle.clock_front.specs.Outcomes as told;
 ghost use Rattle.clock_front.specs.Outcomes.{answer_of};
 ghost use Rattle.clock_front.specs.Private.{IsToldByView};
 ghost use Rattle.clock_front.specs.Requests as asked;
 ghost use Rattle.clock_views.specs.OperatorPages.{closed_value};
 
-use crate::body_fault::BodyFault;
-use crate::close_body::{CloseBody, read_close};
+use clock_bodies::{BodyFault, CloseBody, PutBody, read_close, read_put};
 use crate::head_room::text_with_room;
 use crate::pages::refusal;
-use crate::put_body::{PutBody, read_put};
 use crate::reply::Reply;
 use clock_device::NoMemory;
 use clock_house::{CloseFault, House, PutFault};

@@ -14,7 +14,7 @@ use Rattle.clock_front.specs.Framing.{Head, Framing, framed, framing, known, kno
 use Rattle.clock_front.specs.Framing as framed_as
 use Rattle.clock_front.specs.Requests.{Ask, ask_of, ask_by_route, ask_of_page, request_of}
 use Rattle.clock_front.specs.Requests as asked
-use Rattle.clock_front.specs.Bodies.{put_body}
+use Rattle.clock_bodies.specs.Bodies.{put_body}
 use Rattle.clock_front.specs.Routes.{page_of, has_method}
 use Rattle.clock_front.specs.Outcomes.{command_of}
 use Rattle.clock_front.specs.Askers.{asker}

@@ -12,9 +12,9 @@ use Rattle.clock_setup.specs.declared.increments.Increments.{Increments}
 use Rattle.clock_setup.specs.declared.increments.Increments.TheVariants.{Single, PerProduct}
 use Rattle.clock_bids.specs.declared.sheet.Bid.{Bid}
 use Rattle.clock_order.specs.declared.ties.Tie.{Tie}
-use Rattle.clock_front.specs.Bodies.{bid_of}
-use Rattle.clock_front.specs.CloseBodies.{tie_of}
-use Rattle.clock_front.specs.QuickBodies.{bid_data, tie_data}
+use Rattle.clock_bodies.specs.Bodies.{bid_of}
+use Rattle.clock_bodies.specs.CloseBodies.{tie_of}
+use Rattle.clock_bodies.specs.QuickBodies.{bid_data, tie_data}
 use Rattle.clock_sim.specs.declared.script.Script.{Script}
 use Rattle.clock_sim.specs.declared.script.Script.TheVariants.{Literal, Sincere}
 use Rattle.clock_sim.specs.declared.closing.Closing.{Closing}

@@ -6,7 +6,7 @@ use Rattle.serde_json.specs.Data.{Data, null, string, object, array}
 use Rattle.clock_scan.specs.Reading.{whole, numbers, rows, items_of, Fields, members_of}
 use Rattle.clock_setup.specs.SetupData.{setup_data}
 use Rattle.clock_bids.specs.declared.sheet.Bid.{Bid}
-use Rattle.clock_front.specs.QuickBodies.{bids_data, ties_data, single_of, listed_of}
+use Rattle.clock_bodies.specs.QuickBodies.{bids_data, ties_data, single_of, listed_of}
 use Rattle.clock_sim.specs.declared.script.Script.{Script}
 use Rattle.clock_sim.specs.declared.script.Script.TheVariants.{Literal, Sincere}
 use Rattle.clock_sim.specs.declared.closing.Closing.{Closing}

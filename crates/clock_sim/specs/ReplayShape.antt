@@ -9,8 +9,8 @@ use Rattle.serde_json.specs.Find.{get, as_null, as_array}
 use Rattle.clock_setup.specs.Members.{text_at, items_at, has_members, each, ◌>>=◌}
 use Rattle.clock_setup.specs.OpeningShape.{row_of}
 use Rattle.clock_bids.specs.declared.sheet.Bid.{Bid}
-use Rattle.clock_front.specs.Bodies.{bid_of}
-use Rattle.clock_front.specs.CloseBodies.{tie_of, increments_of}
+use Rattle.clock_bodies.specs.Bodies.{bid_of}
+use Rattle.clock_bodies.specs.CloseBodies.{tie_of, increments_of}
 use Rattle.clock_sim.specs.declared.script.Script.{Script}
 use Rattle.clock_sim.specs.declared.script.Script.TheVariants.{Literal, Sincere}
 use Rattle.clock_sim.specs.declared.closing.Closing.{Closing}

@@ -2,7 +2,7 @@
 ghost use Rattle.std.specs.Prelude.{◌≡◌, ◌<◌, length, IfSome, IfOk, OnOk};
 ghost use Rattle.serde_json.specs.Data.{object};
 ghost use Rattle.clock_scan.specs.Reading.{members_of, Reads, AddsMember};
-ghost use Rattle.clock_front.specs.QuickBodies.{tie_data, single_of, listed_of};
+ghost use Rattle.clock_bodies.specs.QuickBodies.{tie_data, single_of, listed_of};
 ghost use Rattle.clock_sim.specs.ReplayData.{closing_fields, closing_data};
 
 use crate::closing::{Closing, TieList};

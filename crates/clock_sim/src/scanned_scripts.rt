@@ -2,7 +2,7 @@
 ghost use Rattle.std.specs.Prelude.{◌≡◌, true, ◌<◌, length, IfSome, IfOk, OnOk};
 ghost use Rattle.serde_json.specs.Data.{object};
 ghost use Rattle.clock_scan.specs.Reading.{whole, is_field, with_field, members_of, Reads, AddsMember};
-ghost use Rattle.clock_front.specs.QuickBodies.{bid_data};
+ghost use Rattle.clock_bodies.specs.QuickBodies.{bid_data};
 ghost use Rattle.clock_sim.specs.ReplayData.{bid_fields, sheet_data, kind_text, script_fields, script_data};
 
 use crate::scanned_part::{ScannedPart, scanned_parts};

@@ -1,8 +1,8 @@
 ghost use Rattle.std.specs.Prelude.{◌≡◌, Some, IfOk, option_map};
 ghost use Rattle.serde_json.specs.View.{view};
 ghost use Rattle.clock_setup.specs.OpeningShape.{row_of};
-ghost use Rattle.clock_front.specs.Bodies as put_bodies;
-ghost use Rattle.clock_front.specs.CloseBodies as close_bodies;
+ghost use Rattle.clock_bodies.specs.Bodies as put_bodies;
+ghost use Rattle.clock_bodies.specs.CloseBodies as close_bodies;
 ghost use Rattle.clock_sim.specs.ReplayShape as shape;
 
 use crate::closing::{Closing, Closings};
@@ -10,7 +10,7 @@ use crate::part::{Part, parts};
 use crate::script::{BidList, Script, Scripts};
 use clock_bids::Bid;
 use clock_device::NoMemory;
-use clock_front::{bid_of, tie_of};
+use clock_bodies::{bid_of, tie_of};
 use clock_order::Tie;
 use clock_setup::members::{has_members, items_at, number_at, numbers_of, text_at};
 use clock_setup::{Amounts, Increments};

@@ -2,7 +2,7 @@ use Rattle.std.proofs.Common.{◌≡◌, ◌∷◌, length, ap, subst, arith}
 use Rattle.serde_json.specs.Data.{object}
 use Rattle.clock_scan.specs.Reading.{Token, members_of, AddsMember}
 use Rattle.clock_scan.proofs.Steps.{members_start, members_end}
-use Rattle.clock_front.specs.QuickBodies.{bid_data}
+use Rattle.clock_bodies.specs.QuickBodies.{bid_data}
 use Rattle.clock_sim.specs.ReplayData.{bid_fields}
 use Rattle.clock_sim.proofs.ReplayDataLaws.{whole_read}
 use Rattle.clock_sim.proofs.scanned_scripts.bid.Goals as goal

@@ -1,6 +1,6 @@
 use Rattle.std.proofs.Common.{codes, refl, sym, subst, arith}
 use Rattle.clock_scan.specs.Reading.{whole, numbers, Reads}
-use Rattle.clock_front.specs.QuickBodies.{ties_data}
+use Rattle.clock_bodies.specs.QuickBodies.{ties_data}
 use Rattle.clock_sim.specs.ReplayData.{closing_fields}
 use Rattle.clock_sim.proofs.ReplayDataLaws.{member_added}
 use Rattle.clock_sim.proofs.scanned_closings.FoundClosing.read_member.Goals as goal

@@ -1,0 +1,96 @@
+-- What is read quickly of a body is what the body means.
+use Rattle.std.proofs.Common.{◌≡◌, ℕ, true, List, [], ◌∷◌, map, Option, Some, None, option_map, Result, Ok, Err}
+use Rattle.std.proofs.Common.{IfOk, IfSome, refl, ap, ◌∙◌, subst, arith}
+use Rattle.std.specs.Str.{IsUtf8}
+use Rattle.json.specs.Token.{Token, key as key_token}
+use Rattle.json.specs.Lex.{tokens}
+use Rattle.serde_json.specs.Data.{Data}
+use Rattle.clock_setup.specs.Faults.{or_fault}
+use Rattle.clock_setup.specs.Members.{each, number_from, ◌>>=◌}
+use Rattle.clock_setup.proofs.JsonLaws.{json_value}
+use Rattle.clock_setup.specs.declared.increments.Increments.{Increments}
+use Rattle.clock_setup.specs.declared.increments.Increments.TheVariants.{Single, PerProduct}
+use Rattle.clock_scan.specs.Reading.{whole, numbers, items_of, Fields, is_field, with_field, Reads, AddsMember}
+use Rattle.clock_scan.specs.declared.stop.Stop.{Stop}
+use Rattle.clock_scan.proofs.Steps.{adds_member, items_start, items_next, items_end, text_is}
+use Rattle.clock_bids.specs.declared.sheet.Bid.{Bid}
+use Rattle.clock_order.specs.declared.ties.Tie.{Tie}
+use Rattle.clock_bodies.specs.declared.put_body.PutBody.{PutBody}
+use Rattle.clock_bodies.specs.declared.close_body.CloseBody.{CloseBody}
+use Rattle.clock_bodies.specs.declared.body_fault.BodyFault.TheVariants.{Shape}
+use Rattle.clock_bodies.specs.Bodies.{bid_of, put_of, put_body, meant_by}
+use Rattle.clock_bodies.specs.CloseBodies.{tie_of, close_of, close_body}
+use Rattle.clock_bodies.specs.QuickBodies.{bid_data, put_data, tie_data, close_data}
+
+-- a member of some fields, where it is one of them
+pub added : {A : Type 0} (fields_of : A → Fields) (levels : ℕ) (old value new : List Token) (fields : Fields) (name : List ℕ) (d : Data) (found : Option A)
+    → old ≡ key_token name ∷ value → Reads levels value d new → IfSome found (λ _. is_field name fields ≡ true)
+    → IfSome found (λ after. with_field name d fields ≡ fields_of after) → IfSome found (λ after. AddsMember levels old fields new (fields_of after))
+added fields_of levels old value new fields name d None named reads known is = tt
+added fields_of levels old value new fields name d (Some after) named reads known is =
+    subst (λ fs. AddsMember levels old fields new fs) is (adds_member levels old value new fields name d named reads known)
+
+-- a list of three numbers
+pub three_read : (first start after_first after_second after_third new : List Token) (a b c : ℕ) → first ≡ Token.begin_array ∷ start
+    → Reads 0 start (whole a) after_first → Reads 0 after_first (whole b) after_second → Reads 0 after_second (whole c) after_third
+    → after_third ≡ Token.end_array ∷ new → Reads 1 first (numbers (a ∷ b ∷ c ∷ [])) new
+three_read first start after_first after_second after_third new a b c opened reads_a reads_b reads_c closed =
+    let one = items_next 0 start start after_first [] (whole a) (items_start 0 start) reads_a in
+    let two = items_next 0 start after_first after_second (whole a ∷ []) (whole b) one reads_b in
+    let three = items_next 0 start after_second after_third (whole a ∷ whole b ∷ []) (whole c) two reads_c in
+    items_end 0 first start after_third new (whole a ∷ whole b ∷ whole c ∷ []) opened three closed
+
+-- ---- what the values mean
+
+bid_means : (bid : Bid) → bid_of (bid_data bid) ≡ Some bid
+unfolding bid_of
+bid_means bid = refl
+
+tie_means : (tie : Tie) → tie_of (tie_data tie) ≡ Some tie
+tie_means tie = refl
+
+number_means : (n : ℕ) → number_from (whole n) ≡ Some n
+number_means n = refl
+
+each_means : {A : Type 0} (meaning : Data → Option A) (data_of : A → Data) → ((x : A) → meaning (data_of x) ≡ Some x)
+    → (xs : List A) → each meaning (items_of (map data_of xs)) ≡ Some xs
+each_means meaning data_of means [] = refl
+each_means meaning data_of means (x ∷ xs) =
+    ap (λ o. o >>= λ first. (each meaning (items_of (map data_of xs)) >>= λ rest. Some (first ∷ rest))) (means x)
+    ∙ ap (λ o. o >>= λ rest. Some (x ∷ rest)) (each_means meaning data_of means xs)
+
+put_means : (body : PutBody) → put_of (put_data body) ≡ Some body
+unfolding put_of
+put_means body =
+    ap (λ o. o >>= λ bids. Some (record { round = body.round; bids = bids })) (each_means bid_of bid_data bid_means body.bids)
+
+abbrev closing : ℕ → List Tie → Increments → CloseBody
+closing round ties increments = record { round = round; increments = increments; ties = ties }
+
+close_means : (round : ℕ) (increments : Increments) (ties : List Tie)
+    → close_of (close_data (closing round ties increments)) ≡ Some (closing round ties increments)
+unfolding close_of
+close_means round (Single increment) ties =
+    ap (λ o. o >>= λ known. Some (closing round known (Single increment))) (each_means tie_of tie_data tie_means ties)
+close_means round (PerProduct increments) ties =
+    ap (λ o. option_map PerProduct o >>= λ listed. (each tie_of (items_of (map tie_data ties)) >>= λ known. Some (closing round known listed)))
+    (each_means number_from whole number_means increments)
+    ∙ ap (λ o. o >>= λ known. Some (closing round known (PerProduct increments))) (each_means tie_of tie_data tie_means ties)
+
+-- ---- what the bytes mean
+
+pub put_meant : (text : List ℕ) (ts : List Token) (found : Result PutBody Stop) → IsUtf8 text → ts ≡ tokens text
+    → IfOk found (λ body. Reads 3 ts (put_data body) []) → IfOk found (λ body. put_body text ≡ Ok body)
+unfolding put_body
+put_meant text ts (Err stop) utf8 is reads = tt
+put_meant text ts (Ok body) utf8 is reads =
+    ap (meant_by put_of) (json_value text (put_data body) utf8 (text_is 3 text ts [] (put_data body) (omega arith) is reads refl))
+    ∙ ap (or_fault Shape) (put_means body)
+
+pub close_meant : (text : List ℕ) (ts : List Token) (found : Result CloseBody Stop) → IsUtf8 text → ts ≡ tokens text
+    → IfOk found (λ body. Reads 3 ts (close_data body) []) → IfOk found (λ body. close_body text ≡ Ok body)
+unfolding close_body
+close_meant text ts (Err stop) utf8 is reads = tt
+close_meant text ts (Ok body) utf8 is reads =
+    ap (meant_by close_of) (json_value text (close_data body) utf8 (text_is 3 text ts [] (close_data body) (omega arith) is reads refl))
+    ∙ ap (or_fault Shape) (close_means body.round body.increments body.ties)

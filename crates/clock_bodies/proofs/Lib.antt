@@ -1,0 +1,2 @@
+mod TieLaws
+mod BodyScanLaws

@@ -1,0 +1,52 @@
+-- What the body of a closing means, over the values that serde_json reads. (Own format.)
+--     tie_of value, increments_of value, close_of value      the tie number, the increments, the closing that a JSON value means
+--     close_body bytes      what bytes mean as a closing, or their first fault
+use Rattle.std.specs.Prelude.{ℕ, List, Option, Some, None, option_and_then, option_map, Result, if◌then◌else◌, codes}
+use Rattle.serde_json.specs.Data.{Data, Items, no_items, item}
+use Rattle.serde_json.specs.Find.{as_array}
+use Rattle.clock_setup.specs.declared.increments.Increments.{Increments}
+use Rattle.clock_setup.specs.declared.increments.Increments.TheVariants.{Single, PerProduct}
+use Rattle.clock_setup.specs.Members.{number_from, number_at, items_at, has_members, each, ◌>>=◌}
+use Rattle.clock_setup.specs.SetupDocument.{json}
+use Rattle.clock_order.specs.declared.ties.Tie.{Tie}
+use Rattle.clock_bodies.specs.declared.close_body.CloseBody.{CloseBody}
+use Rattle.clock_bodies.specs.declared.body_fault.BodyFault.{BodyFault}
+use Rattle.clock_bodies.specs.Bodies.{meant_by}
+
+-- three numbers
+abbrev pub tie_from : Items → Option Tie
+tie_from no_items = None
+tie_from (item a no_items) = None
+tie_from (item a (item b no_items)) = None
+tie_from (item a (item b (item c no_items))) = do
+  bidder ← number_from a
+  product ← number_from b
+  number ← number_from c
+  Some (record { bidder = bidder; product = product; number = number })
+tie_from (item a (item b (item c (item d items)))) = None
+
+-- [BIDDER,PRODUCT,NUMBER]
+abbrev pub tie_of : Data → Option Tie
+tie_of value = option_and_then tie_from (as_array value)
+
+-- the numbers of a list, where there is no single one
+abbrev pub or_each : Option ℕ → Option Items → Option Increments
+or_each (Some increment) items = Some (Single increment)
+or_each None items = option_map PerProduct (option_and_then (each number_from) items)
+
+-- "increment":N or "increments":[N,..]
+abbrev pub increments_of : Data → Option Increments
+increments_of value = or_each (number_at (codes "increment") value) (items_at (codes "increments") value)
+
+-- {"increment":N,"round":N,"ties":[TIE,..]}, or with increments; an object of three members has not both
+unfoldable pub close_of : Data → Option CloseBody
+close_of value = do
+  round ← number_at (codes "round") value
+  increments ← increments_of value
+  items ← items_at (codes "ties") value
+  ties ← each tie_of items
+  if has_members 3 value then Some (record { round = round; increments = increments; ties = ties }) else None
+
+-- what bytes mean as a closing, or their first fault
+unfoldable pub close_body : List ℕ → Result CloseBody BodyFault
+close_body bytes = meant_by close_of (json bytes)

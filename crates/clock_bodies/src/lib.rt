@@ -1,0 +1,12 @@
+//! The bodies of sheets and closings: what they mean as JSON, and their first faults.
+#![tactic(auto)]
+
+mod body_fault;
+mod close_body;
+mod close_scan;
+mod put_body;
+mod put_scan;
+
+pub use body_fault::BodyFault;
+pub use close_body::{CloseBody, read_close, tie_of};
+pub use put_body::{PutBody, bid_of, read_put};
