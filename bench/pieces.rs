@@ -1,6 +1,6 @@
 //! Feeds groups of texts to a hub in pieces, and prints of each group its name, how many texts it has, the nanoseconds that
 //! they all took, and how many replies were not 200 OK.
-//! Uses: clock_front clock_queue clock_views clock_house clock_posting clock_processor clock_order clock_bids clock_setup clock_money clock_device anyhow
+//! Uses: clock_front clock_bodies clock_queue clock_views clock_house clock_posting clock_processor clock_order clock_bids clock_setup clock_money clock_device anyhow
 //!
 //! The input is parts that end where the next begins with the byte 1: a set-up document, and groups. A group is its name, how
 //! many bytes a piece has, over how many connections texts are fed in turn, and its texts, each behind a byte 0.

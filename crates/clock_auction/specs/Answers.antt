@@ -11,12 +11,12 @@ use Rattle.clock_setup.specs.declared.opening.Opening.{Opening}
 use Rattle.clock_setup.specs.declared.opening.OpeningFault.{OpeningFault}
 use Rattle.clock_posting.specs.Posting.{opening_posted, price_limit_fault, round_sheet}
 use Rattle.clock_posting.specs.SheetText.{sheet_text}
-use Rattle.clock_sim.specs.ReplayDocument.{document_replay}
-use Rattle.clock_sim.specs.Replays.{ReplayFields}
+use Rattle.clock_replays.specs.ReplayDocument.{document_replay}
+use Rattle.clock_replays.specs.Replays.{ReplayFields}
 use Rattle.clock_sim.specs.Reports.{ReportFields}
 use Rattle.clock_sim.specs.Rehearsal.{simulated}
 use Rattle.clock_sim.specs.ReportText.{report_text}
-use Rattle.clock_sim.specs.declared.fault.ScriptFault.{ScriptFault}
+use Rattle.clock_replays.specs.declared.fault.ScriptFault.{ScriptFault}
 use Rattle.clock_sim.specs.declared.sim_fault.SimFault.{SimFault}
 use Rattle.clock_auction.specs.PriceLines.{price_lines}
 use Rattle.clock_words.specs.declared.words.Job.{Job}

@@ -1,7 +1,8 @@
 -- What the body of a closing means, over the values that serde_json reads. (Own format.)
 --     tie_of value, increments_of value, close_of value      the tie number, the increments, the closing that a JSON value means
 --     close_body bytes      what bytes mean as a closing, or their first fault
-use Rattle.std.specs.Prelude.{ℕ, List, Option, Some, None, option_and_then, option_map, Result, if◌then◌else◌, codes}
+--     is_of_version version increments, in_version version body      the form of a closing is that of the set-up's version
+use Rattle.std.specs.Prelude.{ℕ, ◌==◌, not, Bool, List, Option, Some, None, option_and_then, option_map, Result, Ok, Err, if◌then◌else◌, codes}
 use Rattle.serde_json.specs.Data.{Data, Items, no_items, item}
 use Rattle.serde_json.specs.Find.{as_array}
 use Rattle.clock_setup.specs.declared.increments.Increments.{Increments}
@@ -11,6 +12,7 @@ use Rattle.clock_setup.specs.SetupDocument.{json}
 use Rattle.clock_order.specs.declared.ties.Tie.{Tie}
 use Rattle.clock_bodies.specs.declared.close_body.CloseBody.{CloseBody}
 use Rattle.clock_bodies.specs.declared.body_fault.BodyFault.{BodyFault}
+use Rattle.clock_bodies.specs.declared.body_fault.BodyFault.TheVariants.{Shape}
 use Rattle.clock_bodies.specs.Bodies.{meant_by}
 
 -- three numbers
@@ -50,3 +52,13 @@ close_of value = do
 -- what bytes mean as a closing, or their first fault
 unfoldable pub close_body : List ℕ → Result CloseBody BodyFault
 close_body bytes = meant_by close_of (json bytes)
+
+-- a set-up of the first version has one increment for all products, a later one has one for each
+abbrev pub is_of_version : ℕ → Increments → Bool
+is_of_version version (Single increment) = version == 1
+is_of_version version (PerProduct increments) = not (version == 1)
+
+-- a closing in the form of the set-up's version
+abbrev pub in_version : ℕ → Result CloseBody BodyFault → Result CloseBody BodyFault
+in_version version (Err fault) = Err fault
+in_version version (Ok body) = if is_of_version version body.increments then Ok body else Err Shape

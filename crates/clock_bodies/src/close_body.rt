@@ -111,3 +111,13 @@ pub fn read_close(alloc: Global, bytes: &[u8]) -> Result<CloseBody, BodyFault>
         Err(Stop::Unusual) => close_by_tree(alloc, bytes),
     }
 }
+
+/// Whether increments have the form of a set-up's version: one for all products in version 1, one for each later.
+pub fn is_of_version(version: u64, increments: &Increments) -> bool
+    ensures { result ≡ bodies.is_of_version version increments.now }
+{
+    match increments {
+        Increments::Single(_) => version == 1,
+        Increments::PerProduct(_) => version != 1,
+    }
+}

@@ -8,5 +8,5 @@ mod put_body;
 mod put_scan;
 
 pub use body_fault::BodyFault;
-pub use close_body::{CloseBody, read_close, tie_of};
+pub use close_body::{CloseBody, is_of_version, read_close, tie_of};
 pub use put_body::{PutBody, bid_of, read_put};

@@ -30,7 +30,8 @@ use Rattle.clock_front.specs.Askers.{asker}
 use Rattle.clock_front.specs.Routes.{round_named}
 use Rattle.clock_front.specs.Requests.{Ask, request_of}
 use Rattle.clock_front.specs.Requests as ask
-use Rattle.clock_front.specs.Outcomes.{done, answer_of, page_or_no_round, in_version, close_command, outcome, command_of}
+use Rattle.clock_bodies.specs.CloseBodies.{in_version}
+use Rattle.clock_front.specs.Outcomes.{done, answer_of, page_or_no_round, close_command, outcome, command_of}
 use Rattle.clock_front.specs.Fronts.{text_command, commands_of, house_after}
 use Rattle.clock_front.specs.Views.{SeenText, own, accepted_close, is_own, closings_of, seen_of_text, text_view, sheet_put, typed_view, Known}
 use Rattle.clock_front.specs.Views.{known_from, bidder_outcome, answer}

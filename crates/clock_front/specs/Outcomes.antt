@@ -4,12 +4,10 @@
 --     turned_away_by role asker      why the asker may not see pages of the role
 --     outcome house asker ask      what the asker is told
 --     command_of setup asker ask      the command that the request is
-use Rattle.std.specs.Prelude.{ℕ, ◌==◌, not, Bool, List, length, if◌then◌else◌, Option, Some, None, option_map, option_and_then, Result, Ok, Err, slice_index_or}
+use Rattle.std.specs.Prelude.{ℕ, List, length, if◌then◌else◌, Option, Some, None, option_map, option_and_then, Result, Ok, Err, slice_index_or}
 use Rattle.serde_json.specs.Data.{Data}
 use Rattle.serde_json.specs.Written.{compact_text}
 use Rattle.clock_setup.specs.Limits.{SetupFields, public_setup}
-use Rattle.clock_setup.specs.declared.increments.Increments.{Increments}
-use Rattle.clock_setup.specs.declared.increments.Increments.TheVariants.{Single, PerProduct}
 use Rattle.clock_house.specs.Command.{Command}
 use Rattle.clock_house.specs.Command as command
 use Rattle.clock_house.specs.History.{bidder_at, slip_of, round_at}
@@ -33,6 +31,7 @@ use Rattle.clock_bodies.specs.declared.put_body.PutBody.{PutBody}
 use Rattle.clock_bodies.specs.declared.close_body.CloseBody.{CloseBody}
 use Rattle.clock_bodies.specs.declared.body_fault.BodyFault.{BodyFault}
 use Rattle.clock_bodies.specs.declared.body_fault.BodyFault.TheVariants.{NotJson, Shape, NoMemory}
+use Rattle.clock_bodies.specs.CloseBodies.{in_version}
 use Rattle.clock_front.specs.Routes.{round_named}
 use Rattle.clock_front.specs.Replies.{Answer, reply_bytes}
 use Rattle.clock_front.specs.Requests.{Ask}
@@ -91,16 +90,6 @@ put_outcome body (Some fault) = refused (shown_put fault)
 abbrev pub close_outcome : ℕ → Result ClosedRound CloseFault → Outcome
 close_outcome round (Ok closed) = done (closed_value round closed.sheet.ended)
 close_outcome round (Err fault) = refused (shown_close fault)
-
--- a set-up of the first version has one increment for all products, a later one has one for each
-abbrev pub is_of_version : ℕ → Increments → Bool
-is_of_version version (Single increment) = version == 1
-is_of_version version (PerProduct increments) = not (version == 1)
-
--- a closing in the form of the set-up's version
-abbrev pub in_version : ℕ → Result CloseBody BodyFault → Result CloseBody BodyFault
-in_version version (Err fault) = Err fault
-in_version version (Ok body) = if is_of_version version body.increments then Ok body else Err Shape
 
 abbrev pub put_to : HouseFields → ℕ → Result PutBody BodyFault → Outcome
 put_to house bidder (Err fault) = refused (alone (body_code fault))

@@ -5,21 +5,20 @@ ghost use Rattle.clock_house.specs.House.{put_fault_in, closing_in, IsFollowedBy
 ghost use Rattle.clock_house.specs.Command as command;
 ghost use Rattle.clock_views.specs.Refusals.{shown_put, shown_close};
 ghost use Rattle.clock_bodies.specs.Bodies.{put_body};
-ghost use Rattle.clock_bodies.specs.CloseBodies.{close_body};
+ghost use Rattle.clock_bodies.specs.CloseBodies.{close_body, in_version};
 ghost use Rattle.clock_front.specs.Outcomes as told;
 ghost use Rattle.clock_front.specs.Outcomes.{answer_of};
 ghost use Rattle.clock_front.specs.Private.{IsToldByView};
 ghost use Rattle.clock_front.specs.Requests as asked;
 ghost use Rattle.clock_views.specs.OperatorPages.{closed_value};
 
-use clock_bodies::{BodyFault, CloseBody, PutBody, read_close, read_put};
+use clock_bodies::{BodyFault, CloseBody, PutBody, is_of_version, read_close, read_put};
 use crate::head_room::text_with_room;
 use crate::pages::refusal;
 use crate::reply::Reply;
 use clock_device::NoMemory;
 use clock_house::{CloseFault, House, PutFault};
 use clock_processor::Processor;
-use clock_setup::Increments;
 use clock_views::{Code, Refusal, push_accepted_page, push_closed_page};
 use std::alloc::Global;
 
@@ -90,16 +89,6 @@ pub(crate) fn put<P: Processor>(
     }
 }
 
-/// Whether increments have the form of a set-up's version: one for all products in version 1, one for each later.
-pub fn is_of_version(version: u64, increments: &Increments) -> bool
-    ensures { result ≡ told.is_of_version version increments.now }
-{
-    match increments {
-        Increments::Single(_) => version == 1,
-        Increments::PerProduct(_) => version != 1,
-    }
-}
-
 /// That a round was closed.
 fn closed(alloc: Global, round: u64, ended: bool) -> Result<Reply, NoMemory>
     ensures { IfOk result (λ reply. reply ≡ answer_of (told.done (closed_value round ended))) }
@@ -163,8 +152,8 @@ pub(crate) fn close<P: Processor>(
     body: &[u8],
 ) -> Result<Reply, NoMemory>
     ensures reply { IfOk result (λ reply. reply
-        ≡ answer_of (told.close_to house.old (told.in_version house.old.setup.version (close_body body.now)))) }
-    ensures followed { OnOk result (IsFollowedBy (told.close_command (told.in_version house.old.setup.version (close_body body.now))) house.old house.new) }
+        ≡ answer_of (told.close_to house.old (in_version house.old.setup.version (close_body body.now)))) }
+    ensures followed { OnOk result (IsFollowedBy (told.close_command (in_version house.old.setup.version (close_body body.now))) house.old house.new) }
     ensures still { OnErr result (StandsStill house.old house.new) }
 {
     house.keeps();

@@ -36,8 +36,9 @@ mod stream_fault;
 mod telling;
 mod tokens;
 
-pub use changes::is_of_version;
-pub use clock_bodies::{BodyFault, CloseBody, PutBody, bid_of, read_close, read_put, tie_of};
+pub use clock_bodies::{
+    BodyFault, CloseBody, PutBody, bid_of, is_of_version, read_close, read_put, tie_of,
+};
 pub use connections::Conn;
 pub use events::{Event, EventReplies, EventReply, run_events};
 pub use fed::Fed;

@@ -9,7 +9,7 @@ use Rattle.std.proofs.Math.Seq.{take-suc}
 use Rattle.std.proofs.lemmas.List.Sums.{sum_by-cons}
 use Rattle.clock_setup.specs.declared.prices.PricePair.{PricePair}
 use Rattle.clock_bids.specs.declared.sheet.Bid.{Bid}
-use Rattle.clock_sim.specs.Replays.{NeverRises}
+use Rattle.clock_replays.specs.Replays.{NeverRises}
 use Rattle.clock_sim.specs.Sincere.{leaving_price, leaving_prices, staying, bid_of, leaving_bids, keeping_or_leaving}
 use Rattle.clock_sim.specs.Blocks.{last_leaving, block_bid, block_bids}
 

@@ -1,6 +1,3 @@
-pub mod CheckLaws
-pub mod DocumentLaws
-mod ReplayDataLaws
 mod Examples
 pub mod Leaving
 pub mod TextPieces

@@ -23,7 +23,7 @@ use Rattle.clock_front.specs.declared.routes.Page.{Page}
 use Rattle.clock_front.specs.declared.routes.Page.TheVariants.{Status, Products, Sheet, Account, Bids, Slip, Close, Results}
 use Rattle.clock_front.specs.declared.tokens.Asker.{Asker}
 use Rattle.clock_front.specs.declared.tokens.Asker.TheVariants.{Nobody, Operator, Bidder}
-use Rattle.clock_sim.specs.declared.script.Script.{Script}
+use Rattle.clock_replays.specs.declared.script.Script.{Script}
 use Rattle.clock_sim.specs.Groups.{ClosesNoRound}
 use Rattle.clock_sim.specs.RequestTexts.{put_text}
 use Rattle.clock_sim.specs.ScriptedRequests.{scripted_put}

@@ -16,9 +16,9 @@ use Rattle.clock_sim.specs.declared.sim_fault.SimFault.{SimFault}
 use Rattle.clock_sim.specs.declared.sim_fault.SimFault.TheVariants.{NoMemory, ClosingsSpent}
 use Rattle.clock_sim.specs.Rehearsal.{if_done, refused_by, after_request, rounds_after, after_puts, after_close, after_round, rehearsed, simulated}
 use Rattle.clock_sim.specs.FinalReport.{report_of}
-use Rattle.clock_sim.specs.Replays.{ReplayFields}
-use Rattle.clock_sim.specs.declared.script.Script.{Script}
-use Rattle.clock_sim.specs.declared.closing.Closing.{Closing}
+use Rattle.clock_replays.specs.Replays.{ReplayFields}
+use Rattle.clock_replays.specs.declared.script.Script.{Script}
+use Rattle.clock_replays.specs.declared.closing.Closing.{Closing}
 use Rattle.clock_sim.specs.ScriptedRequests.{scripted_put, scripted_close}
 use Rattle.clock_sim.specs.Steps.{IsTold, ComesTo, MakesStep, IsLeft}
 

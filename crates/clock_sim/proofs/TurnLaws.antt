@@ -13,7 +13,7 @@ use Rattle.clock_views.specs.declared.code.Code.{Code}
 use Rattle.clock_views.specs.declared.code.Code.TheVariants.{Done}
 use Rattle.clock_front.specs.Fronts.{StandsForTexts}
 use Rattle.clock_sim.specs.declared.groups.Waiting.{Waiting}
-use Rattle.clock_sim.specs.declared.script.Script.{Script}
+use Rattle.clock_replays.specs.declared.script.Script.{Script}
 use Rattle.clock_sim.specs.declared.sim_fault.SimFault.{SimFault}
 use Rattle.clock_sim.specs.declared.sim_fault.SimFault.TheVariants.{NoMemory}
 use Rattle.clock_sim.specs.Rehearsal.{if_done, after_request, after_request_if, after_put, after_puts, rounds_after}

@@ -11,7 +11,7 @@ use Rattle.clock_setup.specs.Faults.{◌>>=◌}
 use Rattle.clock_front.specs.Pieces.{needs_more}
 use Rattle.clock_front.specs.Hubs.{ConnectionFields, text_of}
 use Rattle.clock_sim.specs.declared.groups.Waiting.{Waiting}
-use Rattle.clock_sim.specs.declared.script.Script.{Script}
+use Rattle.clock_replays.specs.declared.script.Script.{Script}
 use Rattle.clock_sim.specs.declared.sim_fault.SimFault.{SimFault}
 use Rattle.clock_sim.specs.Rehearsal.{rounds_after, after_request, after_put}
 

@@ -1,9 +1,4 @@
-pub mod Replays
 pub mod Reports
-pub mod ReplayShape
-pub mod ReplayData
-pub mod ReplayChecks
-pub mod ReplayDocument
 pub mod ReportText
 pub mod Sincere
 pub mod Blocks

@@ -13,11 +13,11 @@ use Rattle.clock_house.specs.declared.closed_round.ClosedRound.{ClosedRound}
 use Rattle.clock_views.specs.declared.code.Code.{Code}
 use Rattle.clock_views.specs.declared.code.Code.TheVariants as codes
 use Rattle.clock_front.specs.Fronts.{commands_of, reply}
-use Rattle.clock_sim.specs.declared.script.Script.{Script}
-use Rattle.clock_sim.specs.declared.closing.Closing.{Closing}
+use Rattle.clock_replays.specs.declared.script.Script.{Script}
+use Rattle.clock_replays.specs.declared.closing.Closing.{Closing}
 use Rattle.clock_sim.specs.declared.sim_fault.SimFault.{SimFault}
 use Rattle.clock_sim.specs.declared.sim_fault.SimFault.TheVariants as faults
-use Rattle.clock_sim.specs.Replays.{ReplayFields}
+use Rattle.clock_replays.specs.Replays.{ReplayFields}
 use Rattle.clock_sim.specs.Reports.{ReportFields}
 use Rattle.clock_sim.specs.FinalReport.{report_of}
 use Rattle.clock_sim.specs.ScriptedRequests.{scripted_put, scripted_close}

@@ -3,13 +3,12 @@
 ghost use Rattle.std.specs.Prelude.{◌≡◌, ◌<◌, length, true, All, OnOk};
 ghost use Rattle.clock_house.specs.House.{standing_in};
 ghost use Rattle.clock_sim.specs.Rehearsal as rules;
-ghost use Rattle.clock_sim.specs.Replays.{IsScript};
+ghost use Rattle.clock_replays.specs.Replays.{IsScript};
 ghost use Rattle.clock_sim.specs.Groups.{IsGroup, after_group, with_put};
 ghost use Rattle.clock_sim.specs.Steps.{MakesStep, MakesWay};
 
-use crate::closing::Closing;
+use clock_replays::{Closing, Script};
 use crate::groups::{Waiting, send_group, take_turn};
-use crate::script::Script;
 use crate::scripted::Requests;
 use crate::sending::send;
 use crate::sim_fault::SimFault;

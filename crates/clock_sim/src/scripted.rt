@@ -5,14 +5,13 @@ ghost use Rattle.std.specs.Prelude.{option_copied, option_map, slice_index_or};
 ghost use Rattle.clock_house.specs.History.{bidder_at};
 ghost use Rattle.clock_house.specs.House.{standing_in, holding_in};
 ghost use Rattle.clock_sim.specs.ScriptedRequests as rules;
-ghost use Rattle.clock_sim.specs.Replays.{IsScript, IsLimits};
+ghost use Rattle.clock_replays.specs.Replays.{IsScript, IsLimits};
 ghost use Rattle.clock_sim.specs.Sincere.{sincere_sheet};
 ghost use Rattle.clock_sim.specs.RequestTexts.{put_text, whole_text};
 
-use crate::closing::Closing;
+use clock_replays::{BidList, Closing, Script};
 use crate::request_texts::RequestText;
 use crate::round_prices::last_sheet;
-use crate::script::{BidList, Script};
 use crate::sincere::push_sincere;
 use clock_bids::Bid;
 use clock_device::NoMemory;

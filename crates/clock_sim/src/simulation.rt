@@ -1,16 +1,14 @@
 ghost use Rattle.std.specs.Prelude.{◌≡◌, [], Ok, length, All, IfOk, IfErr};
 ghost use Rattle.clock_setup.specs.Faults.{IsRefusal};
 ghost use Rattle.clock_front.specs.Fronts.{StandsForTexts};
-ghost use Rattle.clock_sim.specs.Replays.{IsScript, ReplayFields};
+ghost use Rattle.clock_replays.specs.Replays.{IsScript, ReplayFields};
 ghost use Rattle.clock_sim.specs.Rehearsal as rules;
 ghost use Rattle.clock_sim.specs.declared.sim_fault.SimFault.TheVariants as faults;
 
-use crate::closing::Closing;
+use clock_replays::{Closing, Replay, Script};
 use crate::final_report::final_report;
-use crate::replay::Replay;
 use crate::report::Report;
 use crate::rounds::play;
-use crate::script::Script;
 use crate::scripted::Requests;
 use crate::sim_fault::SimFault;
 use clock_front::{Front, Hub};

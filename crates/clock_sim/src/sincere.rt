@@ -2,7 +2,7 @@
 
 ghost use Rattle.std.specs.Prelude.{◌≡◌, ◌≤◌, ◌<◌, ◌==◌, ◌++◌, ◌∷◌, [], false, length, take, reverse, All, OnOk, option_copied};
 ghost use Rattle.clock_sim.specs.Sincere as rules;
-ghost use Rattle.clock_sim.specs.Replays.{NeverRises};
+ghost use Rattle.clock_replays.specs.Replays.{NeverRises};
 ghost use Rattle.clock_sim.specs.Blocks as one_by_one;
 ghost use Rattle.clock_sim.specs.RoundPrices.{prices_after};
 

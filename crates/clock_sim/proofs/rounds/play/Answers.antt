@@ -2,7 +2,7 @@ use Rattle.std.proofs.Common.{◌≡◌, ◌+◌, All, true, false, drop, length
 use Rattle.std.proofs.lemmas.Result.{err_from_is_err_and}
 use Rattle.clock_setup.specs.Limits.{SetupFields}
 use Rattle.clock_house.specs.House.{HouseFields, standing_in}
-use Rattle.clock_sim.specs.Replays.{IsScript}
+use Rattle.clock_replays.specs.Replays.{IsScript}
 use Rattle.clock_sim.specs.Rehearsal.{rehearsed}
 use Rattle.clock_sim.proofs.StepLaws.{begins, round_played, round_refused, goes_past, ends_there, closings_spent, last_refused}
 use Rattle.clock_sim.proofs.rounds.play.Goals as goal

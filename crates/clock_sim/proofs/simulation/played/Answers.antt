@@ -1,7 +1,7 @@
 use Rattle.std.proofs.Common.{Ok, refl, ap, sym, ◌∙◌}
 use Rattle.std.proofs.lemmas.Result.{err_from_is_err_and}
 use Rattle.clock_house.specs.House.{HouseFields}
-use Rattle.clock_sim.specs.Replays.{ReplayFields}
+use Rattle.clock_replays.specs.Replays.{ReplayFields}
 use Rattle.clock_sim.specs.FinalReport.{report_of}
 use Rattle.clock_sim.proofs.StepLaws.{reported, faulted}
 use Rattle.clock_sim.proofs.simulation.played.Goals as goal

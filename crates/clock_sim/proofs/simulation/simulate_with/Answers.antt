@@ -3,9 +3,9 @@ use Rattle.std.specs.Prelude.{IfOk, IfErr}
 use Rattle.clock_setup.specs.Limits.{SetupFields}
 use Rattle.clock_setup.specs.Faults.{IsRefusal}
 use Rattle.clock_front.specs.Hubs.{HubFields}
-use Rattle.clock_sim.specs.declared.script.Script.{Script}
-use Rattle.clock_sim.specs.declared.closing.Closing.{Closing}
-use Rattle.clock_sim.specs.Replays.{ReplayFields}
+use Rattle.clock_replays.specs.declared.script.Script.{Script}
+use Rattle.clock_replays.specs.declared.closing.Closing.{Closing}
+use Rattle.clock_replays.specs.Replays.{ReplayFields}
 use Rattle.clock_sim.specs.declared.sim_fault.SimFault.TheVariants as faults
 use Rattle.clock_sim.specs.Rehearsal.{simulated}
 use Rattle.clock_sim.proofs.simulation.simulate_with.Goals as goal

@@ -1,0 +1,205 @@
+-- Laws of the checks of a replay rules.
+use Rattle.std.proofs.Common.{◌≡◌, ℕ, ◌+◌, ◌<◌, ◌≤◌, All, ◌&&◌, ◌==◌, Bool, true, false, nat_le, if◌then◌else◌, List, [], ◌∷◌, zero, suc, length}
+use Rattle.std.proofs.Common.{get_or, drop, zip, None, Some, refl, sym, ap, subst, ◌∙◌, arith}
+use Rattle.std.specs.Prelude.{EachIndex}
+use Rattle.std.specs.List.{list_all}
+use Rattle.std.proofs.lemmas.Bool.{and_parts, le-leb, lt-leb, leb-true, eqb-true}
+use Rattle.std.proofs.lemmas.List.{drop_more, drop_all, get_or_default}
+use Rattle.std.proofs.lemmas.List.Elements.{All-nil, All-cons}
+use Rattle.std.proofs.lemmas.List.Kept.{AllPairs-cons}
+use Rattle.std.proofs.lemmas.List.Sums.{AllPass-from_list_all, list_all-from_AllPass}
+use Rattle.std.proofs.lemmas.Slice.Zip.{get_or-zip, length-zip}
+use Rattle.clock_setup.specs.declared.setup.Product.{Product}
+use Rattle.clock_setup.specs.Demands.{row_of}
+use Rattle.clock_setup.specs.Faults.{first_fault, in_turn}
+use Rattle.clock_setup.specs.Limits.{IsSetup, cap_of}
+use Rattle.clock_setup.proofs.FaultLaws.{both_pass, turn_passed, turn_failed, turn_none}
+use Rattle.clock_replays.specs.declared.script.Script.{Script}
+use Rattle.clock_replays.specs.declared.script.Script.TheVariants.{Literal, Sincere}
+use Rattle.clock_replays.specs.declared.fault.ScriptFault.TheVariants.{Shape, Scripts, Limits}
+use Rattle.clock_replays.specs.Replays.{NeverRises, IsScript, ReplayFields, IsReplay, is_of_version}
+use Rattle.clock_replays.specs.ReplayChecks.{never_rises, are_of_version, has_lists, limit_checks, script_checks, replay_checks}
+
+-- ---- prices that never rise
+
+-- prices that are at most low are at most high
+all_below : (low high : ℕ) (prices : List ℕ) → low ≤ high → list_all (λ price. nat_le price low) prices ≡ true
+    → list_all (λ price. nat_le price high) prices ≡ true
+all_below low high prices h is =
+    let each = AllPass-from_list_all (λ price. nat_le price low) prices is in
+    list_all-from_AllPass (λ price. nat_le price high) prices
+    (λ k d lt. le-leb _ high (below (get_or prices k d) (leb-true _ low (each k d lt))))
+  where
+    below : (price : ℕ) → price ≤ low → price ≤ high
+    below price le = omega arith
+
+absorbed : (a b c : Bool) → (b ≡ true → a ≡ true) → (a && (b && c)) ≡ (b && c)
+absorbed true b c h = refl
+absorbed false true c h = let e = h refl in cc
+absorbed false false c h = refl
+
+-- prices at most the last one that never rise
+abbrev pub go_on_below : ℕ → List ℕ → Bool
+go_on_below last prices = list_all (λ price. nat_le price last) prices && never_rises prices
+
+-- before the first price any may come
+pub at_first : (last : ℕ) (prices : List ℕ) → ((k : ℕ) → k < length prices → get_or prices k 0 ≤ last) → go_on_below last prices ≡ never_rises prices
+at_first last prices all =
+    ap (λ test. test && never_rises prices)
+    (list_all-from_AllPass (λ price. nat_le price last) prices
+    (λ k d lt. le-leb _ last (subst (λ price. price ≤ last) (get_or_default prices k 0 d lt) (all k lt))))
+
+below_next : (last price : ℕ) (rest : List ℕ) → price ≤ last → go_on_below last (price ∷ rest) ≡ go_on_below price rest
+below_next last price rest h =
+    ap (λ test. (test && list_all (λ p. nat_le p last) rest) && (list_all (λ p. nat_le p price) rest && never_rises rest)) (le-leb price last h)
+    ∙ absorbed _ _ _ (all_below price last rest h)
+
+above_next : (last price : ℕ) (rest : List ℕ) → last < price → go_on_below last (price ∷ rest) ≡ false
+above_next last price rest h =
+    ap (λ test. (test && list_all (λ p. nat_le p last) rest) && (list_all (λ p. nat_le p price) rest && never_rises rest)) (lt-leb price last h)
+
+-- the next price does not rise
+pub price_passed : (last : ℕ) (prices : List ℕ) (i : ℕ) → i < length prices → get_or prices i 0 ≤ last
+    → go_on_below last (drop i prices) ≡ go_on_below (get_or prices i 0) (drop (i + 1) prices)
+price_passed last prices i h le = ap (go_on_below last) (drop_more prices i 0 h) ∙ below_next last _ _ le
+
+-- the next price rises
+pub price_failed : (last : ℕ) (prices : List ℕ) (i : ℕ) → i < length prices → last < get_or prices i 0
+    → go_on_below last (drop i prices) ≡ false
+price_failed last prices i h lt = ap (go_on_below last) (drop_more prices i 0 h) ∙ above_next last _ _ lt
+
+-- no price is left
+pub prices_end : (last : ℕ) (prices : List ℕ) (i : ℕ) → length prices ≤ i → go_on_below last (drop i prices) ≡ true
+prices_end last prices i h = ap (go_on_below last) (drop_all i prices h)
+
+-- the test tells what the prices do
+pub falling_of_test : (prices : List ℕ) → never_rises prices ≡ true → NeverRises prices
+falling_of_test [] h = λ i j d lt within. absurd (omega arith)
+falling_of_test (price ∷ prices) h =
+    let both = and_parts _ _ h in
+    let each = AllPass-from_list_all (λ later. nat_le later price) prices both.0 in
+    AllPairs-cons (λ earlier later. later ≤ earlier) price prices (λ k d lt. leb-true _ price (each k d lt)) (falling_of_test prices both.1)
+
+-- ---- limits
+
+-- limits that a product may have
+abbrev pub are_limits : Product → List ℕ → Bool
+are_limits product prices = nat_le (length prices) product.cap && never_rises prices
+
+zip_at : (products : List Product) (limits : List (List ℕ)) (i : ℕ) (product : Product) (prices : List ℕ) → length limits ≡ length products → i < length limits
+    → product ≡ get_or products i product → prices ≡ get_or limits i prices
+    → (product, prices) ≡ get_or (zip products limits) i (product, prices)
+zip_at products limits i product prices same h first second =
+    let within : i < length products = omega arith in
+    ap (λ x. (x, prices)) first ∙ ap (λ y. (get_or products i product, y)) second
+    ∙ sym (get_or-zip products limits i (product, prices) within h)
+
+one_list : (bidder i : ℕ) (product : Product) (prices : List ℕ) (b : Bool) → are_limits product prices ≡ b
+    → first_fault (limit_checks bidder i (product, prices)) ≡ (if b then None else Some (Limits bidder i))
+unfolding limit_checks
+one_list bidder i product prices b is = rw is refl
+
+-- the next limits are none
+pub limits_failed : (bidder : ℕ) (products : List Product) (limits : List (List ℕ)) (i : ℕ) (product : Product) (prices : List ℕ)
+    → length limits ≡ length products → i < length limits → product ≡ get_or products i product → prices ≡ get_or limits i prices
+    → are_limits product prices ≡ false
+    → first_fault (in_turn (limit_checks bidder) i (drop i (zip products limits))) ≡ Some (Limits bidder i)
+limits_failed bidder products limits i product prices same h first second is =
+    turn_failed (limit_checks bidder) (zip products limits) i (product, prices) (Limits bidder i)
+    (omega (arith, length-zip products limits)) (zip_at products limits i product prices same h first second)
+    (one_list bidder i product prices false is)
+
+-- the next limits are good
+pub limits_passed : (bidder : ℕ) (products : List Product) (limits : List (List ℕ)) (i : ℕ) (product : Product) (prices : List ℕ)
+    → length limits ≡ length products → i < length limits → product ≡ get_or products i product → prices ≡ get_or limits i prices
+    → are_limits product prices ≡ true
+    → first_fault (in_turn (limit_checks bidder) i (drop i (zip products limits)))
+    ≡ first_fault (in_turn (limit_checks bidder) (i + 1) (drop (i + 1) (zip products limits)))
+limits_passed bidder products limits i product prices same h first second is =
+    turn_passed (limit_checks bidder) (zip products limits) i (product, prices)
+    (omega (arith, length-zip products limits)) (zip_at products limits i product prices same h first second)
+    (one_list bidder i product prices true is)
+
+-- no limits are left
+pub limits_end : (bidder : ℕ) (products : List Product) (limits : List (List ℕ)) (i : ℕ) → length limits ≤ i
+    → first_fault (in_turn (limit_checks bidder) i (drop i (zip products limits))) ≡ None
+limits_end bidder products limits i h = turn_none (limit_checks bidder) (zip products limits) i (omega (arith, length-zip products limits))
+
+-- ---- what the checks keep
+
+-- where none of three checks and of those after them fails
+three_passed : {F : Type 0} (first second third : F) (a b c : Bool) (rest : List (F × Bool))
+    → first_fault ((first, a) ∷ (second, b) ∷ (third, c) ∷ rest) ≡ None
+    → (a ≡ true) × (b ≡ true) × (c ≡ true) × (first_fault rest ≡ None)
+three_passed first second third true true true rest h = (refl, refl, refl, h)
+three_passed first second third true true false rest h = cc
+three_passed first second third true false c rest h = cc
+three_passed first second third false b c rest h = cc
+
+limits_of_checks : (bidder i : ℕ) (product : Product) (prices : List ℕ) → first_fault (limit_checks bidder i (product, prices)) ≡ None
+    → are_limits product prices ≡ true
+unfolding limit_checks
+limits_of_checks bidder i product prices h = only (are_limits product prices) h
+  where
+    only : (b : Bool) → first_fault ((Limits bidder i, b) ∷ []) ≡ None → b ≡ true
+    only true h = refl
+    only false h = cc
+
+-- what good limits are
+pub record AreWithin (products : List Product) (limits : List (List ℕ)) : Type 0 where
+  pub capped : EachIndex limits (λ product. length (row_of limits product) ≤ cap_of products product)
+  pub falling : All NeverRises limits
+
+one_more : (product : Product) (products : List Product) (prices : List ℕ) (limits : List (List ℕ)) → are_limits product prices ≡ true
+    → AreWithin products limits → AreWithin (product ∷ products) (prices ∷ limits)
+one_more product products prices limits is others =
+    let both = and_parts _ _ is in record {
+      capped = capped_at;
+      falling = All-cons NeverRises prices limits (falling_of_test prices both.1) others.falling;
+    }
+  where
+    capped_at : (k : ℕ) → k < length (prices ∷ limits) → length (row_of (prices ∷ limits) k) ≤ cap_of (product ∷ products) k
+    capped_at zero h = leb-true _ _ (and_parts (nat_le (length prices) product.cap) (never_rises prices) is).0
+    capped_at (suc k) h = others.capped k (omega arith)
+
+limits_within : (bidder i : ℕ) (products : List Product) (limits : List (List ℕ)) → length limits ≡ length products
+    → first_fault (in_turn (limit_checks bidder) i (zip products limits)) ≡ None → AreWithin products limits
+limits_within bidder i [] [] same h = record { capped = λ k lt. absurd (omega arith); falling = All-nil NeverRises }
+limits_within bidder i [] (prices ∷ limits) same h = absurd (omega arith)
+limits_within bidder i (product ∷ products) [] same h = absurd (omega arith)
+limits_within bidder i (product ∷ products) (prices ∷ limits) same h =
+    let both = both_pass (limit_checks bidder i (product, prices)) _ h in
+    one_more product products prices limits (limits_of_checks bidder i product prices both.0)
+    (limits_within bidder (i + 1) products limits (omega arith) both.1)
+
+script_within : (products : List Product) (bidder : ℕ) (script : Script) → has_lists (length products) script ≡ true
+    → first_fault (script_checks products bidder script) ≡ None → IsScript products script
+unfolding script_checks
+script_within products bidder (Literal sheets) lists h = tt
+script_within products bidder (Sincere limits) lists h =
+    let same : length limits ≡ length products = eqb-true (length limits) (length products) lists in
+    let within = limits_within bidder 0 products limits same h in
+    record { each = same; capped = within.capped; falling = within.falling }
+
+scripts_within : (products : List Product) (i : ℕ) (scripts : List Script) → list_all (has_lists (length products)) scripts ≡ true
+    → first_fault (in_turn (script_checks products) i scripts) ≡ None → All (IsScript products) scripts
+scripts_within products i [] lists h = All-nil (IsScript products)
+scripts_within products i (script ∷ scripts) lists h =
+    let lists_both = and_parts _ _ lists in
+    let both = both_pass (script_checks products i script) _ h in
+    All-cons (IsScript products) script scripts (script_within products i script lists_both.0 both.0)
+    (scripts_within products (i + 1) scripts lists_both.1 both.1)
+
+-- what passes the checks is a replay
+pub replay_within : (replay : ReplayFields) → IsSetup replay.setup → first_fault (replay_checks replay) ≡ None → IsReplay replay
+unfolding replay_checks
+replay_within replay limits h =
+    let passed = three_passed Shape Scripts Shape (are_of_version replay.setup.version replay.closings) (length replay.scripts == length replay.setup.bidders)
+    (list_all (has_lists (length replay.setup.products)) replay.scripts) (in_turn (script_checks replay.setup.products) 0 replay.scripts) h in
+    let each = AllPass-from_list_all (λ closing. is_of_version replay.setup.version closing.increments) replay.closings passed.0 in
+    record {
+      setup = limits;
+      each = eqb-true _ _ passed.1;
+      scripts = scripts_within replay.setup.products 0 replay.scripts passed.2 passed.3;
+      closings = λ k d lt. each k d lt;
+    }

@@ -1,0 +1,4 @@
+pub mod CheckLaws
+pub mod DocumentLaws
+mod ReplayDataLaws
+mod Examples

@@ -1,0 +1,15 @@
+use Rattle.std.proofs.Common.{◌≡◌, Ok, IfOk, IfErr, sym, subst}
+use Rattle.clock_setup.specs.Faults.{IsRefusal}
+use Rattle.clock_replays.specs.declared.fault.ScriptFault.TheVariants.{NoMemory}
+use Rattle.clock_replays.proofs.ReplayDataLaws.{replay_read}
+use Rattle.clock_replays.proofs.read.read_replay.Goals as goal
+
+pub returns-in-Ok-clause-ok : goal.returns-in-Ok-clause-ok
+returns-in-Ok-clause-ok c =
+    subst (λ answer. IfOk c.compared.result (λ replay. answer ≡ Ok replay))
+    (sym (replay_read c.args.bytes.now c.in-Ok.found c.in-Ok.ensures)) c.compared.ensures.ok
+
+pub returns-in-Ok-clause-err : goal.returns-in-Ok-clause-err
+returns-in-Ok-clause-err c =
+    subst (λ answer. IfErr c.compared.result (IsRefusal NoMemory answer))
+    (sym (replay_read c.args.bytes.now c.in-Ok.found c.in-Ok.ensures)) c.compared.ensures.err

@@ -1,0 +1,25 @@
+use Rattle.std.proofs.Common.{◌≡◌, Ok, IfOk, IfErr, sym, subst}
+use Rattle.std.proofs.lemmas.Result.{err_from_is_err_and}
+use Rattle.serde_json.specs.View.{view}
+use Rattle.clock_setup.specs.Faults.{IsRefusal}
+use Rattle.clock_replays.specs.declared.fault.ScriptFault.TheVariants.{NoMemory}
+use Rattle.clock_replays.proofs.DocumentLaws.{replay_setup, replay_at}
+use Rattle.clock_replays.proofs.read.replay_in.Goals as goal
+
+pub returns-in_err-setup-clause-err : goal.returns-in_err-setup-clause-err
+returns-in_err-setup-clause-err c =
+    let p = err_from_is_err_and c.from_residual-in_err-setup.result c.from_residual-in_err-setup.ensures.1 in
+    let read = sym (rw c.in-Some.is at c.in_ok-entries.ensures) in
+    rw (p.1, p.2) (λ known. replay_setup (view c.args.value.now) _ _ read (c.in_err-setup.ensures.err known))
+
+pub returns-clause-ok : goal.returns-clause-ok
+returns-clause-ok c =
+    let read = sym (rw c.in-Some.is at c.in_ok-entries.ensures) in
+    subst (λ answer. IfOk c.compared.result (λ replay. answer ≡ Ok replay))
+    (sym (replay_at (view c.args.value.now) _ c.in_ok-setup.setup read c.in_ok-setup.ensures.ok)) c.compared.ensures.ok
+
+pub returns-clause-err : goal.returns-clause-err
+returns-clause-err c =
+    let read = sym (rw c.in-Some.is at c.in_ok-entries.ensures) in
+    subst (λ answer. IfErr c.compared.result (IsRefusal NoMemory answer))
+    (sym (replay_at (view c.args.value.now) _ c.in_ok-setup.setup read c.in_ok-setup.ensures.ok)) c.compared.ensures.err

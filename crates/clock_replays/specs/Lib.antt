@@ -1,0 +1,5 @@
+pub mod Replays
+pub mod ReplayShape
+pub mod ReplayData
+pub mod ReplayChecks
+pub mod ReplayDocument

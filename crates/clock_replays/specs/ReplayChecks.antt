@@ -1,0 +1,47 @@
+-- What is looked at in a replay document once its parts have their shape and its set-up is known.
+--     never_rises prices      the test of NeverRises
+--     are_of_version version closings, has_lists count script      the form of closings, the number of lists of limits
+--     limit_checks, script_checks      the limits for a product, and those of a bidder
+--     replay_checks replay      all checks, in order
+use Rattle.std.specs.Prelude.{ℕ, Bool, true, ◌&&◌, ◌==◌, List, [], ◌∷◌, length, zip, nat_le}
+use Rattle.std.specs.List.{list_all}
+use Rattle.clock_setup.specs.declared.setup.Product.{Product}
+use Rattle.clock_setup.specs.Faults.{in_turn}
+use Rattle.clock_replays.specs.declared.script.Script.{Script}
+use Rattle.clock_replays.specs.declared.script.Script.TheVariants.{Literal, Sincere}
+use Rattle.clock_replays.specs.declared.closing.Closing.{Closing}
+use Rattle.clock_replays.specs.declared.fault.ScriptFault.{ScriptFault}
+use Rattle.clock_replays.specs.declared.fault.ScriptFault.TheVariants.{Shape, Scripts, Limits}
+use Rattle.clock_replays.specs.Replays.{ReplayFields, is_of_version}
+
+-- no price is above an earlier one
+abbrev pub never_rises : List ℕ → Bool
+never_rises [] = true
+never_rises (price ∷ prices) = list_all (λ later. nat_le later price) prices && never_rises prices
+
+-- each closing has the form of the version
+abbrev pub are_of_version : ℕ → List Closing → Bool
+are_of_version version closings = list_all (λ closing. is_of_version version closing.increments) closings
+
+-- a sincere script has a list of limits for each of so many products
+abbrev pub has_lists : ℕ → Script → Bool
+has_lists count (Literal sheets) = true
+has_lists count (Sincere limits) = length limits == count
+
+-- the limits for a product are at most as many as its cap, and never rise
+unfoldable pub limit_checks : ℕ → ℕ → Product × List ℕ → List (ScriptFault × Bool)
+limit_checks bidder product line =
+    (Limits bidder product, nat_le (length line.1) line.0.cap && never_rises line.1) ∷ []
+
+-- the limits of a sincere bidder by rising product
+unfoldable pub script_checks : List Product → ℕ → Script → List (ScriptFault × Bool)
+script_checks products bidder (Literal sheets) = []
+script_checks products bidder (Sincere limits) = in_turn (limit_checks bidder) 0 (zip products limits)
+
+-- the form of the closings, then the number of scripts, then that of the lists of limits, then the limits by rising bidder
+unfoldable pub replay_checks : ReplayFields → List (ScriptFault × Bool)
+replay_checks replay =
+    (Shape, are_of_version replay.setup.version replay.closings)
+    ∷ (Scripts, length replay.scripts == length replay.setup.bidders)
+    ∷ (Shape, list_all (has_lists (length replay.setup.products)) replay.scripts)
+    ∷ in_turn (script_checks replay.setup.products) 0 replay.scripts

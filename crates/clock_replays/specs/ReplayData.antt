@@ -1,0 +1,94 @@
+-- The values of JSON that the parts of a replay document are, in serde_json's terms.
+--     bid_fields, script_fields, closing_fields, replay_fields      the keys of an object, each with what was found
+--     sheet_data, script_data, closing_data, replay_data      a whole one, as a value
+use Rattle.std.specs.Prelude.{ℕ, List, [], ◌∷◌, map, Option, Some, None, option_map, codes}
+use Rattle.serde_json.specs.Data.{Data, null, string, object, array}
+use Rattle.clock_scan.specs.Reading.{whole, numbers, rows, items_of, Fields, members_of}
+use Rattle.clock_setup.specs.SetupData.{setup_data}
+use Rattle.clock_bids.specs.declared.sheet.Bid.{Bid}
+use Rattle.clock_bodies.specs.QuickBodies.{bids_data, ties_data, single_of, listed_of}
+use Rattle.clock_replays.specs.declared.script.Script.{Script}
+use Rattle.clock_replays.specs.declared.script.Script.TheVariants.{Literal, Sincere}
+use Rattle.clock_replays.specs.declared.closing.Closing.{Closing}
+use Rattle.clock_replays.specs.declared.scanned_scripts.Kind.{Kind}
+use Rattle.clock_replays.specs.declared.scanned_scripts.Kind.TheVariants as kinds
+use Rattle.clock_replays.specs.declared.scanned_scripts.FoundBid.{FoundBid}
+use Rattle.clock_replays.specs.declared.scanned_scripts.FoundScript.{FoundScript}
+use Rattle.clock_replays.specs.declared.scanned_closings.FoundClosing.{FoundClosing}
+use Rattle.clock_replays.specs.declared.scanned_replay.FoundReplay.{FoundReplay}
+use Rattle.clock_replays.specs.declared.scanned_replay.ScannedReplay.{ScannedReplay}
+
+-- a bid's keys, each with what was found
+abbrev pub bid_fields : FoundBid → Fields
+bid_fields found =
+    (codes "price", option_map whole found.price)
+    ∷ (codes "product", option_map whole found.product)
+    ∷ (codes "quantity", option_map whole found.quantity)
+    ∷ []
+
+-- a sheet of a literal script as a value
+abbrev pub sheet_data : Option (List Bid) → Data
+sheet_data None = null
+sheet_data (Some bids) = bids_data bids
+
+-- the sheets of a literal script as a value
+abbrev pub sheets_data : List (Option (List Bid)) → Data
+sheets_data sheets = array (items_of (map sheet_data sheets))
+
+-- the word for a kind of script
+abbrev pub kind_text : Kind → List ℕ
+kind_text kinds.Literal = codes "literal"
+kind_text kinds.Sincere = codes "sincere"
+
+-- a script's keys, each with what was found
+abbrev pub script_fields : FoundScript → Fields
+script_fields found =
+    (codes "kind", option_map (λ kind. string (kind_text kind)) found.kind)
+    ∷ (codes "limits", option_map rows found.limits)
+    ∷ (codes "sheets", option_map sheets_data found.sheets)
+    ∷ []
+
+-- what is found of a whole script
+abbrev pub found_script : Script → FoundScript
+found_script (Literal sheets) = record { kind = Some kinds.Literal; limits = None; sheets = Some sheets }
+found_script (Sincere limits) = record { kind = Some kinds.Sincere; limits = Some limits; sheets = None }
+
+-- a script as a value
+abbrev pub script_data : Script → Data
+script_data script = object (members_of (script_fields (found_script script)))
+
+-- a closing's keys, each with what was found
+abbrev pub closing_fields : FoundClosing → Fields
+closing_fields found =
+    (codes "increment", option_map whole found.increment)
+    ∷ (codes "increments", option_map numbers found.increments)
+    ∷ (codes "ties", option_map ties_data found.ties)
+    ∷ []
+
+-- what is found of a whole closing
+abbrev pub found_closing : Closing → FoundClosing
+found_closing closing = record { increment = single_of closing.increments; increments = listed_of closing.increments; ties = Some closing.ties }
+
+-- a closing as a value
+abbrev pub closing_data : Closing → Data
+closing_data closing = object (members_of (closing_fields (found_closing closing)))
+
+-- a replay's keys, each with its value where one was found
+abbrev pub replay_fields : Option (List Closing) → Option (List Script) → Option Data → Fields
+replay_fields closings scripts setup =
+    (codes "closings", option_map (λ list. array (items_of (map closing_data list))) closings)
+    ∷ (codes "scripts", option_map (λ list. array (items_of (map script_data list))) scripts)
+    ∷ (codes "setup", setup)
+    ∷ []
+
+-- what was found of a replay
+abbrev pub found_replay : FoundReplay → Fields
+found_replay found = replay_fields found.closings found.scripts (option_map (λ held. setup_data held.setup) found.held)
+
+-- a replay document as a value, over the value of its set-up
+abbrev pub replay_data : Data → List Script → List Closing → Data
+replay_data setup scripts closings = object (members_of (replay_fields (Some closings) (Some scripts) (Some setup)))
+
+-- what was read of a replay document, as a value
+abbrev pub found_data : ScannedReplay → Data
+found_data found = replay_data (setup_data found.held.setup) found.scripts found.closings

@@ -1,0 +1,36 @@
+-- What a replay document means: a replay, or the fault of the first check that fails. (Own format and own order.)
+--     replay_of value      what a JSON value means as a replay
+--     document_replay bytes      what bytes mean as a replay
+use Rattle.std.specs.Prelude.{ℕ, List, Result, Ok, Err}
+use Rattle.serde_json.specs.Data.{Data}
+use Rattle.clock_setup.specs.declared.fault.SetupFault.{SetupFault}
+use Rattle.clock_setup.specs.Limits.{SetupFields}
+use Rattle.clock_setup.specs.Faults.{first_fault, unless, or_fault, ◌>>=◌}
+use Rattle.clock_setup.specs.SetupDocument.{json, setup_of}
+use Rattle.clock_replays.specs.declared.fault.ScriptFault.{ScriptFault}
+use Rattle.clock_replays.specs.declared.fault.ScriptFault.TheVariants.{NotJson, Shape, Setup}
+use Rattle.clock_replays.specs.Replays.{ReplayFields}
+use Rattle.clock_replays.specs.ReplayShape.{ReplayParts, parts_of}
+use Rattle.clock_replays.specs.ReplayChecks.{replay_checks}
+
+-- the set-up with the other parts of its document
+abbrev pub replay_with : SetupFields → ReplayParts → ReplayFields
+replay_with setup parts = record { setup = setup; scripts = parts.scripts; closings = parts.closings }
+
+-- a set-up's fault is one of the document that holds it
+abbrev pub in_replay : Result SetupFields SetupFault → Result SetupFields ScriptFault
+in_replay (Ok setup) = Ok setup
+in_replay (Err fault) = Err (Setup fault)
+
+-- the shape, then the set-up, then the checks above
+unfoldable pub replay_of : Data → Result ReplayFields ScriptFault
+replay_of value = do
+  parts ← or_fault Shape (parts_of value)
+  setup ← in_replay (setup_of parts.setup)
+  unless (first_fault (replay_checks (replay_with setup parts))) (replay_with setup parts)
+
+-- what the bytes of a replay document mean
+unfoldable pub document_replay : List ℕ → Result ReplayFields ScriptFault
+document_replay bytes = do
+  value ← or_fault NotJson (json bytes)
+  replay_of value

@@ -1,0 +1,66 @@
+-- The shape of a replay document: exactly these keys, each with a value of its kind. (Own format.)
+--     sheet_of value      one sheet of a literal script, or none
+--     script_of value, closing_of value      an item of "scripts" and of "closings"
+--     parts_of value      the whole document, with its set-up not yet read and nothing compared
+use Rattle.std.specs.Prelude.{ℕ, List, Option, Some, None, option_and_then, option_map, is_some, if◌then◌else◌, codes}
+use Rattle.std.specs.Str.{bytes_eq}
+use Rattle.serde_json.specs.Data.{Data}
+use Rattle.serde_json.specs.Find.{get, as_null, as_array}
+use Rattle.clock_setup.specs.Members.{text_at, items_at, has_members, each, ◌>>=◌}
+use Rattle.clock_setup.specs.OpeningShape.{row_of}
+use Rattle.clock_bids.specs.declared.sheet.Bid.{Bid}
+use Rattle.clock_bodies.specs.Bodies.{bid_of}
+use Rattle.clock_bodies.specs.CloseBodies.{tie_of, increments_of}
+use Rattle.clock_replays.specs.declared.script.Script.{Script}
+use Rattle.clock_replays.specs.declared.script.Script.TheVariants.{Literal, Sincere}
+use Rattle.clock_replays.specs.declared.closing.Closing.{Closing}
+
+-- what a replay document has: any value for the set-up, the scripts and the closings
+pub record ReplayParts : Type 0 where
+  pub setup : Data
+  pub scripts : List Script
+  pub closings : List Closing
+
+-- null where there is no sheet, or [BID,..]
+unfoldable pub sheet_of : Data → Option (Option (List Bid))
+sheet_of value =
+    if is_some (as_null value) then Some None else option_map Some (option_and_then (each bid_of) (as_array value))
+
+-- the rest of {"kind":"literal","sheets":[SHEET,..]}
+unfoldable pub literal_of : Data → Option Script
+literal_of value = do
+  sheets ← option_and_then (each sheet_of) (items_at (codes "sheets") value)
+  if has_members 2 value then Some (Literal sheets) else None
+
+-- the rest of {"kind":"sincere","limits":[[N,..],..]}
+unfoldable pub sincere_of : Data → Option Script
+sincere_of value = do
+  limits ← option_and_then (each row_of) (items_at (codes "limits") value)
+  if has_members 2 value then Some (Sincere limits) else None
+
+-- what the kind of a script asks for
+abbrev pub script_by_kind : List ℕ → Data → Option Script
+script_by_kind kind value =
+    if bytes_eq kind (codes "literal") then literal_of value
+    else (if bytes_eq kind (codes "sincere") then sincere_of value else None)
+
+-- {"kind":"literal",..} or {"kind":"sincere",..}
+unfoldable pub script_of : Data → Option Script
+script_of value = do
+  kind ← text_at (codes "kind") value
+  script_by_kind kind value
+
+-- {"increment":N,"ties":[TIE,..]}, or with "increments":[N,..]; an object of two members has not both
+unfoldable pub closing_of : Data → Option Closing
+closing_of value = do
+  increments ← increments_of value
+  ties ← option_and_then (each tie_of) (items_at (codes "ties") value)
+  if has_members 2 value then Some (record { increments = increments; ties = ties }) else None
+
+-- {"closings":[CLOSING,..],"scripts":[SCRIPT,..],"setup":VALUE}
+unfoldable pub parts_of : Data → Option ReplayParts
+parts_of value = do
+  setup ← get (codes "setup") value
+  scripts ← option_and_then (each script_of) (items_at (codes "scripts") value)
+  closings ← option_and_then (each closing_of) (items_at (codes "closings") value)
+  if has_members 3 value then Some (record { setup = setup; scripts = scripts; closings = closings }) else None

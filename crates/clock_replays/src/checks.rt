@@ -1,0 +1,125 @@
+ghost use Rattle.std.specs.Prelude.{◌≡◌, ◌≢◌, ◌&&◌, true, Some, length, zip, nat_le};
+ghost use Rattle.std.specs.List.{list_all};
+ghost use Rattle.clock_setup.specs.Faults.{first_fault, in_turn};
+ghost use Rattle.clock_setup.specs.Limits.{IsSetup};
+ghost use Rattle.clock_replays.specs.ReplayChecks as rules;
+ghost use Rattle.clock_replays.specs.ReplayChecks.{limit_checks, replay_checks, script_checks};
+
+use crate::closing::Closing;
+use crate::fault::ScriptFault;
+use crate::script::Script;
+use clock_bodies::is_of_version;
+use clock_setup::{Amounts, Product, Setup, SetupFault};
+
+/// Whether each closing has the form of the version.
+fn are_of_version(version: u64, closings: &[Closing]) -> bool
+    ensures { result ≡ rules.are_of_version version closings.now }
+{
+    closings
+        .iter()
+        .all(|closing| is_of_version(version, &closing.increments))
+}
+
+/// Whether a sincere script has a list of limits for each of so many products.
+fn has_lists(count: usize, script: &Script) -> bool
+    ensures { result ≡ rules.has_lists count script.now }
+{
+    match script {
+        Script::Literal(_) => true,
+        Script::Sincere(limits) => limits.as_slice().len() == count,
+    }
+}
+
+/// Whether each sincere script has a list of limits for each of so many products.
+fn have_lists(count: usize, scripts: &[Script]) -> bool
+    ensures { result ≡ list_all (rules.has_lists count) scripts.now }
+{
+    scripts.iter().all(|script| has_lists(count, script))
+}
+
+/// Whether no price is above an earlier one.
+fn never_rises(prices: &[u64]) -> bool
+    ensures { result ≡ rules.never_rises prices.now }
+{
+    let mut last = u64::MAX;
+    for price in prices {
+        if *price > last {
+            return false;
+        }
+        last = *price;
+    }
+    true
+}
+
+/// Whether limits never rise and are at most as many as a product's cap.
+fn are_limits(product: &Product, limits: &[u64]) -> bool
+    ensures { result ≡ (nat_le (length limits.now) product.now.cap && rules.never_rises limits.now) }
+{
+    limits.len() as u64 <= product.cap && never_rises(limits)
+}
+
+/// The least product for which a bidder's limits are none.
+fn limits_fault(bidder: u64, products: &[Product], limits: &[Amounts]) -> Option<ScriptFault>
+    requires { length limits.now ≡ length products.now }
+    ensures fault { result ≡ first_fault (in_turn (limit_checks bidder) 0 (zip products.now limits.now)) }
+    ensures held { result ≢ Some (ScriptFault.Setup SetupFault.NoMemory) }
+{
+    for (product, list) in limits.iter().enumerate() {
+        if !are_limits(&products[product], list.as_slice()) {
+            return Some(ScriptFault::Limits(bidder, product as u64));
+        }
+    }
+    None
+}
+
+/// The first fault of a bidder's script.
+#[tactic(auto, unfolding(crate::specs::ReplayChecks::script_checks))]
+fn script_fault(bidder: u64, products: &[Product], script: &Script) -> Option<ScriptFault>
+    requires { rules.has_lists (length products.now) script.now ≡ true }
+    ensures fault { result ≡ first_fault (script_checks products.now bidder script.now) }
+    ensures held { result ≢ Some (ScriptFault.Setup SetupFault.NoMemory) }
+{
+    match script {
+        Script::Literal(_) => None,
+        Script::Sincere(limits) => limits_fault(bidder, products, limits.as_slice()),
+    }
+}
+
+/// The first fault of the scripts, by rising bidder.
+fn scripts_fault(products: &[Product], scripts: &[Script]) -> Option<ScriptFault>
+    requires { list_all (rules.has_lists (length products.now)) scripts.now ≡ true }
+    ensures fault { result ≡ first_fault (in_turn (script_checks products.now) 0 scripts.now) }
+    ensures held { result ≢ Some (ScriptFault.Setup SetupFault.NoMemory) }
+{
+    for (bidder, script) in scripts.iter().enumerate() {
+        if let Some(fault) = script_fault(bidder as u64, products, script) {
+            return Some(fault);
+        }
+    }
+    None
+}
+
+/// The first fault of a replay whose parts have their shape and whose set-up is one.
+#[tactic(auto, unfolding(crate::specs::ReplayChecks::replay_checks))]
+pub(crate) fn replay_fault(
+    setup: &Setup,
+    scripts: &[Script],
+    closings: &[Closing],
+) -> Option<ScriptFault>
+    ensures fault { result ≡ first_fault (replay_checks (record { setup = setup.now; scripts = scripts.now; closings = closings.now })) }
+    // For the caller, who has no call of its own that tells it.
+    ensures limits { IsSetup setup.now }
+    ensures held { result ≢ Some (ScriptFault.Setup SetupFault.NoMemory) }
+{
+    let products = setup.products.as_slice();
+    if !are_of_version(setup.version, closings) {
+        return Some(ScriptFault::Shape);
+    }
+    if scripts.len() != setup.bidders.as_slice().len() {
+        return Some(ScriptFault::Scripts);
+    }
+    if !have_lists(products.len(), scripts) {
+        return Some(ScriptFault::Shape);
+    }
+    scripts_fault(products, scripts)
+}

@@ -1,0 +1,22 @@
+//! Replay documents: a set-up, a script for each bidder, and the closings in order. What a document means, and its first fault.
+#![tactic(auto)]
+
+mod checks;
+mod closing;
+mod fault;
+mod held_setup;
+mod part;
+mod read;
+mod replay;
+mod scanned_closings;
+mod scanned_part;
+mod scanned_replay;
+mod scanned_scripts;
+mod script;
+mod shape;
+
+pub use closing::{Closing, Closings, TieList};
+pub use fault::ScriptFault;
+pub use read::read_replay;
+pub use replay::Replay;
+pub use script::{BidList, LimitLists, Script, Scripts, SheetList};

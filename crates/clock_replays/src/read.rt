@@ -1,0 +1,105 @@
+ghost use Rattle.std.specs.Prelude.{◌≡◌, ◌≢◌, Ok, IfOk, IfErr};
+ghost use Rattle.serde_json.specs.View.{view};
+ghost use Rattle.clock_setup.specs.Faults.{IsRefusal, first_fault, unless};
+ghost use Rattle.clock_setup.specs.SetupDocument as document;
+ghost use Rattle.clock_replays.specs.Replays.{IsReplay, ReplayFields};
+ghost use Rattle.clock_replays.specs.ReplayChecks.{replay_checks};
+ghost use Rattle.clock_replays.specs.ReplayDocument.{document_replay, in_replay, replay_of};
+
+use crate::checks::replay_fault;
+use crate::closing::Closings;
+use crate::fault::ScriptFault;
+use crate::replay::Replay;
+use crate::scanned_replay::scanned_replay;
+use crate::script::Scripts;
+use crate::shape::replay_entries;
+use clock_scan::Stop;
+use clock_setup::members::read_value;
+use clock_setup::{Setup, SetupFault, setup_of};
+use serde_json::Value;
+use std::alloc::Global;
+
+/// The set-up under a document's key, its faults as those of the document.
+fn held_setup(alloc: Global, value: &Value) -> Result<Setup, ScriptFault>
+    ensures ok { IfOk result (λ setup. document.setup_of (view value.now) ≡ Ok setup) }
+    ensures err { IfErr result (IsRefusal ScriptFault.NoMemory (in_replay (document.setup_of (view value.now)))) }
+    ensures held { IfErr result (λ fault. fault ≢ ScriptFault.Setup SetupFault.NoMemory) }
+{
+    match setup_of(alloc, value) {
+        Ok(setup) => Ok(setup),
+        Err(SetupFault::NoMemory) => Err(ScriptFault::NoMemory),
+        Err(SetupFault::NotJson) => Err(ScriptFault::Setup(SetupFault::NotJson)),
+        Err(SetupFault::Shape) => Err(ScriptFault::Setup(SetupFault::Shape)),
+        Err(SetupFault::Version) => Err(ScriptFault::Setup(SetupFault::Version)),
+        Err(SetupFault::Range(place)) => Err(ScriptFault::Setup(SetupFault::Range(place))),
+        Err(SetupFault::DuplicateName) => Err(ScriptFault::Setup(SetupFault::DuplicateName)),
+        Err(SetupFault::DuplicateToken) => Err(ScriptFault::Setup(SetupFault::DuplicateToken)),
+    }
+}
+
+/// The replay of a set-up, or the first fault of what is looked at behind it.
+fn compared(setup: Setup, scripts: Scripts, closings: Closings) -> Result<Replay, ScriptFault>
+    ensures ok { let all : ReplayFields = record { setup = setup; scripts = scripts; closings = closings } in
+        IfOk result (λ replay. unless (first_fault (replay_checks all)) all ≡ Ok replay) }
+    ensures err { let all : ReplayFields = record { setup = setup; scripts = scripts; closings = closings } in
+        IfErr result (IsRefusal ScriptFault.NoMemory (unless (first_fault (replay_checks all)) all)) }
+    ensures held { IfErr result (λ fault. fault ≢ ScriptFault.Setup SetupFault.NoMemory) }
+{
+    match replay_fault(&setup, scripts.as_slice(), closings.as_slice()) {
+        Some(fault) => Err(fault),
+        None => Ok(Replay {
+            setup,
+            scripts,
+            closings,
+        }),
+    }
+}
+
+/// The replay that a JSON value means, or its first fault.
+#[tactic(auto, using(crate::proofs::DocumentLaws::replay_shape))]
+fn replay_in(alloc: Global, value: &Value) -> Result<Replay, ScriptFault>
+    ensures ok { IfOk result (λ replay. replay_of (view value.now) ≡ Ok replay) }
+    ensures err { IfErr result (IsRefusal ScriptFault.NoMemory (replay_of (view value.now))) }
+    ensures held { IfErr result (λ fault. fault ≢ ScriptFault.Setup SetupFault.NoMemory) }
+{
+    let Some(entries) = replay_entries(alloc, value)? else {
+        return Err(ScriptFault::Shape);
+    };
+    let setup = held_setup(alloc, entries.setup)?;
+    compared(setup, entries.scripts, entries.closings)
+}
+
+/// What [`read_replay`] answers, by a tree of the document's values.
+#[tactic(auto, unfolding(crate::specs::ReplayDocument::document_replay))]
+fn replay_by_tree(alloc: Global, bytes: &[u8]) -> Result<Replay, ScriptFault>
+    ensures ok { IfOk result (λ replay. document_replay bytes.now ≡ Ok replay) }
+    ensures err { IfErr result (IsRefusal ScriptFault.NoMemory (document_replay bytes.now)) }
+    ensures held { IfErr result (λ fault. fault ≢ ScriptFault.Setup SetupFault.NoMemory) }
+{
+    let value = read_value(alloc, bytes)?.ok_or(ScriptFault::NotJson)?;
+    replay_in(alloc, &value)
+}
+
+/// The replay that the bytes of a document mean, or the document's first fault.
+///
+/// The document is `{"closings":[CLOSING,..],"scripts":[SCRIPT,..],"setup":SETUP}` with a script for each bidder and a
+/// set-up as [`read_setup`](clock_setup::read_setup) reads it. A closing is `{"increment":N,"ties":[[B,P,N],..]}`, in
+/// version 2 with `"increments":[N,..]` in place of `"increment"`. A script is `{"kind":"literal","sheets":[SHEET,..]}`,
+/// where a sheet is null or a list of bids `{"price":N,"product":N,"quantity":N}`, or
+/// `{"kind":"sincere","limits":[[N,..],..]}` with a list of limits for each product, which never rises and is at most as
+/// long as the product's cap.
+///
+/// [`ScriptFault`] has the faults in the order in which they are looked at. Nothing is kept of a document that is
+/// refused.
+pub fn read_replay(alloc: Global, bytes: &[u8]) -> Result<Replay, ScriptFault>
+    ensures ok { IfOk result (λ replay. document_replay bytes.now ≡ Ok replay) }
+    ensures replay { IfOk result IsReplay }
+    ensures err { IfErr result (IsRefusal ScriptFault.NoMemory (document_replay bytes.now)) }
+    ensures held { IfErr result (λ fault. fault ≢ ScriptFault.Setup SetupFault.NoMemory) }
+{
+    match scanned_replay(alloc, bytes) {
+        Ok(found) => compared(found.held.setup, found.scripts, found.closings),
+        Err(Stop::NoMemory) => Err(ScriptFault::NoMemory),
+        Err(Stop::Unusual) => replay_by_tree(alloc, bytes),
+    }
+}

@@ -1,0 +1,141 @@
+//! Closings read without a tree, where no text has an escape and each number is written in digits alone.
+ghost use Rattle.std.specs.Prelude.{◌≡◌, ◌<◌, length, IfSome, IfOk, OnOk};
+ghost use Rattle.serde_json.specs.Data.{object};
+ghost use Rattle.clock_scan.specs.Reading.{members_of, Reads, AddsMember};
+ghost use Rattle.clock_bodies.specs.QuickBodies.{tie_data, single_of, listed_of};
+ghost use Rattle.clock_replays.specs.ReplayData.{closing_fields, closing_data};
+
+use crate::closing::{Closing, TieList};
+use crate::scanned_part::{ScannedPart, scanned_parts};
+use clock_order::Tie;
+use clock_scan::{Scan, Stop, is_key};
+use clock_setup::{Amounts, Increments};
+use std::alloc::Global;
+
+/// The tie number that is next.
+#[inline]
+fn tie(scan: &mut Scan<'_>) -> Option<Tie>
+    ensures value { IfSome result (λ tie. Reads 1 scan.old (tie_data tie) scan.new) }
+    ensures shorter { IfSome result (λ _. length scan.new < length scan.old) }
+{
+    if !scan.opens_array() {
+        return None;
+    }
+    let bidder = scan.number()?;
+    let product = scan.number()?;
+    let number = scan.number()?;
+    if !scan.closes_array() {
+        return None;
+    }
+    Some(Tie {
+        bidder,
+        product,
+        number,
+    })
+}
+
+impl ScannedPart for Tie {
+    ghost levels = { 1 };
+
+    ghost shown = { tie_data };
+
+    fn scanned(_alloc: Global, scan: &mut Scan<'_>) -> Result<Tie, Stop> {
+        match tie(scan) {
+            Some(tie) => Ok(tie),
+            None => Err(Stop::Unusual),
+        }
+    }
+}
+
+/// What was found of a closing so far.
+#[derive(Drop)]
+struct FoundClosing {
+    increment: Option<u64>,
+    increments: Option<Amounts>,
+    ties: Option<TieList>,
+}
+
+/// The increments, where they were found in one form and not in both.
+fn one_form(single: Option<u64>, listed: Option<Amounts>) -> Option<Increments>
+    ensures single { IfSome result (λ increments. single ≡ single_of increments) }
+    ensures listed { IfSome result (λ increments. listed ≡ listed_of increments) }
+{
+    let Some(increments) = listed else {
+        return Some(Increments::Single(single?));
+    };
+    if single.is_some() {
+        return None;
+    }
+    Some(Increments::PerProduct(increments))
+}
+
+impl FoundClosing {
+    /// Reads the member that is next.
+    fn read_member(&mut self, alloc: Global, scan: &mut Scan<'_>) -> Result<(), Stop>
+        ensures value { OnOk result (AddsMember 2 scan.old (closing_fields self.old) scan.new (closing_fields self.new)) }
+        ensures shorter { OnOk result (length scan.new < length scan.old) }
+    {
+        let Some(key) = scan.key() else {
+            return Err(Stop::Unusual);
+        };
+        if is_key(key, "ties") {
+            let ties = scanned_parts(alloc, scan)?;
+            self.ties = Some(TieList::from_vec(ties));
+            return Ok(());
+        }
+        if is_key(key, "increments") {
+            let increments = scan.numbers(alloc)?;
+            self.increments = Some(Amounts::from_vec(increments));
+            return Ok(());
+        }
+        if is_key(key, "increment") {
+            let Some(increment) = scan.number() else {
+                return Err(Stop::Unusual);
+            };
+            self.increment = Some(increment);
+            return Ok(());
+        }
+        Err(Stop::Unusual)
+    }
+
+    /// The closing, where all of it was found.
+    fn closing(self) -> Option<Closing>
+        ensures { IfSome result (λ closing. object (members_of (closing_fields self)) ≡ closing_data closing) }
+    {
+        let increments = one_form(self.increment, self.increments)?;
+        let ties = self.ties?;
+        Some(Closing { increments, ties })
+    }
+}
+
+/// The closing that is next.
+fn closing(alloc: Global, scan: &mut Scan<'_>) -> Result<Closing, Stop>
+    ensures value { IfOk result (λ closing. Reads 3 scan.old (closing_data closing) scan.new) }
+    ensures shorter { OnOk result (length scan.new < length scan.old) }
+{
+    if !scan.opens_object() {
+        return Err(Stop::Unusual);
+    }
+    let mut found = FoundClosing {
+        increment: None,
+        increments: None,
+        ties: None,
+    };
+    'members: while !scan.closes_object() {
+        found.read_member(alloc, scan)?;
+    }
+    match found.closing() {
+        Some(closing) => Ok(closing),
+        None => Err(Stop::Unusual),
+    }
+}
+
+impl ScannedPart for Closing {
+    ghost levels = { 3 };
+
+    ghost shown = { closing_data };
+
+    fn scanned(alloc: Global, scan: &mut Scan<'_>) -> Result<Closing, Stop> {
+        closing(alloc, scan)
+    }
+}

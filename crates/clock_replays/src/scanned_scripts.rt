@@ -1,0 +1,247 @@
+//! Scripts read without a tree, where no text has an escape and each number is written in digits alone.
+ghost use Rattle.std.specs.Prelude.{◌≡◌, true, ◌<◌, length, IfSome, IfOk, OnOk};
+ghost use Rattle.serde_json.specs.Data.{object};
+ghost use Rattle.clock_scan.specs.Reading.{whole, is_field, with_field, members_of, Reads, AddsMember};
+ghost use Rattle.clock_bodies.specs.QuickBodies.{bid_data};
+ghost use Rattle.clock_replays.specs.ReplayData.{bid_fields, sheet_data, kind_text, script_fields, script_data};
+
+use crate::scanned_part::{ScannedPart, scanned_parts};
+use crate::script::{BidList, LimitLists, Script, SheetList};
+use clock_bids::Bid;
+use clock_scan::{Scan, Stop, is_key};
+use std::alloc::Global;
+
+/// What was found of a bid so far.
+#[derive(Clone, Copy)]
+struct FoundBid {
+    price: Option<u64>,
+    product: Option<u64>,
+    quantity: Option<u64>,
+}
+
+impl FoundBid {
+    /// What was found, with one number more under its key.
+    #[inline(always)]
+    fn with(self, key: &[u8], number: u64) -> Option<FoundBid>
+        ensures known { IfSome result (λ _. is_field key.now (bid_fields self) ≡ true) }
+        ensures value { IfSome result (λ found. with_field key.now (whole number) (bid_fields self) ≡ bid_fields found) }
+    {
+        let FoundBid {
+            price,
+            product,
+            quantity,
+        } = self;
+        if is_key(key, "price") {
+            return Some(FoundBid {
+                price: Some(number),
+                product,
+                quantity,
+            });
+        }
+        if is_key(key, "product") {
+            return Some(FoundBid {
+                price,
+                product: Some(number),
+                quantity,
+            });
+        }
+        if is_key(key, "quantity") {
+            return Some(FoundBid {
+                price,
+                product,
+                quantity: Some(number),
+            });
+        }
+        None
+    }
+
+    /// The bid, where all of it was found.
+    #[inline(always)]
+    fn bid(self) -> Option<Bid>
+        ensures { IfSome result (λ bid. object (members_of (bid_fields self)) ≡ bid_data bid) }
+    {
+        Some(Bid {
+            product: self.product?,
+            quantity: self.quantity?,
+            price: self.price?,
+        })
+    }
+}
+
+/// What was found of a bid, with the member that is next.
+#[inline(always)]
+fn bid_member(scan: &mut Scan<'_>, found: FoundBid) -> Option<FoundBid>
+    ensures value { IfSome result (λ after. AddsMember 0 scan.old (bid_fields found) scan.new (bid_fields after)) }
+    ensures shorter { IfSome result (λ _. length scan.new < length scan.old) }
+{
+    let key = scan.key()?;
+    let number = scan.number()?;
+    found.with(key, number)
+}
+
+/// The bid that is next.
+#[inline]
+fn bid(scan: &mut Scan<'_>) -> Option<Bid>
+    ensures value { IfSome result (λ bid. Reads 1 scan.old (bid_data bid) scan.new) }
+    ensures shorter { IfSome result (λ _. length scan.new < length scan.old) }
+{
+    if !scan.opens_object() {
+        return None;
+    }
+    let mut found = FoundBid {
+        price: None,
+        product: None,
+        quantity: None,
+    };
+    'members: while !scan.closes_object() {
+        found = bid_member(scan, found)?;
+    }
+    found.bid()
+}
+
+impl ScannedPart for Bid {
+    ghost levels = { 1 };
+
+    ghost shown = { bid_data };
+
+    fn scanned(_alloc: Global, scan: &mut Scan<'_>) -> Result<Bid, Stop> {
+        match bid(scan) {
+            Some(bid) => Ok(bid),
+            None => Err(Stop::Unusual),
+        }
+    }
+}
+
+/// A sheet that is a list of bids. Where there is no sheet, nothing is read.
+impl ScannedPart for Option<BidList> {
+    ghost levels = { 2 };
+
+    ghost shown = { sheet_data };
+
+    fn scanned(alloc: Global, scan: &mut Scan<'_>) -> Result<Option<BidList>, Stop> {
+        let bids = scanned_parts(alloc, scan)?;
+        Ok(Some(BidList::from_vec(bids)))
+    }
+}
+
+/// The kind of a script.
+#[derive(Clone, Copy)]
+enum Kind {
+    Literal,
+    Sincere,
+}
+
+/// The kind that a word stands for.
+fn kind_of(word: &str) -> Option<Kind>
+    ensures { IfSome result (λ kind. word.now ≡ kind_text kind) }
+{
+    if is_key(word.as_bytes(), "literal") {
+        return Some(Kind::Literal);
+    }
+    if is_key(word.as_bytes(), "sincere") {
+        return Some(Kind::Sincere);
+    }
+    None
+}
+
+/// What was found of a script so far.
+#[derive(Drop)]
+struct FoundScript {
+    kind: Option<Kind>,
+    limits: Option<LimitLists>,
+    sheets: Option<SheetList>,
+}
+
+/// A script of a kind, where what was found is of this kind alone.
+fn script_of(kind: Kind, limits: Option<LimitLists>, sheets: Option<SheetList>) -> Option<Script>
+    ensures { IfSome result (λ script. object (members_of (script_fields
+        (record { kind = Some kind; limits = limits; sheets = sheets }))) ≡ script_data script) }
+{
+    match kind {
+        Kind::Literal => {
+            if limits.is_some() {
+                return None;
+            }
+            Some(Script::Literal(sheets?))
+        }
+        Kind::Sincere => {
+            if sheets.is_some() {
+                return None;
+            }
+            Some(Script::Sincere(limits?))
+        }
+    }
+}
+
+impl FoundScript {
+    /// Reads the member that is next.
+    fn read_member(&mut self, alloc: Global, scan: &mut Scan<'_>) -> Result<(), Stop>
+        ensures value { OnOk result (AddsMember 3 scan.old (script_fields self.old) scan.new (script_fields self.new)) }
+        ensures shorter { OnOk result (length scan.new < length scan.old) }
+    {
+        let Some(key) = scan.key() else {
+            return Err(Stop::Unusual);
+        };
+        if is_key(key, "limits") {
+            let limits = scan.rows(alloc)?;
+            self.limits = Some(LimitLists::from_vec(limits));
+            return Ok(());
+        }
+        if is_key(key, "sheets") {
+            let sheets = scanned_parts(alloc, scan)?;
+            self.sheets = Some(SheetList::from_vec(sheets));
+            return Ok(());
+        }
+        if is_key(key, "kind") {
+            let Some(word) = scan.text() else {
+                return Err(Stop::Unusual);
+            };
+            let Some(kind) = kind_of(word) else {
+                return Err(Stop::Unusual);
+            };
+            self.kind = Some(kind);
+            return Ok(());
+        }
+        Err(Stop::Unusual)
+    }
+
+    /// The script, where all of it was found.
+    fn script(self) -> Option<Script>
+        ensures { IfSome result (λ script. object (members_of (script_fields self)) ≡ script_data script) }
+    {
+        let kind = self.kind?;
+        script_of(kind, self.limits, self.sheets)
+    }
+}
+
+/// The script that is next.
+fn script(alloc: Global, scan: &mut Scan<'_>) -> Result<Script, Stop>
+    ensures value { IfOk result (λ script. Reads 4 scan.old (script_data script) scan.new) }
+    ensures shorter { OnOk result (length scan.new < length scan.old) }
+{
+    if !scan.opens_object() {
+        return Err(Stop::Unusual);
+    }
+    let mut found = FoundScript {
+        kind: None,
+        limits: None,
+        sheets: None,
+    };
+    'members: while !scan.closes_object() {
+        found.read_member(alloc, scan)?;
+    }
+    match found.script() {
+        Some(script) => Ok(script),
+        None => Err(Stop::Unusual),
+    }
+}
+
+impl ScannedPart for Script {
+    ghost levels = { 4 };
+
+    ghost shown = { script_data };
+
+    fn scanned(alloc: Global, scan: &mut Scan<'_>) -> Result<Script, Stop> {
+        script(alloc, scan)
+    }
+}
