@@ -1,15 +1,18 @@
-ghost use Rattle.std.specs.Prelude.{◌≡◌, ◌≢◌, ◌≤◌, Ok, Err, IfOk, IfErr};
+ghost use Rattle.std.specs.Prelude.{◌≡◌, ◌≢◌, ◌≤◌, Ok, Err, length, IfOk, IfErr};
+ghost use Rattle.clock_setup.specs.Demands.{IsGrid};
+ghost use Rattle.clock_setup.specs.Increments.{IsIncrement};
 ghost use Rattle.clock_setup.specs.SetupDocument.{document_setup};
-ghost use Rattle.clock_auction.specs.Answers.{answer_of, read_in};
+ghost use Rattle.clock_auction.specs.Answers.{answer_of, first_round, played, read_in};
+ghost use Rattle.clock_sim.specs.Rehearsal.{simulated};
 ghost use Rattle.clock_words.specs.Words.{IsJob};
 
 use crate::fault::Fault;
 use crate::prices::prices_text;
-use clock_words::Job;
 use clock_device::Text;
 use clock_posting::{PostFault, post_first, sheet_lines};
-use clock_setup::{Increments, OpeningFault, Setup, SetupFault, read_opening, read_setup};
-use clock_sim::{ScriptFault, SimFault, read_replay, report_text, simulate};
+use clock_setup::{Increments, Opening, OpeningFault, Setup, SetupFault, read_opening, read_setup};
+use clock_sim::{Replay, ScriptFault, SimFault, read_replay, report_text, simulate};
+use clock_words::Job;
 use std::alloc::Global;
 
 /// What the job prints of the document, or the document's fault.
@@ -44,7 +47,30 @@ fn prices_answer(alloc: Global, increment: u64, document: &[u8]) -> Result<Text,
         → answer_of (Job.Prices increment) document.now ≡ Err fault) }
 {
     let setup = setup_in(alloc, document)?;
-    Ok(prices_text(alloc, &setup, increment)?)
+    let text = prices_text(alloc, &setup, increment);
+    drop(setup);
+    Ok(text?)
+}
+
+/// The lines of round 1, or the product that can have no next clock price.
+fn first_lines(alloc: Global, opening: &Opening) -> Result<Text, Fault>
+    requires increment { IsIncrement opening.now.increment }
+    requires grid { IsGrid (length opening.now.setup.bidders) (length opening.now.setup.products) opening.now.grid }
+    ensures ok { IfOk result (λ text. first_round opening.now ≡ Ok text) }
+    ensures err { IfErr result (λ fault. fault ≢ Fault.Memory → first_round opening.now ≡ Err fault) }
+{
+    let increments = Increments::Single(opening.increment);
+    let posted = post_first(alloc, &opening.setup, &opening.grid, &increments);
+    drop(increments);
+    match posted {
+        Ok(posting) => {
+            let lines = sheet_lines(alloc, &opening.setup, &posting.sheet);
+            drop(posting);
+            Ok(lines?)
+        }
+        Err(PostFault::PriceLimit(product)) => Err(Fault::PriceLimit(product)),
+        Err(PostFault::NoMemory) => Err(Fault::Memory),
+    }
 }
 
 fn opening_answer(alloc: Global, document: &[u8]) -> Result<Text, Fault>
@@ -52,18 +78,31 @@ fn opening_answer(alloc: Global, document: &[u8]) -> Result<Text, Fault>
     ensures err { IfErr result (λ fault. fault ≢ Fault.Memory
         → answer_of Job.Opening document.now ≡ Err fault) }
 {
-    let opening = match read_opening(alloc, document) {
-        Ok(opening) => opening,
-        Err(OpeningFault::NoMemory) => return Err(Fault::Memory),
-        Err(fault) => return Err(Fault::Opening(fault)),
-    };
-    let increments = Increments::Single(opening.increment);
-    let posting = match post_first(alloc, &opening.setup, &opening.grid, &increments) {
-        Ok(posting) => posting,
-        Err(PostFault::PriceLimit(product)) => return Err(Fault::PriceLimit(product)),
-        Err(PostFault::NoMemory) => return Err(Fault::Memory),
-    };
-    Ok(sheet_lines(alloc, &opening.setup, &posting.sheet)?)
+    match read_opening(alloc, document) {
+        Ok(opening) => {
+            let lines = first_lines(alloc, &opening);
+            drop(opening);
+            lines
+        }
+        Err(OpeningFault::NoMemory) => Err(Fault::Memory),
+        Err(fault) => Err(Fault::Opening(fault)),
+    }
+}
+
+/// The report of a replay, or why it did not come to its end.
+fn report_lines(alloc: Global, replay: &Replay) -> Result<Text, Fault>
+    ensures ok { IfOk result (λ text. played (simulated replay.now) ≡ Ok text) }
+    ensures err { IfErr result (λ fault. fault ≢ Fault.Memory → played (simulated replay.now) ≡ Err fault) }
+{
+    match simulate(alloc, replay) {
+        Ok(report) => {
+            let text = report_text(alloc, &report);
+            drop(report);
+            Ok(text?)
+        }
+        Err(SimFault::NoMemory) => Err(Fault::Memory),
+        Err(fault) => Err(Fault::Simulation(fault)),
+    }
 }
 
 fn replay_answer(alloc: Global, document: &[u8]) -> Result<Text, Fault>
@@ -71,15 +110,13 @@ fn replay_answer(alloc: Global, document: &[u8]) -> Result<Text, Fault>
     ensures err { IfErr result (λ fault. fault ≢ Fault.Memory
         → answer_of Job.Replay document.now ≡ Err fault) }
 {
-    let replay = match read_replay(alloc, document) {
-        Ok(replay) => replay,
-        Err(ScriptFault::NoMemory) => return Err(Fault::Memory),
-        Err(fault) => return Err(Fault::Script(fault)),
-    };
-    let report = match simulate(alloc, &replay) {
-        Ok(report) => report,
-        Err(SimFault::NoMemory) => return Err(Fault::Memory),
-        Err(fault) => return Err(Fault::Simulation(fault)),
-    };
-    Ok(report_text(alloc, &report)?)
+    match read_replay(alloc, document) {
+        Ok(replay) => {
+            let lines = report_lines(alloc, &replay);
+            drop(replay);
+            lines
+        }
+        Err(ScriptFault::NoMemory) => Err(Fault::Memory),
+        Err(fault) => Err(Fault::Script(fault)),
+    }
 }

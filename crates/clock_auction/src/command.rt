@@ -9,9 +9,9 @@ use crate::answer::answer;
 use crate::fault::Fault;
 use crate::fault_lines::write_fault;
 use crate::input::read_all;
-use clock_words::{Job, job_asked};
 use clap::error::ErrorKind;
 use clock_device::{Sink, Source, write_all};
+use clock_words::{Job, job_asked};
 use std::alloc::Global;
 
 /// What is shown of good words that ask for `serve`, which is no command on streams.

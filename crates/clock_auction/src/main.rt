@@ -18,8 +18,8 @@ mod tests;
 
 use clap::error::ErrorKind;
 use clock_device::{FromReader, ToWriter};
-use command::{command, show_fault};
 use clock_words::{number_helps, serving_asked};
+use command::{command, show_fault};
 use fault::Fault;
 use serve::serve;
 use std::alloc::{AllocError, Global};

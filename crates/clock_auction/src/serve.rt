@@ -3,10 +3,10 @@ use crate::answer::setup_in;
 use crate::fault::Fault;
 use crate::input::read_all;
 use crate::serving::{ServeFault, serve_on};
-use clock_words::Serving;
 use clock_device::{FromReader, Text};
 use clock_front::Front;
 use clock_queue::Woken;
+use clock_words::Serving;
 use std::alloc::Global;
 use std::fs::File;
 use std::io;
@@ -29,8 +29,9 @@ where
 /// The front of the set-up in a file.
 fn front_of<R: Files + Alloc<A = Global>>(rt: &R, path: &str) -> Result<Front<Woken>, Fault> {
     let document = file_bytes(rt, path)?;
-    let setup = setup_in(rt.alloc(), document.as_slice())?;
-    Ok(Front::new(rt.alloc(), setup, Woken)?)
+    let setup = setup_in(rt.alloc(), document.as_slice());
+    drop(document);
+    Ok(Front::new(rt.alloc(), setup?, Woken)?)
 }
 
 /// Listens on a port, tells it, and serves connections by a front.
