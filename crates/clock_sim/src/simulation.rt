@@ -48,12 +48,15 @@ pub fn simulate_with<P: Processor + Drop>(
     let setup = replay.setup.copy(alloc)?;
     let front = Front::new(alloc, setup, processor)?;
     let mut hub = Hub::new(alloc, front);
-    played(
+    let report = played(
         alloc,
         &mut hub,
         replay.scripts.as_slice(),
         replay.closings.as_slice(),
-    )
+    );
+    // let go by a call: at the end of the scope it would be proved part by part
+    drop(hub);
+    report
 }
 
 /// Plays an auction: in each round the bidders, in the order of their numbers, put the sheets that their scripts give,

@@ -23,7 +23,7 @@ returns-clause-ok g c =
     ∙ c.in_ok-setup.ensures)
     ∙ ap (λ (list : List Script). replay_of inside.setup list closings) c.as_slice.ensures
     ∙ ap (λ (list : List Closing). replay_of inside.setup inside.scripts list) c.as_slice-2.ensures ∙ c.replay.view_is in
-    subst (λ (replay : ReplayFields). IfOk c.played.result (λ report. simulated replay ≡ Ok report)) same c.played.ensures.ok
+    subst (λ (replay : ReplayFields). IfOk c.played-report.result (λ report. simulated replay ≡ Ok report)) same c.played-report.ensures.ok
 
 pub returns-clause-err : goal.returns-clause-err
 returns-clause-err g c =
@@ -35,4 +35,4 @@ returns-clause-err g c =
     ∙ c.in_ok-setup.ensures)
     ∙ ap (λ (list : List Script). replay_of inside.setup list closings) c.as_slice.ensures
     ∙ ap (λ (list : List Closing). replay_of inside.setup inside.scripts list) c.as_slice-2.ensures ∙ c.replay.view_is in
-    subst (λ (replay : ReplayFields). IfErr c.played.result (IsRefusal faults.NoMemory (simulated replay))) same c.played.ensures.err
+    subst (λ (replay : ReplayFields). IfErr c.played-report.result (IsRefusal faults.NoMemory (simulated replay))) same c.played-report.ensures.err
