@@ -12,14 +12,17 @@ use Rattle.clock_setup.specs.Limits.{no_product, IsProduct, IsRow}
 use Rattle.clock_setup.specs.Eligibility.{activity}
 
 -- no bit is set where the demands so far are 0, and the next one is 0 as well
-pub zeros_more : (row : List ℕ) (from place bits : ℕ) → (bits ≡ 0 ↔ AllWithin (λ demand. demand ≡ 0) row from place) → from ≤ place
-    → place < length row → bit_or bits (get_or row place 0) ≡ 0 ↔ AllWithin (λ demand. demand ≡ 0) row from (place + 1)
-zeros_more row from place bits before order inside = (
-  λ none. AllWithin-more (λ demand. demand ≡ 0) row from place (before.0 (omega (arith, none, le_or_l bits (get_or row place 0))))
-      (λ d. get_or_default row place d 0 inside ∙ omega (arith, none, le_or_r bits (get_or row place 0))),
-  λ all. ap (λ n. bit_or n (get_or row place 0)) (before.1 (AllWithin-upto (λ demand. demand ≡ 0) row from (place + 1) place (omega arith) all))
-      ∙ ap (λ n. bit_or 0 n) (all place 0 order (omega arith)),
-)
+pub zeros_more : (row : List ℕ) (from step bits : ℕ) → (bits ≡ 0 ↔ AllWithin (λ demand. demand ≡ 0) row from (from + step))
+    → from + step < length row → bit_or bits (get_or row (from + step) 0) ≡ 0 ↔ AllWithin (λ demand. demand ≡ 0) row from (from + (step + 1))
+zeros_more row from step bits before inside =
+    let place = from + step in (
+      λ none k d low high.
+          AllWithin-more (λ demand. demand ≡ 0) row from place (before.0 (omega (arith, none, le_or_l bits (get_or row place 0))))
+          (λ d. get_or_default row place d 0 inside ∙ omega (arith, none, le_or_r bits (get_or row place 0))) k d low (omega (arith, high)),
+      λ all. ap (λ n. bit_or n (get_or row place 0))
+          (before.1 (AllWithin-upto (λ demand. demand ≡ 0) row from (from + (step + 1)) place (omega arith) all))
+          ∙ ap (λ n. bit_or 0 n) (all place 0 (omega arith) (omega arith)),
+    )
 
 -- no demands take no units
 no_numbers : (products : List Product) → activity products [] ≡ 0

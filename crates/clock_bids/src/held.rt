@@ -49,15 +49,16 @@ fn after_empty_pieces(row: &[u64], from: usize, until: usize) -> usize
     place
 }
 
-/// Whether a demand of a piece is not 0. All of them are read, since a loop that may end early is slow.
+/// Whether a demand of a piece is not 0. All of them are read, since a loop that may end early is slow, and by a count of turns
+/// that is known, so that they are read together.
 #[inline(always)]
 fn holds_any(row: &[u64], from: usize) -> bool
     requires { from + PIECE ≤ length row.now }
     ensures { result ≡ false ↔ AllWithin (λ demand. demand ≡ 0) row.now from (from + PIECE) }
 {
     let mut bits = 0;
-    for place in from..from + PIECE {
-        bits |= row[place];
+    for step in 0..PIECE {
+        bits |= row[from + step];
     }
     bits != 0
 }

@@ -2,5 +2,5 @@ use Rattle.std.proofs.Common.{arith}
 use Rattle.clock_bids.proofs.Zeros.{zeros_more}
 use Rattle.clock_bids.proofs.held.holds_any.Goals as goal
 
-pub loop-place-preserved : goal.loop-place-preserved
-loop-place-preserved c = zeros_more c.args.row.now c.args.from c.loop-place.place c.loop-place.bits c.loop-place.invariant (omega arith) (omega arith)
+pub loop-step-preserved : goal.loop-step-preserved
+loop-step-preserved c = zeros_more c.args.row.now c.args.from c.loop-step.step c.loop-step.bits c.loop-step.invariant (omega arith)
