@@ -274,15 +274,21 @@ impl<P: Processor> House<P> {
             (open_round_in self.now) grid.now) }
         ensures kept { IfOk result (λ slips. grid.now ≡ demands_of slips) }
     {
+        let mut cells = Vec::new(self.alloc());
         let mut slips = Slips::new(self.alloc());
         for bidder in 0..self.bidders() {
-            slips.push(self.slip_after(bidder, grid.row(bidder as usize))?)?;
+            slips.push(self.slip_after(&mut cells, bidder, grid.row(bidder as usize))?)?;
         }
         Ok(slips)
     }
 
-    /// A bidder's slip after a round that leaves it these demands.
-    fn slip_after(&self, bidder: u32, demands: &[u64]) -> Result<Slip, NoMemory>
+    /// A bidder's slip after a round that leaves it these demands. The list is lent for their cells.
+    fn slip_after(
+        &self,
+        cells: &mut Vec<u16>,
+        bidder: u32,
+        demands: &[u64],
+    ) -> Result<Slip, NoMemory>
         requires bidder { bidder < length self.now.setup.bidders }
         requires row { IsRow self.now.setup.products demands.now }
         requires within { eligibilities.activity self.now.setup.products demands.now ≤
@@ -297,7 +303,7 @@ impl<P: Processor> House<P> {
             round: own.round,
             activity: used,
             eligibility: next_eligibility(own.eligibility, used, requirement(self.setup())),
-            demands: Blocks::of(self.alloc(), demands)?,
+            demands: Blocks::of(self.alloc(), cells, demands)?,
         })
     }
 }
