@@ -16,12 +16,12 @@ use crate::blocks::Blocks;
 use crate::fault::CloseFault;
 use crate::house::{House, bidder_count};
 use crate::slip::{Slip, Slips};
-use clock_bids::{Bid, Changes, asked_demands, bids_of, changes_of};
+use clock_bids::{Bid, Changes, asked_demands, bids_of, changes_of, units_held};
 use clock_device::NoMemory;
 use clock_order::{Ties, ordered};
 use clock_posting::{Posting, post, post_first};
 use clock_processor::{Board, Processor, Settled};
-use clock_setup::{Amounts, Grid, Increments, Setup, activity, next_eligibility};
+use clock_setup::{Amounts, Grid, Increments, Setup, next_eligibility};
 
 /// What a round comes to: its sheet with the prices of the next round, the slip of each bidder, and all demands.
 #[derive(Drop)]
@@ -274,15 +274,21 @@ impl<P: Processor> House<P> {
             (open_round_in self.now) grid.now) }
         ensures kept { IfOk result (λ slips. grid.now ≡ demands_of slips) }
     {
+        let mut cells = Vec::new(self.alloc());
         let mut slips = Slips::new(self.alloc());
         for bidder in 0..self.bidders() {
-            slips.push(self.slip_after(bidder, grid.row(bidder as usize))?)?;
+            slips.push(self.slip_after(&mut cells, bidder, grid.row(bidder as usize))?)?;
         }
         Ok(slips)
     }
 
-    /// A bidder's slip after a round that leaves it these demands.
-    fn slip_after(&self, bidder: u32, demands: &[u64]) -> Result<Slip, NoMemory>
+    /// A bidder's slip after a round that leaves it these demands. The list is lent for their cells.
+    fn slip_after(
+        &self,
+        cells: &mut Vec<u16>,
+        bidder: u32,
+        demands: &[u64],
+    ) -> Result<Slip, NoMemory>
         requires bidder { bidder < length self.now.setup.bidders }
         requires row { IsRow self.now.setup.products demands.now }
         requires within { eligibilities.activity self.now.setup.products demands.now ≤
@@ -297,9 +303,17 @@ impl<P: Processor> House<P> {
             round: own.round,
             activity: used,
             eligibility: next_eligibility(own.eligibility, used, requirement(self.setup())),
-            demands: Blocks::of(self.alloc(), demands)?,
+            demands: Blocks::of(self.alloc(), cells, demands)?,
         })
     }
+}
+
+/// The bidding units that a row of demands takes, of which most are 0.
+fn activity(setup: &Setup, demands: &[u64]) -> u64
+    requires { IsRow setup.now.products demands.now }
+    ensures { result ≡ eligibilities.activity setup.now.products demands.now }
+{
+    units_held(setup.products.as_slice(), demands)
 }
 
 /// The least activity that keeps an eligibility, in percent.
