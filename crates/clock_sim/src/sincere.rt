@@ -6,11 +6,12 @@ ghost use Rattle.clock_sim.specs.Replays.{NeverRises};
 ghost use Rattle.clock_sim.specs.Blocks as one_by_one;
 ghost use Rattle.clock_sim.specs.RoundPrices.{prices_after};
 
+use crate::limit_lists::LimitLists;
 use crate::round_prices::{PriceRange, price_range};
 use clock_bids::{Bid, Own};
 use clock_device::NoMemory;
 use clock_posting::RoundSheet;
-use clock_setup::{Amounts, Product};
+use clock_setup::Product;
 
 /// The price at which a block leaves, where it does not stay up to the clock price.
 fn leaving_price(pair: &PriceRange, limit: u64) -> Option<u64>
@@ -209,7 +210,7 @@ fn push_product(
     last: Option<&RoundSheet>,
     round: u64,
     demands: &[u64],
-    limits: &[Amounts],
+    limits: &LimitLists,
     product: usize,
 ) -> Result<(), NoMemory>
     requires line { product < length (prices_after products.now (option_copied last)) }
@@ -224,7 +225,7 @@ fn push_product(
         return Ok(());
     }
     let pair = price_range(products, last, product);
-    let wanted = limits[product].as_slice();
+    let wanted = limits.list(product);
     push_priced(bids, product as u64, round, &pair, held, wanted)?;
     Ok(())
 }
@@ -236,7 +237,7 @@ pub(crate) fn push_sincere(
     products: &[Product],
     last: Option<&RoundSheet>,
     own: Own,
-    limits: &[Amounts],
+    limits: &LimitLists,
 ) -> Result<(), NoMemory>
     requires lines { length (prices_after products.now (option_copied last)) ≡ length products.now }
     requires held { length own.demands.now ≡ length products.now }

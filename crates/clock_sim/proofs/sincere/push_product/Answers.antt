@@ -1,5 +1,4 @@
 use Rattle.std.proofs.Common.{◌≡◌, ℕ, ◌==◌, ◌++◌, [], false, List, slice_index, option_copied, append-nil, refl, sym, ap, ap₂, ◌∙◌}
-use Rattle.std.proofs.lemmas.List.{get_or_read}
 use Rattle.clock_setup.specs.declared.prices.PricePair.{PricePair}
 use Rattle.clock_setup.specs.Prices.{prices_at}
 use Rattle.clock_setup.specs.Demands.{row_of}
@@ -21,7 +20,6 @@ returns-then-not-may_bid c =
 pub returns : goal.returns
 returns c =
     let p = c.args.product in
-    let row = c.as_slice-wanted.ensures ∙ get_or_read c.args.limits.now p c.index-limits-product.result c.requires.each c.index-limits-product.is [] in
     c.in_ok-push_priced.ensures
     ∙ ap₂ (λ (pair : PricePair) (wanted : List ℕ). c.args.bids.now.items ++ product_bids c.args.round p pair (slice_index c.args.demands.now p) wanted)
-    c.price_range-pair.ensures row
+    c.price_range-pair.ensures c.list-wanted.ensures
