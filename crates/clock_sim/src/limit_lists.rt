@@ -17,7 +17,7 @@ use std::marker::Model;
 /// so all prices stand in one list, product by product, with the place beside it where those for each product end.
 #[derive(Drop)]
 pub struct LimitLists {
-    ends: Vec<usize>,
+    ends: Vec<u32>,
     prices: Vec<u64>,
 }
 
@@ -33,18 +33,18 @@ impl Model for LimitLists {
 }
 
 /// Where the row of a place begins: where the one before it ends.
-fn start_of(ends: &[usize], place: usize) -> usize
+fn start_of(ends: &[u32], place: usize) -> usize
     requires { place < length ends.now }
     ensures { result ≡ slice_index (0 ∷ ends.now) place }
 {
     if place == 0 {
         return 0;
     }
-    ends[place - 1]
+    ends[place - 1] as usize
 }
 
 /// Where the row of a place begins and ends, among so many numbers.
-fn span_of(ends: &[usize], place: usize, whole: usize) -> (usize, usize)
+fn span_of(ends: &[u32], place: usize, whole: usize) -> (usize, usize)
     requires place { place < length ends.now }
     requires ends { AreEnds 0 ends.now whole }
     ensures start { result.0 ≡ slice_index (0 ∷ ends.now) place }
@@ -52,17 +52,37 @@ fn span_of(ends: &[usize], place: usize, whole: usize) -> (usize, usize)
     ensures order { result.0 ≤ result.1 }
     ensures within { result.1 ≤ whole }
 {
-    (start_of(ends, place), ends[place])
+    (start_of(ends, place), ends[place] as usize)
 }
 
 /// The row of a place.
-fn row_at<'a>(ends: &[usize], numbers: &'a [u64], place: usize) -> &'a [u64]
+fn row_at<'a>(ends: &[u32], numbers: &'a [u64], place: usize) -> &'a [u64]
     requires place { place < length ends.now }
     requires ends { AreEnds 0 ends.now (length numbers.now) }
     ensures { result.now ≡ row_of (rows_from 0 ends.now numbers.now) place }
 {
     let (start, end) = span_of(ends, place, numbers.len());
     &numbers[start..end]
+}
+
+/// Where a row of so many numbers and those before it ends. One that would end past 2^32 numbers has no room.
+fn end_of(count: usize) -> Result<u32, NoMemory>
+    ensures { IfOk result (λ end. end ≡ count) }
+{
+    match u32::try_from(count) {
+        Ok(end) => Ok(end),
+        Err(_) => Err(NoMemory),
+    }
+}
+
+/// The limits that stand in a list, in memory that just holds them.
+fn limits_in(alloc: Global, ends: &[u32], prices: &[u64]) -> Result<LimitLists, NoMemory>
+    requires { AreEnds 0 ends.now (length prices.now) }
+    ensures { IfOk result (λ limits. limits ≡ rows_from 0 ends.now prices.now) }
+{
+    let ends = Vec::from_slice(alloc, ends)?;
+    let prices = Vec::from_slice(alloc, prices)?;
+    Ok(LimitLists { ends, prices })
 }
 
 impl LimitLists {
@@ -74,7 +94,8 @@ impl LimitLists {
         let mut prices = Vec::new(alloc);
         for list in lists {
             prices.extend_from_slice(list.as_slice())?;
-            ends.push(prices.as_slice().len())?;
+            let end = end_of(prices.as_slice().len())?;
+            ends.push(end)?;
         }
         Ok(LimitLists { ends, prices })
     }
@@ -108,7 +129,8 @@ pub(crate) fn limit_lists(alloc: Global, scan: &mut Scan<'_>) -> Result<LimitLis
     'items: while !scan.closes_array() {
         let list = scan.numbers(alloc)?;
         prices.extend_from_slice(list.as_slice())?;
-        ends.push(prices.as_slice().len())?;
+        let end = end_of(prices.as_slice().len())?;
+        ends.push(end)?;
     }
-    Ok(LimitLists { ends, prices })
+    Ok(limits_in(alloc, ends.as_slice(), prices.as_slice())?)
 }

@@ -15,8 +15,8 @@ loop-list-preserved c =
     let row = c.as_slice.result.now in
     let after = c.extend_from_slice.new.self.items in
     let at : row ≡ get_or c.args.lists.now l.list-index row = rw c.as_slice.ensures c.list-item.is in
-    let end : length c.as_slice-in-loop-list.result.now ≡ length after = ap (λ (list : List ℕ). length list) c.as_slice-in-loop-list.ensures.value in
-    let more = one_more l.ends.items l.prices.items row after (length c.as_slice-in-loop-list.result.now) l.invariant.are
+    let end : c.in_ok-end.end ≡ length after = c.in_ok-end.ensures ∙ ap (λ (list : List ℕ). length list) c.as_slice-in-loop-list.ensures.value in
+    let more = one_more l.ends.items l.prices.items row after c.in_ok-end.end l.invariant.are
     c.in_ok-extend_from_slice.ensures.items end in
     record {
       rows = ap (λ ends. rows_from 0 ends after) c.in_ok-push.ensures.items
