@@ -1,3 +1,4 @@
+pub mod EndedRowLaws
 pub mod CheckLaws
 pub mod DocumentLaws
 mod ReplayDataLaws

@@ -1,3 +1,4 @@
+pub mod EndedRows
 pub mod Replays
 pub mod ReplayShape
 pub mod ReplayData

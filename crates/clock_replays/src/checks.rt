@@ -7,9 +7,10 @@ ghost use Rattle.clock_replays.specs.ReplayChecks.{limit_checks, replay_checks, 
 
 use crate::closing::Closing;
 use crate::fault::ScriptFault;
+use crate::limit_lists::LimitLists;
 use crate::script::Script;
 use clock_bodies::is_of_version;
-use clock_setup::{Amounts, Product, Setup, SetupFault};
+use clock_setup::{Product, Setup, SetupFault};
 
 /// Whether each closing has the form of the version.
 fn are_of_version(version: u64, closings: &[Closing]) -> bool
@@ -26,7 +27,7 @@ fn has_lists(count: usize, script: &Script) -> bool
 {
     match script {
         Script::Literal(_) => true,
-        Script::Sincere(limits) => limits.as_slice().len() == count,
+        Script::Sincere(limits) => limits.count() == count,
     }
 }
 
@@ -59,13 +60,13 @@ fn are_limits(product: &Product, limits: &[u64]) -> bool
 }
 
 /// The least product for which a bidder's limits are none.
-fn limits_fault(bidder: u64, products: &[Product], limits: &[Amounts]) -> Option<ScriptFault>
+fn limits_fault(bidder: u64, products: &[Product], limits: &LimitLists) -> Option<ScriptFault>
     requires { length limits.now ≡ length products.now }
     ensures fault { result ≡ first_fault (in_turn (limit_checks bidder) 0 (zip products.now limits.now)) }
     ensures held { result ≢ Some (ScriptFault.Setup SetupFault.NoMemory) }
 {
-    for (product, list) in limits.iter().enumerate() {
-        if !are_limits(&products[product], list.as_slice()) {
+    for product in 0..limits.count() {
+        if !are_limits(&products[product], limits.list(product)) {
             return Some(ScriptFault::Limits(bidder, product as u64));
         }
     }
@@ -81,7 +82,7 @@ fn script_fault(bidder: u64, products: &[Product], script: &Script) -> Option<Sc
 {
     match script {
         Script::Literal(_) => None,
-        Script::Sincere(limits) => limits_fault(bidder, products, limits.as_slice()),
+        Script::Sincere(limits) => limits_fault(bidder, products, limits),
     }
 }
 

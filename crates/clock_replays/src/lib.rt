@@ -5,6 +5,7 @@ mod checks;
 mod closing;
 mod fault;
 mod held_setup;
+mod limit_lists;
 mod part;
 mod read;
 mod replay;
@@ -17,6 +18,7 @@ mod shape;
 
 pub use closing::{Closing, Closings, TieList};
 pub use fault::ScriptFault;
+pub use limit_lists::LimitLists;
 pub use read::read_replay;
 pub use replay::Replay;
-pub use script::{BidList, LimitLists, Script, Scripts, SheetList};
+pub use script::{BidList, Script, Scripts, SheetList};

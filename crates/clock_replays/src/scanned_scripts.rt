@@ -5,8 +5,9 @@ ghost use Rattle.clock_scan.specs.Reading.{whole, is_field, with_field, members_
 ghost use Rattle.clock_bodies.specs.QuickBodies.{bid_data};
 ghost use Rattle.clock_replays.specs.ReplayData.{bid_fields, sheet_data, kind_text, script_fields, script_data};
 
+use crate::limit_lists::{LimitLists, limit_lists};
 use crate::scanned_part::{ScannedPart, scanned_parts};
-use crate::script::{BidList, LimitLists, Script, SheetList};
+use crate::script::{BidList, Script, SheetList};
 use clock_bids::Bid;
 use clock_scan::{Scan, Stop, is_key};
 use std::alloc::Global;
@@ -183,8 +184,8 @@ impl FoundScript {
             return Err(Stop::Unusual);
         };
         if is_key(key, "limits") {
-            let limits = scan.rows(alloc)?;
-            self.limits = Some(LimitLists::from_vec(limits));
+            let limits = limit_lists(alloc, scan)?;
+            self.limits = Some(limits);
             return Ok(());
         }
         if is_key(key, "sheets") {

@@ -1,16 +1,12 @@
+use crate::limit_lists::LimitLists;
 use clock_bids::Bid;
 use clock_device::Items;
-use clock_setup::Amounts;
 
 /// The bids of a sheet, in the order given.
 pub type BidList = Items<Bid>;
 
 /// The sheets of a bidder, by rising round from round 1: the bids of each, or none where it puts no sheet.
 pub type SheetList = Items<Option<BidList>>;
-
-/// For each product a list of prices that never rises: the one at place k, from 0, is the price in whole dollars up to
-/// which block k is wanted.
-pub type LimitLists = Items<Amounts>;
 
 /// What a scripted bidder does in each round.
 #[derive(Drop)]

@@ -6,6 +6,7 @@ ghost use Rattle.clock_bodies.specs.CloseBodies as close_bodies;
 ghost use Rattle.clock_replays.specs.ReplayShape as shape;
 
 use crate::closing::{Closing, Closings};
+use crate::limit_lists::LimitLists;
 use crate::part::{Part, parts};
 use crate::script::{BidList, Script, Scripts};
 use clock_bids::Bid;
@@ -83,9 +84,10 @@ fn sincere_of(alloc: Global, value: &Value) -> Result<Option<Script>, NoMemory>
     let Some(items) = items_at(value, "limits") else {
         return Ok(None);
     };
-    let Some(limits) = parts(alloc, items)? else {
+    let Some(lists) = parts::<Amounts>(alloc, items)? else {
         return Ok(None);
     };
+    let limits = LimitLists::from_lists(alloc, lists.as_slice())?;
     if has_members(value, 2) {
         Ok(Some(Script::Sincere(limits)))
     } else {

@@ -30,11 +30,11 @@ fn lines_copy(alloc: Global, lines: &[Line]) -> Result<Lines, NoMemory>
     ensures same { IfOk result (λ copy. copy ≡ lines.now) }
     ensures priced { IfOk result (All IsPricedLine) }
 {
-    let mut copy = Lines::new(alloc);
+    let mut copy = Vec::with_capacity(alloc, lines.len())?;
     for line in lines {
         copy.push(line_copy(line))?;
     }
-    Ok(copy)
+    Ok(Lines::from_vec(copy))
 }
 
 /// An equal sheet.

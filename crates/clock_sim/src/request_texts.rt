@@ -14,6 +14,7 @@ use itoa::Buffer;
 use std::alloc::Global;
 
 /// Adds a label, as `{"bids":[`.
+#[inline(always)]
 fn push_label(text: &mut Vec<u8>, label: &[u8]) -> Result<(), NoMemory>
     ensures { OnOk result (Adds label.now text.old.items text.new.items) }
 {
@@ -22,6 +23,7 @@ fn push_label(text: &mut Vec<u8>, label: &[u8]) -> Result<(), NoMemory>
 }
 
 /// Adds a label, as `,"round":`, and the number behind it.
+#[inline(always)]
 fn push_number(text: &mut Vec<u8>, label: &[u8], number: u64) -> Result<(), NoMemory>
     ensures { OnOk result (Adds (label.now ++ decimal number) text.old.items text.new.items) }
 {
@@ -32,6 +34,7 @@ fn push_number(text: &mut Vec<u8>, label: &[u8], number: u64) -> Result<(), NoMe
 }
 
 /// Adds the comma before an item, where it is a later one than the first.
+#[inline(always)]
 fn push_comma_if(text: &mut Vec<u8>, later: bool) -> Result<(), NoMemory>
     ensures { OnOk result (Adds (comma_if later) text.old.items text.new.items) }
 {

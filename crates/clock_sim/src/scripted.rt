@@ -9,14 +9,14 @@ ghost use Rattle.clock_replays.specs.Replays.{IsScript, IsLimits};
 ghost use Rattle.clock_sim.specs.Sincere.{sincere_sheet};
 ghost use Rattle.clock_sim.specs.RequestTexts.{put_text, whole_text};
 
-use clock_replays::{BidList, Closing, Script};
+use clock_replays::{BidList, Closing, LimitLists, Script};
 use crate::request_texts::RequestText;
 use crate::round_prices::last_sheet;
 use crate::sincere::push_sincere;
 use clock_bids::Bid;
 use clock_device::NoMemory;
 use clock_house::House;
-use clock_setup::{Amounts, Setup};
+use clock_setup::Setup;
 use std::alloc::Global;
 
 /// Requests that are written one after the other, each onto the memory of the one before.
@@ -58,7 +58,7 @@ impl Requests {
         &mut self,
         house: &House<P>,
         bidder: u32,
-        limits: &[Amounts],
+        limits: &LimitLists,
     ) -> Result<(), NoMemory>
         requires known { bidder < length house.now.setup.bidders }
         requires limits { IsLimits house.now.setup.products limits.now }
@@ -115,7 +115,7 @@ impl Requests {
     {
         match script {
             Script::Sincere(limits) => {
-                self.write_sincere(house, bidder, limits.as_slice())?;
+                self.write_sincere(house, bidder, limits)?;
                 Ok(true)
             }
             Script::Literal(sheets) => {

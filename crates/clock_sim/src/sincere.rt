@@ -6,11 +6,12 @@ ghost use Rattle.clock_replays.specs.Replays.{NeverRises};
 ghost use Rattle.clock_sim.specs.Blocks as one_by_one;
 ghost use Rattle.clock_sim.specs.RoundPrices.{prices_after};
 
+use clock_replays::LimitLists;
 use crate::round_prices::{PriceRange, price_range};
 use clock_bids::{Bid, Own};
 use clock_device::NoMemory;
 use clock_posting::RoundSheet;
-use clock_setup::{Amounts, Product};
+use clock_setup::Product;
 
 /// The price at which a block leaves, where it does not stay up to the clock price.
 fn leaving_price(pair: &PriceRange, limit: u64) -> Option<u64>
@@ -192,24 +193,27 @@ fn push_priced(
 }
 
 /// Whether there may be bids for a product of which so many blocks are held.
+#[inline(always)]
 fn may_bid(round: u64, held: u64) -> bool
     ensures first { result ≡ false → (round == 1) ≡ false }
     ensures held { result ≡ false → held ≡ 0 }
 {
-    if round == 1 {
+    if held > 0 {
         return true;
     }
-    held > 0
+    round == 1
 }
 
-/// Adds the bids for a product. A bidder holds few of the products in a later round, and looks at nothing of the others.
+/// Adds the bids for a product. It stays out of the loop over all products, so that this takes few steps for each of
+/// those that are not held.
+#[inline(never)]
 fn push_product(
     bids: &mut Vec<Bid>,
     products: &[Product],
     last: Option<&RoundSheet>,
     round: u64,
     demands: &[u64],
-    limits: &[Amounts],
+    limits: &LimitLists,
     product: usize,
 ) -> Result<(), NoMemory>
     requires line { product < length (prices_after products.now (option_copied last)) }
@@ -219,24 +223,21 @@ fn push_product(
     ensures { OnOk result (bids.new.items ≡ bids.old.items ++ rules.bids_for round
         (prices_after products.now (option_copied last.entry)) demands.now limits.now product) }
 {
-    let held = demands[product];
-    if !may_bid(round, held) {
-        return Ok(());
-    }
     let pair = price_range(products, last, product);
-    let wanted = limits[product].as_slice();
-    push_priced(bids, product as u64, round, &pair, held, wanted)?;
+    let wanted = limits.list(product);
+    push_priced(bids, product as u64, round, &pair, demands[product], wanted)?;
     Ok(())
 }
 
 /// Adds the sheet of a sincere bidder: by the prices that the last closed round has left, by what it holds, and by its
-/// limits, a list for each product that never rises.
+/// limits, a list for each product that never rises. In a later round it holds few of the products, and nothing is looked
+/// at of the others.
 pub(crate) fn push_sincere(
     bids: &mut Vec<Bid>,
     products: &[Product],
     last: Option<&RoundSheet>,
     own: Own,
-    limits: &[Amounts],
+    limits: &LimitLists,
 ) -> Result<(), NoMemory>
     requires lines { length (prices_after products.now (option_copied last)) ≡ length products.now }
     requires held { length own.demands.now ≡ length products.now }
@@ -246,6 +247,9 @@ pub(crate) fn push_sincere(
         (prices_after products.now (option_copied last.entry)) own.entry.demands.now limits.now) }
 {
     for product in 0..products.len() {
+        if !may_bid(own.round, own.demands[product]) {
+            continue;
+        }
         push_product(
             bids,
             products,

@@ -8,6 +8,6 @@ use Rattle.clock_sim.proofs.final_report.lines_copy.Goals as goal
 pub loop-line-preserved : goal.loop-line-preserved
 loop-line-preserved c = record {
   same = grind (arith, common_steps);
-  priced = subst (All IsPricedLine) (sym c.in_ok-push.ensures.ok)
-      (All-push IsPricedLine c.loop-line.copy c.line_copy.result c.loop-line.invariant.priced c.line_copy.ensures.priced);
+  priced = subst (All IsPricedLine) (sym c.in_ok-push.ensures.items)
+      (All-push IsPricedLine c.loop-line.copy.items c.line_copy.result c.loop-line.invariant.priced c.line_copy.ensures.priced);
 }

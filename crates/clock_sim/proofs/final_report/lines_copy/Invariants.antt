@@ -5,6 +5,6 @@ use Rattle.clock_sim.proofs.final_report.lines_copy.Given as goal
 -- the lines so far
 abbrev pub invariant-loop-line : goal.invariant-loop-line
 invariant-loop-line l = record {
-  same : l.copy ≡ take l.line-index l.lines;
-  priced : All IsPricedLine l.copy;
+  same : l.copy.items ≡ take l.line-index l.lines;
+  priced : All IsPricedLine l.copy.items;
 }

@@ -8,19 +8,18 @@ use Rattle.clock_replays.proofs.scanned_scripts.FoundScript.read_member.Goals as
 pub returns-then-is_key-clause-value : goal.returns-then-is_key-clause-value
 returns-then-is_key-clause-value c =
     let value = c.key.new.self in
-    let new = c.rows.new.self in
-    let limits = c.from_vec.result in
-    let reads : Reads 2 value (rows limits) new = subst (λ list. Reads 2 value (rows list) new) (sym c.from_vec.ensures) c.in_ok-limits.ensures.value in
+    let new = c.limit_lists.new.scan in
+    let limits = c.in_ok-limits.limits in
     member_added 2 3 c.args.scan.now value new (script_fields c.args.self.now) c.in-Some.key.now (codes "limits") (rows limits)
-    (omega arith) c.in-Some.ensures (c.is_key.ensures c.if-is_key.true) reads refl
+    (omega arith) c.in-Some.ensures (c.is_key.ensures c.if-is_key.true) c.in_ok-limits.ensures.value refl
 
 pub returns-then-is_key-2-clause-value : goal.returns-then-is_key-2-clause-value
 returns-then-is_key-2-clause-value c =
     let value = c.key.new.self in
     let new = c.scanned_parts.new.scan in
-    let sheets = c.from_vec-then-is_key-2.result in
+    let sheets = c.from_vec.result in
     let reads : Reads 3 value (sheets_data sheets) new =
-    subst (λ list. Reads 3 value (sheets_data list) new) (sym c.from_vec-then-is_key-2.ensures) c.in_ok-sheets.ensures.value in
+    subst (λ list. Reads 3 value (sheets_data list) new) (sym c.from_vec.ensures) c.in_ok-sheets.ensures.value in
     member_added 3 3 c.args.scan.now value new (script_fields c.args.self.now) c.in-Some.key.now (codes "sheets") (sheets_data sheets)
     (omega arith) c.in-Some.ensures (c.is_key-2.ensures c.if-is_key-2.true) reads refl
 

@@ -1,0 +1,13 @@
+use Rattle.std.proofs.Common.{length, map, ◌≤◌}
+use Rattle.clock_scan.specs.Reading.{numbers, HasItems}
+use Rattle.clock_replays.specs.EndedRows.{rows_from, AreEnds}
+use Rattle.clock_replays.proofs.limit_lists.limit_lists.Given as goal
+
+abbrev pub invariant-items : goal.invariant-items
+invariant-items l =
+    HasItems 1 l.initial.scan (map numbers (rows_from 0 l.ends.items l.prices.items)) l.scan
+    × AreEnds 0 l.ends.items (length l.prices.items)
+    × (length l.scan ≤ length l.initial.scan)
+
+abbrev pub decreases-items : goal.decreases-items
+decreases-items l = length l.scan
