@@ -7,13 +7,13 @@ ghost use Rattle.clock_replays.specs.Replays.{IsScript};
 ghost use Rattle.clock_sim.specs.Groups.{IsGroup, after_group, with_put};
 ghost use Rattle.clock_sim.specs.Steps.{MakesStep, MakesWay};
 
-use clock_replays::{Closing, Script};
 use crate::groups::{Waiting, send_group, take_turn};
 use crate::scripted::Requests;
 use crate::sending::send;
 use crate::sim_fault::SimFault;
 use clock_front::Hub;
 use clock_processor::Processor;
+use clock_replays::{Closing, Script};
 use std::alloc::Global;
 
 /// The round that is played.

@@ -9,13 +9,13 @@ ghost use Rattle.clock_replays.specs.Replays.{IsScript, IsLimits};
 ghost use Rattle.clock_sim.specs.Sincere.{sincere_sheet};
 ghost use Rattle.clock_sim.specs.RequestTexts.{put_text, whole_text};
 
-use clock_replays::{BidList, Closing, LimitLists, Script};
 use crate::request_texts::RequestText;
 use crate::round_prices::last_sheet;
 use crate::sincere::push_sincere;
 use clock_bids::Bid;
 use clock_device::NoMemory;
 use clock_house::House;
+use clock_replays::{BidList, Closing, LimitLists, Script};
 use clock_setup::Setup;
 use std::alloc::Global;
 

@@ -5,7 +5,6 @@ ghost use Rattle.clock_replays.specs.Replays.{IsScript, ReplayFields};
 ghost use Rattle.clock_sim.specs.Rehearsal as rules;
 ghost use Rattle.clock_sim.specs.declared.sim_fault.SimFault.TheVariants as faults;
 
-use clock_replays::{Closing, Replay, Script};
 use crate::final_report::final_report;
 use crate::report::Report;
 use crate::rounds::play;
@@ -14,6 +13,7 @@ use crate::sim_fault::SimFault;
 use clock_front::{Front, Hub};
 use clock_processor::Processor;
 use clock_queue::Woken;
+use clock_replays::{Closing, Replay, Script};
 use std::alloc::Global;
 
 /// Plays an auction before its first request.

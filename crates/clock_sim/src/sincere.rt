@@ -6,11 +6,11 @@ ghost use Rattle.clock_replays.specs.Replays.{NeverRises};
 ghost use Rattle.clock_sim.specs.Blocks as one_by_one;
 ghost use Rattle.clock_sim.specs.RoundPrices.{prices_after};
 
-use clock_replays::LimitLists;
 use crate::round_prices::{PriceRange, price_range};
 use clock_bids::{Bid, Own};
 use clock_device::NoMemory;
 use clock_posting::RoundSheet;
+use clock_replays::LimitLists;
 use clock_setup::Product;
 
 /// The price at which a block leaves, where it does not stay up to the clock price.
