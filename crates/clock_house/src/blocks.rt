@@ -1,13 +1,14 @@
-ghost use Rattle.std.specs.Prelude.{◌≡◌, ◌≤◌, ◌++◌, ◌∷◌, [], replicate, All, IfOk, OnOk};
+ghost use Rattle.std.specs.Prelude.{◌≡◌, ◌≤◌, ◌<◌, ◌+◌, ◌⊎◌, ◌++◌, ◌∷◌, [], replicate, All, IfOk, OnOk};
 ghost use Rattle.clock_setup.specs.Limits.{most_supply};
 ghost use Rattle.clock_house.specs.Blocks as cells;
 
+use clock_bids::first_held;
 use clock_device::NoMemory;
 use std::alloc::Global;
 use std::marker::Model;
 
 /// The most zeros before a number.
-const MOST_ZEROS: u64 = 63;
+const MOST_ZEROS: usize = 63;
 
 /// Numbers of blocks, one for each product, as closed rounds keep them. Contracts see the list of the numbers.
 ///
@@ -34,17 +35,11 @@ impl Blocks {
         ensures { IfOk result (λ blocks. blocks ≡ demands.now) }
     {
         let mut held = Vec::new(alloc);
-        let mut zeros: u64 = 0;
-        for demand in demands {
-            if *demand == 0 && zeros < MOST_ZEROS {
-                zeros += 1;
-            } else {
-                held.push(cell_of(zeros, *demand))?;
-                zeros = 0;
-            }
-        }
-        if zeros > 0 {
-            held.push(cell_of(zeros - 1, 0))?;
+        let mut from = 0;
+        'cells: while from < demands.len() {
+            let place = first_held(demands, from, last_place(from, demands.len()));
+            held.push(cell_of((place - from) as u64, demands[place]))?;
+            from = place + 1;
         }
         Ok(Blocks { held })
     }
@@ -69,6 +64,17 @@ pub fn blocks_in(cell: u16) -> u64
     ensures { result ≡ cells.blocks_in cell }
 {
     cell as u64 / 64
+}
+
+/// The last place at which the number of a cell may stand whose zeros begin at a place.
+fn last_place(from: usize, count: usize) -> usize
+    requires { from < count }
+    ensures least { from ≤ result }
+    ensures within { result < count }
+    ensures few { result ≤ from + cells.most_zeros }
+    ensures last { result + 1 ≡ count ⊎ result ≡ from + cells.most_zeros }
+{
+    from + (count - 1 - from).min(MOST_ZEROS)
 }
 
 /// A number and the zeros before it.
