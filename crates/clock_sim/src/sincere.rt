@@ -1,13 +1,13 @@
 //! The sheets of sincere bidders.
 
-ghost use Rattle.std.specs.Prelude.{◌≡◌, ◌≤◌, ◌<◌, ◌==◌, ◌++◌, ◌∷◌, [], false, length, take, reverse, All, OnOk, option_copied};
+ghost use Rattle.std.specs.Prelude.{◌≡◌, ℕ, ◌≤◌, ◌<◌, ◌==◌, ◌++◌, ◌∷◌, [], false, length, take, reverse, slice_index, All, OnOk, option_copied};
 ghost use Rattle.clock_sim.specs.Sincere as rules;
 ghost use Rattle.clock_replays.specs.Replays.{NeverRises};
 ghost use Rattle.clock_sim.specs.Blocks as one_by_one;
 ghost use Rattle.clock_sim.specs.RoundPrices.{prices_after};
 
 use crate::round_prices::{PriceRange, price_range};
-use clock_bids::{Bid, Own};
+use clock_bids::{Bid, Own, first_held};
 use clock_device::NoMemory;
 use clock_posting::RoundSheet;
 use clock_replays::LimitLists;
@@ -192,21 +192,23 @@ fn push_priced(
     Ok(())
 }
 
-/// Whether there may be bids for a product of which so many blocks are held.
+/// The first product from one on for which there may be bids, or their number where there is none: in the first round the
+/// product itself, and later the first that is held.
 #[inline(always)]
-fn may_bid(round: u64, held: u64) -> bool
-    ensures first { result ≡ false → (round == 1) ≡ false }
-    ensures held { result ≡ false → held ≡ 0 }
+fn next_product(round: u64, demands: &[u64], from: usize) -> usize
+    requires { from ≤ length demands.now }
+    ensures least { from ≤ result }
+    ensures most { result ≤ length demands.now }
+    ensures passed { (product : ℕ) → from ≤ product → product < result
+        → ((round == 1) ≡ false) × (slice_index demands.now product ≡ 0) }
 {
-    if held > 0 {
-        return true;
+    if round == 1 {
+        return from;
     }
-    round == 1
+    first_held(demands, from, demands.len())
 }
 
-/// Adds the bids for a product. It stays out of the loop over all products, so that this takes few steps for each of
-/// those that are not held.
-#[inline(never)]
+/// Adds the bids for a product.
 fn push_product(
     bids: &mut Vec<Bid>,
     products: &[Product],
@@ -246,10 +248,8 @@ pub(crate) fn push_sincere(
     ensures { OnOk result (bids.new.items ≡ bids.old.items ++ rules.sincere_sheet own.entry.round
         (prices_after products.now (option_copied last.entry)) own.entry.demands.now limits.now) }
 {
-    for product in 0..products.len() {
-        if !may_bid(own.round, own.demands[product]) {
-            continue;
-        }
+    let mut product = next_product(own.round, own.demands, 0);
+    'products: while product < products.len() {
         push_product(
             bids,
             products,
@@ -259,6 +259,7 @@ pub(crate) fn push_sincere(
             limits,
             product,
         )?;
+        product = next_product(own.round, own.demands, product + 1);
     }
     Ok(())
 }
