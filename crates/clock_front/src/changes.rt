@@ -12,10 +12,10 @@ ghost use Rattle.clock_front.specs.Private.{IsToldByView};
 ghost use Rattle.clock_front.specs.Requests as asked;
 ghost use Rattle.clock_views.specs.OperatorPages.{closed_value};
 
-use clock_bodies::{BodyFault, CloseBody, PutBody, is_of_version, read_close, read_put};
 use crate::head_room::text_with_room;
 use crate::pages::refusal;
 use crate::reply::Reply;
+use clock_bodies::{BodyFault, CloseBody, PutBody, is_of_version, read_close, read_put};
 use clock_device::NoMemory;
 use clock_house::{CloseFault, House, PutFault};
 use clock_processor::Processor;
