@@ -113,13 +113,16 @@ impl ScannedPart for Bid {
     }
 }
 
-/// A sheet that is a list of bids. Where there is no sheet, nothing is read.
+/// A sheet: a list of bids, or `null` where there is none.
 impl ScannedPart for Option<BidList> {
     ghost levels = { 2 };
 
     ghost shown = { sheet_data };
 
     fn scanned(alloc: Global, scan: &mut Scan<'_>) -> Result<Option<BidList>, Stop> {
+        if scan.null() {
+            return Ok(None);
+        }
         let bids = scanned_parts(alloc, scan)?;
         Ok(Some(BidList::from_vec(bids)))
     }

@@ -1,26 +1,26 @@
 -- Laws of lexemes: a byte's, and the tokens that it begins.
 use Rattle.std.proofs.Common.{◌≡◌, ℕ, ◌+◌, ◌-◌, ◌<◌, ◌≤◌, ◌^◌, ◌||◌, true, false, List, [], ◌∷◌, ◌++◌, length, take, drop, get_or, decimal}
-use Rattle.std.proofs.Common.{append_assoc, refl, sym, ap, ap₂, ◌∙◌, arith}
+use Rattle.std.proofs.Common.{cond, append_assoc, refl, sym, ap, ap₂, ◌∙◌, arith}
 use Rattle.std.proofs.lemmas.Bool.{true≢false, false≢true}
-use Rattle.std.proofs.lemmas.List.{drop_more, drop_all, get_or-drop, take_all, take-append-le}
+use Rattle.std.proofs.lemmas.List.{drop_more, drop_all, drop-drop, get_or-drop, take_all, take-append-drop, take-append-le}
 use Rattle.std.proofs.lemmas.Fmt.{decimal-digits_value}
 use Rattle.std.proofs.lemmas.Str.Parse.{numerals_by_value, tells_digits}
 use Rattle.std.proofs.lemmas.Str.{digit_value_digit}
 use Rattle.std.specs.Char.{digit_value}
 use Rattle.std.specs.Str.Parse.{AllDigits, digits_value}
-use Rattle.json.specs.Token.{key, begin_object, end_object, begin_array, end_array, number, string}
+use Rattle.json.specs.Token.{key, begin_object, end_object, begin_array, end_array, number, string, null, bad}
 use Rattle.json.specs.Text as text
 use Rattle.json.specs.Text.{content}
 use Rattle.json.specs.Print.{escape, escape_byte}
 use Rattle.json.proofs.Printed.Strings.{content-escape, lex-escape}
-use Rattle.json.specs.Word.{is_operator, is_space, ends_word}
+use Rattle.json.specs.Word.{is_operator, is_space, ends_word, word}
 use Rattle.json.specs.Lex as lexer
 use Rattle.json.specs.Lex.{Class, Lexeme, Place, may_begin, may_close, token, comma, colon, class, lex, lex_byte, between, punctuate}
 use Rattle.json.specs.Align.{is_blank}
 use Rattle.clock_scan.specs.Left.{place_of}
 use Rattle.clock_scan.specs.declared.place.Place as kinds
 use Rattle.clock_scan.specs.declared.place.Place.TheVariants as ours
-use Rattle.json.proofs.Printed.Numbers.{lex-number}
+use Rattle.json.proofs.Printed.Numbers.{lex-number, in_word-ended}
 use Rattle.json.proofs.Printed.Decimals.{IsNumber-decimal}
 
 pub at_byte : (bytes : List ℕ) (i c : ℕ) → i < length bytes → get_or bytes i 0 ≡ c → drop i bytes ≡ c ∷ drop (i + 1) bytes
@@ -140,6 +140,13 @@ number_begins lexer.after_value ls ms s h is = absurd (false≢true h)
 number_begins lexer.after_comma ls ms s h is = ap (punctuate lexer.after_comma) is
 number_begins lexer.after_key ls ms s h is = absurd (false≢true h)
 
+pub null_begins : (p : Place) (ls ms : List Lexeme) → may_begin p ≡ true → ls ≡ token null ∷ ms → punctuate p ls ≡ null ∷ punctuate lexer.after_value ms
+unfolding punctuate
+null_begins lexer.fresh ls ms h is = ap (punctuate lexer.fresh) is
+null_begins lexer.after_value ls ms h is = absurd (false≢true h)
+null_begins lexer.after_comma ls ms h is = ap (punctuate lexer.after_comma) is
+null_begins lexer.after_key ls ms h is = absurd (false≢true h)
+
 pub text_begins : (p : Place) (ls ms : List Lexeme) (s : List ℕ) → may_begin p ≡ true → ls ≡ token (string s) ∷ ms → lexer.begins_colon ms ≡ false
     → punctuate p ls ≡ string s ∷ punctuate lexer.after_value ms
 unfolding punctuate
@@ -199,3 +206,17 @@ pub taken : (bytes s : List ℕ) (at end : ℕ) → drop (at + 1) bytes ≡ s ++
 taken bytes s at end is size =
     let count : end - (at + 1) ≡ length s = omega (arith, size) in
     sym (ap₂ (λ n l. take n l) count is ∙ take-append-le (length s) s (drop end bytes) (omega arith) ∙ take_all (length s) s (omega arith))
+
+-- ---- the word null
+
+lex-null : (rest : List ℕ) → ends_word rest ≡ true → lex between (110 ∷ 117 ∷ 108 ∷ 108 ∷ rest) ≡ token null ∷ lex between rest
+unfolding lex word
+lex-null rest ended = ap₂ (λ b ls. token (cond b null bad) ∷ ls) ended (in_word-ended rest ended)
+
+-- the word, and a byte that ends it
+pub null_word : (bytes : List ℕ) (at : ℕ) → at + 4 < length bytes → take 4 (drop at bytes) ≡ 110 ∷ 117 ∷ 108 ∷ 108 ∷ []
+    → (is_operator (get_or bytes (at + 4) 0) || is_space (get_or bytes (at + 4) 0)) ≡ true
+    → lex between (drop at bytes) ≡ token null ∷ lex between (drop (at + 4) bytes)
+null_word bytes at within is ends =
+    ap (lex between) (sym (take-append-drop 4 (drop at bytes)) ∙ ap₂ (λ front rest. front ++ rest) is (drop-drop 4 at bytes))
+    ∙ lex-null (drop (at + 4) bytes) (ends_at bytes (at + 4) within ends)

@@ -8,7 +8,7 @@ use Rattle.json.specs.Align.{is_blank}
 use Rattle.json.specs.Json as json
 use Rattle.json.specs.Json.{after_end_array, read_key, parse_map}
 use Rattle.json.proofs.Grammar.{left, skip_value-shorter, value_is}
-use Rattle.serde_json.specs.Data.{Data, Items, item, array, object, string, Members, no_members, put}
+use Rattle.serde_json.specs.Data.{Data, Items, item, array, object, string, null, Members, no_members, put}
 use Rattle.serde_json.specs.Read.{of_json, converted, read}
 use Rattle.serde_json.proofs.Numbers.{number_of-decimal}
 use Rattle.clock_scan.specs.Reading.{whole, items_before, items_of, Fields, members_of, with_field, is_field, Reads, HasItems, HasMembers, AddsMember}
@@ -23,6 +23,9 @@ number_reads n old new small is = λ depth _. ap (converted of_json) (ap (json.v
 
 pub text_reads : (s : List ℕ) (old new : List Token) → old ≡ Token.string s ∷ new → Reads 0 old (string s) new
 text_reads s old new is = λ depth _. ap (converted of_json) (ap (json.value depth) is ∙ value_is depth _)
+
+pub null_reads : (old new : List Token) → old ≡ Token.null ∷ new → Reads 0 old null new
+null_reads old new is = λ depth _. ap (converted of_json) (ap (json.value depth) is ∙ value_is depth _)
 
 -- a value that reads at few levels reads at more
 pub reads_deeper : (few levels : ℕ) (old : List Token) (d : Data) (new : List Token) → few ≤ levels → Reads few old d new → Reads levels old d new

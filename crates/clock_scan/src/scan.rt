@@ -3,12 +3,12 @@ ghost use Rattle.std.specs.Prelude.{◌≡◌, ◌∷◌, [], ◌<◌, ◌^◌, 
 ghost use Rattle.std.specs.Bool.{MatchBool};
 ghost use Rattle.json.specs.Token.{begin_array, begin_object, end_array, end_object, key as key_token};
 ghost use Rattle.json.specs.Lex.{tokens};
-ghost use Rattle.serde_json.specs.Data.{string};
+ghost use Rattle.serde_json.specs.Data.{null, string};
 ghost use Rattle.clock_scan.specs.Left.{left};
 ghost use Rattle.clock_scan.specs.Reading.{whole, Reads};
 
 use crate::place::Place;
-use crate::words::{after_space, after_value, byte_at, ends_text, number_at, quoted};
+use crate::words::{after_space, after_value, byte_at, ends_text, null_at, number_at, quoted};
 use std::marker::Model;
 
 /// A text that is being read. Contracts see the tokens that are still to come. A call that reads nothing may leave it
@@ -136,6 +136,24 @@ impl<'a> Scan<'a> {
         self.at = at;
         self.place = place;
         Some(n)
+    }
+
+    /// Passes the word `null`.
+    #[inline(always)]
+    pub fn null(&mut self) -> bool
+        ensures { MatchBool result (Reads 0 self.old null self.new) (self.new ≡ self.old) }
+    {
+        let at = after_space(self.bytes, self.at);
+        if !self.place.may_begin() {
+            return false;
+        }
+        let Some(at) = null_at(self.bytes, at) else {
+            return false;
+        };
+        let (place, at) = after_value(self.bytes, at);
+        self.at = at;
+        self.place = place;
+        true
     }
 
     /// Reads a text with no escape in it.

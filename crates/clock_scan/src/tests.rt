@@ -115,3 +115,25 @@ fn blank_texts(rt: HostRuntime) -> Result<(), Fail> {
     assert!(rt; !is_blank(b"\x0b"));
     Ok(())
 }
+
+/// Whether a text is a list of one `null`.
+fn is_one_null(text: &[u8]) -> bool {
+    let mut scan = Scan::new(text);
+    scan.opens_array() && scan.null() && scan.closes_array() && scan.ends()
+}
+
+#[test]
+fn the_word_null(rt: HostRuntime) -> Result<(), Fail> {
+    let texts: [(&[u8], bool); 6] = [
+        (b"[null]", true),
+        (b" [ null\n]", true),
+        (b"[null,1]", false),
+        (b"[nul]", false),
+        (b"[nullx]", false),
+        (b"[null", false),
+    ];
+    for (text, is_one) in texts {
+        assert_eq!(rt; is_one_null(text), is_one);
+    }
+    Ok(())
+}

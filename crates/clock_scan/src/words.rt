@@ -1,7 +1,7 @@
 //! Bytes of a text as lexemes: white space, commas, quoted words and numbers.
 ghost use Rattle.std.specs.Prelude.{◌≡◌, ℕ, List, ◌∷◌, [], ◌<◌, ◌^◌, ◌||◌, true, false, None, IsTrue, drop, length, get_or, decimal, IfSome};
 ghost use Rattle.std.specs.Str.{IsUtf8};
-ghost use Rattle.json.specs.Token.{number, string};
+ghost use Rattle.json.specs.Token.{null, number, string};
 ghost use Rattle.json.specs.Lex.{lex, between, token, class, begins_colon, after_value as past_value, punctuate};
 ghost use Rattle.json.specs.Word.{is_operator, is_space as is_blank_byte};
 ghost use Rattle.json.specs.Align.{is_blank as is_blank_class};
@@ -140,8 +140,9 @@ pub(crate) fn ends_text(byte: u8) -> bool
     false
 }
 
+/// Whether a byte ends a word or a number before it.
 #[inline(always)]
-fn ends_number(byte: u8) -> bool
+fn ends_word(byte: u8) -> bool
     ensures { result ≡ true → (is_operator byte || is_blank_byte byte) ≡ true }
 {
     matches!(byte, b',' | b'}' | b']' | b' ' | b'\n' | b'\r' | b'\t')
@@ -177,8 +178,23 @@ pub(crate) fn number_at(bytes: &[u8], at: usize) -> Option<(u64, usize)>
     if end == at || has_leading_zero(bytes[at], end - at) {
         return None;
     }
-    if end == bytes.len() || !ends_number(bytes[end]) {
+    if end == bytes.len() || !ends_word(bytes[end]) {
         return None;
     }
     Some((value, end))
+}
+
+/// Where the word `null` ends that stands there.
+#[inline(always)]
+pub(crate) fn null_at(bytes: &[u8], at: usize) -> Option<usize>
+    ensures { IfSome result (λ end. lex between (drop at bytes.now) ≡ token null ∷ lex between (drop end bytes.now)) }
+{
+    if bytes.len() < 5 || at > bytes.len() - 5 {
+        return None;
+    }
+    let end = at + 4;
+    if !is_key(&bytes[at..end], "null") || !ends_word(bytes[end]) {
+        return None;
+    }
+    Some(end)
 }

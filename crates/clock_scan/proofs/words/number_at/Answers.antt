@@ -34,4 +34,4 @@ returns-clause-value c =
     let first = first_of bytes ds c.args.at l.end l.invariant.1 some in
     ap (lex between) l.invariant.1 ∙ lex-digits ds (drop l.end bytes) l.value l.invariant.2 l.invariant.3 (omega (arith, l.invariant.5)) some
     (λ e. omega (arith, c.has_leading_zero.ensures c.if-has_leading_zero.false (sym first ∙ e), l.invariant.4))
-    (ends_at bytes l.end (omega (arith, within, c.if-end-bytes.false)) (c.ends_number.ensures c.if-not-ends_number.false))
+    (ends_at bytes l.end (omega (arith, within, c.if-end-bytes.false)) (c.ends_word.ensures c.if-not-ends_word.false))
