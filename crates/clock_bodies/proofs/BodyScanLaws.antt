@@ -42,17 +42,17 @@ three_read first start after_first after_second after_third new a b c opened rea
 
 -- ---- what the values mean
 
-bid_means : (bid : Bid) → bid_of (bid_data bid) ≡ Some bid
+pub bid_means : (bid : Bid) → bid_of (bid_data bid) ≡ Some bid
 unfolding bid_of
 bid_means bid = refl
 
-tie_means : (tie : Tie) → tie_of (tie_data tie) ≡ Some tie
+pub tie_means : (tie : Tie) → tie_of (tie_data tie) ≡ Some tie
 tie_means tie = refl
 
-number_means : (n : ℕ) → number_from (whole n) ≡ Some n
+pub number_means : (n : ℕ) → number_from (whole n) ≡ Some n
 number_means n = refl
 
-each_means : {A : Type 0} (meaning : Data → Option A) (data_of : A → Data) → ((x : A) → meaning (data_of x) ≡ Some x)
+pub each_means : {A : Type 0} (meaning : Data → Option A) (data_of : A → Data) → ((x : A) → meaning (data_of x) ≡ Some x)
     → (xs : List A) → each meaning (items_of (map data_of xs)) ≡ Some xs
 each_means meaning data_of means [] = refl
 each_means meaning data_of means (x ∷ xs) =

@@ -1,2 +1,2 @@
 mod TieLaws
-mod BodyScanLaws
+pub mod BodyScanLaws

@@ -25,7 +25,7 @@ struct FoundClose {
 }
 
 /// The increments, where they were found in one form and not in both.
-fn one_form(single: Option<u64>, listed: Option<Items<u64>>) -> Option<Increments>
+pub fn one_form(single: Option<u64>, listed: Option<Items<u64>>) -> Option<Increments>
     ensures single { IfSome result (λ increments. single ≡ single_of increments) }
     ensures listed { IfSome result (λ increments. listed ≡ listed_of increments) }
 {
@@ -38,9 +38,9 @@ fn one_form(single: Option<u64>, listed: Option<Items<u64>>) -> Option<Increment
     Some(Increments::PerProduct(increments))
 }
 
-/// The tie number that is next.
+/// The tie number that is next, where each of its three numbers is written in digits alone.
 #[inline]
-fn tie(scan: &mut Scan<'_>) -> Option<Tie>
+pub fn next_tie(scan: &mut Scan<'_>) -> Option<Tie>
     ensures value { IfSome result (λ tie. Reads 1 scan.old (tie_data tie) scan.new) }
     ensures shorter { IfSome result (λ _. length scan.new < length scan.old) }
 {
@@ -70,7 +70,7 @@ fn ties(alloc: Global, scan: &mut Scan<'_>, room: usize) -> Result<Items<Tie>, S
     }
     let mut list = Vec::with_capacity(alloc, room)?;
     'items: while !scan.closes_array() {
-        let Some(next) = tie(scan) else {
+        let Some(next) = next_tie(scan) else {
             return Err(Stop::Unusual);
         };
         list.push(next)?;

@@ -89,9 +89,9 @@ fn bid_member(scan: &mut Scan<'_>, found: FoundBid) -> Option<FoundBid>
     found.with(key, number)
 }
 
-/// The bid that is next.
+/// The bid that is next, where no key has an escape and each number is written in digits alone.
 #[inline]
-fn bid(scan: &mut Scan<'_>) -> Option<Bid>
+pub fn next_bid(scan: &mut Scan<'_>) -> Option<Bid>
     ensures value { IfSome result (λ bid. Reads 1 scan.old (bid_data bid) scan.new) }
     ensures shorter { IfSome result (λ _. length scan.new < length scan.old) }
 {
@@ -119,7 +119,7 @@ fn bids(alloc: Global, scan: &mut Scan<'_>, room: usize) -> Result<Items<Bid>, S
     }
     let mut list = Vec::with_capacity(alloc, room)?;
     'items: while !scan.closes_array() {
-        let Some(next) = bid(scan) else {
+        let Some(next) = next_bid(scan) else {
             return Err(Stop::Unusual);
         };
         list.push(next)?;

@@ -1,11 +1,11 @@
 -- What is read of a replay document without a tree is what the document means.
-use Rattle.std.proofs.Common.{◌≡◌, ℕ, ◌≤◌, true, List, [], ◌∷◌, map, Option, Some, None, option_map, IfSome, refl, ap, ◌∙◌, subst}
+use Rattle.std.proofs.Common.{◌≡◌, ℕ, ◌≤◌, true, List, ◌∷◌, Option, Some, None, option_map, refl, ap, ◌∙◌}
 use Rattle.serde_json.specs.Data.{Data}
-use Rattle.clock_scan.specs.Reading.{Token, whole, numbers, items_of, Fields, is_field, with_field, Reads, AddsMember}
-use Rattle.clock_scan.proofs.Steps.{adds_member, reads_deeper, items_start, items_next, items_end}
+use Rattle.clock_scan.specs.Reading.{Token, whole, numbers, Fields, is_field, with_field, Reads, AddsMember}
+use Rattle.clock_scan.proofs.Steps.{adds_member, reads_deeper}
 use Rattle.clock_setup.specs.Faults.{first_fault, unless}
 use Rattle.clock_setup.specs.SetupData.{setup_data}
-use Rattle.clock_setup.specs.Members.{each, number_from, ◌>>=◌}
+use Rattle.clock_setup.specs.Members.{number_from}
 use Rattle.clock_setup.specs.OpeningShape.{row_of}
 use Rattle.clock_setup.specs.SetupDocument.{json}
 use Rattle.clock_setup.specs.declared.increments.Increments.{Increments}
@@ -15,6 +15,7 @@ use Rattle.clock_order.specs.declared.ties.Tie.{Tie}
 use Rattle.clock_bodies.specs.Bodies.{bid_of}
 use Rattle.clock_bodies.specs.CloseBodies.{tie_of}
 use Rattle.clock_bodies.specs.QuickBodies.{bid_data, tie_data}
+use Rattle.clock_bodies.proofs.BodyScanLaws.{bid_means, tie_means, number_means, each_means}
 use Rattle.clock_replays.specs.declared.script.Script.{Script}
 use Rattle.clock_replays.specs.declared.script.Script.TheVariants.{Literal, Sincere}
 use Rattle.clock_replays.specs.declared.closing.Closing.{Closing}
@@ -34,51 +35,10 @@ pub member_added : (few levels : ℕ) (old value new : List Token) (fields : Fie
 member_added few levels old value new fields key name d enough next same reads known =
     adds_member levels old value new fields name d (next ∙ ap (λ k. Token.key k ∷ value) same) (reads_deeper few levels value d new enough reads) known
 
--- a member of some fields, where it is one of them
-pub member_found : {A : Type 0} (fields_of : A → Fields) (levels : ℕ) (old value new : List Token) (fields : Fields) (name : List ℕ) (d : Data)
-    (found : Option A) → old ≡ Token.key name ∷ value → Reads levels value d new → IfSome found (λ _. is_field name fields ≡ true)
-    → IfSome found (λ after. with_field name d fields ≡ fields_of after) → IfSome found (λ after. AddsMember levels old fields new (fields_of after))
-member_found fields_of levels old value new fields name d None named reads known is = tt
-member_found fields_of levels old value new fields name d (Some after) named reads known is =
-    subst (λ fs. AddsMember levels old fields new fs) is (adds_member levels old value new fields name d named reads known)
-
--- a list of three numbers
-pub three_read : (first start after_first after_second after_third new : List Token) (a b c : ℕ) → first ≡ Token.begin_array ∷ start
-    → Reads 0 start (whole a) after_first → Reads 0 after_first (whole b) after_second → Reads 0 after_second (whole c) after_third
-    → after_third ≡ Token.end_array ∷ new → Reads 1 first (numbers (a ∷ b ∷ c ∷ [])) new
-three_read first start after_first after_second after_third new a b c opened reads_a reads_b reads_c closed =
-    let one = items_next 0 start start after_first [] (whole a) (items_start 0 start) reads_a in
-    let two = items_next 0 start after_first after_second (whole a ∷ []) (whole b) one reads_b in
-    let three = items_next 0 start after_second after_third (whole a ∷ whole b ∷ []) (whole c) two reads_c in
-    items_end 0 first start after_third new (whole a ∷ whole b ∷ whole c ∷ []) opened three closed
-
--- what is read as a whole is read as what it stands for
-pub whole_read : {A : Type 0} (levels : ℕ) (old new : List Token) (d : Data) (data_of : A → Data) (found : Option A) → Reads levels old d new
-    → IfSome found (λ x. d ≡ data_of x) → IfSome found (λ x. Reads levels old (data_of x) new)
-whole_read levels old new d data_of None reads is = tt
-whole_read levels old new d data_of (Some x) reads is = subst (λ known. Reads levels old known new) is reads
-
 abbrev pub all_of : ScannedReplay → ReplayFields
 all_of found = record { setup = found.held.setup; scripts = found.scripts; closings = found.closings }
 
 -- ---- what the values mean
-
-each_means : {A : Type 0} (meaning : Data → Option A) (data_of : A → Data) → ((x : A) → meaning (data_of x) ≡ Some x)
-    → (xs : List A) → each meaning (items_of (map data_of xs)) ≡ Some xs
-each_means meaning data_of means [] = refl
-each_means meaning data_of means (x ∷ xs) =
-    ap (λ o. o >>= λ first. (each meaning (items_of (map data_of xs)) >>= λ rest. Some (first ∷ rest))) (means x)
-    ∙ ap (λ o. o >>= λ rest. Some (x ∷ rest)) (each_means meaning data_of means xs)
-
-bid_means : (bid : Bid) → bid_of (bid_data bid) ≡ Some bid
-unfolding bid_of
-bid_means bid = refl
-
-tie_means : (tie : Tie) → tie_of (tie_data tie) ≡ Some tie
-tie_means tie = refl
-
-number_means : (n : ℕ) → number_from (whole n) ≡ Some n
-number_means n = refl
 
 row_means : (row : List ℕ) → row_of (numbers row) ≡ Some row
 unfolding row_of

@@ -1,5 +1,5 @@
 -- The values of JSON that the parts of a replay document are, in serde_json's terms.
---     bid_fields, script_fields, closing_fields, replay_fields      the keys of an object, each with what was found
+--     script_fields, closing_fields, replay_fields      the keys of an object, each with what was found
 --     sheet_data, script_data, closing_data, replay_data      a whole one, as a value
 use Rattle.std.specs.Prelude.{ℕ, List, [], ◌∷◌, map, Option, Some, None, option_map, codes}
 use Rattle.serde_json.specs.Data.{Data, null, string, object, array}
@@ -12,19 +12,10 @@ use Rattle.clock_replays.specs.declared.script.Script.TheVariants.{Literal, Sinc
 use Rattle.clock_replays.specs.declared.closing.Closing.{Closing}
 use Rattle.clock_replays.specs.declared.scanned_scripts.Kind.{Kind}
 use Rattle.clock_replays.specs.declared.scanned_scripts.Kind.TheVariants as kinds
-use Rattle.clock_replays.specs.declared.scanned_scripts.FoundBid.{FoundBid}
 use Rattle.clock_replays.specs.declared.scanned_scripts.FoundScript.{FoundScript}
 use Rattle.clock_replays.specs.declared.scanned_closings.FoundClosing.{FoundClosing}
 use Rattle.clock_replays.specs.declared.scanned_replay.FoundReplay.{FoundReplay}
 use Rattle.clock_replays.specs.declared.scanned_replay.ScannedReplay.{ScannedReplay}
-
--- a bid's keys, each with what was found
-abbrev pub bid_fields : FoundBid → Fields
-bid_fields found =
-    (codes "price", option_map whole found.price)
-    ∷ (codes "product", option_map whole found.product)
-    ∷ (codes "quantity", option_map whole found.quantity)
-    ∷ []
 
 -- a sheet of a literal script as a value
 abbrev pub sheet_data : Option (List Bid) → Data

@@ -2,37 +2,16 @@
 ghost use Rattle.std.specs.Prelude.{◌≡◌, ◌<◌, length, IfSome, IfOk, OnOk};
 ghost use Rattle.serde_json.specs.Data.{object};
 ghost use Rattle.clock_scan.specs.Reading.{members_of, Reads, AddsMember};
-ghost use Rattle.clock_bodies.specs.QuickBodies.{tie_data, single_of, listed_of};
+ghost use Rattle.clock_bodies.specs.QuickBodies.{tie_data};
 ghost use Rattle.clock_replays.specs.ReplayData.{closing_fields, closing_data};
 
 use crate::closing::{Closing, TieList};
 use crate::scanned_part::{ScannedPart, scanned_parts};
+use clock_bodies::{next_tie, one_form};
 use clock_order::Tie;
 use clock_scan::{Scan, Stop, is_key};
 use clock_setup::{Amounts, Increments};
 use std::alloc::Global;
-
-/// The tie number that is next.
-#[inline]
-fn tie(scan: &mut Scan<'_>) -> Option<Tie>
-    ensures value { IfSome result (λ tie. Reads 1 scan.old (tie_data tie) scan.new) }
-    ensures shorter { IfSome result (λ _. length scan.new < length scan.old) }
-{
-    if !scan.opens_array() {
-        return None;
-    }
-    let bidder = scan.number()?;
-    let product = scan.number()?;
-    let number = scan.number()?;
-    if !scan.closes_array() {
-        return None;
-    }
-    Some(Tie {
-        bidder,
-        product,
-        number,
-    })
-}
 
 impl ScannedPart for Tie {
     ghost levels = { 1 };
@@ -40,7 +19,7 @@ impl ScannedPart for Tie {
     ghost shown = { tie_data };
 
     fn scanned(_alloc: Global, scan: &mut Scan<'_>) -> Result<Tie, Stop> {
-        match tie(scan) {
+        match next_tie(scan) {
             Some(tie) => Ok(tie),
             None => Err(Stop::Unusual),
         }
@@ -53,20 +32,6 @@ struct FoundClosing {
     increment: Option<u64>,
     increments: Option<Amounts>,
     ties: Option<TieList>,
-}
-
-/// The increments, where they were found in one form and not in both.
-fn one_form(single: Option<u64>, listed: Option<Amounts>) -> Option<Increments>
-    ensures single { IfSome result (λ increments. single ≡ single_of increments) }
-    ensures listed { IfSome result (λ increments. listed ≡ listed_of increments) }
-{
-    let Some(increments) = listed else {
-        return Some(Increments::Single(single?));
-    };
-    if single.is_some() {
-        return None;
-    }
-    Some(Increments::PerProduct(increments))
 }
 
 impl FoundClosing {

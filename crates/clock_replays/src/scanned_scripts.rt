@@ -1,104 +1,17 @@
 //! Scripts read without a tree, where no text has an escape and each number is written in digits alone.
-ghost use Rattle.std.specs.Prelude.{◌≡◌, true, ◌<◌, length, IfSome, IfOk, OnOk};
+ghost use Rattle.std.specs.Prelude.{◌≡◌, ◌<◌, length, IfSome, IfOk, OnOk};
 ghost use Rattle.serde_json.specs.Data.{object};
-ghost use Rattle.clock_scan.specs.Reading.{whole, is_field, with_field, members_of, Reads, AddsMember};
+ghost use Rattle.clock_scan.specs.Reading.{members_of, Reads, AddsMember};
 ghost use Rattle.clock_bodies.specs.QuickBodies.{bid_data};
-ghost use Rattle.clock_replays.specs.ReplayData.{bid_fields, sheet_data, kind_text, script_fields, script_data};
+ghost use Rattle.clock_replays.specs.ReplayData.{sheet_data, kind_text, script_fields, script_data};
 
 use crate::limit_lists::{LimitLists, limit_lists};
 use crate::scanned_part::{ScannedPart, scanned_parts};
 use crate::script::{BidList, Script, SheetList};
 use clock_bids::Bid;
+use clock_bodies::next_bid;
 use clock_scan::{Scan, Stop, is_key};
 use std::alloc::Global;
-
-/// What was found of a bid so far.
-#[derive(Clone, Copy)]
-struct FoundBid {
-    price: Option<u64>,
-    product: Option<u64>,
-    quantity: Option<u64>,
-}
-
-impl FoundBid {
-    /// What was found, with one number more under its key.
-    #[inline(always)]
-    fn with(self, key: &[u8], number: u64) -> Option<FoundBid>
-        ensures known { IfSome result (λ _. is_field key.now (bid_fields self) ≡ true) }
-        ensures value { IfSome result (λ found. with_field key.now (whole number) (bid_fields self) ≡ bid_fields found) }
-    {
-        let FoundBid {
-            price,
-            product,
-            quantity,
-        } = self;
-        if is_key(key, "price") {
-            return Some(FoundBid {
-                price: Some(number),
-                product,
-                quantity,
-            });
-        }
-        if is_key(key, "product") {
-            return Some(FoundBid {
-                price,
-                product: Some(number),
-                quantity,
-            });
-        }
-        if is_key(key, "quantity") {
-            return Some(FoundBid {
-                price,
-                product,
-                quantity: Some(number),
-            });
-        }
-        None
-    }
-
-    /// The bid, where all of it was found.
-    #[inline(always)]
-    fn bid(self) -> Option<Bid>
-        ensures { IfSome result (λ bid. object (members_of (bid_fields self)) ≡ bid_data bid) }
-    {
-        Some(Bid {
-            product: self.product?,
-            quantity: self.quantity?,
-            price: self.price?,
-        })
-    }
-}
-
-/// What was found of a bid, with the member that is next.
-#[inline(always)]
-fn bid_member(scan: &mut Scan<'_>, found: FoundBid) -> Option<FoundBid>
-    ensures value { IfSome result (λ after. AddsMember 0 scan.old (bid_fields found) scan.new (bid_fields after)) }
-    ensures shorter { IfSome result (λ _. length scan.new < length scan.old) }
-{
-    let key = scan.key()?;
-    let number = scan.number()?;
-    found.with(key, number)
-}
-
-/// The bid that is next.
-#[inline]
-fn bid(scan: &mut Scan<'_>) -> Option<Bid>
-    ensures value { IfSome result (λ bid. Reads 1 scan.old (bid_data bid) scan.new) }
-    ensures shorter { IfSome result (λ _. length scan.new < length scan.old) }
-{
-    if !scan.opens_object() {
-        return None;
-    }
-    let mut found = FoundBid {
-        price: None,
-        product: None,
-        quantity: None,
-    };
-    'members: while !scan.closes_object() {
-        found = bid_member(scan, found)?;
-    }
-    found.bid()
-}
 
 impl ScannedPart for Bid {
     ghost levels = { 1 };
@@ -106,7 +19,7 @@ impl ScannedPart for Bid {
     ghost shown = { bid_data };
 
     fn scanned(_alloc: Global, scan: &mut Scan<'_>) -> Result<Bid, Stop> {
-        match bid(scan) {
+        match next_bid(scan) {
             Some(bid) => Ok(bid),
             None => Err(Stop::Unusual),
         }

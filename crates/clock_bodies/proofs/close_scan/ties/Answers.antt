@@ -16,9 +16,9 @@ items-preserved c =
     let start = c.opens_array.new.self in
     let same : c.closes_array.new.self ≡ l.scan = grind arith in
     let next = c.in-Some.next in
-    let reads : Reads 1 l.scan (tie_data next) c.tie.new.scan = subst (λ ts. Reads 1 ts (tie_data next) c.tie.new.scan) same c.in-Some.ensures.value in (
-      subst (λ list. HasItems 1 start (map tie_data list) c.tie.new.scan) (sym c.in_ok-push.ensures.items)
-          (items_push_next 1 tie_data start l.scan c.tie.new.scan l.list.items next l.invariant.0 reads),
+    let reads : Reads 1 l.scan (tie_data next) c.next_tie.new.scan = subst (λ ts. Reads 1 ts (tie_data next) c.next_tie.new.scan) same c.in-Some.ensures.value in (
+      subst (λ list. HasItems 1 start (map tie_data list) c.next_tie.new.scan) (sym c.in_ok-push.ensures.items)
+          (items_push_next 1 tie_data start l.scan c.next_tie.new.scan l.list.items next l.invariant.0 reads),
       omega (arith, l.invariant.1, c.in-Some.ensures.shorter, ap length same),
     )
 

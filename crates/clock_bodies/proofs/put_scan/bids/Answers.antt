@@ -16,9 +16,9 @@ items-preserved c =
     let start = c.opens_array.new.self in
     let same : c.closes_array.new.self ≡ l.scan = grind arith in
     let next = c.in-Some.next in
-    let reads : Reads 1 l.scan (bid_data next) c.bid.new.scan = subst (λ ts. Reads 1 ts (bid_data next) c.bid.new.scan) same c.in-Some.ensures.value in (
-      subst (λ list. HasItems 1 start (map bid_data list) c.bid.new.scan) (sym c.in_ok-push.ensures.items)
-          (items_push_next 1 bid_data start l.scan c.bid.new.scan l.list.items next l.invariant.0 reads),
+    let reads : Reads 1 l.scan (bid_data next) c.next_bid.new.scan = subst (λ ts. Reads 1 ts (bid_data next) c.next_bid.new.scan) same c.in-Some.ensures.value in (
+      subst (λ list. HasItems 1 start (map bid_data list) c.next_bid.new.scan) (sym c.in_ok-push.ensures.items)
+          (items_push_next 1 bid_data start l.scan c.next_bid.new.scan l.list.items next l.invariant.0 reads),
       omega (arith, l.invariant.1, c.in-Some.ensures.shorter, ap length same),
     )
 

@@ -1,7 +1,7 @@
 use Rattle.std.proofs.Common.{◌≡◌, ◌∷◌, arith}
 use Rattle.json.specs.Token.{Token}
 use Rattle.clock_bodies.proofs.BodyScanLaws.{three_read}
-use Rattle.clock_bodies.proofs.close_scan.tie.Goals as goal
+use Rattle.clock_bodies.proofs.close_scan.next_tie.Goals as goal
 
 pub returns-clause-value : goal.returns-clause-value
 returns-clause-value c =

@@ -5,7 +5,7 @@ use Rattle.clock_scan.specs.Reading.{members_of, AddsMember, Reads}
 use Rattle.clock_scan.proofs.Steps.{members_start, members_end}
 use Rattle.clock_bids.specs.declared.sheet.Bid.{Bid}
 use Rattle.clock_bodies.specs.QuickBodies.{bid_fields, bid_data}
-use Rattle.clock_bodies.proofs.put_scan.bid.Goals as goal
+use Rattle.clock_bodies.proofs.put_scan.next_bid.Goals as goal
 
 pub members-init : goal.members-init
 members-init c = (members_start 0 c.opens_object.new.self, omega arith)
