@@ -4,7 +4,7 @@
 --     turned_away_by role asker      why the asker may not see pages of the role
 --     outcome house asker ask      what the asker is told
 --     command_of setup asker ask      the command that the request is
-use Rattle.std.specs.Prelude.{ℕ, List, length, if◌then◌else◌, Option, Some, None, option_map, option_and_then, Result, Ok, Err, slice_index_or}
+use Rattle.std.specs.Prelude.{ℕ, List, length, Option, Some, None, option_map, option_and_then, Result, Ok, Err, slice_index_or}
 use Rattle.serde_json.specs.Data.{Data}
 use Rattle.serde_json.specs.Written.{compact_text}
 use Rattle.clock_setup.specs.Limits.{SetupFields, public_setup}

@@ -2,7 +2,7 @@
 --     Knows text progress      the progress is what is known of the text
 --     KnowsOfStart text progress      it is what is known of some beginning of the text
 --     Waits text progress      it is what is known of the text, which needs more
---     IsFollowed text progress awaited      the same is known of each text of fewer bytes that begins with this one
+--     IsFollowed room count progress quiet      it is known of the first so many bytes, and of each text of fewer that begins with them
 use Rattle.std.specs.Prelude.{◌≡◌, ◌≤◌, ◌<◌, ◌+◌, ◌++◌, ℕ, List, take, length, Option, Some, None, option_map, Result, Ok, Err}
 use Rattle.std.specs.Borrow.{Bor}
 use Rattle.httparse.specs.Spans.{span_bytes, IsWithin}
@@ -89,10 +89,13 @@ pub record Waits (text : List ℕ) (progress : Progress) : Type 0 where
 abbrev pub WaitsBelow : ℕ → List ℕ → Progress → Type 0
 WaitsBelow limit text progress = (more : List ℕ) → length (text ++ more) < limit → Waits (text ++ more) progress
 
--- the progress is what is known of the text, and of those below a length that begin with it
-pub record IsFollowed (text : List ℕ) (progress : Progress) (awaited : ℕ) : Type 0 where
-  pub knows : Knows text progress
-  pub below : WaitsBelow awaited text progress
+-- the progress is what is known of the first so many bytes of the room, and of those below a length that begin with them, for
+-- which there is a place
+pub record IsFollowed (room : List ℕ) (count : ℕ) (progress : Progress) (quiet : ℕ) : Type 0 where
+  pub knows : Knows (take count room) progress
+  pub below : WaitsBelow quiet (take count room) progress
+  pub held : count ≤ length room
+  pub placed : quiet ≤ length room + 1
 
 abbrev pub shown_bytes : Option (Bor (List ℕ)) → Option (List ℕ)
 shown_bytes bytes = option_map (λ b. b.now) bytes

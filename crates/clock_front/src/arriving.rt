@@ -1,9 +1,9 @@
-ghost use Rattle.std.specs.Prelude.{◌≡◌, ◌++◌, ◌↔◌, [], IsTrue, IfOk, OnOk, OnErr};
+ghost use Rattle.std.specs.Prelude.{◌≡◌, ◌+◌, ◌≤◌, ◌++◌, ◌↔◌, ℕ, List, [], length, take, IsTrue, IfOk, OnOk, OnErr};
 ghost use Rattle.clock_front.specs.Framing.{framing as framing_of, needs_more as more};
-ghost use Rattle.clock_front.specs.Shown.{Knows, KnowsOfStart, WaitsBelow};
+ghost use Rattle.clock_front.specs.Shown.{Knows, KnowsOfStart, IsFollowed};
 
 use crate::progress::Progress;
-use clock_device::{NoMemory, Text};
+use clock_device::NoMemory;
 use std::alloc::Global;
 use std::marker::Model;
 
@@ -12,56 +12,82 @@ use std::marker::Model;
 /// Contracts see the bytes.
 #[derive(Drop)]
 pub(crate) struct Arriving {
-    text: Text,
+    /// The bytes, and behind them zeros, in whose places further ones are written.
+    room: Vec<u8>,
+    count: usize,
     progress: Progress,
-    /// While more of the body comes, and the bytes are fewer than this, nothing else is to be known of them.
-    awaited: usize,
+    /// While the bytes are fewer than this they have a place, more of the body comes, and nothing else is to be known of them.
+    quiet: usize,
 }
 
 impl Model for Arriving {
-    ghost use Rattle.std.specs.Prelude.{ℕ, List};
+    ghost use Rattle.std.specs.Prelude.{ℕ, List, take};
     ghost use Rattle.clock_front.specs.Shown.{IsFollowed};
 
     ghost Value = { List ℕ };
 
-    ghost view = { λ a. a.text };
+    ghost view = { λ a. take a.count a.room.items };
 
-    ghost invariant = { λ a. IsFollowed a.text a.progress a.awaited };
+    ghost invariant = { λ a. IsFollowed a.room.items a.count a.progress a.quiet };
 }
 
-/// Adds bytes at the end, all of them or none. It stands apart, so that what a single byte costs stays small.
-#[inline(never)]
-fn append_all(text: &mut Text, piece: &[u8]) -> Result<(), NoMemory>
-    ensures ok { OnOk result (text.new ≡ text.old ++ piece.now) }
-    ensures err { OnErr result (text.new ≡ text.old) }
+/// Makes zeros behind some bytes, up to one byte less than are awaited, as far as there is room for them: no memory is asked
+/// for. Below the length that it answers each byte has a place, and is not the last that is awaited.
+fn make_places(room: &mut Vec<u8>, awaited: usize) -> usize
+    ensures kept { (zeros : List ℕ) × (room.new.items ≡ room.old.items ++ zeros) }
+    ensures placed { result ≤ length room.new.items + 1 }
+    ensures below { result ≤ awaited }
 {
-    text.extend_from_slice(piece)
+    let places = room.capacity().min(awaited.saturating_sub(1));
+    if places <= room.len() || room.resize(places, 0).is_err() {
+        return 0;
+    }
+    places + 1
 }
 
-/// Adds bytes at the end, all of them or none. One byte by itself is written in its place, and is no list to be copied.
-#[inline(always)]
-fn append(text: &mut Text, piece: &[u8]) -> Result<(), NoMemory>
-    ensures ok { OnOk result (text.new ≡ text.old ++ piece.now) }
-    ensures err { OnErr result (text.new ≡ text.old) }
+/// What is known of the beginning of a text becomes what is known of the text, which fills its room. It tells whether the text
+/// needs more.
+fn look_on(room: &mut Vec<u8>, progress: &mut Progress, quiet: &mut usize) -> bool
+    requires { KnowsOfStart room.old.items progress.old }
+    ensures kept { take (length room.old.items) room.new.items ≡ room.old.items }
+    ensures followed { IsFollowed room.new.items (length room.old.items) progress.new quiet.new }
+    ensures short { IsTrue result ↔ (framing_of room.old.items ≡ more) }
+{
+    *progress = progress.advance(room.as_slice());
+    *quiet = make_places(room, progress.awaited());
+    progress.needs_more()
+}
+
+/// Makes room for three times as many bytes again, but for none beyond those awaited.
+fn make_room(room: &mut Vec<u8>, awaited: usize) -> Result<(), NoMemory>
+    ensures { room.new.items ≡ room.old.items }
+{
+    let further = awaited
+        .saturating_sub(room.len())
+        .min(room.len().saturating_mul(3));
+    room.reserve_exact(further)?;
+    Ok(())
+}
+
+/// Adds bytes at the end, all of them or none. One byte by itself is no list to be copied.
+fn append(room: &mut Vec<u8>, piece: &[u8]) -> Result<(), NoMemory>
+    ensures ok { OnOk result (room.new.items ≡ room.old.items ++ piece.now) }
+    ensures err { OnErr result (room.new.items ≡ room.old.items) }
 {
     match piece {
-        [byte] => text.push(*byte),
-        _ => append_all(text, piece),
+        [byte] => room.push(*byte)?,
+        _ => room.extend_from_slice(piece)?,
     }
+    Ok(())
 }
 
-/// What is known of the beginning of a text becomes what is known of the text. It tells whether the text needs more. It stands
-/// apart, so that what more of a body costs stays small.
-#[inline(never)]
-fn look_on(text: &[u8], progress: &mut Progress, awaited: &mut usize) -> bool
-    requires { KnowsOfStart text.now progress.old }
-    ensures knows { Knows text.now progress.new }
-    ensures below { WaitsBelow awaited.new text.now progress.new }
-    ensures short { IsTrue result ↔ (framing_of text.now ≡ more) }
+/// Writes bytes in the places of others.
+fn write_at(room: &mut Vec<u8>, place: usize, piece: &[u8])
+    requires { place + length piece.now ≤ length room.old.items }
+    ensures written { take (place + length piece.now) room.new.items ≡ take place room.old.items ++ piece.now }
+    ensures size { length room.new.items ≡ length room.old.items }
 {
-    *progress = progress.advance(text);
-    *awaited = progress.awaited();
-    progress.needs_more()
+    room[place..place + piece.len()].copy_from_slice(piece);
 }
 
 impl Arriving {
@@ -70,9 +96,10 @@ impl Arriving {
         ensures { result ≡ [] }
     {
         Arriving {
-            text: Text::new(alloc),
+            room: Vec::new(alloc),
+            count: 0,
             progress: Progress::new(),
-            awaited: 0,
+            quiet: 0,
         }
     }
 
@@ -84,11 +111,36 @@ impl Arriving {
         ensures short { IfOk result (λ short. IsTrue short ↔ (framing_of self.new ≡ more)) }
         ensures err { OnErr result (self.new ≡ self.old) }
     {
-        append(&mut self.text, piece)?;
-        if self.text.as_slice().len() < self.awaited {
+        let place = self.count;
+        match piece {
+            [byte] if place + 1 < self.quiet => {
+                self.room[place] = *byte;
+                self.count = place + 1;
+                Ok(true)
+            }
+            _ => self.take_piece(piece),
+        }
+    }
+
+    /// The same, of more than one byte or where they have no place yet. It stands apart, so that what a single byte costs stays
+    /// small.
+    #[inline(never)]
+    fn take_piece(&mut self, piece: &[u8]) -> Result<bool, NoMemory>
+        ensures ok { OnOk result (self.new ≡ self.old ++ piece.now) }
+        ensures short { IfOk result (λ short. IsTrue short ↔ (framing_of self.new ≡ more)) }
+        ensures err { OnErr result (self.new ≡ self.old) }
+    {
+        if piece.len() < self.quiet.saturating_sub(self.count) {
+            write_at(&mut self.room, self.count, piece);
+            self.count += piece.len();
             return Ok(true);
         }
-        let short = look_on(self.text.as_slice(), &mut self.progress, &mut self.awaited);
+        self.quiet = 0;
+        self.room.truncate(self.count);
+        make_room(&mut self.room, self.progress.awaited())?;
+        append(&mut self.room, piece)?;
+        self.count = self.room.len();
+        let short = look_on(&mut self.room, &mut self.progress, &mut self.quiet);
         Ok(short)
     }
 
@@ -96,7 +148,7 @@ impl Arriving {
     pub(crate) fn as_slice(&self) -> &[u8]
         ensures { result.now ≡ self.now }
     {
-        self.text.as_slice()
+        &self.room[..self.count]
     }
 
     /// What is known of the bytes.
