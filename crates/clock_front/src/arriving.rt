@@ -58,14 +58,16 @@ fn look_on(room: &mut Vec<u8>, progress: &mut Progress, quiet: &mut usize) -> bo
     progress.needs_more()
 }
 
-/// Makes room for three times as many bytes again, but for none beyond those awaited.
-fn make_room(room: &mut Vec<u8>, awaited: usize) -> Result<(), NoMemory>
+/// Makes room for three times as many bytes again, but for none beyond those awaited, where that is more than are to be added.
+fn make_room(room: &mut Vec<u8>, added: usize, awaited: usize) -> Result<(), NoMemory>
     ensures { room.new.items ≡ room.old.items }
 {
     let further = awaited
         .saturating_sub(room.len())
         .min(room.len().saturating_mul(3));
-    room.reserve_exact(further)?;
+    if added < further {
+        room.reserve_exact(further)?;
+    }
     Ok(())
 }
 
@@ -137,7 +139,7 @@ impl Arriving {
         }
         self.quiet = 0;
         self.room.truncate(self.count);
-        make_room(&mut self.room, self.progress.awaited())?;
+        make_room(&mut self.room, piece.len(), self.progress.awaited())?;
         append(&mut self.room, piece)?;
         self.count = self.room.len();
         let short = look_on(&mut self.room, &mut self.progress, &mut self.quiet);
