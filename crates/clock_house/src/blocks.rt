@@ -2,8 +2,8 @@ ghost use Rattle.std.specs.Prelude.{◌≡◌, ◌≤◌, ◌<◌, ◌+◌, ◌�
 ghost use Rattle.clock_setup.specs.Limits.{most_supply};
 ghost use Rattle.clock_house.specs.Blocks as rules;
 
-use clock_bids::first_held;
 use clock_device::NoMemory;
+use clock_setup::first_held;
 use std::alloc::Global;
 use std::marker::Model;
 

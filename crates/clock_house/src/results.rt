@@ -16,12 +16,12 @@ use crate::blocks::Blocks;
 use crate::fault::CloseFault;
 use crate::house::{House, bidder_count};
 use crate::slip::{Slip, Slips};
-use clock_bids::{Bid, Changes, asked_demands, bids_of, changes_of, units_held};
+use clock_bids::{Bid, Changes, asked_demands, bids_of, changes_of};
 use clock_device::NoMemory;
 use clock_order::{Ties, ordered};
 use clock_posting::{Posting, post, post_first};
 use clock_processor::{Board, Processor, Settled};
-use clock_setup::{Amounts, Grid, Increments, Setup, next_eligibility};
+use clock_setup::{Amounts, Grid, Increments, Setup, activity, next_eligibility};
 
 /// What a round comes to: its sheet with the prices of the next round, the slip of each bidder, and all demands.
 #[derive(Drop)]
@@ -306,14 +306,6 @@ impl<P: Processor> House<P> {
             demands: Blocks::of(self.alloc(), cells, demands)?,
         })
     }
-}
-
-/// The bidding units that a row of demands takes, of which most are 0.
-fn activity(setup: &Setup, demands: &[u64]) -> u64
-    requires { IsRow setup.now.products demands.now }
-    ensures { result ≡ eligibilities.activity setup.now.products demands.now }
-{
-    units_held(setup.products.as_slice(), demands)
 }
 
 /// The least activity that keeps an eligibility, in percent.

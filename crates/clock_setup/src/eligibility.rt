@@ -11,6 +11,7 @@ ghost use Rattle.clock_setup.specs.Limits.{
   most_units,
 };
 
+use crate::held::first_held;
 use crate::setup::{Product, Setup};
 
 /// The eligibility after a round, in bidding units: the smaller of the eligibility held and the least whole number of
@@ -28,20 +29,8 @@ pub fn next_eligibility(held: u64, activity: u64, requirement: u64) -> u64
     held.min((100 * activity + (requirement - 1)) / requirement)
 }
 
-/// The bidding units of so many blocks of a product. Where there are none the product needs no look: most bidders hold few of the products.
-fn units_of(product: &Product, blocks: u64) -> u64
-    requires product { IsProduct product.now }
-    requires small { blocks ≤ most_supply }
-    ensures { result ≡ product.now.units * blocks }
-{
-    if blocks == 0 {
-        0
-    } else {
-        product.units * blocks
-    }
-}
-
-/// What [`activity`] is of a set-up with these products, where the set-up itself is not at hand.
+/// What [`activity`] is of a set-up with these products, where the set-up itself is not at hand. Products that are not held are
+/// passed over.
 pub fn units_taken(products: &[Product], demands: &[u64]) -> u64
     requires limits { All IsProduct products.now }
     requires product_count { length products.now ≤ most_products }
@@ -49,9 +38,12 @@ pub fn units_taken(products: &[Product], demands: &[u64]) -> u64
     ensures exact { result ≡ eligibility.activity products.now demands.now }
     ensures most { result ≤ most_products * (most_units * most_supply) }
 {
+    let count = demands.len();
     let mut total: u64 = 0;
-    for (i, product) in products.iter().enumerate() {
-        total += units_of(product, demands[i]);
+    let mut place = first_held(demands, 0, count);
+    'held: while place < count {
+        total += products[place].units * demands[place];
+        place = first_held(demands, place + 1, count);
     }
     total
 }

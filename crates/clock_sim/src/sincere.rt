@@ -7,11 +7,11 @@ ghost use Rattle.clock_sim.specs.Blocks as one_by_one;
 ghost use Rattle.clock_sim.specs.RoundPrices.{prices_after};
 
 use crate::round_prices::{PriceRange, price_range};
-use clock_bids::{Bid, Own, first_held};
+use clock_bids::{Bid, Own};
 use clock_device::NoMemory;
 use clock_posting::RoundSheet;
 use clock_replays::LimitLists;
-use clock_setup::Product;
+use clock_setup::{Product, first_held};
 
 /// The price at which a block leaves, where it does not stay up to the clock price.
 fn leaving_price(pair: &PriceRange, limit: u64) -> Option<u64>

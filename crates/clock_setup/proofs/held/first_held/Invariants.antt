@@ -1,6 +1,6 @@
 use Rattle.std.proofs.Common.{◌≡◌, ◌≤◌, ◌-◌}
 use Rattle.std.specs.List.{AllWithin}
-use Rattle.clock_bids.proofs.held.first_held.Given as goal
+use Rattle.clock_setup.proofs.held.first_held.Given as goal
 
 -- the demands up to the place are 0
 abbrev pub invariant-places : goal.invariant-places

@@ -1,6 +1,6 @@
 use Rattle.std.proofs.Common.{◌≡◌, ◌≤◌, ◌-◌, length}
 use Rattle.std.specs.List.{AllWithin}
-use Rattle.clock_bids.proofs.held.after_empty_pieces.Given as goal
+use Rattle.clock_setup.proofs.held.after_empty_pieces.Given as goal
 
 -- the demands up to the place are 0
 abbrev pub invariant-pieces : goal.invariant-pieces

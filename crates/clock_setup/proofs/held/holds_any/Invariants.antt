@@ -1,6 +1,6 @@
 use Rattle.std.proofs.Common.{◌≡◌, ◌+◌, ◌↔◌}
 use Rattle.std.specs.List.{AllWithin}
-use Rattle.clock_bids.proofs.held.holds_any.Given as goal
+use Rattle.clock_setup.proofs.held.holds_any.Given as goal
 
 -- no bit is set if and only if the demands so far are 0
 abbrev pub invariant-loop-step : goal.invariant-loop-step

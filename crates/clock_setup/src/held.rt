@@ -1,9 +1,5 @@
-ghost use Rattle.std.specs.Prelude.{◌≡◌, ◌≤◌, ◌<◌, ◌+◌, ◌*◌, ◌↔◌, false, length, slice_index, All};
+ghost use Rattle.std.specs.Prelude.{◌≡◌, ◌≤◌, ◌<◌, ◌+◌, ◌↔◌, false, length, slice_index};
 ghost use Rattle.std.specs.List.{AllWithin};
-ghost use Rattle.clock_setup.specs.Eligibility as eligibility;
-ghost use Rattle.clock_setup.specs.Limits.{IsProduct, IsRow, most_products, most_supply, most_units};
-
-use clock_setup::Product;
 
 /// How many demands are read together.
 const PIECE: usize = 16;
@@ -61,25 +57,4 @@ fn holds_any(row: &[u64], from: usize) -> bool
         bits |= row[from + step];
     }
     bits != 0
-}
-
-/// The bidding units that a row of demands takes, as [`units_taken`] tells them: here products that are not held are passed
-/// over, which is several times faster where most are not.
-///
-/// [`units_taken`]: clock_setup::units_taken
-pub fn units_held(products: &[Product], demands: &[u64]) -> u64
-    requires limits { All IsProduct products.now }
-    requires product_count { length products.now ≤ most_products }
-    requires row { IsRow products.now demands.now }
-    ensures exact { result ≡ eligibility.activity products.now demands.now }
-    ensures most { result ≤ most_products * (most_units * most_supply) }
-{
-    let count = demands.len();
-    let mut total: u64 = 0;
-    let mut place = first_held(demands, 0, count);
-    'held: while place < count {
-        total += products[place].units * demands[place];
-        place = first_held(demands, place + 1, count);
-    }
-    total
 }

@@ -1,6 +1,6 @@
 use Rattle.std.proofs.Common.{arith}
-use Rattle.clock_bids.proofs.Zeros.{activity-passed, so_far_more, small_more}
-use Rattle.clock_bids.proofs.held.units_held.Goals as goal
+use Rattle.clock_setup.proofs.Zeros.{activity-passed, so_far_more, small_more}
+use Rattle.clock_setup.proofs.eligibility.units_taken.Goals as goal
 
 pub held-init : goal.held-init
 held-init c = record {
