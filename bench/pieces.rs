@@ -189,6 +189,9 @@ fn play_input<R: Print + Clock>(rt: &R, alloc: Global, input: &[&str]) -> anyhow
     let Some((document, groups)) = input.split_first() else {
         return Ok(());
     };
+    if groups.is_empty() {
+        return Ok(());
+    }
     let mut hub = Hub::new(alloc, opened(alloc, document)?);
     for _take in 0..TAKES {
         play_all(rt, alloc, &mut hub, groups)?;

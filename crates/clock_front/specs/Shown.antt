@@ -2,7 +2,7 @@
 --     Knows text progress      the progress is what is known of the text
 --     KnowsOfStart text progress      it is what is known of some beginning of the text
 --     Waits text progress      it is what is known of the text, which needs more
---     IsFollowed room count progress quiet      the first bytes of the room are such a text, which waits while it is shorter than quiet
+--     IsFollowed room count progress quiet      it is known of the first so many bytes, and of each text of fewer that begins with them
 use Rattle.std.specs.Prelude.{◌≡◌, ◌≤◌, ◌<◌, ◌+◌, ◌++◌, ℕ, List, take, length, Option, Some, None, option_map, Result, Ok, Err}
 use Rattle.std.specs.Borrow.{Bor}
 use Rattle.httparse.specs.Spans.{span_bytes, IsWithin}
@@ -89,8 +89,8 @@ pub record Waits (text : List ℕ) (progress : Progress) : Type 0 where
 abbrev pub WaitsBelow : ℕ → List ℕ → Progress → Type 0
 WaitsBelow limit text progress = (more : List ℕ) → length (text ++ more) < limit → Waits (text ++ more) progress
 
--- the first so many bytes of the room are a text of which the progress is known; while the text has fewer bytes than `quiet` it
--- waits for more, and each of its bytes has a place in the room
+-- the progress is what is known of the first so many bytes of the room, and of those below a length that begin with them, for
+-- which there is a place
 pub record IsFollowed (room : List ℕ) (count : ℕ) (progress : Progress) (quiet : ℕ) : Type 0 where
   pub knows : Knows (take count room) progress
   pub below : WaitsBelow quiet (take count room) progress

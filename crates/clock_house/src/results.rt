@@ -3,6 +3,7 @@ ghost use Rattle.std.specs.List.{range_with_len};
 ghost use Rattle.clock_setup.specs.Limits.{IsRow, public_setup, most_bidders};
 ghost use Rattle.clock_setup.specs.Faults.{IsRefusal};
 ghost use Rattle.clock_setup.specs.Increments.{AreIncrements};
+ghost use Rattle.clock_setup.specs.Eligibility as eligibilities;
 ghost use Rattle.clock_bids.specs.Sheet as sheets;
 ghost use Rattle.clock_processor.specs.Board.{IsWithinEligibility, new_board};
 ghost use Rattle.clock_house.specs.Closing as rules;
