@@ -1,0 +1,9 @@
+pub mod Records
+pub mod Fronts
+pub mod Writes
+pub mod Moments
+pub mod Recovery
+pub mod Chains
+pub mod Whole
+pub mod Cuts
+pub mod Placed

@@ -1,0 +1,21 @@
+-- Going on with a file that was taken over.
+use Rattle.std.proofs.Common.{◌≡◌, inl, inr, ℕ, List, [], length, take, Option, Some, ap, ◌∙◌, subst, arith, length-append}
+use Rattle.clock_journal.specs.Disks.{IsCut}
+use Rattle.clock_journal.specs.Format.{head, records}
+use Rattle.clock_journal.specs.Recovering.{IsPlaced}
+use Rattle.clock_journal.specs.declared.recovered.Recovered.{Recovered}
+use Rattle.clock_journal.proofs.Moments.{length-head}
+
+-- a file that is cut off at its beginning has no texts
+pub placed_empty : (digest bytes : List ℕ) (texts : List (List ℕ)) (recovered : Recovered) → length digest ≡ 32 → recovered.end ≡ 0
+    → IsPlaced digest bytes texts recovered → texts ≡ []
+placed_empty digest bytes texts recovered long nowhere (inl headed) =
+    let same = ap length headed.file in
+    let size = length-append (head digest) (records digest texts) in
+    let before = length-head digest in
+    let none : length (take recovered.end bytes) ≡ 0 = ap (λ (n : ℕ). length (take n bytes)) nowhere in
+    absurd (omega (arith, long, same, size, before, none))
+placed_empty digest bytes texts recovered long nowhere (inr begun) = begun.none
+
+pub cut_is : (old mid new : Option (List ℕ)) (bytes : List ℕ) (place : ℕ) → mid ≡ old → old ≡ Some bytes → IsCut mid new place → new ≡ Some (take place bytes)
+cut_is old mid new bytes place same is cut = subst (λ (known : Option (List ℕ)). IsCut known new place) (same ∙ is) cut

@@ -1,0 +1,31 @@
+use Rattle.std.proofs.Common.{◌≡◌, [], ◌∷◌, ◌++◌, Result, Ok, Err, OnOk, sym, subst}
+use Rattle.clock_device.specs.Streams.{HasWritten}
+use Rattle.clock_journal.specs.Format.{record_of}
+use Rattle.clock_journal.specs.Kept.{Keeps}
+use Rattle.clock_journal.proofs.Moments.{left_reads, all_is_front, keeps_more}
+use Rattle.clock_journal.proofs.journal.append_synced.Goals as goal
+
+ok_then : {U E : Type 0} (result : Result U E) (P Q : Type 0) → OnOk result P → (P → Q) → OnOk result Q
+ok_then (Ok done) P Q fact next = next fact
+ok_then (Err failed) P Q fact next = tt
+
+pub returns-in-Ok-clause-kept : goal.returns-in-Ok-clause-kept
+returns-in-Ok-clause-kept g c digest texts keeps =
+    ok_then c.sync.result (g.D.Durable.synced c.sync.new.self ≡ g.D.Durable.written c.append_record.new.disk)
+    (Keeps digest (texts ++ c.args.text.now ∷ []) (g.D.Durable.written c.sync.new.self) (g.D.Durable.synced c.sync.new.self) c.in-Ok.digest)
+    c.sync.ensures.ok
+    (λ now_synced. keeps_more digest texts c.args.text.now c.args.chain.now c.in-Ok.digest (g.D.Durable.written c.args.disk.now)
+    (g.D.Durable.synced c.args.disk.now) (g.D.Durable.written c.append_record.new.disk) (g.D.Durable.written c.sync.new.self)
+    (g.D.Durable.synced c.sync.new.self) keeps c.requires.fits c.in-Ok.ensures.link c.in-Ok.ensures.written c.sync.ensures.written now_synced)
+
+pub returns-in-Ok-clause-any_moment : goal.returns-in-Ok-clause-any_moment
+returns-in-Ok-clause-any_moment g c digest texts keeps left may =
+    left_reads digest texts c.args.text.now c.args.chain.now (g.D.Durable.written c.args.disk.now) (g.D.Durable.synced c.args.disk.now)
+    (g.D.Durable.written c.sync.new.self) keeps c.requires.fits
+    (all_is_front (g.D.Durable.written c.args.disk.now) (g.D.Durable.written c.sync.new.self) (record_of c.args.chain.now c.args.text.now)
+    (subst (λ new. HasWritten (g.D.Durable.written c.args.disk.now) new (record_of c.args.chain.now c.args.text.now)) (sym c.sync.ensures.written) c.in-Ok.ensures.written)) left may
+
+pub returns-in-Err-clause-any_moment : goal.returns-in-Err-clause-any_moment
+returns-in-Err-clause-any_moment g c digest texts keeps left may =
+    left_reads digest texts c.args.text.now c.args.chain.now (g.D.Durable.written c.args.disk.now) (g.D.Durable.synced c.args.disk.now)
+    (g.D.Durable.written c.append_record.new.disk) keeps c.requires.fits c.in-Err.ensures.written left may

@@ -1,0 +1,54 @@
+use Rattle.std.proofs.Common.{◌≡◌, ◌≤◌, ◌+◌, ◌-◌, List, [], ◌∷◌, ◌++◌, ℕ, length, drop, refl, sym, ap, ◌∙◌, subst, arith, length-drop}
+use Rattle.std.proofs.lemmas.List.{take_rest}
+use Rattle.clock_journal.specs.Format.{link, last_link}
+use Rattle.clock_journal.specs.Reading.{Reads, next, whole, onto}
+use Rattle.clock_journal.specs.inside.Replays.{IsOnWay}
+use Rattle.clock_journal.specs.Recovering.{IsFoundAt}
+use Rattle.clock_journal.proofs.Moments.{last_link-push}
+use Rattle.clock_journal.proofs.replaying.replay.Goals as goal
+
+reads-push : (chain bytes : List ℕ) (texts : List (List ℕ)) (mid text : List ℕ) → Reads chain bytes texts mid → next (last_link chain texts) mid ≡ whole text
+    → Reads chain bytes (texts ++ text ∷ []) (drop (40 + length text) mid)
+reads-push chain bytes [] mid text reads is = (ap (next chain) (sym reads) ∙ is, ap (drop (40 + length text)) reads)
+reads-push chain bytes (one ∷ texts) mid text reads is = (reads.0, reads-push (link chain one) (drop (40 + length one) bytes) texts mid text reads.1 is)
+
+onto-push : (texts : List (List ℕ)) (text : List ℕ) (past : List (List ℕ)) → onto (texts ++ text ∷ []) past ≡ text ∷ onto texts past
+onto-push [] text past = refl
+onto-push (one ∷ texts) text past = onto-push texts text (one ∷ past)
+
+-- one more text was taken
+on_way_more : (old mid new : List (List ℕ) → Type 0) (first bytes chain rest text digest : List ℕ) → IsOnWay old mid first bytes chain rest
+    → next chain rest ≡ whole text → digest ≡ link chain text → ((texts : List (List ℕ)) → mid texts → new (text ∷ texts))
+    → IsOnWay old new first bytes digest (drop (40 + length text) rest)
+on_way_more old mid new first bytes chain rest text digest way is linked taken = record {
+  texts = way.texts ++ text ∷ [];
+  reads = reads-push first bytes way.texts rest text way.reads (ap (λ (before : List ℕ). next before rest) (sym way.chain_is) ∙ is);
+  chain_is = linked ∙ (ap (λ (before : List ℕ). link before text) way.chain_is ∙ sym (last_link-push first way.texts text));
+  within = omega (arith, way.within, length-drop (40 + length text) rest);
+  stands = λ past was. subst new (sym (onto-push way.texts text past)) (taken (onto way.texts past) (way.stands past was));
+}
+
+pub loop-chain-preserved : goal.loop-chain-preserved
+loop-chain-preserved g c =
+    subst (λ rest. IsOnWay (g.M.Machine.stands_for c.args.machine.now) (g.M.Machine.stands_for c.take.new.self) c.args.first.now c.args.bytes.now c.in-Whole.digest rest)
+    (sym (take_rest c.loop-chain.rest.now (40 + length c.in-Whole.text.now)))
+    (on_way_more (g.M.Machine.stands_for c.args.machine.now) (g.M.Machine.stands_for c.loop-chain.machine) (g.M.Machine.stands_for c.take.new.self)
+    c.args.first.now c.args.bytes.now c.loop-chain.chain c.loop-chain.rest.now c.in-Whole.text.now c.in-Whole.digest
+    c.loop-chain.invariant (sym c.in-Whole.ensures.next) c.in-Whole.ensures.record.linked c.in-Ok.ensures)
+
+found_at : (old new : List (List ℕ) → Type 0) (first bytes chain rest text : List ℕ) (size : ℕ) → IsOnWay old new first bytes chain rest → length bytes ≤ size
+    → next chain rest ≡ whole text → IsFoundAt first bytes size (size - length rest) (whole text)
+found_at old new first bytes chain rest text size way within is = record {
+  texts = way.texts;
+  rest = rest;
+  reads = way.reads;
+  found_is = ap (λ (before : List ℕ). next before rest) (sym way.chain_is) ∙ is;
+  place_is = omega (arith, way.within);
+}
+
+pub returns-in-Err-Refused : goal.returns-in-Err-Refused
+returns-in-Err-Refused g c = (
+  c.in-Whole.text.now,
+  found_at (g.M.Machine.stands_for c.args.machine.now) (g.M.Machine.stands_for c.loop-chain.machine) c.args.first.now c.args.bytes.now
+      c.loop-chain.chain c.loop-chain.rest.now c.in-Whole.text.now c.args.size c.loop-chain.invariant c.requires (sym c.in-Whole.ensures.next),
+)

@@ -1,0 +1,11 @@
+use Rattle.std.proofs.Common.{length}
+use Rattle.clock_journal.specs.inside.Replays.{IsOnWay}
+use Rattle.clock_journal.proofs.replaying.replay.Given as goal
+
+-- some texts were taken, and the rest is left
+abbrev pub invariant-loop-chain : goal.invariant-loop-chain
+invariant-loop-chain g l =
+    IsOnWay (g.M.Machine.stands_for l.initial.machine) (g.M.Machine.stands_for l.machine) l.first l.bytes l.chain l.rest
+
+abbrev pub decreases-loop-chain : goal.decreases-loop-chain
+decreases-loop-chain g l = length l.rest

@@ -1,0 +1,28 @@
+-- What a journal keeps on the disk.
+--     file_of digest texts      the bytes of the journal of the texts
+--     Keeps digest texts written synced chain      the disk tells that all of it is written and synced, and the chain is at its end
+--     JournalState, HasTexts digest texts journal      the same of a journal
+use Rattle.std.specs.Prelude.{◌≡◌, ◌++◌, ℕ, Bool, List, Option, Some}
+use Rattle.clock_journal.specs.Format.{head, records, last_link, AllFit}
+
+-- the bytes of the journal of the texts, the oldest first, for the set-up document of this digest
+abbrev pub file_of : List ℕ → List (List ℕ) → List ℕ
+file_of digest texts = head digest ++ records digest texts
+
+-- nothing but that stands in the file, all of it is on the disk, and the chain is at its end
+pub record Keeps (digest : List ℕ) (texts : List (List ℕ)) (written synced : Option (List ℕ)) (chain : List ℕ) : Type 0 where
+  pub file : written ≡ Some (file_of digest texts)
+  pub synced_is : synced ≡ written
+  pub chain_is : chain ≡ last_link digest texts
+  pub fit : AllFit texts
+
+-- what contracts see of a journal
+pub record JournalState : Type 0 where
+  pub written : Option (List ℕ)
+  pub synced : Option (List ℕ)
+  pub has_failed : Bool
+  pub chain : List ℕ
+
+-- it has these texts, and all of them are on its disk
+abbrev pub HasTexts : List ℕ → List (List ℕ) → JournalState → Type 0
+HasTexts digest texts journal = Keeps digest texts journal.written journal.synced journal.chain

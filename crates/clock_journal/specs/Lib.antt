@@ -1,0 +1,11 @@
+pub mod Format
+pub mod Reading
+pub mod Crash
+pub mod Shown
+pub mod Disks
+pub mod Kept
+pub mod Headings
+pub mod Recovering
+pub mod Chain
+pub mod Laws
+pub mod inside

@@ -1,0 +1,72 @@
+-- How an auction is taken up from a journal.
+--     HasTaken old new texts least      the machine stands for the first of the texts, so many at least
+--     IsUntaken fault      the fault is none of the file
+--     IsPlaced digest bytes texts recovered      the file has these texts up to the place that is told, and the digest is their last
+--     IsRecovered old new digest bytes recovered      the machine has taken all texts of the file
+--     IsFoundAt first bytes size place found      behind the texts before this place stands this
+--     IsRefusal digest bytes fault      the fault is told of such a file
+use Rattle.std.specs.Prelude.{◌≡◌, ◌⊎◌, ◌<◌, ◌≤◌, ◌+◌, ℕ, List, [], length, take, drop}
+use Rattle.clock_journal.specs.Format.{head, last_link, AllFit}
+use Rattle.clock_journal.specs.Kept.{file_of}
+use Rattle.clock_journal.specs.Headings.{heading, headed, of_another, unknown}
+use Rattle.clock_journal.specs.Reading.{Reads, Ends, Next, next, damaged, whole, onto}
+use Rattle.clock_journal.specs.declared.recovered.Recovered.{Recovered}
+use Rattle.clock_journal.specs.declared.fault.JournalFault.{JournalFault}
+use Rattle.clock_journal.specs.declared.fault.JournalFault.TheVariants as fault
+
+-- whatever the machine stood for, it stands for that and for the first of the texts, so many at least
+pub record HasTaken (old new : List (List ℕ) → Type 0) (texts : List (List ℕ)) (least : ℕ) : Type 0 where
+  pub count : ℕ
+  pub enough : least ≤ count
+  pub most : count ≤ length texts
+  pub stands : (past : List (List ℕ)) → old past → new (onto (take count texts) past)
+
+-- the file is right: it is only that a text in it is refused, or that there is no memory
+abbrev pub IsUntaken : JournalFault → Type 0
+IsUntaken fault.Unknown = ⊥
+IsUntaken fault.Setup = ⊥
+IsUntaken (fault.Damaged place) = ⊥
+IsUntaken (fault.Refused place) = Unit {0}
+IsUntaken fault.NoMemory = Unit {0}
+
+-- up to the place the file is the journal of the texts, and what stands behind it is nothing or torn
+pub record IsHeaded (digest bytes : List ℕ) (texts : List (List ℕ)) (recovered : Recovered) : Type 0 where
+  pub file : take recovered.end bytes ≡ file_of digest texts
+  pub within : recovered.end ≤ length bytes
+  pub fit : AllFit texts
+  pub chain_is : recovered.chain ≡ last_link digest texts
+  pub ends : Ends (last_link digest texts) (drop recovered.end bytes)
+
+-- the file is less than a head, and is to be begun anew
+pub record IsBegun (digest bytes : List ℕ) (texts : List (List ℕ)) (recovered : Recovered) : Type 0 where
+  pub none : texts ≡ []
+  pub short : length bytes < 56
+  pub front : bytes ≡ take (length bytes) (head digest)
+  pub chain_is : recovered.chain ≡ digest
+  pub end_is : recovered.end ≡ 0
+
+abbrev pub IsPlaced : List ℕ → List ℕ → List (List ℕ) → Recovered → Type 0
+IsPlaced digest bytes texts recovered = IsHeaded digest bytes texts recovered ⊎ IsBegun digest bytes texts recovered
+
+-- whatever the machine stood for, it stands for that and for the texts of the file
+pub record IsRecovered (old new : List (List ℕ) → Type 0) (digest bytes : List ℕ) (recovered : Recovered) : Type 0 where
+  pub texts : List (List ℕ)
+  pub placed : IsPlaced digest bytes texts recovered
+  pub stands : (past : List (List ℕ)) → old past → new (onto texts past)
+
+-- all before the place reads as texts, and there stands this. The size is that of the file, whose last bytes these are
+pub record IsFoundAt (first bytes : List ℕ) (size place : ℕ) (found : Next) : Type 0 where
+  pub texts : List (List ℕ)
+  pub rest : List ℕ
+  pub reads : Reads first bytes texts rest
+  pub found_is : next (last_link first texts) rest ≡ found
+  pub place_is : place + length rest ≡ size
+
+abbrev pub IsRefusal : List ℕ → List ℕ → JournalFault → Type 0
+IsRefusal digest bytes fault.Unknown = heading digest bytes ≡ unknown
+IsRefusal digest bytes fault.Setup = heading digest bytes ≡ of_another
+IsRefusal digest bytes (fault.Damaged place) =
+    (heading digest bytes ≡ headed (drop 56 bytes)) × IsFoundAt digest (drop 56 bytes) (length bytes) place damaged
+IsRefusal digest bytes (fault.Refused place) =
+    (heading digest bytes ≡ headed (drop 56 bytes)) × ((text : List ℕ) × IsFoundAt digest (drop 56 bytes) (length bytes) place (whole text))
+IsRefusal digest bytes fault.NoMemory = Unit {0}

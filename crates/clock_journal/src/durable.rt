@@ -1,0 +1,36 @@
+ghost use Rattle.std.specs.Prelude.{◌≡◌, ◌||◌, Bool, List, Option, ℕ, OnOk, OnErr, is_err};
+ghost use Rattle.clock_device.specs.Streams.{WritesText};
+ghost use Rattle.clock_journal.specs.Disks.{CutsTo};
+
+use clock_device::Failed;
+
+/// A file that is added to and cut off, and whose bytes can be put on the disk for good.
+///
+/// Contracts see the bytes that stand in it and those that are synced, where it tells them, and whether a call has failed. A
+/// stop of the machine leaves all that is synced, and of the rest some front.
+pub trait Durable {
+    ghost written: { Self → Option (List ℕ) };
+
+    ghost synced: { Self → Option (List ℕ) };
+
+    ghost has_failed: { Self → Bool };
+
+    /// Adds bytes at the end, or a front of them where it fails.
+    fn append(&mut self, bytes: &[u8]) -> Result<(), Failed>
+        ensures written { WritesText (written self.old) (written self.new) bytes.now result }
+        ensures synced { synced self.new ≡ synced self.old }
+        ensures failed { has_failed self.new ≡ (has_failed self.old || is_err result) };
+
+    /// Puts all bytes that stand in it on the disk.
+    fn sync(&mut self) -> Result<(), Failed>
+        ensures written { written self.new ≡ written self.old }
+        ensures ok { OnOk result (synced self.new ≡ written self.old) }
+        ensures err { OnErr result (synced self.new ≡ synced self.old) }
+        ensures failed { has_failed self.new ≡ (has_failed self.old || is_err result) };
+
+    /// Cuts the file off at a place, for good: what is left is on the disk.
+    fn cut(&mut self, place: usize) -> Result<(), Failed>
+        ensures written { CutsTo (written self.old) (written self.new) place result }
+        ensures synced { OnOk result (synced self.new ≡ written self.new) }
+        ensures failed { has_failed self.new ≡ (has_failed self.old || is_err result) };
+}

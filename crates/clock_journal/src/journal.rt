@@ -1,0 +1,170 @@
+ghost use Rattle.std.specs.Prelude.{◌≡◌, ◌++◌, ◌||◌, [], ◌∷◌, ◌≤◌, List, ℕ, OnOk, IfOk, Some, false, is_err, length};
+ghost use Rattle.clock_device.specs.Streams.{WritesText};
+ghost use Rattle.clock_journal.specs.Disks.{MayBeLeft};
+ghost use Rattle.clock_journal.specs.Format.{Fits, mark, link, record_of, most_text};
+ghost use Rattle.clock_journal.specs.Crash.{LeavesTexts};
+ghost use Rattle.clock_journal.specs.Kept.{HasTexts, Keeps};
+ghost use Rattle.clock_journal.specs.Recovering.{IsPlaced};
+
+use crate::durable::Durable;
+use crate::headings::head_of;
+use crate::link::{Link, link_of};
+use crate::recovered::Recovered;
+use clock_device::Failed;
+use std::marker::Model;
+
+/// A journal whose records so far are on the disk.
+///
+/// Contracts see what stands on its disk and what of that is synced, where the disk tells it, whether a call of it has failed,
+/// and the digest of the last text.
+#[derive(Drop)]
+pub struct Journal<D: Durable> {
+    disk: D,
+    chain: Link,
+}
+
+impl<D: Durable> Model for Journal<D> {
+    ghost use Rattle.clock_journal.specs.Kept.{JournalState};
+
+    ghost Value = { JournalState };
+
+    ghost view = { λ j. record {
+      written = D.written j.disk;
+      synced = D.synced j.disk;
+      has_failed = D.has_failed j.disk;
+      chain = j.chain;
+    } };
+}
+
+/// What stands before a text in its record.
+#[tactic(auto, unfolding(crate::specs::Format::mark))]
+fn front_of(count: usize, digest: &Link) -> [u8; 40]
+    requires { count ≤ most_text }
+    ensures { result ≡ mark count ++ digest.now }
+{
+    let told = (count as u32).to_be_bytes();
+    let mut front = [0; 40];
+    front[..4].copy_from_slice(&told);
+    front[4..8].copy_from_slice(&told);
+    front[8..].copy_from_slice(digest);
+    front
+}
+
+/// Adds the one and then the other, or a front of both where it fails.
+fn append_both<D: Durable>(disk: &mut D, one: &[u8], other: &[u8]) -> Result<(), Failed>
+    ensures written { WritesText (D.written disk.old) (D.written disk.new) (one.now ++ other.now) result }
+    ensures synced { D.synced disk.new ≡ D.synced disk.old }
+    ensures failed { D.has_failed disk.new ≡ (D.has_failed disk.old || is_err result) }
+{
+    match disk.append(one) {
+        Ok(()) => disk.append(other),
+        Err(failed) => Err(failed),
+    }
+}
+
+/// Adds the record of a text, or a front of it where it fails.
+fn append_record<D: Durable>(disk: &mut D, chain: &Link, text: &[u8]) -> Result<Link, Failed>
+    requires { Fits text.now }
+    ensures written { WritesText (D.written disk.old) (D.written disk.new) (record_of chain.now text.now) result }
+    ensures synced { D.synced disk.new ≡ D.synced disk.old }
+    ensures link { IfOk result (λ digest. digest ≡ link chain.now text.now) }
+    ensures failed { D.has_failed disk.new ≡ (D.has_failed disk.old || is_err result) }
+{
+    let digest = link_of(chain, text);
+    let front = front_of(text.len(), &digest);
+    append_both(disk, &front, text)?;
+    Ok(digest)
+}
+
+/// Adds the record of a text, and puts it on the disk.
+fn append_synced<D: Durable>(disk: &mut D, chain: &mut Link, text: &[u8]) -> Result<(), Failed>
+    requires fits { Fits text.now }
+    requires unfailed { D.has_failed disk.old ≡ false }
+    ensures kept { (digest : List ℕ) (texts : List (List ℕ)) → Keeps digest texts (D.written disk.old) (D.synced disk.old) chain.old
+        → OnOk result (Keeps digest (texts ++ text.now ∷ []) (D.written disk.new) (D.synced disk.new) chain.new) }
+    ensures any_moment { (digest : List ℕ) (texts : List (List ℕ)) → Keeps digest texts (D.written disk.old) (D.synced disk.old) chain.old
+        → (left : List ℕ) → MayBeLeft (D.synced disk.old) (D.written disk.new) left
+        → LeavesTexts digest left (texts ++ text.now ∷ []) (length texts) }
+    ensures link { OnOk result (chain.new ≡ link chain.old text.now) }
+    ensures failed { D.has_failed disk.new ≡ is_err result }
+{
+    match append_record(disk, chain, text) {
+        Ok(digest) => {
+            *chain = digest;
+            disk.sync()
+        }
+        Err(failed) => Err(failed),
+    }
+}
+
+impl<D: Durable> Journal<D> {
+    /// Begins a journal on an empty disk, for the set-up document of a digest: its head is on the disk.
+    pub fn begin(disk: D, digest: Link) -> Result<Journal<D>, Failed>
+    where
+        D: Drop,
+        requires unfailed { D.has_failed disk ≡ false }
+        ensures kept { D.written disk ≡ Some [] → IfOk result (λ journal. HasTexts digest [] journal) }
+        ensures unfailed { IfOk result (λ journal. journal.has_failed ≡ false) }
+    {
+        let mut disk = disk;
+        let head = head_of(&digest);
+        disk.append(&head)?;
+        disk.sync()?;
+        let chain = digest;
+        Ok(Journal { disk, chain })
+    }
+
+    /// Goes on with the journal of a file that was taken over, for the set-up document of a digest. All that stands in the file is
+    /// put on the disk, and what is torn is then cut off.
+    pub fn resume(disk: D, digest: Link, recovered: Recovered) -> Result<Journal<D>, Failed>
+    where
+        D: Drop,
+        requires unfailed { D.has_failed disk ≡ false }
+        ensures kept { (bytes : List ℕ) (texts : List (List ℕ)) → D.written disk ≡ Some bytes → IsPlaced digest bytes texts recovered
+            → IfOk result (λ journal. HasTexts digest texts journal) }
+        ensures unfailed { IfOk result (λ journal. journal.has_failed ≡ false) }
+    {
+        let mut disk = disk;
+        disk.sync()?;
+        disk.cut(recovered.end)?;
+        if recovered.end == 0 {
+            return Journal::begin(disk, digest);
+        }
+        let chain = recovered.chain;
+        Ok(Journal { disk, chain })
+    }
+
+    /// Adds a text. At `Ok` it is on the disk: no stop of the machine takes it. At `Err` it may be there or not, and the journal
+    /// is to be opened anew: nothing more can be added to this one, since a sync that failed says nothing when it is tried again.
+    ///
+    /// It takes no memory.
+    pub fn append(&mut self, text: &[u8]) -> Result<(), Failed>
+        requires fits { Fits text.now }
+        requires unfailed { self.old.has_failed ≡ false }
+        ensures kept { (digest : List ℕ) (texts : List (List ℕ)) → HasTexts digest texts self.old
+            → OnOk result (HasTexts digest (texts ++ text.now ∷ []) self.new) }
+        ensures any_moment { (digest : List ℕ) (texts : List (List ℕ)) → HasTexts digest texts self.old
+            → (left : List ℕ) → MayBeLeft self.old.synced self.new.written left
+            → LeavesTexts digest left (texts ++ text.now ∷ []) (length texts) }
+        ensures link { OnOk result (self.new.chain ≡ link self.old.chain text.now) }
+        ensures failed { self.new.has_failed ≡ is_err result }
+    {
+        append_synced(&mut self.disk, &mut self.chain, text)
+    }
+
+    /// The digest of its last text, or of the set-up document: it stands for all texts.
+    pub fn chain(&self) -> &Link
+        ensures { result.now ≡ self.now.chain }
+    {
+        &self.chain
+    }
+
+    /// The disk that it stands on.
+    pub fn disk(&self) -> &D
+        ensures written { D.written result.now ≡ self.now.written }
+        ensures synced { D.synced result.now ≡ self.now.synced }
+        ensures failed { D.has_failed result.now ≡ self.now.has_failed }
+    {
+        &self.disk
+    }
+}

@@ -1,0 +1,19 @@
+ghost use Rattle.std.specs.Prelude.{◌∷◌, List, ℕ, OnOk};
+
+/// Why a text was not taken: it is none that changes the machine as it stands, or there was no memory. The machine is not to be
+/// used any more.
+#[derive(Clone, Copy, Debug, PartialEq, Eq)]
+pub enum Untaken {
+    Refused,
+    NoMemory,
+}
+
+/// What stands for a list of texts.
+pub trait Machine {
+    /// It stands for these texts, of which the newest stands first.
+    ghost stands_for: { Self → List (List ℕ) → Type 0 };
+
+    /// Takes one more text.
+    fn take(&mut self, text: &[u8]) -> Result<(), Untaken>
+        ensures { OnOk result ((texts : List (List ℕ)) → stands_for self.old texts → stands_for self.new (text.now ∷ texts)) };
+}
