@@ -1,0 +1,119 @@
+#!/usr/bin/env python3
+"""A bidder that follows limits, as a sincere script of a replay document does.
+
+    TOKEN=.. examples/bidder.py URL LIMITS [--every SECONDS]
+
+LIMITS is a file as {"North": [2300, 1900], "South": [610]}: for each product, up to which price each block is wanted, never rising. The
+token comes from the environment, so that it stands neither in the shell's history nor in the list of processes. URL begins with http:// or
+https://; CA names a file of certificates where the system's own do not do. It prints each round's sheet and slip, and at the end what was
+won. It asks for the status each second, or as seldom as it is told, and misses no round that lasts longer than that. Where no reply comes
+it asks again. It ends with status 1 where a sheet is refused, a round is missed, or the round falls: then another server answers.
+"""
+import argparse
+import json
+import os
+import ssl
+import sys
+import time
+import urllib.error
+import urllib.request
+
+BUSY = (429, 502, 503, 504)
+TRIES = 60
+
+
+class Auction:
+    """The pages of an auction, as one bidder sees them."""
+
+    def __init__(self, url, token, every):
+        self.url, self.token, self.every = url.rstrip("/"), token, every
+        self.tls = ssl.create_default_context(cafile=os.environ.get("CA")) if url.startswith("https") else None
+
+    def ask(self, path, sheet=None):
+        """The page; asks again where no reply came, or who answered was busy. A refusal ends the program."""
+        body = None if sheet is None else json.dumps(sheet).encode()
+        headers = {"authorization": "Bearer " + self.token, "content-type": "application/json"}
+        request = urllib.request.Request(self.url + path, body, headers, method="GET" if sheet is None else "PUT")
+        for _ in range(TRIES):
+            try:
+                with urllib.request.urlopen(request, timeout=30, context=self.tls) as reply:
+                    return json.load(reply)
+            except urllib.error.HTTPError as error:
+                if error.code not in BUSY:
+                    sys.exit(f"{path} is refused: {error.read().decode(errors='replace')}")
+            except OSError as error:
+                print("no reply:", error, file=sys.stderr)
+            time.sleep(self.every)
+        sys.exit(f"{path}: no reply after {TRIES} times")
+
+    def prices(self, products, number):
+        """The start and clock prices of a round."""
+        if number == 1:
+            return [(product["opening"], product["opening"]) for product in products]
+        return [(product["posted"], product["next"]) for product in self.ask(f"/v1/rounds/{number - 1}")["products"]]
+
+    def wait(self, number):
+        """Returns once a round is closed."""
+        while True:
+            status = self.ask("/v1/status")
+            if status["round"] < number:
+                sys.exit(f"the round fell from {number} to {status['round']}: this is another auction")
+            if status["round"] > number + 1:
+                sys.exit(f"round {number + 1} was missed")
+            if status["ended"] or status["round"] > number:
+                return
+            time.sleep(self.every)
+
+
+def first_bids(limits, clock):
+    """As many blocks as have a limit at or above the opening price."""
+    quantity = sum(limit >= clock for limit in limits)
+    return [(quantity, clock)] if quantity else []
+
+
+def later_bids(limits, held, start, clock):
+    """A held block leaves at its limit, or at the start price if that is higher; where none leaves, all are kept."""
+    limits = limits[:held]
+    leaving = sorted({max(start, limit) for limit in limits if limit < clock})
+    if held and not leaving:
+        return [(held, clock)]
+    return [(sum(limit > price for limit in limits), price) for price in leaving]
+
+
+def bids_of(wanted, products, prices, held, number):
+    bids = []
+    for place, (product, (start, clock)) in enumerate(zip(products, prices)):
+        limits = wanted.get(product["name"], [])
+        steps = first_bids(limits, clock) if number == 1 else later_bids(limits, held[place], start, clock)
+        bids += [{"price": price, "product": place, "quantity": quantity} for quantity, price in steps]
+    return bids
+
+
+def play(auction, wanted):
+    products = auction.ask("/v1/products")["products"]
+    while not (account := auction.ask("/v1/me"))["ended"]:
+        number = account["round"]
+        sheet = {"bids": bids_of(wanted, products, auction.prices(products, number), account["demands"], number), "round": number}
+        print("sheet", json.dumps(sheet), auction.ask("/v1/me/bids", sheet)["accepted"], flush=True)
+        auction.wait(number)
+        print("slip", json.dumps(auction.ask(f"/v1/me/rounds/{number}")), flush=True)
+    last = auction.ask(f"/v1/rounds/{account['round']}")["products"]
+    pay = sum(blocks * product["posted"] for blocks, product in zip(account["demands"], last))
+    print("won", account["name"], *account["demands"], pay)
+
+
+def main():
+    parser = argparse.ArgumentParser(description=__doc__, formatter_class=argparse.RawDescriptionHelpFormatter)
+    parser.add_argument("url")
+    parser.add_argument("limits")
+    parser.add_argument("--every", type=float, default=1.0)
+    arguments = parser.parse_args()
+    if "TOKEN" not in os.environ:
+        sys.exit("TOKEN is to be set in the environment")
+    with open(arguments.limits) as file:
+        wanted = json.load(file)
+    play(Auction(arguments.url, os.environ["TOKEN"], arguments.every), wanted)
+
+
+if __name__ == "__main__":
+    main()

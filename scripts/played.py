@@ -1,0 +1,140 @@
+"""Auctions played over a server, request by request, in which each page of each route comes, and each refusal but want of memory."""
+import json
+import pathlib
+import subprocess
+
+from fuzzing.requests import Server, request
+from loopback import reply_to
+
+# The routes as docs/formats.md names them: whose token they want ("" none, X a bidder's, O the operator's), and the methods.
+ROUTES = {
+    "/v1/status": ("", ["GET"]),
+    "/v1/products": ("", ["GET"]),
+    "/v1/rounds/{n}": ("", ["GET"]),
+    "/v1/me": ("X", ["GET"]),
+    "/v1/me/bids": ("X", ["GET", "PUT"]),
+    "/v1/me/rounds/{n}": ("X", ["GET"]),
+    "/v1/close": ("O", ["POST"]),
+    "/v1/results": ("O", ["GET"]),
+    "/{other}": ("", ["GET"]),
+}
+TOKENS = {"": "", "X": f"authorization: Bearer {'X' * 16}\r\n", "O": "authorization: Bearer OPERATOROPERATOR\r\n"}
+
+
+def path_of(route, number=1):
+    return route.replace("{n}", str(number)).replace("{other}", "v1/none")
+
+
+def sheet(*bids, number=1):
+    """A body of these bids, each a product, a quantity and a price."""
+    rows = [{"price": price, "product": product, "quantity": quantity} for product, quantity, price in bids]
+    return json.dumps({"bids": rows, "round": number}, separators=(",", ":")).encode()
+
+
+def closing(ties=(), increment=10, number=1):
+    return json.dumps({"increment": increment, "round": number, "ties": list(ties)}, separators=(",", ":")).encode()
+
+
+def put(letter, body):
+    return "PUT", "/v1/me/bids", request("PUT /v1/me/bids", letter, body)
+
+
+def close(body):
+    return "POST", "/v1/close", request("POST /v1/close", "O", body)
+
+
+def get(route, letter=None, number=1):
+    return "GET", route, request(f"GET {path_of(route, number)}", ROUTES[route][0] if letter is None else letter)
+
+
+def refused_by_the_head(method, route):
+    """For one method of a route, each refusal that the head alone can have."""
+    owner, _ = ROUTES[route]
+    line, token = f"{method} {path_of(route)} HTTP/1.1\r\n", TOKENS[owner]
+    for rest in ("x: y\r\n" * 70 + "\r\n", "x\r\n\r\n", "transfer-encoding: chunked\r\n\r\n", "content-length: x\r\n\r\n", "content-length: 1048577\r\n\r\n", "content-length: 9\r\n\r\n1"):
+        yield method, route, (line + token + rest).encode()
+    yield method, route, (f"DELETE {path_of(route)} HTTP/1.1\r\n{token}\r\n").encode()
+    if owner:
+        yield method, route, request(f"{method} {path_of(route)}")
+        yield method, route, request(f"{method} {path_of(route)}", "O" if owner == "X" else "X")
+
+
+def refused_bodies():
+    """In round 1: bodies that are refused."""
+    for body in (b"{", b"{}", sheet(number=2), sheet(*[(0, 1, 100)] * 8193), sheet((1, 1, 100)), sheet((0, 1, 101)), sheet((0, 3, 100))):
+        yield put("X", body)
+    for body in (b"{", b"{}", closing(number=2), closing(increment=51), closing([[0, 0, 1]] * 16_385), closing([[9, 0, 1]]), closing([[0, 0, 1]] * 2)):
+        yield close(body)
+
+
+def one_product():
+    """The auction of examples/one_product.json, to its end."""
+    for route, (_, methods) in ROUTES.items():
+        for method in methods:
+            yield from refused_by_the_head(method, route)
+    for route in ROUTES:
+        if "GET" in ROUTES[route][1]:
+            yield get(route)
+    yield from refused_bodies()
+    yield put("X", sheet((0, 2, 100)))
+    yield put("Y", sheet((0, 1, 100)))
+    yield get("/v1/me/bids")
+    yield close(closing())
+    for bids in ([(0, 1, 104), (0, 0, 103)], [(0, 1, 103), (0, 2, 110)], [(0, 2, 103)]):
+        yield put("X", sheet(*bids, number=2))
+    yield put("X", sheet((0, 0, 103), number=2))
+    yield put("Y", sheet((0, 1, 110), number=2))
+    for route in ROUTES:
+        if "GET" in ROUTES[route][1]:
+            yield get(route)
+    yield close(closing(number=2))
+    yield put("X", sheet(number=2))
+    yield close(closing(number=2))
+    for route in ROUTES:
+        if "GET" in ROUTES[route][1]:
+            yield get(route, number=2)
+
+
+def little_eligibility():
+    yield put("X", sheet((0, 2, 100)))
+
+
+def highest_price():
+    yield put("X", sheet((0, 2, 10**12)))
+    yield put("Y", sheet((0, 1, 10**12)))
+    yield close(closing())
+
+
+def version_2():
+    yield get("/v1/products")
+    yield "POST", "/v1/close", request("POST /v1/close", "O", b'{"increments":[10,20],"round":1,"ties":[[0,1,7]]}')
+
+
+def changed_setups(top, folder):
+    """The set-ups' files, each with its auction."""
+    text = (top / "examples" / "one_product.json").read_text()
+    yield top / "examples" / "one_product.json", list(one_product())
+    for name, change, auction in (("eligibility", ("bidders", "eligibility", 1), little_eligibility()), ("price", ("products", "opening", 10**12), highest_price())):
+        setup = json.loads(text)
+        part, key, value = change
+        setup[part][0][key] = value
+        file = pathlib.Path(folder) / f"{name}.json"
+        file.write_text(json.dumps(setup))
+        yield file, list(auction)
+    yield top / "examples" / "granules_and_increments.json", list(version_2())
+
+
+def replies(program, top, folder):
+    """For each request of the auctions: its method, its route, its bytes, the reply's status and the text of its page."""
+    for file, auction in changed_setups(top, folder):
+        server = Server(program, str(file), len(auction))
+        try:
+            for method, route, text in auction:
+                head, _, page = reply_to(server.port, text).partition(b"\r\n\r\n")
+                yield method, route, text, int(head.split(b" ")[1]), page.decode()
+            server.process.wait(10)
+        except subprocess.TimeoutExpired:
+            raise SystemExit(f"{file}: the server did not end after its {len(auction)} connections")
+        finally:
+            if server.process.poll() is None:
+                server.process.kill()
