@@ -1,0 +1,87 @@
+// The server's routes. A token stays in the object that asks, in this tab's memory, and goes nowhere but into the request's header.
+
+const SECONDS = 20;
+
+/** What the server refused, or that nothing answered (then `status` is 0). */
+export class Fault extends Error {
+  constructor(page, status) {
+    super(page.code);
+    this.code = page.code;
+    this.place = page.place;
+    this.round = page.round;
+    this.status = status;
+  }
+}
+
+const pause = (time) => new Promise((done) => setTimeout(done, time));
+
+/** Somebody who asks: a bidder, the operator, or anybody where there is no token. */
+export class Asker {
+  #token;
+
+  constructor(token) {
+    this.#token = token;
+  }
+
+  /** The page for a path, or a Fault. A proxy that says "too often" is asked again a little later, five times. */
+  async ask(path, method = "GET", body = undefined) {
+    for (let again = 0; ; again++) {
+      const reply = await this.#send(path, method, body);
+      if (reply.status === 429 && again < 5) {
+        await pause(500 * (again + 1));
+        continue;
+      }
+      let page;
+      try {
+        page = await reply.json();
+      } catch {
+        throw new Fault({ code: "no_answer" }, 0);
+      }
+      if (!reply.ok) throw new Fault(page, reply.status);
+      return page;
+    }
+  }
+
+  async #send(path, method, body) {
+    const headers = this.#token ? { authorization: "Bearer " + this.#token } : {};
+    try {
+      return await fetch(path, {
+        method, headers, cache: "no-store", credentials: "omit", referrerPolicy: "no-referrer",
+        body: body === undefined ? undefined : JSON.stringify(body), signal: AbortSignal.timeout(SECONDS * 1000),
+      });
+    } catch {
+      throw new Fault({ code: "no_answer" }, 0);
+    }
+  }
+
+  status() { return this.ask("/v1/status"); }
+  products() { return this.ask("/v1/products"); }
+  round(n) { return this.ask("/v1/rounds/" + n); }
+  account() { return this.ask("/v1/me"); }
+  inForce() { return this.ask("/v1/me/bids"); }
+  slip(n) { return this.ask("/v1/me/rounds/" + n); }
+  put(round, bids) { return this.ask("/v1/me/bids", "PUT", { bids, round }); }
+  close(closing) { return this.ask("/v1/close", "POST", closing); }
+  results() { return this.ask("/v1/results"); }
+}
+
+/** Asks the status every second, and every five while nothing answers. `heard` takes the status, or null. */
+export function watch(asker, heard) {
+  let stopped = false;
+  (async () => {
+    while (!stopped) {
+      let status = null;
+      try {
+        status = await asker.status();
+      } catch { /* told as null */ }
+      if (stopped) return;
+      try {
+        await heard(status);
+      } catch {
+        status = null;
+      }
+      await pause(status ? 1000 : 5000);
+    }
+  })();
+  return () => { stopped = true; };
+}

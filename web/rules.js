@@ -1,0 +1,97 @@
+// The rules of a sheet, as docs/rules.md and docs/formats.md tell them: activity, its limit, and the first fault.
+// Nothing is decided here. The server judges; this says beforehand what it would say. Numbers of activity and cost are
+// BigInt, since 4,096 products of 1,000 blocks at 10^12 dollars pass what a Number keeps whole.
+
+export const MOST_BIDS = 8192;
+
+/** What each fault of a sheet or of its sending means, in the words of docs/bidders.md. */
+export const WORDS = {
+  too_many: "more than 8,192 bids: send fewer",
+  unknown_product: "no product has that number",
+  price_range: "the price is not from start to clock: take the prices of this round",
+  over_cap: "the quantity is above the product's cap: ask for less",
+  price_order: "an earlier bid for the product has this price or a higher one: give rising prices",
+  mixed_direction: "the quantity doesn't go on in the direction of the bids before it: only less and less, or only more and more",
+  keep_price: "the quantity is what you hold, and the price not the clock price: to keep, bid at the clock price",
+  over_activity: "the sheet asks for more activity than it may: ask for less of something",
+  ended: "the auction is over: read the last round",
+  wrong_round: "another round is the current one: read the new prices, and bid anew",
+  no_round: "that round is not closed",
+  token: "no token, or a token of nobody",
+  role: "this token is not for this page",
+  memory: "the server had no memory; nothing was changed: send it again",
+  no_answer: "nothing answers: it is asked again",
+  long_body: "the sheet is too long to be sent",
+  shape: "a value is no whole number from 0 on",
+  bad_json: "what was sent is no JSON",
+  increment: "an increment is not 1 to 50, or there is not one for each product",
+  too_many_ties: "more than 16,384 tie numbers: send fewer",
+  tie_range: "a tie number names a bidder or product that there is not",
+  tie_repeated: "a pair has two tie numbers",
+  price_limit: "the next clock price of a product would be above 10^12 dollars: take a smaller increment",
+};
+
+/** The words of a code, or the code where it has none here. */
+export const wordsOf = (code) => (Object.hasOwn(WORDS, code) ? WORDS[code] : "refused: " + code);
+
+/** The activity of demands, one for each product. */
+export function activityOf(products, demands) {
+  return products.reduce((sum, product, at) => sum + BigInt(product.units) * BigInt(demands[at]), 0n);
+}
+
+/** What a sheet asks to hold in the end: the last bid of each product, 0 without a bid. */
+export function askedDemands(products, bids) {
+  const asked = new Array(products.length).fill(0);
+  for (const bid of bids) if (bid.product < products.length) asked[bid.product] = bid.quantity;
+  return asked;
+}
+
+/** The most activity that a sheet of the round may ask for. */
+export function activityLimit(round, eligibility, limit = 100) {
+  return round === 1 ? BigInt(eligibility) : (BigInt(eligibility) * BigInt(limit)) / 100n;
+}
+
+/** The cost of a sheet at the prices that it asks: each product's last quantity at its last price. */
+export function costOf(products, bids) {
+  const last = new Map();
+  for (const bid of bids) last.set(bid.product, BigInt(bid.quantity) * BigInt(bid.price));
+  let sum = 0n;
+  for (const cost of last.values()) sum += cost;
+  return sum;
+}
+
+/** The first fault of one more bid, or null. `before` are the product's bids before it, none of them at fault. */
+function faultOfBid(terms, before, bid) {
+  const product = terms.products[bid.product];
+  if (!product) return "unknown_product";
+  const { start, clock } = terms.prices[bid.product];
+  if (bid.price < start || bid.price > clock) return "price_range";
+  if (bid.quantity > product.cap) return "over_cap";
+  const held = terms.held[bid.product];
+  if (before.length === 0) return bid.quantity === held && bid.price !== clock ? "keep_price" : null;
+  const last = before[before.length - 1];
+  if (last.price >= bid.price) return "price_order";
+  const goesOn = before[0].quantity > held ? bid.quantity > last.quantity : bid.quantity < last.quantity;
+  return goesOn ? null : "mixed_direction";
+}
+
+/** Every fault of the bids, as {code, place}, by rising place; a bid behind a fault of its product is judged as if the faulty one were not. */
+export function faultsOf(terms, bids) {
+  if (bids.length > MOST_BIDS) return [{ code: "too_many" }];
+  const faults = [];
+  const chains = new Map();
+  bids.forEach((bid, place) => {
+    const before = chains.get(bid.product) ?? [];
+    const code = faultOfBid(terms, before, bid);
+    if (code) faults.push({ code, place });
+    else chains.set(bid.product, [...before, bid]);
+  });
+  if (faults.length === 0) {
+    const asked = activityOf(terms.products, askedDemands(terms.products, bids));
+    if (asked > activityLimit(terms.round, terms.eligibility, terms.limit)) faults.push({ code: "over_activity" });
+  }
+  return faults;
+}
+
+/** The first fault, which is what the server tells, or null. */
+export const firstFault = (terms, bids) => faultsOf(terms, bids)[0] ?? null;
