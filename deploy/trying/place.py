@@ -1,0 +1,109 @@
+"""What a trial of program and nginx needs: free ports, waiting, and both started in a folder of their own."""
+import pathlib
+import re
+import shutil
+import socket
+import subprocess
+import sys
+import tempfile
+import time
+
+TOP = pathlib.Path(__file__).resolve().parents[2]
+sys.path.insert(0, str(TOP / "scripts"))
+
+from loopback import free_port
+
+
+class Failed(Exception):
+    """What was tried did not come."""
+
+
+def wait_for(what, condition, seconds):
+    """Waits until the condition holds, at most so long."""
+    end = time.monotonic() + seconds
+    while not condition():
+        if time.monotonic() > end:
+            raise Failed(f"waited {seconds} s in vain: {what}")
+        time.sleep(0.02)
+
+
+def listens(port):
+    """Whether somebody listens there."""
+    with socket.socket() as asked:
+        return asked.connect_ex(("127.0.0.1", port)) == 0
+
+
+def has_journal(program):
+    """Whether the program's help names the option."""
+    said = subprocess.run([program, "serve", "--help"], capture_output=True, text=True, timeout=10)
+    return "--journal" in said.stdout + said.stderr
+
+
+def started(program, setup, port):
+    """A server of its own, once it listens."""
+    words = [program, "serve", "--setup", setup, "--port", str(port), "--connections", "1000000"]
+    server = subprocess.Popen(words, stdin=subprocess.DEVNULL, stdout=subprocess.PIPE)
+    if server.stdout.readline() != b"ready %d\n" % port:
+        raise Failed("the server is not ready")
+    return server
+
+
+class Place:
+    """Program and nginx in a folder of their own, on free ports of this machine, as docs/operators.md starts them."""
+
+    def __init__(self, program, setup_text):
+        self.folder = pathlib.Path(tempfile.mkdtemp(prefix="deploy-"))
+        self.children = []
+        self.server_port, self.outside, self.inside = free_port(), free_port(), free_port()
+        try:
+            self.write(setup_text)
+            self.server = self.keep(started(program, self.folder / "setup.json", self.server_port))
+            words = ["nginx", "-p", self.folder, "-c", "nginx.conf", "-g", "daemon off;"]
+            with open(self.folder / "nginx.words", "wb") as said:
+                self.nginx = self.keep(subprocess.Popen(words, stdin=subprocess.DEVNULL, stdout=said, stderr=said))
+            wait_for("nginx listens", lambda: listens(self.outside) or self.nginx.poll() is not None, 10)
+            if self.nginx.poll() is not None:
+                raise Failed("nginx ended: " + (self.folder / "nginx.words").read_text().strip())
+        except BaseException:
+            self.stop()
+            raise
+
+    def keep(self, child):
+        """Notes a child that stop() ends."""
+        self.children.append(child)
+        return child
+
+    def write(self, setup_text):
+        """The folder's files: the set-up and its tokens for their owner alone, the pages, the certificate, nginx's configuration."""
+        self.folder.chmod(0o755)              # nginx's workers are another user
+        (self.folder / "tmp").mkdir()
+        for name in ("sheets.log", "access.log"):
+            (self.folder / "tmp" / name).touch(0o600)
+        setup = self.folder / "setup.json"
+        setup.touch(0o600)
+        setup.write_text(setup_text)
+        lines = subprocess.run([sys.executable, TOP / "deploy/tokens", setup], check=True, capture_output=True).stdout
+        tokens = self.folder / "bidders.map"
+        tokens.touch(0o600)
+        tokens.write_bytes(lines)
+        shutil.copytree(TOP / "web", self.folder / "web")
+        ports = {"8105": self.server_port, "8106": self.inside, "8443": self.outside}
+        text = (TOP / "deploy/nginx.conf").read_text().replace("listen 8443", "listen 127.0.0.1:8443")   # a trial is for this machine alone
+        text = re.sub(r"\n *listen \[::\][^\n]*", "", text)
+        (self.folder / "nginx.conf").write_text(re.sub(r"\b(8105|8106|8443)\b", lambda port: str(ports[port[0]]), text))
+        subprocess.run(["openssl", "req", "-x509", "-newkey", "rsa:2048", "-nodes", "-days", "30", "-subj", "/CN=localhost",
+                        "-addext", "subjectAltName=DNS:localhost,IP:127.0.0.1", "-keyout", self.folder / "key.pem",
+                        "-out", self.folder / "cert.pem"], check=True, capture_output=True)
+
+    def stop(self):
+        """Ends what was started here, and removes the folder."""
+        for child in self.children:
+            if child.poll() is None:
+                child.terminate()
+        for child in self.children:
+            try:
+                child.wait(10)
+            except subprocess.TimeoutExpired:
+                child.kill()
+                child.wait()
+        shutil.rmtree(self.folder, ignore_errors=True)
