@@ -1,11 +1,11 @@
 //! Times the order of processing: 500,000 changes with 16,384 tie numbers.
-//! Uses: clock_order clock_bids clock_money clock_setup clock_device anyhow
+//! Uses: clock_order clock_setup clock_terms clock_money clock_device anyhow
 #![tactic(auto)]
 
-use clock_bids::{Change, Changes, Kind};
 use clock_money::Point;
 use clock_order::{Tie, Ties, ordered};
 use clock_setup::read_setup;
+use clock_terms::{Change, Changes, Kind};
 use std::alloc::Global;
 use std::io::Read;
 use std::time::Instant;

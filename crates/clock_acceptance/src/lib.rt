@@ -21,3 +21,7 @@ mod settle;
 mod settling;
 #[cfg(test)]
 mod sheets;
+#[cfg(test)]
+mod terms;
+#[cfg(test)]
+mod views;

@@ -1,17 +1,17 @@
 //! Requests as data, and their settling by any processor.
 
 ghost use Rattle.std.specs.Prelude.{◌≡◌, ◌≤◌, ◌<◌, ℕ, length, All, IfOk, IsTrue};
-ghost use Rattle.clock_setup.specs.Limits.{most_supply};
-ghost use Rattle.clock_setup.specs.Demands.{IsGrid};
-ghost use Rattle.clock_bids.specs.Requests.{KeepWithinCap, asked_of, is_request_of};
+ghost use Rattle.clock_terms.specs.Limits.{most_supply};
+ghost use Rattle.clock_terms.specs.Demands.{IsGrid};
+ghost use Rattle.clock_terms.specs.Requests.{KeepWithinCap, asked_of, is_request_of};
 ghost use Rattle.clock_processor.specs.Board.{IsWithinEligibility};
 ghost use Rattle.clock_processor.specs.Requests.{AskWithinCaps, IsRequest};
 
-use clock_bids::{Change, Changes, Kind};
 use clock_device::NoMemory;
 use clock_money::Point;
 use clock_processor::{Board, Processor, Settled};
 use clock_setup::{Amounts, Grid, Product, Setup, read_setup};
+use clock_terms::{Change, Changes, Kind};
 use std::alloc::Global;
 use std::test::Fail;
 

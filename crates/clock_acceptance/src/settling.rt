@@ -1,10 +1,10 @@
 //! Settlings: what requests come to, with the rescanned list and with the event queue.
 
 use crate::settle::{Asked, settle_twice};
-use clock_bids::Kind;
 use clock_processor::{Plain, Processor};
 use clock_queue::Woken;
 use clock_setup::fixtures::TWO_PRODUCTS;
+use clock_terms::Kind;
 use std::alloc::{AllocError, Global};
 use std::process::Abort;
 use std::test::Fail;

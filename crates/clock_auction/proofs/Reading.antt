@@ -4,7 +4,8 @@ use Rattle.std.proofs.lemmas.List.{append-nil, length-append}
 use Rattle.clock_device.specs.Streams.{HasRead}
 use Rattle.clock_device.proofs.Streams.{read_twice}
 use Rattle.clock_device.specs.Readings.{Reading}
-use Rattle.clock_auction.specs.Input.{IsReadingOf, IsStepOf, Takes, is_input_fault, most_bytes}
+use Rattle.clock_auction.specs.Input.{IsReadingOf, Takes, most_bytes}
+use Rattle.clock_auction.specs.inside.Input.{IsStepOf, is_input_fault}
 use Rattle.clock_auction.specs.declared.fault.Fault.{Fault}
 use Rattle.clock_auction.specs.declared.fault.Fault.TheVariants as fault
 

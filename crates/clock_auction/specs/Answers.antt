@@ -1,12 +1,12 @@
 -- What a job answers to a document: the text that it prints, or the document's fault. (Own formats.)
 --     answer_of job document     the answer
 use Rattle.std.specs.Prelude.{ℕ, List, Option, Some, None, Result, Ok, Err}
-use Rattle.clock_setup.specs.Limits.{SetupFields}
-use Rattle.clock_setup.specs.Prices.{opening_prices}
+use Rattle.clock_terms.specs.Limits.{SetupFields}
+use Rattle.clock_terms.specs.Prices.{opening_prices}
 use Rattle.clock_setup.specs.SetupDocument.{document_setup}
 use Rattle.clock_setup.specs.OpeningDocument.{document_opening}
 use Rattle.clock_setup.specs.declared.fault.SetupFault.{SetupFault}
-use Rattle.clock_setup.specs.declared.increments.Increments.TheVariants.{Single}
+use Rattle.clock_terms.specs.declared.increments.Increments.TheVariants.{Single}
 use Rattle.clock_setup.specs.declared.opening.Opening.{Opening}
 use Rattle.clock_setup.specs.declared.opening.OpeningFault.{OpeningFault}
 use Rattle.clock_posting.specs.Posting.{opening_posted, price_limit_fault, round_sheet}

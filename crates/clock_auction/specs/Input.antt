@@ -5,8 +5,7 @@
 --     HasFailedRead, RunsOutOfReads     the two causes of the fault `input`
 --     ReadsTooMuch     one byte more than the program reads was taken
 --     IsReadingOf     how reading ended, by its result
---     IsStepOf     what one read came to
-use Rattle.std.specs.Prelude.{◌≡◌, ◌≤◌, ◌⊎◌, ◌+◌, ◌++◌, ℕ, List, [], length, Option, Bool, true, false, Result, Ok, Err}
+use Rattle.std.specs.Prelude.{◌≡◌, ◌≤◌, ◌⊎◌, ◌+◌, ℕ, List, length, true, false, Result, Ok, Err}
 use Rattle.clock_device.specs.Streams.{HasRead, IsReadOut}
 use Rattle.clock_device.specs.Readings.{Reading}
 use Rattle.clock_auction.specs.declared.fault.Fault.{Fault}
@@ -56,26 +55,3 @@ IsReadingOf reading (Err fault.Input) = HasFailedRead reading ⊎ RunsOutOfReads
 IsReadingOf reading (Err fault.LongInput) = ReadsTooMuch reading × (reading.has_failed ≡ false)
 IsReadingOf reading (Err fault.Memory) = TakesUpTo 1 reading × (reading.has_failed ≡ false)
 IsReadingOf reading (Err other) = ⊥
-
--- one read gave these bytes, and they were added to the document
-pub record AddsRead (left left_after : Option (List ℕ)) (document document_after : List ℕ) (bytes : List ℕ) : Type 0 where
-  pub read : HasRead left left_after bytes
-  pub added : document_after ≡ document ++ bytes
-  pub few : length document_after ≤ most_bytes
-
--- what one read comes to: its bytes are added, and the answer tells that none is left; or it failed; or it gave one byte
--- too many; or there was no memory for its bytes
-abbrev pub IsStepOf : Option (List ℕ) → Option (List ℕ) → List ℕ → List ℕ → Result Bool Fault → Type 0
-IsStepOf left left_after document document_after (Ok ended) =
-    ((bytes : List ℕ) × AddsRead left left_after document document_after bytes) × (ended ≡ true → IsReadOut left_after)
-IsStepOf left left_after document document_after (Err fault.Input) = HasRead left left_after []
-IsStepOf left left_after document document_after (Err fault.LongInput) =
-    (bytes : List ℕ) × HasRead left left_after bytes × (length (document ++ bytes) ≡ most_bytes + 1)
-IsStepOf left left_after document document_after (Err fault.Memory) =
-    (bytes : List ℕ) × HasRead left left_after bytes × (length (document ++ bytes) ≤ most_bytes)
-IsStepOf left left_after document document_after (Err other) = ⊥
-
--- the read failed
-abbrev pub is_input_fault : {A : Type 0} → Result A Fault → Bool
-is_input_fault (Err fault.Input) = true
-is_input_fault _ = false

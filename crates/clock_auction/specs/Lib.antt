@@ -4,3 +4,4 @@ pub mod PriceLines
 pub mod FaultLines
 pub mod Answers
 pub mod Run
+pub mod inside

@@ -4,7 +4,7 @@ use Rattle.std.specs.Prelude.{ℕ, List, ◌++◌, codes, decimal}
 use Rattle.std.specs.List.{flat_map}
 use Rattle.clock_device.specs.Decimal.{number_or_dash}
 use Rattle.clock_money.specs.Price.{raise}
-use Rattle.clock_setup.specs.declared.setup.Product.{Product}
+use Rattle.clock_terms.specs.declared.setup.Product.{Product}
 
 -- NAME OPENING CLOCK, parted by one space, where the clock price is the opening price raised by so many percent to a whole
 -- multiple of the product's granule

@@ -1,6 +1,6 @@
 ghost use Rattle.std.specs.Prelude.{◌≡◌, ◌≢◌, ◌≤◌, Ok, Err, length, IfOk, IfErr};
-ghost use Rattle.clock_setup.specs.Demands.{IsGrid};
-ghost use Rattle.clock_setup.specs.Increments.{IsIncrement};
+ghost use Rattle.clock_terms.specs.Demands.{IsGrid};
+ghost use Rattle.clock_terms.specs.Increments.{IsIncrement};
 ghost use Rattle.clock_setup.specs.SetupDocument.{document_setup};
 ghost use Rattle.clock_auction.specs.Answers.{answer_of, first_round, played, read_in};
 ghost use Rattle.clock_sim.specs.Rehearsal.{simulated};

@@ -1,7 +1,7 @@
 ghost use Rattle.std.specs.Prelude.{◌≡◌, ◌++◌, ◌||◌, codes, decimal, is_err};
 ghost use Rattle.clock_device.specs.Streams.{WritesText};
 ghost use Rattle.clock_auction.specs.FaultLines.{fault_line, fault_words, opening_words, place_words, script_words, setup_words, simulation_words};
-ghost use Rattle.clock_views.specs.Codes.{text_of};
+ghost use Rattle.clock_http.specs.Codes.{text_of};
 
 use crate::fault::Fault;
 use clock_device::{Failed, Sink, write_all, write_number};

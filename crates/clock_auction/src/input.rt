@@ -1,7 +1,8 @@
 ghost use Rattle.std.specs.Prelude.{◌≡◌, ◌≤◌, ◌<◌, ◌+◌, ◌||◌, false, length, IfOk};
 ghost use Rattle.clock_device.specs.Calls.{IsUnread, count_after};
-ghost use Rattle.clock_device.specs.Readings.{GrowsByOneAtMost};
-ghost use Rattle.clock_auction.specs.Input.{IsReadingOf, IsStepOf, is_input_fault, most_bytes, most_reads};
+ghost use Rattle.clock_device.specs.inside.Readings.{GrowsByOneAtMost};
+ghost use Rattle.clock_auction.specs.Input.{IsReadingOf, most_bytes, most_reads};
+ghost use Rattle.clock_auction.specs.inside.Input.{IsStepOf, is_input_fault};
 
 use crate::fault::Fault;
 use clock_device::{Source, Stop, Text, room_for_read};

@@ -1,11 +1,11 @@
 ghost use Rattle.std.specs.Prelude.{◌≡◌, ◌++◌, All, IfOk, OnOk};
-ghost use Rattle.clock_setup.specs.Increments.{IsIncrement};
-ghost use Rattle.clock_setup.specs.Limits.{IsProduct};
+ghost use Rattle.clock_terms.specs.Increments.{IsIncrement};
+ghost use Rattle.clock_terms.specs.Limits.{IsProduct};
 ghost use Rattle.clock_auction.specs.PriceLines.{price_line, price_lines};
 
 use clock_device::{NoMemory, Text};
 use clock_money::clock_price;
-use clock_setup::{Product, Setup};
+use clock_terms::{Product, Setup};
 use std::alloc::Global;
 
 /// The price lines of a set-up, with clock prices at this increment in percent.

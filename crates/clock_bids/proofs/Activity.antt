@@ -4,38 +4,15 @@ use Rattle.std.specs.Prelude.{Option, None, zip}
 use Rattle.std.proofs.lemmas.List.{get_or_default}
 use Rattle.std.proofs.lemmas.List.Sums.{sum_by-cons}
 use Rattle.std.proofs.lemmas.List.FromFn.{get_or-map-range_with_len}
-use Rattle.clock_setup.specs.declared.setup.Product.{Product}
-use Rattle.clock_setup.specs.Limits.{units_of, no_product}
-use Rattle.clock_setup.specs.Eligibility.{activity}
+use Rattle.clock_terms.specs.declared.setup.Product.{Product}
+use Rattle.clock_terms.specs.Limits.{units_of, no_product}
+use Rattle.clock_terms.specs.Eligibility.{activity}
+use Rattle.clock_terms.proofs.ActivityLaws.{activity-set, demand_taken}
 use Rattle.clock_bids.specs.declared.sheet.Bid.{Bid}
 use Rattle.clock_bids.specs.Sheet.{chain_of, last_quantity, asked_demands}
-use Rattle.clock_bids.specs.Chains.{last_of, last_bids, quantity_of}
+use Rattle.clock_bids.specs.inside.Chains.{last_of, last_bids, quantity_of}
 use Rattle.clock_bids.proofs.Chains.{last_quantity-after}
 use Rattle.clock_bids.proofs.Tables.{no_bid, asked_demands-more, length-asked_demands}
-
--- the activity of a row in which one demand changes
-pub activity-set : (products : List Product) (row : List ℕ) (p v : ℕ) → p < length products → p < length row →
-    activity products (set row p v) + units_of products p * get_or row p 0 ≡ activity products row + units_of products p * v
-activity-set [] row p v a b = absurd (omega (arith, a))
-activity-set (x ∷ products) [] p v a b = absurd (omega (arith, b))
-activity-set (x ∷ products) (y ∷ row) zero v a b =
-    omega (
-      arith,
-      sum_by-cons (λ (line : Product × ℕ). line.0.units * line.1) (x, v) (zip products row),
-      sum_by-cons (λ (line : Product × ℕ). line.0.units * line.1) (x, y) (zip products row),
-    )
-activity-set (x ∷ products) (y ∷ row) (suc p) v a b =
-    omega (
-      arith,
-      activity-set products row p v (omega (arith, a)) (omega (arith, b)),
-      sum_by-cons (λ (line : Product × ℕ). line.0.units * line.1) (x, y) (zip products row),
-      sum_by-cons (λ (line : Product × ℕ). line.0.units * line.1) (x, y) (zip products (set row p v)),
-    )
-
--- one demand takes no more than all do
-pub demand_taken : (products : List Product) (row : List ℕ) (p : ℕ) → p < length products → p < length row →
-    units_of products p * get_or row p 0 ≤ activity products row
-demand_taken products row p a b = omega (arith, activity-set products row p 0 a b)
 
 -- the last bid of a chain has the quantity that the chain ends with
 last_quantity-of : (chain : List Bid) → last_quantity 0 chain ≡ quantity_of (last_of chain)

@@ -6,13 +6,13 @@ use Rattle.std.specs.List.{list_all}
 use Rattle.std.proofs.lemmas.Bool.{ltb-true, eqb-true, lt-ltb, le-ltb, cases_Bool, cases_order, eq-eqb, ne_eqb, and_right}
 use Rattle.std.proofs.Math.Bool.{and-true}
 use Rattle.std.proofs.lemmas.List.Elements.{All-push}
-use Rattle.clock_setup.specs.declared.prices.PricePair.{PricePair}
-use Rattle.clock_setup.specs.Faults.{first_fault}
+use Rattle.clock_terms.specs.declared.prices.PricePair.{PricePair}
+use Rattle.clock_terms.specs.Faults.{first_fault}
 use Rattle.clock_bids.specs.declared.sheet.Bid.{Bid}
 use Rattle.clock_bids.specs.declared.sheet.BidFault.{BidFault}
 use Rattle.clock_bids.specs.declared.sheet.BidFault.TheVariants.{PriceOrder, MixedDirection, KeepPrice}
 use Rattle.clock_bids.specs.Sheet.{last_quantity, is_above_prices, keeps_direction, is_kept_at_clock}
-use Rattle.clock_bids.specs.Chains.{Climbs, Falls, Moves, up, down, kept, RisesFrom, IsInRange, IsGoodChain, last_after, last_of, is_step_on, step_checks}
+use Rattle.clock_bids.specs.inside.Chains.{Climbs, Falls, Moves, up, down, kept, RisesFrom, IsInRange, IsGoodChain, last_after, last_of, is_step_on, step_checks}
 
 -- the last bid has the last quantity
 pub last_quantity-after : (bid : Bid) (bids : List Bid) → last_quantity bid.quantity bids ≡ (last_after bid bids).quantity

@@ -1,16 +1,16 @@
 -- The rules on sheets and changes, computed on examples.
 use Rattle.std.specs.Prelude.{◌≡◌, ℕ, ◌-◌, ◌<◌, List, [], ◌∷◌, Option, Some, None, length, refl, codes}
 use Rattle.std.proofs.lemmas.Bool.{lt-leb}
-use Rattle.clock_setup.specs.Limits.{SetupFields, PublicSetup, public_setup}
-use Rattle.clock_setup.specs.declared.setup.Product.{Product}
-use Rattle.clock_setup.specs.declared.prices.PricePair.{PricePair}
-use Rattle.clock_setup.specs.Examples.{one_product, two_products, activity_limit}
-use Rattle.clock_setup.specs.Prices.{opening_prices}
+use Rattle.clock_terms.specs.Limits.{SetupFields, PublicSetup, public_setup}
+use Rattle.clock_terms.specs.declared.setup.Product.{Product}
+use Rattle.clock_terms.specs.declared.prices.PricePair.{PricePair}
+use Rattle.clock_terms.proofs.Examples.{one_product, two_products, activity_limit, request}
+use Rattle.clock_terms.specs.Prices.{opening_prices}
 use Rattle.clock_bids.specs.declared.sheet.Bid.{Bid}
 use Rattle.clock_bids.specs.declared.sheet.BidFault.{BidFault}
-use Rattle.clock_bids.specs.declared.change.Change.{Change}
-use Rattle.clock_bids.specs.declared.change.Kind.{Kind}
-use Rattle.clock_bids.specs.declared.change.Kind.TheVariants.{Increase, Reduction}
+use Rattle.clock_terms.specs.declared.change.Change.{Change}
+use Rattle.clock_terms.specs.declared.change.Kind.{Kind}
+use Rattle.clock_terms.specs.declared.change.Kind.TheVariants.{Increase, Reduction}
 use Rattle.clock_bids.specs.declared.sheet.BidFault.TheVariants.{TooMany, UnknownProduct, PriceRange, OverCap, PriceOrder}
 use Rattle.clock_bids.specs.declared.sheet.BidFault.TheVariants.{MixedDirection, KeepPrice, OverActivity}
 use Rattle.clock_bids.specs.Holding.{Holding, activity_limit as activity_limit_of}
@@ -62,18 +62,6 @@ over_activity = refl
 
 good_first_sheet : first one_product 10 (0 ∷ []) (bid 0 2 100 ∷ []) ≡ None
 good_first_sheet = refl
-
--- a change of a round from 100 to 110
-abbrev pub request : Kind → ℕ → ℕ → ℕ → ℕ → ℕ → Change
-request kind bidder product place amount price = record {
-  bidder = bidder;
-  product = product;
-  place = place;
-  kind = kind;
-  amount = amount;
-  price = price;
-  point = record { above = price - 100; span = 10 };
-}
 
 reductions_in_a_chain : changes_of_sheet prices (2 ∷ []) 0 (bid 0 1 103 ∷ bid 0 0 107 ∷ []) ≡ request Reduction 0 0 0 1 103 ∷ request Reduction 0 0 1 1 107 ∷ []
 reductions_in_a_chain = refl

@@ -8,20 +8,20 @@ use Rattle.std.proofs.lemmas.List.{take_more, take_all}
 use Rattle.std.proofs.lemmas.List.Elements.{All-push, All-head, All-tail}
 use Rattle.std.proofs.lemmas.List.FromFn.{get_or-map-range_with_len}
 use Rattle.std.proofs.lemmas.List.Sums.{sum_by-cons}
-use Rattle.clock_setup.specs.declared.setup.Product.{Product}
-use Rattle.clock_setup.specs.declared.prices.PricePair.{PricePair}
-use Rattle.clock_setup.specs.Prices.{prices_at}
-use Rattle.clock_setup.specs.Limits.{PublicSetup, cap_of, IsRow}
-use Rattle.clock_setup.specs.Faults.{first_fault, in_turn}
-use Rattle.clock_setup.specs.Eligibility.{activity}
-use Rattle.clock_setup.proofs.FaultLaws.{both_pass, passed, failed}
+use Rattle.clock_terms.specs.declared.setup.Product.{Product}
+use Rattle.clock_terms.specs.declared.prices.PricePair.{PricePair}
+use Rattle.clock_terms.specs.Prices.{prices_at}
+use Rattle.clock_terms.specs.Limits.{PublicSetup, cap_of, IsRow}
+use Rattle.clock_terms.specs.Faults.{first_fault, in_turn}
+use Rattle.clock_terms.specs.Eligibility.{activity}
+use Rattle.clock_terms.proofs.FaultLaws.{both_pass, passed, failed}
 use Rattle.clock_bids.specs.declared.sheet.Bid.{Bid}
 use Rattle.clock_bids.specs.declared.sheet.BidFault.{BidFault}
 use Rattle.clock_bids.specs.declared.sheet.BidFault.TheVariants.{TooMany, UnknownProduct, PriceRange, OverCap, OverActivity}
 use Rattle.clock_bids.specs.Holding.{Holding, activity_limit}
 use Rattle.clock_bids.specs.Sheet.{chain_of, last_quantity, asked_demands, most_bids, is_for_product, is_in_prices, is_within_cap}
 use Rattle.clock_bids.specs.Sheet.{bid_checks, checks_of_bids, is_within_limit, sheet_fault, IsGoodSheet}
-use Rattle.clock_bids.specs.Chains.{IsInRange, IsGoodChain, AreGoodChains, up, last_of, last_bids, step_checks, checks_by_last}
+use Rattle.clock_bids.specs.inside.Chains.{IsInRange, IsGoodChain, AreGoodChains, up, last_of, last_bids, step_checks, checks_by_last}
 use Rattle.clock_bids.proofs.Chains.{passes, chain_checks, good_chain-push, checks_by_last_of}
 use Rattle.clock_bids.proofs.Tables.{no_bid, chain_of-own, chain_of-other, last_bids-more, length-asked_demands}
 

@@ -9,19 +9,19 @@ use Rattle.std.proofs.lemmas.List.{length-append}
 use Rattle.std.proofs.lemmas.List.Elements.{All-head, All-tail, All-weaker, All-nil, All-append}
 use Rattle.std.proofs.lemmas.List.Sums.{sum_by-cons, sum_by-append, length-filter, count_by-le-length}
 use Rattle.clock_device.proofs.Pairs.{AllPairs-append}
-use Rattle.clock_setup.specs.declared.setup.Product.{Product}
-use Rattle.clock_setup.specs.declared.prices.PricePair.{PricePair}
-use Rattle.clock_setup.specs.Prices.{prices_at}
-use Rattle.clock_setup.specs.Limits.{PublicSetup, most_products, cap_of, no_product, IsProduct, IsRow}
+use Rattle.clock_terms.specs.declared.setup.Product.{Product}
+use Rattle.clock_terms.specs.declared.prices.PricePair.{PricePair}
+use Rattle.clock_terms.specs.Prices.{prices_at}
+use Rattle.clock_terms.specs.Limits.{PublicSetup, most_products, cap_of, no_product, IsProduct, IsRow}
 use Rattle.clock_bids.specs.declared.sheet.Bid.{Bid}
-use Rattle.clock_bids.specs.declared.change.Change.{Change}
-use Rattle.clock_bids.specs.declared.change.Kind.{Kind}
-use Rattle.clock_bids.specs.declared.change.Kind.TheVariants.{Increase, Reduction}
+use Rattle.clock_terms.specs.declared.change.Change.{Change}
+use Rattle.clock_terms.specs.declared.change.Kind.{Kind}
+use Rattle.clock_terms.specs.declared.change.Kind.TheVariants.{Increase, Reduction}
 use Rattle.clock_bids.specs.Holding.{Holding}
 use Rattle.clock_bids.specs.Sheet.{chain_of, most_bids, IsGoodSheet}
 use Rattle.clock_bids.specs.Changes.{changes_of_product, changes_of_sheet}
-use Rattle.clock_bids.specs.Chains.{IsGoodChain}
-use Rattle.clock_bids.specs.Requests.{same_kind, is_request_of, asked_of, IsChangeOf, StandsBefore, AreApart, GoOneWay, AreChangesOf}
+use Rattle.clock_bids.specs.inside.Chains.{IsGoodChain}
+use Rattle.clock_terms.specs.Requests.{same_kind, is_request_of, asked_of, IsChangeOf, StandsBefore, AreApart, GoOneWay, AreChangesOf}
 use Rattle.clock_bids.proofs.Good.{no_sheet_fault, good_sheet_chains, last_quantity-le}
 use Rattle.clock_bids.proofs.Links.{IsStep, AreSteps, AreProductSteps, KeepsWithin, product_steps}
 

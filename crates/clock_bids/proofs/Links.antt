@@ -8,15 +8,15 @@ use Rattle.std.proofs.lemmas.List.Elements.{All-cons, All-head, All-tail, All-we
 use Rattle.std.proofs.lemmas.List.Kept.{AllPairs-cons}
 use Rattle.std.proofs.lemmas.List.Sums.{sum_by-cons}
 use Rattle.clock_money.specs.Point.{price_point}
-use Rattle.clock_setup.specs.declared.prices.PricePair.{PricePair}
-use Rattle.clock_setup.specs.Limits.{most_supply}
+use Rattle.clock_terms.specs.declared.prices.PricePair.{PricePair}
+use Rattle.clock_terms.specs.Limits.{most_supply}
 use Rattle.clock_bids.specs.declared.sheet.Bid.{Bid}
-use Rattle.clock_bids.specs.declared.change.Change.{Change}
-use Rattle.clock_bids.specs.declared.change.Kind.{Kind}
-use Rattle.clock_bids.specs.declared.change.Kind.TheVariants.{Increase, Reduction}
+use Rattle.clock_terms.specs.declared.change.Change.{Change}
+use Rattle.clock_terms.specs.declared.change.Kind.{Kind}
+use Rattle.clock_terms.specs.declared.change.Kind.TheVariants.{Increase, Reduction}
 use Rattle.clock_bids.specs.Sheet.{last_quantity}
 use Rattle.clock_bids.specs.Changes.{distance, change_to, Link, links_from, changes_of_chain, drop_to_zero, changes_of_product}
-use Rattle.clock_bids.specs.Chains.{Climbs, Falls, Moves, up, down, kept, IsInRange, IsGoodChain}
+use Rattle.clock_bids.specs.inside.Chains.{Climbs, Falls, Moves, up, down, kept, IsInRange, IsGoodChain}
 use Rattle.clock_bids.proofs.Chains.{climbs-le, falls-le}
 
 -- a step in a direction

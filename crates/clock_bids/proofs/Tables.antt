@@ -10,7 +10,7 @@ use Rattle.std.proofs.lemmas.Option.{slice_get-get_or}
 use Rattle.std.proofs.lemmas.List.FromFn.{length-map-range_with_len, get_or-map-range_with_len}
 use Rattle.clock_bids.specs.declared.sheet.Bid.{Bid}
 use Rattle.clock_bids.specs.Sheet.{chain_of, last_quantity, asked_demands}
-use Rattle.clock_bids.specs.Chains.{bid_at, last_of, last_bids}
+use Rattle.clock_bids.specs.inside.Chains.{bid_at, last_of, last_bids}
 use Rattle.clock_bids.proofs.Chains.{last_of-push, last_quantity-push}
 
 -- a further bid stands at the end of its product's chain, and in no other

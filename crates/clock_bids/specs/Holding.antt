@@ -5,7 +5,7 @@
 -- (The activity limit is that of the FCC's procedures for Auction 105, by which processed activity stays within the eligibility; that it is
 -- rounded down, and that it is the eligibility itself in round 1, are own rules.)
 use Rattle.std.specs.Prelude.{ℕ, ◌*◌, ◌/◌, ◌==◌, if◌then◌else◌, List}
-use Rattle.clock_setup.specs.Limits.{PublicSetup}
+use Rattle.clock_terms.specs.Limits.{PublicSetup}
 use Rattle.clock_bids.specs.declared.sheet.Own.{Own}
 
 -- an eligibility in bidding units, and the demand for each product in blocks

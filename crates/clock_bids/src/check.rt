@@ -1,14 +1,14 @@
 ghost use Rattle.std.specs.Prelude.{◌≡◌, ◌≤◌, ◌+◌, ◌*◌, None, length, map, OnOk, IfOk, IfErr, slice_index_or};
-ghost use Rattle.clock_setup.specs.Limits.{IsRow, most_supply, most_units, public_setup, is_within};
-ghost use Rattle.clock_setup.specs.Faults.{first_fault, IsFirstFault};
-ghost use Rattle.clock_setup.specs.Eligibility as eligibilities;
+ghost use Rattle.clock_terms.specs.Limits.{IsRow, most_supply, most_units, public_setup, is_within};
+ghost use Rattle.clock_terms.specs.Faults.{first_fault, IsFirstFault};
+ghost use Rattle.clock_terms.specs.Eligibility as eligibilities;
 ghost use Rattle.clock_bids.specs.Holding as rules;
 ghost use Rattle.clock_bids.specs.Holding.{holding_of};
 ghost use Rattle.clock_bids.specs.Sheet.{IsGoodSheet, asked_demands, most_bids, sheet_fault, checks_of_bids};
-ghost use Rattle.clock_bids.specs.Chains.{bid_at, checks_by_last, quantity_of, step_checks};
+ghost use Rattle.clock_bids.specs.inside.Chains.{bid_at, checks_by_last, quantity_of, step_checks};
 
 use crate::sheet::{Bid, BidFault, Own, Sheet};
-use clock_setup::{PricePair, Prices, Product, Setup};
+use clock_terms::{PricePair, Prices, Product, Setup};
 use std::alloc::Global;
 
 /// The most bids that a sheet may have.

@@ -3,7 +3,7 @@ ghost use Rattle.clock_bids.specs.Sheet as sheet;
 
 use crate::sheet::Bid;
 use clock_device::NoMemory;
-use clock_setup::{Amounts, Setup};
+use clock_terms::{Amounts, Setup};
 use std::alloc::Global;
 
 /// The demands that the bids of a sheet ask for, in blocks: for each product of the set-up the

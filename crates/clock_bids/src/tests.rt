@@ -1,7 +1,7 @@
 //! The changes that sheets of small auctions ask for.
 
 ghost use Rattle.std.specs.Prelude.{◌≡◌, ◌≤◌, ◌<◌, length, All, IsTrue};
-ghost use Rattle.clock_setup.specs.Limits.{IsRow};
+ghost use Rattle.clock_terms.specs.Limits.{IsRow};
 
 use crate::{Bid, BidFault, Change, Changes, Kind, Own, asked_demands, changes_of, check_sheet};
 use clock_device::NoMemory;

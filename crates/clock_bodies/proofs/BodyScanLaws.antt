@@ -5,12 +5,13 @@ use Rattle.std.specs.Str.{IsUtf8}
 use Rattle.json.specs.Token.{Token, key as key_token}
 use Rattle.json.specs.Lex.{tokens}
 use Rattle.serde_json.specs.Data.{Data}
-use Rattle.clock_setup.specs.Faults.{or_fault}
+use Rattle.clock_terms.specs.Faults.{or_fault}
 use Rattle.clock_setup.specs.Members.{each, number_from, ◌>>=◌}
 use Rattle.clock_setup.proofs.JsonLaws.{json_value}
-use Rattle.clock_setup.specs.declared.increments.Increments.{Increments}
-use Rattle.clock_setup.specs.declared.increments.Increments.TheVariants.{Single, PerProduct}
-use Rattle.clock_scan.specs.Reading.{whole, numbers, items_of, Fields, is_field, with_field, Reads, AddsMember}
+use Rattle.clock_terms.specs.declared.increments.Increments.{Increments}
+use Rattle.clock_terms.specs.declared.increments.Increments.TheVariants.{Single, PerProduct}
+use Rattle.clock_scan.specs.Reading.{whole, numbers, items_of, Fields, Reads}
+use Rattle.clock_scan.specs.inside.Reading.{is_field, with_field, AddsMember}
 use Rattle.clock_scan.specs.declared.stop.Stop.{Stop}
 use Rattle.clock_scan.proofs.Steps.{adds_member, items_start, items_next, items_end, text_is}
 use Rattle.clock_bids.specs.declared.sheet.Bid.{Bid}
@@ -20,7 +21,8 @@ use Rattle.clock_bodies.specs.declared.close_body.CloseBody.{CloseBody}
 use Rattle.clock_bodies.specs.declared.body_fault.BodyFault.TheVariants.{Shape}
 use Rattle.clock_bodies.specs.Bodies.{bid_of, put_of, put_body, meant_by}
 use Rattle.clock_bodies.specs.CloseBodies.{tie_of, close_of, close_body}
-use Rattle.clock_bodies.specs.QuickBodies.{bid_data, put_data, tie_data, close_data}
+use Rattle.clock_bodies.specs.QuickBodies.{bid_data, tie_data}
+use Rattle.clock_bodies.specs.inside.QuickBodies.{put_data, close_data}
 
 -- a member of some fields, where it is one of them
 pub added : {A : Type 0} (fields_of : A → Fields) (levels : ℕ) (old value new : List Token) (fields : Fields) (name : List ℕ) (d : Data) (found : Option A)

@@ -5,7 +5,7 @@
 -- An object has exactly the keys that are shown: each is looked up, and there are no more members than these.
 use Rattle.std.specs.Prelude.{ℕ, List, Option, Some, None, Result, Err, if◌then◌else◌, codes}
 use Rattle.serde_json.specs.Data.{Data}
-use Rattle.clock_setup.specs.Faults.{or_fault}
+use Rattle.clock_terms.specs.Faults.{or_fault}
 use Rattle.clock_setup.specs.Members.{number_at, items_at, has_members, each, ◌>>=◌}
 use Rattle.clock_setup.specs.SetupDocument.{json}
 use Rattle.clock_bids.specs.declared.sheet.Bid.{Bid}

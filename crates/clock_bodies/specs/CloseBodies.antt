@@ -5,8 +5,8 @@
 use Rattle.std.specs.Prelude.{ℕ, ◌==◌, not, Bool, List, Option, Some, None, option_and_then, option_map, Result, Ok, Err, if◌then◌else◌, codes}
 use Rattle.serde_json.specs.Data.{Data, Items, no_items, item}
 use Rattle.serde_json.specs.Find.{as_array}
-use Rattle.clock_setup.specs.declared.increments.Increments.{Increments}
-use Rattle.clock_setup.specs.declared.increments.Increments.TheVariants.{Single, PerProduct}
+use Rattle.clock_terms.specs.declared.increments.Increments.{Increments}
+use Rattle.clock_terms.specs.declared.increments.Increments.TheVariants.{Single, PerProduct}
 use Rattle.clock_setup.specs.Members.{number_from, number_at, items_at, has_members, each, ◌>>=◌}
 use Rattle.clock_setup.specs.SetupDocument.{json}
 use Rattle.clock_order.specs.declared.ties.Tie.{Tie}

@@ -1,3 +1,4 @@
 pub mod Bodies
 pub mod CloseBodies
 pub mod QuickBodies
+pub mod inside

@@ -6,13 +6,9 @@ use Rattle.serde_json.specs.Data.{Data, object, array}
 use Rattle.clock_scan.specs.Reading.{whole, numbers, items_of, Fields, members_of}
 use Rattle.clock_bids.specs.declared.sheet.Bid.{Bid}
 use Rattle.clock_order.specs.declared.ties.Tie.{Tie}
-use Rattle.clock_setup.specs.declared.increments.Increments.{Increments}
-use Rattle.clock_setup.specs.declared.increments.Increments.TheVariants.{Single, PerProduct}
-use Rattle.clock_bodies.specs.declared.put_body.PutBody.{PutBody}
+use Rattle.clock_terms.specs.declared.increments.Increments.{Increments}
+use Rattle.clock_terms.specs.declared.increments.Increments.TheVariants.{Single, PerProduct}
 use Rattle.clock_bodies.specs.declared.put_scan.FoundBid.{FoundBid}
-use Rattle.clock_bodies.specs.declared.put_scan.FoundPut.{FoundPut}
-use Rattle.clock_bodies.specs.declared.close_body.CloseBody.{CloseBody}
-use Rattle.clock_bodies.specs.declared.close_scan.FoundClose.{FoundClose}
 
 -- a bid's keys, each with what was found
 abbrev pub bid_fields : FoundBid → Fields
@@ -30,17 +26,6 @@ bid_data bid = object (members_of (bid_fields (record { price = Some bid.price; 
 abbrev pub bids_data : List Bid → Data
 bids_data bids = array (items_of (map bid_data bids))
 
--- a sheet's keys, each with what was found
-abbrev pub put_fields : FoundPut → Fields
-put_fields found =
-    (codes "bids", option_map bids_data found.bids)
-    ∷ (codes "round", option_map whole found.round)
-    ∷ []
-
--- a sheet as a value
-abbrev pub put_data : PutBody → Data
-put_data body = object (members_of (put_fields (record { round = Some body.round; bids = Some body.bids })))
-
 -- a tie number as a value
 abbrev pub tie_data : Tie → Data
 tie_data tie = numbers (tie.bidder ∷ tie.product ∷ tie.number ∷ [])
@@ -48,15 +33,6 @@ tie_data tie = numbers (tie.bidder ∷ tie.product ∷ tie.number ∷ [])
 -- a list of tie numbers as a value
 abbrev pub ties_data : List Tie → Data
 ties_data ties = array (items_of (map tie_data ties))
-
--- a closing's keys, each with what was found
-abbrev pub close_fields : FoundClose → Fields
-close_fields found =
-    (codes "increment", option_map whole found.increment)
-    ∷ (codes "increments", option_map numbers found.increments)
-    ∷ (codes "round", option_map whole found.round)
-    ∷ (codes "ties", option_map ties_data found.ties)
-    ∷ []
 
 -- the increment for all products, where there is one
 abbrev pub single_of : Increments → Option ℕ
@@ -67,11 +43,3 @@ single_of (PerProduct increments) = None
 abbrev pub listed_of : Increments → Option (List ℕ)
 listed_of (Single increment) = None
 listed_of (PerProduct increments) = Some increments
-
--- what is found of a whole closing
-abbrev pub found_of : CloseBody → FoundClose
-found_of body = record { increment = single_of body.increments; increments = listed_of body.increments; round = Some body.round; ties = Some body.ties }
-
--- a closing as a value
-abbrev pub close_data : CloseBody → Data
-close_data body = object (members_of (close_fields (found_of body)))

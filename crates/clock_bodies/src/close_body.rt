@@ -1,6 +1,6 @@
 ghost use Rattle.std.specs.Prelude.{◌≡◌, ◌≢◌, Some, Ok, Err, IfOk, IfErr};
 ghost use Rattle.serde_json.specs.View.{view, items_view};
-ghost use Rattle.clock_setup.specs.Faults.{or_fault};
+ghost use Rattle.clock_terms.specs.Faults.{or_fault};
 ghost use Rattle.clock_setup.specs.Members.{each};
 ghost use Rattle.clock_bodies.specs.CloseBodies as bodies;
 
@@ -9,8 +9,8 @@ use crate::close_scan::close_by_bytes;
 use clock_device::Items;
 use clock_order::Tie;
 use clock_scan::Stop;
-use clock_setup::Increments;
 use clock_setup::members::{has_members, items_at, number_at, numbers_of, read_value};
+use clock_terms::Increments;
 use serde_json::Value;
 use std::alloc::Global;
 

@@ -1,15 +1,17 @@
 //! The body of a closing read byte by byte, where it has the shape that is asked for.
 ghost use Rattle.std.specs.Prelude.{◌≡◌, [], ◌<◌, length, Ok, IfSome, IfOk, OnOk};
-ghost use Rattle.clock_scan.specs.Reading.{Reads, AddsMember, members_of};
+ghost use Rattle.clock_scan.specs.Reading.{Reads, members_of};
+ghost use Rattle.clock_scan.specs.inside.Reading.{AddsMember};
 ghost use Rattle.serde_json.specs.Data.{object};
 ghost use Rattle.clock_bodies.specs.CloseBodies as bodies;
-ghost use Rattle.clock_bodies.specs.QuickBodies.{tie_data, ties_data, close_fields, single_of, listed_of, close_data};
+ghost use Rattle.clock_bodies.specs.QuickBodies.{tie_data, ties_data, single_of, listed_of};
+ghost use Rattle.clock_bodies.specs.inside.QuickBodies.{close_fields, close_data};
 
 use crate::close_body::CloseBody;
 use clock_device::Items;
 use clock_order::Tie;
 use clock_scan::{Scan, Stop, is_key, is_text};
-use clock_setup::Increments;
+use clock_terms::Increments;
 use std::alloc::Global;
 
 /// How many bytes a tie number and its comma take, where its numbers are short.

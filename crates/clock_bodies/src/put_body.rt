@@ -1,6 +1,6 @@
 ghost use Rattle.std.specs.Prelude.{◌≡◌, ◌≢◌, Some, Ok, Err, IfOk, IfErr};
 ghost use Rattle.serde_json.specs.View.{view, items_view};
-ghost use Rattle.clock_setup.specs.Faults.{or_fault};
+ghost use Rattle.clock_terms.specs.Faults.{or_fault};
 ghost use Rattle.clock_setup.specs.Members.{each};
 ghost use Rattle.clock_bodies.specs.Bodies as bodies;
 

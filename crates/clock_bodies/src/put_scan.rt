@@ -1,9 +1,11 @@
 //! The body of a sheet read byte by byte, where it has the shape that is asked for.
 ghost use Rattle.std.specs.Prelude.{◌≡◌, true, [], ◌<◌, length, Ok, IfSome, IfOk, OnOk};
-ghost use Rattle.clock_scan.specs.Reading.{whole, is_field, with_field, members_of, Reads, AddsMember};
+ghost use Rattle.clock_scan.specs.Reading.{whole, members_of, Reads};
+ghost use Rattle.clock_scan.specs.inside.Reading.{is_field, with_field, AddsMember};
 ghost use Rattle.serde_json.specs.Data.{object};
 ghost use Rattle.clock_bodies.specs.Bodies as bodies;
-ghost use Rattle.clock_bodies.specs.QuickBodies.{bid_fields, bid_data, bids_data, put_fields, put_data};
+ghost use Rattle.clock_bodies.specs.QuickBodies.{bid_fields, bid_data, bids_data};
+ghost use Rattle.clock_bodies.specs.inside.QuickBodies.{put_fields, put_data};
 
 use crate::put_body::PutBody;
 use clock_bids::Bid;
@@ -90,7 +92,7 @@ fn bid_member(scan: &mut Scan<'_>, found: FoundBid) -> Option<FoundBid>
 }
 
 /// The bid that is next, where no key has an escape and each number is written in digits alone.
-#[inline]
+#[inline(never)]
 pub fn next_bid(scan: &mut Scan<'_>) -> Option<Bid>
     ensures value { IfSome result (λ bid. Reads 1 scan.old (bid_data bid) scan.new) }
     ensures shorter { IfSome result (λ _. length scan.new < length scan.old) }
@@ -109,7 +111,24 @@ pub fn next_bid(scan: &mut Scan<'_>) -> Option<Bid>
     found.bid()
 }
 
+/// The same, by several bytes at a time where it is written without white space and its keys in the order of their bytes.
+#[inline(always)]
+fn next_of(scan: &mut Scan<'_>) -> Option<Bid>
+    ensures value { IfSome result (λ bid. Reads 1 scan.old (bid_data bid) scan.new) }
+    ensures shorter { IfSome result (λ _. length scan.new < length scan.old) }
+{
+    if let Some(bid) = scan.compact_bid() {
+        return Some(Bid {
+            product: bid.product,
+            quantity: bid.quantity,
+            price: bid.price,
+        });
+    }
+    next_bid(scan)
+}
+
 /// The list of bids that is next, with room for so many made at once.
+#[inline(never)]
 fn bids(alloc: Global, scan: &mut Scan<'_>, room: usize) -> Result<Items<Bid>, Stop>
     ensures value { IfOk result (λ bids. Reads 2 scan.old (bids_data bids) scan.new) }
     ensures shorter { OnOk result (length scan.new < length scan.old) }
@@ -119,7 +138,7 @@ fn bids(alloc: Global, scan: &mut Scan<'_>, room: usize) -> Result<Items<Bid>, S
     }
     let mut list = Vec::with_capacity(alloc, room)?;
     'items: while !scan.closes_array() {
-        let Some(next) = next_bid(scan) else {
+        let Some(next) = next_of(scan) else {
             return Err(Stop::Unusual);
         };
         list.push(next)?;

@@ -1,7 +1,6 @@
 -- What is seen of a source over several reads.
 --     Reading     the bytes before and after, and how the reads ended
---     GrowsByOneAtMost     a count after one read
-use Rattle.std.specs.Prelude.{◌≤◌, ◌+◌, ℕ, List, Option, Bool}
+use Rattle.std.specs.Prelude.{ℕ, List, Option, Bool}
 
 -- the bytes left before and after the reads, where the source tells them, how many reads were made, how many of them were
 -- interrupted, and whether one failed
@@ -11,8 +10,3 @@ pub record Reading : Type 0 where
   pub calls : ℕ
   pub interruptions : ℕ
   pub has_failed : Bool
-
--- a count that grew by one at most
-pub record GrowsByOneAtMost (old new : ℕ) : Type 0 where
-  pub least : old ≤ new
-  pub most : new ≤ old + 1

@@ -1,10 +1,13 @@
-ghost use Rattle.std.specs.Prelude.{◌≡◌, [], ◌∷◌, ◌++◌, ◌<◌, length, replicate, slice_set, OnOk, OnErr, IfOk};
+ghost use Rattle.std.specs.Prelude.{◌≡◌, [], ◌∷◌, ◌++◌, ◌<◌, ◌↔◌, length, replicate, slice_set, IsTrue, OnOk, OnErr, IfOk};
 
+use crate::bounded::Bounded;
 use crate::no_memory::NoMemory;
 use std::alloc::Global;
 use std::marker::Model;
+use std::ops::DerefSlice;
 
-/// A list that owns its items. Contracts see the list of the items.
+/// A list that owns its items, and is read as a slice of them is. Contracts see the list of the
+/// items.
 ///
 /// The lists of the auction are this type under names of their own, as [`Text`] for bytes.
 #[derive(Drop)]
@@ -33,6 +36,13 @@ impl<T> Items<T> {
         }
     }
 
+    /// No items yet, and room for so many: with it, adding them takes no memory.
+    pub fn with_capacity(alloc: Global, capacity: usize) -> Result<Bounded<T>, NoMemory>
+        ensures { IfOk result (λ list. list ≡ record { items = []; room = capacity }) }
+    {
+        Bounded::with_capacity(alloc, capacity)
+    }
+
     /// The items of a vector, which is taken over and not copied.
     pub fn from_vec(items: Vec<T>) -> Items<T>
         ensures { result ≡ items.items }
@@ -51,6 +61,20 @@ impl<T> Items<T> {
         Ok(())
     }
 
+    /// How many items there are.
+    pub fn len(&self) -> usize
+        ensures { result ≡ length self.now }
+    {
+        self.held.len()
+    }
+
+    /// Whether there is no item.
+    pub fn is_empty(&self) -> bool
+        ensures { IsTrue result ↔ (self.now ≡ []) }
+    {
+        self.held.is_empty()
+    }
+
     /// The items in order.
     pub fn as_slice(&self) -> &[T]
         ensures { result.now ≡ self.now }
@@ -66,6 +90,16 @@ impl<T> Items<T> {
         ensures { self.new ≡ slice_set self.old place item }
     {
         self.held[place] = item;
+    }
+}
+
+impl<T> DerefSlice for Items<T> {
+    type Elem = T;
+
+    ghost deref_gives = { λ items slice. slice ≡ items };
+
+    fn deref(&self) -> &[T] {
+        self.as_slice()
     }
 }
 

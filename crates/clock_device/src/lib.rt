@@ -1,18 +1,20 @@
 //! Owned lists, bytes in and out, and want of memory: what every crate of the auction stands on.
 #![tactic(auto)]
 
+mod bounded;
 mod decimal;
-mod held;
 mod items;
+mod memory;
 mod no_memory;
+mod std_streams;
 mod stream;
 #[cfg(test)]
 mod tests;
-mod wrapped;
 
+pub use bounded::Bounded;
 pub use decimal::write_number;
-pub use held::{ListSink, ListSource};
 pub use items::{Items, Text};
+pub use memory::{ListSink, ListSource};
 pub use no_memory::NoMemory;
+pub use std_streams::{FromReader, ToWriter};
 pub use stream::{Failed, Sink, Source, Stop, room_for_read, write_all};
-pub use wrapped::{FromReader, ToWriter};

@@ -212,3 +212,34 @@ fn a_slice_is_read_and_a_vector_written(rt: HostRuntime) {
     assert_eq!(rt; write(&mut sink, b"hi"), Ok(2));
     assert_eq!(rt; write(&mut sink, b""), Err(Failed));
 }
+
+/// The sum of numbers.
+fn sum_of(numbers: &[u64]) -> u64 {
+    let mut sum = 0u64;
+    for number in numbers {
+        sum = sum.saturating_add(*number);
+    }
+    sum
+}
+
+/// How a list is read: its length, whether it is empty, an item, and all of them.
+fn read_list(list: &Items<u64>) -> (usize, bool, Option<u64>, u64) {
+    let second = if list.len() > 1 { Some(list[1]) } else { None };
+    (list.len(), list.is_empty(), second, sum_of(list))
+}
+
+/// Three numbers, for which room was taken before.
+fn in_room(alloc: Global) -> Result<Items<u64>, NoMemory> {
+    let mut list = Items::with_capacity(alloc, 3)?;
+    list.push(3);
+    list.extend_from_slice(&[4, 5]);
+    Ok(list.into_items())
+}
+
+#[test]
+fn a_list_is_read_as_a_slice(rt: HostRuntime) -> Result<(), NoMemory> {
+    let list = in_room(rt.alloc())?;
+    assert_eq!(rt; read_list(&list), (3, false, Some(4), 12));
+    assert_eq!(rt; read_list(&Items::new(rt.alloc())), (0, true, None, 0));
+    Ok(())
+}

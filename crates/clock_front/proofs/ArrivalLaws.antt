@@ -2,13 +2,14 @@
 use Rattle.std.proofs.Common.{◌≡◌, ℕ, ◌+◌, ◌≤◌, Bool, true, false, ◌||◌, List, [], Option, Ok, Err, length, refl, subst, ◌∙◌, inl, arith}
 use Rattle.clock_device.specs.Streams.{HasRead}
 use Rattle.clock_device.proofs.Streams.{read_nothing, read_twice, same_bytes}
-use Rattle.clock_front.specs.Framing.{framing, known, needs_more}
+use Rattle.clock_http.specs.Framing.{framing, known, needs_more}
 use Rattle.clock_device.specs.Readings.{Reading}
-use Rattle.clock_front.specs.Arrivals.{IsReadByNeed, HasArrived, HasNoRoom, EndsArrival, IsStepOf, is_read_fault}
+use Rattle.clock_front.specs.Arrivals.{IsReadByNeed, HasArrived, HasNoRoom}
+use Rattle.clock_front.specs.inside.Arrivals.{EndsArrival, IsStepOf, is_read_fault}
 use Rattle.clock_front.specs.declared.reading.Unread.{Unread}
 use Rattle.clock_front.specs.declared.reading.Unread.TheVariants as unread
 
-pub nothing_needs_more : framing [] ≡ needs_more
+pub nothing_needs_more : needs_more [] ≡ true
 unfolding framing known
 nothing_needs_more = refl
 
@@ -22,7 +23,7 @@ no_room_at_first bytes calls interruptions failed none unfailed =
     ([], [], record { read = nothing_read bytes; needed = nothing_needs_more; used = omega arith }, unfailed)
 
 module _ (reading : Reading) (mid : Option (List ℕ)) (front : List ℕ) (calls interruptions : ℕ)
-    (read : HasRead reading.before mid front) (needed : framing front ≡ needs_more) (used : calls ≤ length front + interruptions)
+    (read : HasRead reading.before mid front) (needed : needs_more front ≡ true) (used : calls ≤ length front + interruptions)
     (once : reading.calls ≤ calls + 1) (kept : interruptions ≤ reading.interruptions) where
   -- one further read brought these bytes
   by_need : (last : List ℕ) → HasRead mid reading.after last → IsReadByNeed reading front last

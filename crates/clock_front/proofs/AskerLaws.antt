@@ -4,10 +4,10 @@ use Rattle.std.proofs.Common.{arith, add-zero}
 use Rattle.std.specs.Prelude.{Option, Some, None}
 use Rattle.std.proofs.lemmas.List.{length-map, get_or-map}
 use Rattle.std.specs.Cmp.Lexicographic.{bytes_decides}
-use Rattle.clock_setup.specs.declared.setup.Bidder.{Bidder as BidderRow}
-use Rattle.clock_setup.specs.Limits.{SetupFields, IsSetup}
+use Rattle.clock_terms.specs.declared.setup.Bidder.{Bidder as BidderRow}
+use Rattle.clock_terms.specs.Limits.{SetupFields, IsSetup}
 use Rattle.clock_house.specs.History.{bidder_at}
-use Rattle.clock_front.specs.Heads.{same_bytes}
+use Rattle.clock_http.specs.Heads.{same_bytes}
 use Rattle.clock_front.specs.Views.{has_token}
 use Rattle.clock_front.specs.declared.tokens.Asker.TheVariants.{Operator, Bidder}
 use Rattle.clock_front.specs.Askers.{bidder_tokens, holder, asker}

@@ -1,18 +1,18 @@
 -- A closing that was prepared is the closing that was asked for.
 use Rattle.std.proofs.Common.{◌≡◌, ◌≢◌, ℕ, List, Option, Result, Ok, Err, sym, ◌∙◌, ap, subst}
-use Rattle.clock_setup.specs.Limits.{SetupFields}
-use Rattle.clock_setup.specs.declared.increments.Increments.{Increments}
+use Rattle.clock_terms.specs.Limits.{SetupFields}
+use Rattle.clock_terms.specs.declared.increments.Increments.{Increments}
 use Rattle.clock_bids.specs.declared.sheet.Bid.{Bid}
 use Rattle.clock_order.specs.declared.ties.Tie.{Tie}
 use Rattle.clock_house.specs.Command.{Command, close}
-use Rattle.clock_house.specs.declared.closed_round.ClosedRound.{ClosedRound}
-use Rattle.clock_house.specs.declared.fault.CloseFault.{CloseFault}
+use Rattle.clock_closing.specs.declared.closed_round.ClosedRound.{ClosedRound}
+use Rattle.clock_closing.specs.declared.fault.CloseFault.{CloseFault}
 use Rattle.clock_house.specs.House.{HouseFields, IsUnchanged, IsFollowedBy, StandsStill, closing_in}
 use Rattle.clock_house.specs.Prepared.{PreparedClosing, FitsClosing}
 use Rattle.std.specs.Prelude.{IfOk, OnOk}
-use Rattle.clock_house.specs.declared.fault.CloseFault.TheVariants.{NoMemory}
+use Rattle.clock_closing.specs.declared.fault.CloseFault.TheVariants.{NoMemory}
 use Rattle.clock_views.specs.Refusals.{shown_close}
-use Rattle.clock_front.specs.Replies.{Answer}
+use Rattle.clock_http.specs.Replies.{Answer}
 use Rattle.clock_front.specs.Outcomes.{close_outcome, done, refused, answer_of}
 use Rattle.clock_views.specs.OperatorPages.{closed_value}
 

@@ -1,31 +1,20 @@
 -- A piece is taken, and the request answered.
-use Rattle.std.proofs.Common.{◌≡◌, ◌≢◌, ◌↔◌, Bool, true, false, List, [], ℕ, Option, Some, None, Result, Ok, Err, IfOk, OnErr, IsTrue, is_some}
+use Rattle.std.proofs.Common.{◌≡◌, ◌≢◌, Bool, true, false, List, [], ℕ, Option, Some, None, Result, Ok, Err, IfOk, OnErr, is_some}
 use Rattle.std.proofs.Common.{refl, sym, ◌∙◌, ap, subst, true≢false}
 use Rattle.clock_house.specs.House.{HouseFields}
-use Rattle.clock_front.specs.Replies.{Answer}
-use Rattle.clock_front.specs.Framing.{Framing, framing, known}
-use Rattle.clock_front.specs.Framing as framed
+use Rattle.clock_http.specs.Replies.{Answer}
+use Rattle.clock_http.specs.Framing.{framing, known, needs_more}
 use Rattle.clock_front.specs.declared.connections.Conn.{Conn}
-use Rattle.clock_front.specs.Pieces.{is_less, needs_more}
 use Rattle.clock_front.specs.declared.hub_fault.HubFault.{HubFault}
 use Rattle.clock_front.specs.declared.fed.Fed.{Fed}
 use Rattle.clock_front.specs.declared.fed.Fed.TheVariants.{More, Reply}
-use Rattle.clock_front.specs.Hubs.{ConnectionFields, HubFields, IsConnected, IsTaken, IsGone, IsAnswered, IsReply, IsFed, AllNeedMore, KeepsOthers, text_of}
+use Rattle.clock_front.specs.Hubs.{ConnectionFields, HubFields, IsConnected, IsTaken, IsGone, IsAnswered, IsFed, KeepsOthers, text_of}
+use Rattle.clock_front.specs.inside.Hubs.{IsReply, AllNeedMore}
 
 -- what is some has a text
 pub some_text : (o : Option (List ℕ)) → is_some o ≡ true → (text : List ℕ) × (o ≡ Some text)
 some_text None is = absurd (true≢false (sym is))
 some_text (Some text) is = (text, refl)
-
-tested_as : (tested : Bool) (is : Framing) → (IsTrue tested ↔ (is ≡ framed.needs_more)) → tested ≡ is_less is
-tested_as true is both = sym (ap is_less (both.0 refl))
-tested_as false framed.needs_more both = both.1 refl
-tested_as false (framed.refusal code) both = refl
-tested_as false (framed.whole head body) both = refl
-
--- a test of what a text is says whether it needs more
-pub tests_more : (tested : Bool) (text : List ℕ) → (IsTrue tested ↔ (framing text ≡ framed.needs_more)) → tested ≡ needs_more text
-tests_more tested text both = tested_as tested (framing text) both
 
 abbrev pub hub_of : HouseFields → ConnectionFields → HubFields
 hub_of house connections = record { house = house; connections = connections }
@@ -62,15 +51,6 @@ taken_and_replied house old taken new conn text More first is = absurd is
 taken_and_replied house old taken new conn text (Reply reply) first is = fed_and_answered house old taken new conn text reply first is
 
 -- ---- the text of each connection that stands needs more
-
-needs_framed : (is : Framing) → is_less is ≡ true → is ≡ framed.needs_more
-needs_framed framed.needs_more more = refl
-needs_framed (framed.refusal code) more = absurd (true≢false (sym more))
-needs_framed (framed.whole head body) more = absurd (true≢false (sym more))
-
--- what needs more is no request yet, and not refused
-pub needs_by_test : (text : List ℕ) → needs_more text ≡ true → framing text ≡ framed.needs_more
-needs_by_test text more = needs_framed (framing text) more
 
 -- one connection has changed, and its text needs more where it still stands
 pub keeps_waiting : (old new : ConnectionFields) (conn : Conn) → AllNeedMore old → KeepsOthers old new conn

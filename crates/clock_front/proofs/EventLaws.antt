@@ -2,14 +2,14 @@
 use Rattle.std.proofs.Common.{◌≡◌, ◌≤◌, ◌<◌, ◌+◌, ℕ, List, [], ◌∷◌, ◌++◌, length, get_or, drop, Option, Some, None, refl, sym, ◌∙◌, ap}
 use Rattle.std.proofs.Common.{subst, arith, append-nil, append_assoc, length-append}
 use Rattle.std.proofs.lemmas.List.{length-set, drop_more, drop_all, map-append}
-use Rattle.clock_setup.specs.Limits.{SetupFields, IsSetup}
+use Rattle.clock_terms.specs.Limits.{SetupFields, IsSetup}
 use Rattle.clock_house.specs.Command.{Command}
 use Rattle.clock_house.specs.History.{history}
 use Rattle.clock_house.specs.House.{HouseFields}
 use Rattle.clock_house.specs.Laws.{IsSound}
 use Rattle.clock_front.specs.Fronts.{StandsForTexts, commands_of}
-use Rattle.clock_front.specs.Replies.{Answer}
-use Rattle.clock_front.specs.Runs.{Runs, IsRun}
+use Rattle.clock_http.specs.Replies.{Answer}
+use Rattle.clock_front.specs.Headline.{Runs, IsRun}
 use Rattle.clock_front.proofs.RunLaws.{IsUnderWay, step}
 use Rattle.clock_front.specs.declared.connections.Conn.{Conn}
 use Rattle.clock_front.specs.declared.events.Event.{Event}
@@ -17,8 +17,9 @@ use Rattle.clock_front.specs.declared.events.Event.TheVariants.{Connect, Piece, 
 use Rattle.clock_front.specs.declared.events.EventReply.{EventReply}
 use Rattle.clock_front.specs.Pieces.{Numbered, completed, after, and_then, requests_from, requests_of}
 use Rattle.clock_front.specs.Hubs.{ConnectionFields}
-use Rattle.clock_front.specs.NumberedHubs.{Stands, HasCompleted}
-use Rattle.clock_front.specs.EventRuns.{numbers_of, numbers_of_requests, texts_of, answers_of, kept, IsEventRun}
+use Rattle.clock_front.specs.inside.NumberedHubs.{Stands, HasCompleted}
+use Rattle.clock_front.specs.Headline.{numbers_of, numbers_of_requests, texts_of, answers_of, IsEventRun}
+use Rattle.clock_front.specs.inside.EventRuns.{kept}
 
 -- a run over events on its way, after so many of them: the requests that are done are answered, and they and those of the
 -- other events are all

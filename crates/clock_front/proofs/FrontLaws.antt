@@ -1,172 +1,40 @@
 -- What a front stands for, and which texts are refused by constant bytes.
-use Rattle.std.proofs.Common.{◌≡◌, ℕ, ◌+◌, true, cond, ◌&&◌, List, ◌∷◌, length, take, Option, Some, None, Ok, Err, Result, refl}
-use Rattle.std.proofs.Common.{sym, ◌∙◌, ap, subst, inl, inr}
-use Rattle.std.specs.Prelude.{nat_lt, codes, option_and_then}
-use Rattle.std.specs.List.{list_all}
-use Rattle.std.specs.Char.{is_ascii_digit}
-use Rattle.std.specs.Str.Parse.{digits_value}
-use Rattle.httparse.specs.Grammar.{RequestHead}
-use Rattle.clock_setup.specs.Limits.{SetupFields}
+use Rattle.std.proofs.Common.{◌≡◌, true, List, ℕ, ◌∷◌, Option, None, Ok, Err, Result, refl, sym, ◌∙◌, ap, subst}
+use Rattle.std.specs.Prelude.{option_and_then}
+use Rattle.clock_terms.specs.Limits.{SetupFields}
 use Rattle.clock_house.specs.Command.{Command}
-use Rattle.clock_house.specs.declared.closed_round.ClosedRound.{ClosedRound}
+use Rattle.clock_closing.specs.declared.closed_round.ClosedRound.{ClosedRound}
 use Rattle.clock_house.specs.History.{history}
 use Rattle.clock_house.specs.House.{HouseFields, StandsFor, IsFollowedBy, StandsStill}
 use Rattle.clock_bids.specs.declared.sheet.Bid.{Bid}
-use Rattle.clock_views.specs.declared.code.Code.{Code}
-use Rattle.clock_views.specs.declared.code.Code.TheVariants.{LongHead, BadHead, Coding, BadLength, LongBody, CutShort}
-use Rattle.clock_front.specs.Scans.{head_length, is_loose}
-use Rattle.clock_front.specs.Heads.{head_of}
-use Rattle.clock_front.specs.HeaderLines.{Values, none, one, many, Pairs, pairs_of, values_of, length_from, within_limit, unless_coded, body_length, body_limit}
-use Rattle.clock_front.specs.Framing.{head_limit, or_bad_head, ended_head, Head, kept, and_length, length_read, head_with_length, Known, unended}
-use Rattle.clock_front.specs.Framing.{waiting, complete, refused, known_with_head, known_with_end, known, Framing, needs_more}
-use Rattle.clock_front.specs.Framing.{refusal, whole, framed, framing, ok_head, ended_at, head_in}
+use Rattle.clock_http.specs.declared.code.Code.{Code}
+use Rattle.clock_http.specs.declared.code.Code.TheVariants.{CutShort}
+use Rattle.clock_http.specs.Framing.{Head, Framing, incomplete, refusal, whole, framing, is_incomplete, needs_more}
+use Rattle.clock_http.proofs.FramedLaws.{refused_by, whole_head}
 use Rattle.std.specs.Prelude.{IfOk, OnOk}
 use Rattle.clock_views.specs.Refusals.{alone}
 use Rattle.clock_views.proofs.Codes.{refusal_in_bytes}
-use Rattle.clock_front.specs.Replies.{Answer, is_constant, refusal_bytes, reply_bytes}
+use Rattle.clock_http.specs.Replies.{Answer, reply_bytes}
+use Rattle.clock_front.specs.FixedReplies.{refusal_of, cut_short}
+use Rattle.clock_front.specs.inside.FixedReplies.{is_fixed}
 use Rattle.clock_front.specs.Requests.{Ask, Request, ask_of, ask_by_route, request_of}
-use Rattle.clock_front.specs.Routes.{page_of}
+use Rattle.clock_http.specs.Routes.{page_of}
 use Rattle.clock_front.specs.declared.tokens.Asker.{Asker}
 use Rattle.clock_front.specs.Outcomes.{Outcome, outcome, answer_of, refused as told_refused}
-use Rattle.clock_front.specs.Fronts.{house_after, text_command, commands_of, StandsForTexts, cut_short}
-use Rattle.clock_front.proofs.Prefixes.{cond_cases}
+use Rattle.clock_front.specs.Fronts.{house_after, text_command, commands_of, StandsForTexts}
 
--- ---- what is refused at its head has a constant reply
+-- a text that is refused at its head or at its length is refused by a reply that is always the same
+pub refused_fixed : (text : List ℕ) (code : Code) → framing text ≡ refusal code → is_fixed code ≡ true
+refused_fixed text code is = refused_by (λ (c : Code). is_fixed c ≡ true) refl refl refl refl refl text code is
 
-same_code : (c d : Code) → c ≡ d → is_constant c ≡ true → is_constant d ≡ true
-same_code c d e h = ap is_constant (sym e) ∙ h
-
-length_constant : (v : Values) (code : Code) → length_from v ≡ Err code → is_constant code ≡ true
-length_constant none code e = absurd cc
-length_constant (one value) code e =
-    elim (cond_cases (nat_lt 0 (length value) && list_all is_ascii_digit value) (Ok (digits_value 10 value)) (Err BadLength) _ e) [
-      | inl h ↦ absurd (let bad = h.1 in cc)
-      | inr h ↦ (let is = h.1 in same_code BadLength code (cc) (refl {a = true}))
-    ]
-length_constant many code e = same_code BadLength code (cc) (refl {a = true})
-
-limit_constant : (r : Result ℕ Code) (code : Code) → (r ≡ Err code → is_constant code ≡ true) → within_limit r ≡ Err code → is_constant code ≡ true
-limit_constant (Err c) code h e = h e
-limit_constant (Ok n) code h e =
-    elim (cond_cases (nat_lt body_limit n) (Err LongBody) (Ok n) _ e) [
-      | inl i ↦ (let is = i.1 in same_code LongBody code (cc) (refl {a = true}))
-      | inr i ↦ absurd (let bad = i.1 in cc)
-    ]
-
-coded_constant : (v : Values) (r : Result ℕ Code) (code : Code) → (r ≡ Err code → is_constant code ≡ true)
-    → unless_coded v r ≡ Err code → is_constant code ≡ true
-coded_constant none r code h e = h e
-coded_constant (one value) r code h e = same_code Coding code (cc) (refl {a = true})
-coded_constant many r code h e = same_code Coding code (cc) (refl {a = true})
-
-body_constant : (pairs : Pairs) (code : Code) → body_length pairs ≡ Err code → is_constant code ≡ true
-body_constant pairs code e =
-    let v = values_of (codes "content-length") pairs in
-    coded_constant (values_of (codes "transfer-encoding") pairs) (within_limit (length_from v)) code
-    (limit_constant (length_from v) code (length_constant v code)) e
-
-found_constant : (o : Option RequestHead) (code : Code) → or_bad_head o ≡ Err code → is_constant code ≡ true
-found_constant None code e = same_code BadHead code (cc) (refl {a = true})
-found_constant (Some head) code e = absurd cc
-
-ended_constant : (bytes : List ℕ) (code : Code) → ended_head bytes ≡ Err code → is_constant code ≡ true
-ended_constant bytes code e =
-    elim (cond_cases _ (Err LongHead) (cond (is_loose bytes) (Err BadHead) (or_bad_head (head_of bytes))) _ e) [
-      | inl h ↦ (let is = h.1 in same_code LongHead code (cc) (refl {a = true}))
-      | inr h ↦ elim (cond_cases (is_loose bytes) (Err BadHead) (or_bad_head (head_of bytes)) _ h.1) [
-        | inl k ↦ (let is = k.1 in same_code BadHead code (cc) (refl {a = true}))
-        | inr k ↦ found_constant (head_of bytes) code k.1
-      ]
-    ]
-
-measured_constant : (head : RequestHead) (r : Result ℕ Code) (code : Code) → (r ≡ Err code → is_constant code ≡ true)
-    → and_length head r ≡ Err code → is_constant code ≡ true
-measured_constant head (Err c) code h e = (let is : c ≡ code = cc in h (ap Err is))
-measured_constant head (Ok n) code h e = absurd cc
-
-read_constant : (r : Result RequestHead Code) (code : Code) → (r ≡ Err code → is_constant code ≡ true) → length_read r ≡ Err code → is_constant code ≡ true
-read_constant (Err c) code h e = (let is : c ≡ code = cc in h (ap Err is))
-read_constant (Ok head) code h e = measured_constant head (body_length (pairs_of head)) code (body_constant (pairs_of head) code) e
-
-head_constant : (count n : ℕ) (r : Result (Head × ℕ) Code) (code : Code) → (r ≡ Err code → is_constant code ≡ true)
-    → known_with_head count n r ≡ refused code → is_constant code ≡ true
-head_constant count n (Err c) code h e = (let is : c ≡ code = cc in h (ap Err is))
-head_constant count n (Ok read) code h e =
-    elim (cond_cases (nat_lt count (n + read.1)) (waiting read.0 n read.1) (complete read.0 n read.1) _ e) [
-      | inl k ↦ absurd (let bad = k.1 in cc)
-      | inr k ↦ absurd (let bad = k.1 in cc)
-    ]
-
-end_constant : (o : Option ℕ) (text : List ℕ) (code : Code) → known_with_end o text ≡ refused code → is_constant code ≡ true
-end_constant None text code e =
-    elim (cond_cases (nat_lt (length text) head_limit) (unended (length text)) (refused LongHead) _ e) [
-      | inl h ↦ absurd (let bad = h.1 in cc)
-      | inr h ↦ (let is = h.1 in same_code LongHead code (cc) (refl {a = true}))
-    ]
-end_constant (Some n) text code e =
-    head_constant (length text) n (head_with_length (take n text)) code
-    (read_constant (ended_head (take n text)) code (ended_constant (take n text) code)) e
-
-refused_of : (k : Known) (text : List ℕ) (code : Code) → framed k text ≡ refusal code → k ≡ refused code
-refused_of (unended n) text code e = absurd cc
-refused_of (waiting head n body) text code e = absurd cc
-refused_of (complete head n body) text code e = absurd cc
-refused_of (refused c) text code e = (let is : c ≡ code = cc in ap refused is)
-
--- a text that is refused at its head is refused by a constant reply
-pub refused_constant : (text : List ℕ) (code : Code) → framing text ≡ refusal code → is_constant code ≡ true
-unfolding framing known
-refused_constant text code e = end_constant (head_length (take head_limit text)) text code (refused_of (known text) text code e)
-
--- ---- whose request a whole text is
-
--- the head that was read, where there is one
-abbrev head_or : Result (Head × ℕ) Code → Head → Head
-head_or (Err c) head = head
-head_or (Ok read) head = read.0
-
-abbrev as_read : ℕ → Head → Result (Head × ℕ) Code
-as_read n head = Ok (head, n)
-
-measured_head : (h : RequestHead) (r : Result ℕ Code) (head : Head) (n : ℕ) → and_length h r ≡ Ok (head, n) → kept h ≡ head
-measured_head h (Err c) head n e = absurd cc
-measured_head h (Ok m) head n e = ap (λ r. head_or r head) e
-
-read_head_of : (r : Result RequestHead Code) (head : Head) (n : ℕ) → length_read r ≡ Ok (head, n) → ok_head r ≡ Some head
-read_head_of (Err c) head n e = absurd cc
-read_head_of (Ok h) head n e = ap Some (measured_head h (body_length (pairs_of h)) head n e)
-
-complete_read : (count n : ℕ) (r : Result (Head × ℕ) Code) (head : Head) (m body : ℕ) → known_with_head count n r ≡ complete head m body
-    → (k : ℕ) × (r ≡ Ok (head, k))
-complete_read count n (Err c) head m body e = absurd cc
-complete_read count n (Ok read) head m body e =
-    elim (cond_cases (nat_lt count (n + read.1)) (waiting read.0 n read.1) (complete read.0 n read.1) _ e) [
-      | inl k ↦ absurd (let bad = k.1 in cc)
-      | inr k ↦ (let is = k.1 in let same : read.0 ≡ head = cc in (read.1, ap (as_read read.1) same))
-    ]
-
-end_head : (o : Option ℕ) (text : List ℕ) (head : Head) (m body : ℕ) → known_with_end o text ≡ complete head m body → ended_at o text ≡ Some head
-end_head None text head m body e =
-    elim (cond_cases (nat_lt (length text) head_limit) (unended (length text)) (refused LongHead) _ e) [
-      | inl h ↦ absurd (let bad = h.1 in cc)
-      | inr h ↦ absurd (let bad = h.1 in cc)
-    ]
-end_head (Some n) text head m body e =
-    let read = complete_read (length text) n (head_with_length (take n text)) head m body e in
-    read_head_of (ended_head (take n text)) head read.0 read.1
-
-whole_of : (k : Known) (text : List ℕ) (head : Head) (body : List ℕ) → framed k text ≡ whole head body → (n : ℕ) × (m : ℕ) × (k ≡ complete head n m)
-whole_of (unended n) text head body e = absurd cc
-whole_of (waiting h n b) text head body e = absurd cc
-whole_of (refused c) text head body e = absurd cc
-whole_of (complete h n b) text head body e = (let same : h ≡ head = cc in (n, b, ap (λ x. complete x n b) same))
-
--- a whole text has its head
-pub whole_head : (text : List ℕ) (head : Head) (body : List ℕ) → framing text ≡ whole head body → head_in text ≡ Some head
-unfolding framing known head_in
-whole_head text head body e =
-    let is = whole_of (known text) text head body e in
-    end_head (head_length (take head_limit text)) text head is.0 is.1 is.2
+-- a text that needs more is incomplete
+pub needs_by_test : (text : List ℕ) → needs_more text ≡ true → framing text ≡ incomplete
+needs_by_test text more = by (framing text) more
+  where
+    by : (is : Framing) → is_incomplete is ≡ true → is ≡ incomplete
+    by incomplete more = refl
+    by (refusal code) more = absurd cc
+    by (whole head body) more = absurd cc
 
 -- ---- what a front stands for
 
@@ -227,13 +95,13 @@ if_done (Ok reply) is = is
 if_done (Err e) is = tt
 
 -- a constant reply is that of the refusal by its code alone
-pub constant_answer : (code : Code) → ◌≡◌ {A = Answer} (record { code = code; bytes = refusal_bytes code }) (answer_of (told_refused (alone code)))
+pub constant_answer : (code : Code) → refusal_of code ≡ answer_of (told_refused (alone code))
 constant_answer code =
     let told : List ℕ → Answer = λ page. record { code = code; bytes = reply_bytes code None page } in
     ap told (sym (refusal_in_bytes (alone code)))
 
 -- the reply to a text that needed more when its input ended
-pub answered_cut_short : (house : HouseFields) (who : Asker) (text : List ℕ) → framing text ≡ needs_more
+pub answered_cut_short : (house : HouseFields) (who : Asker) (text : List ℕ) → needs_more text ≡ true
     → answer_of (outcome house who (request_of text).ask) ≡ cut_short
 answered_cut_short house who text is =
-    ap (λ ask. answer_of (outcome house who ask)) (sym (ask_by text needs_more (sym is))) ∙ sym (constant_answer CutShort)
+    ap (λ ask. answer_of (outcome house who ask)) (sym (ask_by text incomplete (sym (needs_by_test text is)))) ∙ sym (constant_answer CutShort)

@@ -1,11 +1,4 @@
-pub mod Prefixes
-mod HeadLaws
-mod ScanLaws
-mod HeaderLaws
-mod TextLaws
-pub mod ProgressLaws
-mod RouteLaws
-mod ReplyLaws
+mod PageLaws
 mod Examples
 mod TokenLaws
 mod OutcomeLaws

@@ -2,13 +2,12 @@
 use Rattle.std.proofs.Common.{◌≡◌, Option, Some, None, refl, sym, ap}
 use Rattle.std.specs.Prelude.{option_map, Result}
 use Rattle.serde_json.specs.Data.{Data}
-use Rattle.clock_setup.specs.Limits.{SetupFields}
+use Rattle.clock_terms.specs.Limits.{SetupFields}
 use Rattle.clock_house.specs.Command.{other}
-use Rattle.clock_house.specs.declared.closed_round.ClosedRound.{ClosedRound}
-use Rattle.clock_views.specs.declared.code.Code.{Code}
+use Rattle.clock_closing.specs.declared.closed_round.ClosedRound.{ClosedRound}
+use Rattle.clock_http.specs.declared.code.Code.{Code}
 use Rattle.clock_views.specs.Refusals.{alone}
-use Rattle.clock_front.specs.declared.routes.Role.TheVariants as role
-use Rattle.clock_front.specs.declared.routes.Page.{Page}
+use Rattle.clock_http.specs.declared.routes.Page.{Page}
 use Rattle.clock_front.specs.declared.tokens.Asker.{Asker}
 use Rattle.clock_front.specs.declared.tokens.Asker.TheVariants.{Nobody, Operator, Bidder}
 use Rattle.clock_front.specs.declared.asked.Reading.{Reading}
@@ -17,8 +16,8 @@ use Rattle.clock_bodies.specs.declared.put_body.PutBody.{PutBody}
 use Rattle.clock_bodies.specs.declared.close_body.CloseBody.{CloseBody}
 use Rattle.clock_bodies.specs.declared.body_fault.BodyFault.{BodyFault}
 use Rattle.clock_front.specs.Requests as asked
-use Rattle.clock_front.specs.ShownAsked.{shown_reading}
-use Rattle.clock_front.specs.Outcomes.{Outcome, done, refused, page_or_no_round, turned_away_by, unless_turned_away, command_of}
+use Rattle.clock_front.specs.inside.ShownAsked.{shown_reading}
+use Rattle.clock_front.specs.Outcomes.{Outcome, for_bidder, for_operator, done, refused, page_or_no_round, turned_away_by, unless_turned_away, command_of}
 
 -- a page of a part of the closed round that is there
 pub found_page : {T : Type 0} (value : T → Data) (part : ClosedRound → T) (closed : Option ClosedRound) (x : T) → Some x ≡ option_map part closed
@@ -49,13 +48,13 @@ reading_other setup (Bidder b) reading.Bids = refl
 reading_other setup (Bidder b) (reading.Slip segment) = refl
 reading_other setup (Bidder b) reading.Results = refl
 
-pub put_other : (setup : SetupFields) (asker : Asker) (code : Code) (body : Result PutBody BodyFault) → turned_away_by role.Bidder asker ≡ Some code
+pub put_other : (setup : SetupFields) (asker : Asker) (code : Code) (body : Result PutBody BodyFault) → turned_away_by for_bidder asker ≡ Some code
     → command_of setup asker (asked.put body) ≡ other
 put_other setup Nobody code body is = refl
 put_other setup Operator code body is = refl
 put_other setup (Bidder b) code body is = absurd cc
 
-pub close_other : (setup : SetupFields) (asker : Asker) (code : Code) (body : Result CloseBody BodyFault) → turned_away_by role.Operator asker ≡ Some code
+pub close_other : (setup : SetupFields) (asker : Asker) (code : Code) (body : Result CloseBody BodyFault) → turned_away_by for_operator asker ≡ Some code
     → command_of setup asker (asked.close body) ≡ other
 close_other setup Nobody code body is = refl
 close_other setup Operator code body is = absurd cc

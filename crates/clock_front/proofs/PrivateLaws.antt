@@ -1,8 +1,8 @@
 -- What a right answer tells, it tells by the bidder's view alone.
 use Rattle.std.proofs.Common.{◌≡◌, ◌≢◌, ℕ, ◌<◌, List, length, Option, Some, None, Result, Ok, Err, sym, ◌∙◌, ap}
 use Rattle.std.specs.Prelude.{IfOk, OnOk}
-use Rattle.clock_setup.specs.Limits.{IsSetup, public_setup}
-use Rattle.clock_setup.specs.Faults.{IsFirstFault}
+use Rattle.clock_terms.specs.Limits.{IsSetup, public_setup}
+use Rattle.clock_terms.specs.Faults.{IsFirstFault}
 use Rattle.clock_bids.specs.declared.sheet.Bid.{Bid}
 use Rattle.clock_house.specs.History.{bidder_at}
 use Rattle.clock_house.specs.House.{HouseFields, ToView}
@@ -10,11 +10,13 @@ use Rattle.clock_house.specs.View.{view_of, seen_put_fault}
 use Rattle.clock_house.specs.declared.fault.PutFault.{PutFault}
 use Rattle.clock_house.specs.declared.fault.PutFault.TheVariants.{NoMemory}
 use Rattle.clock_views.specs.Refusals.{shown_put}
-use Rattle.clock_front.specs.Askers.{IsKnown, asker}
+use Rattle.clock_front.specs.Askers.{asker}
+use Rattle.clock_front.specs.inside.Askers.{IsKnown}
 use Rattle.clock_front.specs.Fronts.{commands_of}
 use Rattle.clock_front.specs.Outcomes.{outcome, answer_of, put_outcome, refused}
-use Rattle.clock_front.specs.Private.{IsToldByView, IsToldAsker, IsPrivateReply}
-use Rattle.clock_front.specs.Replies.{Answer}
+use Rattle.clock_front.specs.Private.{IsPrivateReply}
+use Rattle.clock_front.specs.inside.Private.{IsToldByView, IsToldAsker}
+use Rattle.clock_http.specs.Replies.{Answer}
 use Rattle.clock_front.specs.Requests.{Ask, request_of, put}
 use Rattle.clock_front.specs.Views.{bidder_outcome}
 use Rattle.clock_bodies.specs.declared.put_body.PutBody.{PutBody}

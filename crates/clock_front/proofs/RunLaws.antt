@@ -1,10 +1,10 @@
 -- A run goes on by one text, and each right reply is private.
 use Rattle.std.proofs.Common.{◌≡◌, ℕ, List, [], ◌∷◌, ◌++◌, ◌∙◌, ap, subst, inl, inr}
-use Rattle.clock_setup.specs.Limits.{SetupFields, IsSetup}
-use Rattle.clock_front.specs.Replies.{Answer}
+use Rattle.clock_terms.specs.Limits.{SetupFields, IsSetup}
+use Rattle.clock_http.specs.Replies.{Answer}
 use Rattle.clock_house.specs.House.{HouseFields}
 use Rattle.clock_front.specs.Fronts.{reply, IsStruckOut, StandsForTexts, AnswersText}
-use Rattle.clock_front.specs.Runs.{IsRight, Runs}
+use Rattle.clock_front.specs.Headline.{IsRight, Runs}
 use Rattle.clock_front.proofs.TextViews.{answered_from_view, isolated}
 
 -- a right reply is private

@@ -1,10 +1,11 @@
 -- How a stream is served, and what that has made of a front.
-use Rattle.std.proofs.Common.{◌≡◌, ℕ, Bool, true, false, ◌||◌, List, [], ◌∷◌, Ok, Err, refl, sym, subst, ◌∙◌, inl, inr, arith}
+use Rattle.std.proofs.Common.{◌≡◌, ◌⊎◌, ℕ, Bool, true, false, ◌||◌, List, [], ◌∷◌, Ok, Err, refl, sym, subst, ◌∙◌, inl, inr, arith}
 use Rattle.clock_device.specs.Streams.{HasWritten, HasWrittenFront}
 use Rattle.clock_house.specs.House.{HouseFields}
-use Rattle.clock_views.specs.declared.code.Code.{Code}
-use Rattle.clock_front.specs.Fronts.{AnswersText, StandsForTexts}
-use Rattle.clock_front.specs.Replies.{Answer}
+use Rattle.clock_http.specs.declared.code.Code.{Code}
+use Rattle.clock_front.specs.Fronts.{AnswersText, IsStruckOut, StandsForTexts}
+use Rattle.clock_front.specs.Private.{IsPrivateReply}
+use Rattle.clock_http.specs.Replies.{Answer}
 use Rattle.clock_device.specs.Readings.{Reading}
 use Rattle.clock_front.specs.Arrivals.{HasArrived}
 use Rattle.clock_front.specs.Streamed.{Writing, HasServed, IsAnswerTo, IsServed}
@@ -12,9 +13,10 @@ use Rattle.clock_front.specs.declared.stream_fault.StreamFault.TheVariants as fa
 
 -- the text that was read was answered
 pub text_answered : (reading : Reading) (request text : List ℕ) (answer : Answer) (old new : HouseFields) → text ≡ request
-    → HasArrived reading request → AnswersText text answer old new → IsAnswerTo reading answer old new
-text_answered reading request text answer old new same arrived answers =
-    inl (text, subst (λ (t : List ℕ). HasArrived reading t) (sym same) arrived, answers)
+    → HasArrived reading request → AnswersText text answer old new → IsStruckOut text answer ⊎ IsPrivateReply text old answer
+    → IsAnswerTo reading answer old new
+text_answered reading request text answer old new same arrived answers private =
+    inl (text, subst (λ (t : List ℕ). HasArrived reading t) (sym same) arrived, answers, private)
 
 module _ (reading : Reading) (writing : Writing) (old new : HouseFields) where
   -- the reply was written

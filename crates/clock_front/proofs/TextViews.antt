@@ -4,16 +4,16 @@ use Rattle.std.proofs.Common.{eq-eqb, append-nil, append_assoc, zero-add}
 use Rattle.std.specs.Prelude.{Option, Some, None, option_map, option_and_then, slice_index_or, Result, Ok, Err}
 use Rattle.std.proofs.lemmas.Bool.Decides.{nat_tests}
 use Rattle.std.proofs.lemmas.List.FromFn.{get_or-map-range_with_len}
-use Rattle.clock_setup.specs.declared.setup.Bidder.{Bidder}
-use Rattle.clock_setup.specs.Limits.{SetupFields, IsSetup, PublicSetup, public_setup}
+use Rattle.clock_terms.specs.declared.setup.Bidder.{Bidder}
+use Rattle.clock_terms.specs.Limits.{SetupFields, IsSetup, PublicSetup, public_setup}
 use Rattle.clock_bids.specs.declared.sheet.Bid.{Bid}
 use Rattle.clock_bids.specs.Holding.{Holding}
 use Rattle.clock_posting.specs.declared.sheet.RoundSheet.{RoundSheet}
 use Rattle.clock_house.specs.Command as command
 use Rattle.clock_house.specs.Command.{Command}
-use Rattle.clock_house.specs.declared.slip.Slip.{Slip}
-use Rattle.clock_house.specs.declared.fault.CloseFault.{CloseFault}
-use Rattle.clock_house.specs.declared.closed_round.ClosedRound.{ClosedRound}
+use Rattle.clock_closing.specs.declared.slip.Slip.{Slip}
+use Rattle.clock_closing.specs.declared.fault.CloseFault.{CloseFault}
+use Rattle.clock_closing.specs.declared.closed_round.ClosedRound.{ClosedRound}
 use Rattle.clock_house.specs.Standing.{Standing}
 use Rattle.clock_house.specs.History.{Auction, history, bidder_at, closing_of, round_at, slip_of, standing, holding, sheet_in_force, for_each_bidder}
 use Rattle.clock_house.specs.View.{Seen, own_put, view_of, seen_of, seen_closing, seen_standing, seen_holding, seen_in_force, seen_round, shown_to, IsSeen}
@@ -27,7 +27,7 @@ use Rattle.clock_bodies.specs.declared.body_fault.BodyFault.{BodyFault}
 use Rattle.clock_front.specs.declared.tokens.Asker.{Asker}
 use Rattle.clock_front.specs.declared.tokens.Asker.TheVariants as who
 use Rattle.clock_front.specs.Askers.{asker}
-use Rattle.clock_front.specs.Routes.{round_named}
+use Rattle.clock_http.specs.Decimals.{plain_number}
 use Rattle.clock_front.specs.Requests.{Ask, request_of}
 use Rattle.clock_front.specs.Requests as ask
 use Rattle.clock_bodies.specs.CloseBodies.{in_version}
@@ -35,7 +35,7 @@ use Rattle.clock_front.specs.Outcomes.{done, answer_of, page_or_no_round, close_
 use Rattle.clock_front.specs.Fronts.{text_command, commands_of, house_after}
 use Rattle.clock_front.specs.Views.{SeenText, own, accepted_close, is_own, closings_of, seen_of_text, text_view, sheet_put, typed_view, Known}
 use Rattle.clock_front.specs.Views.{known_from, bidder_outcome, answer}
-use Rattle.clock_front.specs.Isolation.{IsAnsweredFromView, IsIsolated}
+use Rattle.clock_front.specs.inside.Isolation.{IsAnsweredFromView, IsIsolated}
 use Rattle.clock_front.proofs.AskerLaws.{asker_own, asker_other}
 
 -- a view of joined parts
@@ -134,8 +134,8 @@ module _ (setup : PublicSetup) (row : Bidder) (standing_now : Standing) (held : 
       bidder_outcome setup row (record { standing = standing_now; holding = held; in_force = in_force; rounds = one }) asked
       ≡ bidder_outcome setup row (record { standing = standing_now; holding = held; in_force = in_force; rounds = two }) asked
   unfolding bidder_outcome
-  same_rounds (ask.slip segment) = same_slip (round_named segment)
-  same_rounds (ask.sheet segment) = same_sheet (round_named segment)
+  same_rounds (ask.slip segment) = same_slip (plain_number segment)
+  same_rounds (ask.sheet segment) = same_sheet (plain_number segment)
   same_rounds (ask.turned_away why) = refl
   same_rounds (ask.no_method page) = refl
   same_rounds ask.status = refl
@@ -188,8 +188,8 @@ module _ (setup : SetupFields) (b : ℕ) (lt : b < length setup.bidders) (comman
   pub told_of_known : (asked : Ask) → outcome (house_after setup commands) (who.Bidder b) asked ≡ bidder_outcome
       (public_setup setup) (bidder_at setup b) known_in asked
   unfolding bidder_outcome
-  told_of_known (ask.slip segment) = ap page_or_no_round (named_slip (round_named segment))
-  told_of_known (ask.sheet segment) = ap page_or_no_round (named_sheet (round_named segment))
+  told_of_known (ask.slip segment) = ap page_or_no_round (named_slip (plain_number segment))
+  told_of_known (ask.sheet segment) = ap page_or_no_round (named_sheet (plain_number segment))
   told_of_known ask.bids = ap (λ sheet. done (bids_value (standing setup.products (history setup commands).closed).round sheet)) own_sheet
   told_of_known (ask.turned_away why) = refl
   told_of_known (ask.no_method page) = refl

@@ -7,11 +7,12 @@ use Rattle.std.specs.Cmp.Lexicographic.{pointwise, bytes_decides}
 use Rattle.std.specs.Map.{lookup}
 use Rattle.std.proofs.lemmas.List.{drop_more}
 use Rattle.indexmap.specs.IndexMap.{insert_entry}
-use Rattle.clock_setup.specs.declared.setup.Bidder.{Bidder as BidderRow}
-use Rattle.clock_setup.specs.Limits.{SetupFields}
-use Rattle.clock_front.specs.Heads.{same_bytes}
-use Rattle.clock_front.specs.Askers.{holder, bidder_tokens, asker, asker_by, IsKnown}
-use Rattle.clock_front.specs.HeldTokens.{found}
+use Rattle.clock_terms.specs.declared.setup.Bidder.{Bidder as BidderRow}
+use Rattle.clock_terms.specs.Limits.{SetupFields}
+use Rattle.clock_http.specs.Heads.{same_bytes}
+use Rattle.clock_front.specs.Askers.{holder, bidder_tokens, asker, asker_by}
+use Rattle.clock_front.specs.inside.Askers.{IsKnown}
+use Rattle.clock_front.specs.inside.HeldTokens.{found}
 use Rattle.clock_front.specs.declared.tokens.Asker.{Asker}
 use Rattle.clock_front.specs.declared.tokens.Asker.TheVariants.{Nobody, Operator, Bidder}
 

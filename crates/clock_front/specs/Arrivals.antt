@@ -3,14 +3,10 @@
 --     HasArrived reading text      the text was read: it is decided, or the input ended behind it
 --     HasFailedRead, RunsOutOfReads      the two ways in which a request is not read
 --     HasNoRoom      bytes were read, and there was no memory for them
---     EndsArrival reading result      how reading a request ends
---     IsStepOf left left_after old new result      what one read comes to
-use Rattle.std.specs.Prelude.{◌≡◌, ◌≤◌, ◌⊎◌, ◌+◌, ◌++◌, ℕ, List, [], length, Option, Bool, true, false, Result, Ok, Err}
+use Rattle.std.specs.Prelude.{◌≡◌, ◌≤◌, ◌⊎◌, ◌+◌, ◌++◌, ℕ, List, [], length, Option, true, false}
 use Rattle.clock_device.specs.Streams.{HasRead, IsReadOut}
 use Rattle.clock_device.specs.Readings.{Reading}
-use Rattle.clock_front.specs.Framing.{framing, needs_more, IsDecided}
-use Rattle.clock_front.specs.declared.reading.Unread.{Unread}
-use Rattle.clock_front.specs.declared.reading.Unread.TheVariants as unread
+use Rattle.clock_http.specs.Framing.{needs_more, IsDecided}
 
 -- how many reads are made at most
 abbrev pub most_reads : ℕ
@@ -20,7 +16,7 @@ most_reads = 2000000
 -- them at least or was interrupted
 pub record IsReadByNeed (reading : Reading) (front last : List ℕ) : Type 0 where
   pub read : HasRead reading.before reading.after (front ++ last)
-  pub needed : framing front ≡ needs_more
+  pub needed : needs_more front ≡ true
   pub used : reading.calls ≤ length front + reading.interruptions + 1
 
 -- the text is decided, whatever follows; or the last read found the end of the input
@@ -45,7 +41,7 @@ HasFailedRead reading = (text : List ℕ) × IsReadByNeed reading text [] × (re
 -- bytes that still needed more were read, and these and interruptions used all reads up
 pub record UsesAllReads (reading : Reading) (text : List ℕ) : Type 0 where
   pub read : HasRead reading.before reading.after text
-  pub needed : framing text ≡ needs_more
+  pub needed : needs_more text ≡ true
   pub used : reading.calls ≤ length text + reading.interruptions
   pub all : reading.calls ≡ most_reads
   pub unfailed : reading.has_failed ≡ false
@@ -56,32 +52,3 @@ RunsOutOfReads reading = (text : List ℕ) × UsesAllReads reading text
 -- there was no memory for the bytes, or for those that the last read brought
 abbrev pub HasNoRoom : Reading → Type 0
 HasNoRoom reading = (front : List ℕ) × (last : List ℕ) × IsReadByNeed reading front last × (reading.has_failed ≡ false)
-
--- how reading a request ends: with its text; where a read failed or all reads were made; or for want of memory. An interrupted
--- read is none of these, so it is tried again
-abbrev pub EndsArrival : Reading → Result (List ℕ) Unread → Type 0
-EndsArrival reading (Ok text) = HasArrived reading text
-EndsArrival reading (Err unread.Read) = HasFailedRead reading ⊎ RunsOutOfReads reading
-EndsArrival reading (Err unread.Memory) = HasNoRoom reading
-
--- whether a read was the last, by what it brought
-abbrev pub IsLastIf : Bool → Option (List ℕ) → List ℕ → List ℕ → Type 0
-IsLastIf true left text last = IsLast left text last
-IsLastIf false left text last = framing text ≡ needs_more
-
--- a read brought these last bytes of the text
-pub record BringsLast (left left_after : Option (List ℕ)) (old new last : List ℕ) : Type 0 where
-  pub read : HasRead left left_after last
-  pub added : new ≡ old ++ last
-
--- what one read comes to: its bytes are added, and the answer tells whether more are needed; or it failed; or there was no
--- memory for its bytes
-abbrev pub IsStepOf : Option (List ℕ) → Option (List ℕ) → List ℕ → List ℕ → Result Bool Unread → Type 0
-IsStepOf left left_after old new (Ok done) = (last : List ℕ) × BringsLast left left_after old new last × IsLastIf done left_after new last
-IsStepOf left left_after old new (Err unread.Read) = HasRead left left_after []
-IsStepOf left left_after old new (Err unread.Memory) = (last : List ℕ) × HasRead left left_after last
-
--- the read failed
-abbrev pub is_read_fault : {A : Type 0} → Result A Unread → Bool
-is_read_fault (Err unread.Read) = true
-is_read_fault _ = false

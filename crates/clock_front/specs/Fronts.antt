@@ -5,16 +5,17 @@
 --     StandsForTexts texts house      the house stands for the commands of the texts
 --     IsCutShort reply      the reply to a text that needed more, or that of want of memory
 --     IsStruckOut text reply      the reply of want of memory, to a text that needs some
+--     IsDoneBy text reply old new      the text's command was done, or there was no memory and nothing changed, whatever the house stood for
 --     AnswersText text reply old new      a text is answered by what is right, or there was no memory and it did nothing
 use Rattle.std.specs.Prelude.{◌≡◌, ◌⊎◌, ℕ, List, ◌∷◌, map}
-use Rattle.clock_setup.specs.Limits.{SetupFields}
+use Rattle.clock_terms.specs.Limits.{SetupFields}
 use Rattle.clock_house.specs.Command.{Command}
 use Rattle.clock_house.specs.History.{history, sheet_in_force, for_each_bidder}
-use Rattle.clock_house.specs.House.{HouseFields, StandsFor}
-use Rattle.clock_views.specs.declared.code.Code.{Code}
-use Rattle.clock_views.specs.declared.code.Code.TheVariants.{CutShort, Memory}
-use Rattle.clock_front.specs.Framing.{framing, refusal}
-use Rattle.clock_front.specs.Replies.{Answer, refusal_bytes}
+use Rattle.clock_house.specs.House.{HouseFields, StandsFor, IsFollowedBy, StandsStill}
+use Rattle.clock_http.specs.declared.code.Code.{Code}
+use Rattle.clock_http.specs.Framing.{framing, refusal}
+use Rattle.clock_http.specs.Replies.{Answer}
+use Rattle.clock_front.specs.FixedReplies.{no_memory, cut_short}
 use Rattle.clock_front.specs.Requests.{request_of}
 use Rattle.clock_front.specs.Askers.{asker}
 use Rattle.clock_front.specs.Outcomes.{answer_of, outcome, command_of}
@@ -44,15 +45,7 @@ reply setup texts text =
 abbrev pub StandsForTexts : List (List ℕ) → HouseFields → Type 0
 StandsForTexts texts house = StandsFor (commands_of house.setup texts) house
 
--- the reply where there was no memory
-abbrev pub no_memory : Answer
-no_memory = record { code = Memory; bytes = refusal_bytes Memory }
-
--- the reply to a text that still needed more when its input ended
-abbrev pub cut_short : Answer
-cut_short = record { code = CutShort; bytes = refusal_bytes CutShort }
-
--- that reply, or there was no memory for it
+-- the reply to a text that still needed more when its input ended, or there was no memory for it
 abbrev pub IsCutShort : Answer → Type 0
 IsCutShort answer = (answer ≡ cut_short) ⊎ (answer ≡ no_memory)
 
@@ -60,6 +53,11 @@ IsCutShort answer = (answer ≡ cut_short) ⊎ (answer ≡ no_memory)
 pub record IsStruckOut (text : List ℕ) (answer : Answer) : Type 0 where
   pub is : answer ≡ no_memory
   pub needs : (code : Code) → framing text ≡ refusal code → ⊥
+
+-- the house is followed by the text's command, whatever it stood for; or there was no memory, and it stands as it did
+abbrev pub IsDoneBy : List ℕ → Answer → HouseFields → HouseFields → Type 0
+IsDoneBy text answer old new =
+    IsFollowedBy (text_command old.setup text) old new ⊎ (IsStruckOut text answer × StandsStill old new)
 
 -- the right reply, after which the front stands for the texts and this one; or the reply of want of memory, and it stands
 -- for the texts

@@ -2,7 +2,6 @@
 --     text_of connections conn      the bytes that have come over a connection that stands
 --     is_full connections      there is no room for one more
 --     IsConnected old new conn      a connection was made
---     AllNeedMore connections      no request of a connection that stands is complete
 --     IsFed old new conn text fed      what a piece has led to with which the text is this one
 --     IsAnswered old new conn text reply      the request of a connection was answered, and the connection is gone
 --     IsConnectFault, IsFeedFault, IsFinishFault      when each refusal comes
@@ -12,13 +11,14 @@ use Rattle.std.specs.Prelude.{is_some, IsSome, count_by, slice_index_or}
 use Rattle.clock_house.specs.House.{HouseFields}
 use Rattle.clock_front.specs.Fronts.{AnswersText, IsStruckOut}
 use Rattle.clock_front.specs.Private.{IsPrivateReply}
-use Rattle.clock_front.specs.Replies.{Answer}
+use Rattle.clock_http.specs.Replies.{Answer}
 use Rattle.clock_front.specs.declared.connections.Conn.{Conn}
 use Rattle.clock_front.specs.declared.hub_fault.HubFault.{HubFault}
 use Rattle.clock_front.specs.declared.hub_fault.HubFault.TheVariants.{Full, NoMemory, Unknown}
 use Rattle.clock_front.specs.declared.fed.Fed.{Fed}
 use Rattle.clock_front.specs.declared.fed.Fed.TheVariants.{More, Reply}
-use Rattle.clock_front.specs.Pieces.{most_connections, needs_more}
+use Rattle.clock_http.specs.Framing.{needs_more}
+use Rattle.clock_front.specs.Pieces.{most_connections}
 
 -- a connection that stands: its serial number, and the bytes that have come over it
 pub record Standing : Type 0 where
@@ -54,10 +54,6 @@ standing_count connections = count_by is_some connections.slots
 -- as many stand as can, or the serial numbers have come to their end
 abbrev pub is_full : ConnectionFields → Bool
 is_full connections = nat_le most_connections (standing_count connections) || nat_le 18446744073709551615 connections.next
-
--- the text of each connection that stands needs more
-abbrev pub AllNeedMore : ConnectionFields → Type 0
-AllNeedMore connections = (conn : Conn) (text : List ℕ) → text_of connections conn ≡ Some text → needs_more text ≡ true
 
 -- every other connection stands as it did
 abbrev pub KeepsOthers : ConnectionFields → ConnectionFields → Conn → Type 0
@@ -104,11 +100,6 @@ pub record IsAnswered (old new : HubFields) (conn : Conn) (text : List ℕ) (rep
 abbrev pub IsFed : HubFields → HubFields → Conn → List ℕ → Fed → Type 0
 IsFed old new conn text More = (needs_more text ≡ true) × IsTaken old.connections new.connections conn text × (new.house ≡ old.house)
 IsFed old new conn text (Reply reply) = (needs_more text ≡ false) × IsAnswered old new conn text reply
-
--- what a piece has led to is a reply, of which this holds
-abbrev pub IsReply : Fed → (Answer → Type 0) → Type 0
-IsReply More holds = ⊥
-IsReply (Reply reply) holds = holds reply
 
 -- why no piece was taken
 abbrev pub IsFeedFault : Option (List ℕ) → HubFault → Type 0

@@ -7,24 +7,22 @@
 use Rattle.std.specs.Prelude.{ℕ, List, length, Option, Some, None, option_map, option_and_then, Result, Ok, Err, slice_index_or}
 use Rattle.serde_json.specs.Data.{Data}
 use Rattle.serde_json.specs.Written.{compact_text}
-use Rattle.clock_setup.specs.Limits.{SetupFields, public_setup}
+use Rattle.clock_terms.specs.Limits.{SetupFields, public_setup}
 use Rattle.clock_house.specs.Command.{Command}
 use Rattle.clock_house.specs.Command as command
 use Rattle.clock_house.specs.History.{bidder_at, slip_of, round_at}
-use Rattle.clock_house.specs.declared.closed_round.ClosedRound.{ClosedRound}
+use Rattle.clock_closing.specs.declared.closed_round.ClosedRound.{ClosedRound}
 use Rattle.clock_house.specs.House.{HouseFields, standing_in, holding_in, put_fault_in, closing_in}
 use Rattle.clock_house.specs.declared.fault.PutFault.{PutFault}
-use Rattle.clock_house.specs.declared.fault.CloseFault.{CloseFault}
-use Rattle.clock_views.specs.declared.code.Code.{Code}
-use Rattle.clock_views.specs.declared.code.Code.TheVariants as code
+use Rattle.clock_closing.specs.declared.fault.CloseFault.{CloseFault}
+use Rattle.clock_http.specs.declared.code.Code.{Code}
+use Rattle.clock_http.specs.declared.code.Code.TheVariants as code
 use Rattle.clock_views.specs.Refusals.{Shown, alone, shown_put, shown_close}
 use Rattle.clock_views.specs.RefusalPage.{refusal_value}
 use Rattle.clock_views.specs.PublicPages.{status_value, products_value, sheet_value}
 use Rattle.clock_views.specs.BidderPages.{account_value, bids_value, accepted_value, slip_value}
 use Rattle.clock_views.specs.OperatorPages.{closed_value, results_value}
-use Rattle.clock_front.specs.declared.routes.Page.{Page}
-use Rattle.clock_front.specs.declared.routes.Role.{Role}
-use Rattle.clock_front.specs.declared.routes.Role.TheVariants as role
+use Rattle.clock_http.specs.declared.routes.Page.{Page}
 use Rattle.clock_front.specs.declared.tokens.Asker.{Asker}
 use Rattle.clock_front.specs.declared.tokens.Asker.TheVariants.{Nobody, Operator, Bidder}
 use Rattle.clock_bodies.specs.declared.put_body.PutBody.{PutBody}
@@ -32,8 +30,8 @@ use Rattle.clock_bodies.specs.declared.close_body.CloseBody.{CloseBody}
 use Rattle.clock_bodies.specs.declared.body_fault.BodyFault.{BodyFault}
 use Rattle.clock_bodies.specs.declared.body_fault.BodyFault.TheVariants.{NotJson, Shape, NoMemory}
 use Rattle.clock_bodies.specs.CloseBodies.{in_version}
-use Rattle.clock_front.specs.Routes.{round_named}
-use Rattle.clock_front.specs.Replies.{Answer, reply_bytes}
+use Rattle.clock_http.specs.Decimals.{plain_number}
+use Rattle.clock_http.specs.Replies.{Answer, reply_bytes}
 use Rattle.clock_front.specs.Requests.{Ask}
 use Rattle.clock_front.specs.Requests as asked
 
@@ -53,15 +51,21 @@ answer_of (done value) = with_page code.Done None value
 answer_of (refused shown) = with_page shown.code None (refusal_value shown)
 answer_of (not_allowed page) = with_page code.Method (Some page) (refusal_value (alone code.Method))
 
+-- whose token is asked for: nobody's, so that a token is not looked at; a bidder's; the operator's
+pub data Role : Type 0 where
+  for_anyone : Role
+  for_bidder : Role
+  for_operator : Role
+
 -- the token of a page's role is missing, or it is another's
 abbrev pub turned_away_by : Role → Asker → Option Code
-turned_away_by role.Anyone asker = None
-turned_away_by role.Bidder Nobody = Some code.Token
-turned_away_by role.Bidder Operator = Some code.Role
-turned_away_by role.Bidder (Bidder b) = None
-turned_away_by role.Operator Nobody = Some code.Token
-turned_away_by role.Operator Operator = None
-turned_away_by role.Operator (Bidder b) = Some code.Role
+turned_away_by for_anyone asker = None
+turned_away_by for_bidder Nobody = Some code.Token
+turned_away_by for_bidder Operator = Some code.Role
+turned_away_by for_bidder (Bidder b) = None
+turned_away_by for_operator Nobody = Some code.Token
+turned_away_by for_operator Operator = None
+turned_away_by for_operator (Bidder b) = Some code.Role
 
 -- a fault of a body
 abbrev pub body_code : BodyFault → Code
@@ -73,7 +77,7 @@ body_code NoMemory = code.Memory
 
 -- the closed round that a segment of a path names
 abbrev pub round_in : HouseFields → List ℕ → Option ClosedRound
-round_in house segment = option_and_then (λ n. round_at n house.closed) (round_named segment)
+round_in house segment = option_and_then (λ n. round_at n house.closed) (plain_number segment)
 
 abbrev pub page_or_no_round : Option Data → Outcome
 page_or_no_round None = refused (alone code.NoRound)
@@ -103,35 +107,42 @@ close_to house (Ok body) = close_outcome body.round (closing_in house body.round
 
 -- whose token is asked for
 abbrev pub role_of : Ask → Role
-role_of asked.account = role.Bidder
-role_of asked.bids = role.Bidder
-role_of (asked.put body) = role.Bidder
-role_of (asked.slip segment) = role.Bidder
-role_of (asked.close body) = role.Operator
-role_of asked.results = role.Operator
-role_of _ = role.Anyone
+role_of (asked.turned_away code) = for_anyone
+role_of (asked.no_method page) = for_anyone
+role_of asked.status = for_anyone
+role_of asked.products = for_anyone
+role_of (asked.sheet segment) = for_anyone
+role_of asked.account = for_bidder
+role_of asked.bids = for_bidder
+role_of (asked.put body) = for_bidder
+role_of (asked.slip segment) = for_bidder
+role_of (asked.close body) = for_operator
+role_of asked.results = for_operator
 
--- a bidder is told of itself
+-- a bidder is told of itself; what is no page of a bidder's is asked of another role
 abbrev pub told_bidder : HouseFields → ℕ → Ask → Outcome
 told_bidder house bidder asked.account =
     done (account_value house.setup.products (bidder_at house.setup bidder).name (standing_in house).round (holding_in house bidder) (standing_in house).ended)
 told_bidder house bidder (asked.put body) = put_to house bidder body
 told_bidder house bidder (asked.slip segment) = page_or_no_round (option_map (λ closed. slip_value (slip_of bidder closed)) (round_in house segment))
-told_bidder house bidder _ = done (bids_value (standing_in house).round (slice_index_or house.sheets bidder None))
+told_bidder house bidder asked.bids = done (bids_value (standing_in house).round (slice_index_or house.sheets bidder None))
+told_bidder house bidder other = refused (alone code.NoPage)
 
--- the operator is told of all
+-- the operator is told of all; what is no page of its own is asked of another role
 abbrev pub told_operator : HouseFields → Ask → Outcome
 told_operator house (asked.close body) = close_to house (in_version house.setup.version body)
-told_operator house _ = done (results_value house)
+told_operator house asked.results = done (results_value house)
+told_operator house other = refused (alone code.NoPage)
 
--- anyone is told what is public
+-- anyone is told what is public; all else is asked of another role
 abbrev pub told_anyone : HouseFields → Ask → Outcome
 told_anyone house (asked.turned_away code) = refused (alone code)
 told_anyone house (asked.no_method page) = not_allowed page
 told_anyone house asked.products = done (products_value (public_setup house.setup))
 told_anyone house (asked.sheet segment) =
     page_or_no_round (option_map (λ closed. sheet_value (public_setup house.setup) closed.sheet) (round_in house segment))
-told_anyone house _ = done (status_value (public_setup house.setup) (standing_in house).round (standing_in house).ended)
+told_anyone house asked.status = done (status_value (public_setup house.setup) (standing_in house).round (standing_in house).ended)
+told_anyone house other = refused (alone code.NoPage)
 
 -- an asker whose token the page asks for
 abbrev pub told_asker : HouseFields → Asker → Ask → Outcome
@@ -141,9 +152,9 @@ told_asker house (Bidder bidder) ask = told_bidder house bidder ask
 
 -- pages of anyone take no notice of the token
 abbrev pub told_by_role : HouseFields → Role → Asker → Ask → Outcome
-told_by_role house role.Anyone asker ask = told_anyone house ask
-told_by_role house role.Bidder asker ask = told_asker house asker ask
-told_by_role house role.Operator asker ask = told_asker house asker ask
+told_by_role house for_anyone asker ask = told_anyone house ask
+told_by_role house for_bidder asker ask = told_asker house asker ask
+told_by_role house for_operator asker ask = told_asker house asker ask
 
 abbrev pub unless_turned_away : Option Code → Outcome → Outcome
 unless_turned_away None outcome = outcome

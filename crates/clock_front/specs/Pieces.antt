@@ -1,25 +1,14 @@
 -- The requests that pieces over connections are.
---     needs_more text      a text is not whole yet, and not refused
 --     Numbered      the connections by number, each with its text so far while it stands
 --     completed numbered event      the request that an event completes
 --     after numbered event      the connections after an event
 --     requests_of events      the requests of a list of events, in the order in which they are complete
 -- Connections are numbered from 0 as they are asked for, those that are refused too.
-use Rattle.std.specs.Prelude.{ℕ, ◌++◌, Bool, true, false, List, [], ◌∷◌, Option, Some, None, option_map, option_and_then, if◌then◌else◌, nat_lt}
+use Rattle.std.specs.Prelude.{ℕ, ◌++◌, List, [], ◌∷◌, Option, Some, None, option_map, option_and_then, if◌then◌else◌, nat_lt}
 use Rattle.std.specs.Prelude.{is_some, count_by, slice_index_or, slice_set}
-use Rattle.clock_front.specs.Framing.{Framing, framing}
-use Rattle.clock_front.specs.Framing as framed
+use Rattle.clock_http.specs.Framing.{needs_more}
 use Rattle.clock_front.specs.declared.events.Event.{Event}
 use Rattle.clock_front.specs.declared.events.Event.TheVariants.{Connect, Piece, Finish}
-
-abbrev pub is_less : Framing → Bool
-is_less framed.needs_more = true
-is_less (framed.refusal code) = false
-is_less (framed.whole head body) = false
-
--- the text is less than a request, and not refused
-abbrev pub needs_more : List ℕ → Bool
-needs_more text = is_less (framing text)
 
 -- the most connections that stand at once (own limit)
 abbrev pub most_connections : ℕ

@@ -4,15 +4,15 @@
 --     page_asked ask      the page that is asked for, where its path and method are good
 --     request_of text      the token of a text and what it asks for
 use Rattle.std.specs.Prelude.{ℕ, List, if◌then◌else◌, Option, Some, None, option_and_then, Result, codes}
-use Rattle.clock_views.specs.declared.code.Code.{Code}
-use Rattle.clock_views.specs.declared.code.Code.TheVariants.{CutShort, NoPage}
-use Rattle.clock_front.specs.Heads.{same_bytes}
-use Rattle.clock_front.specs.Framing.{Framing, needs_more, refusal, whole, Head, framing, head_in}
-use Rattle.clock_front.specs.Routes.{page_of, last_segment, has_method}
+use Rattle.clock_http.specs.declared.code.Code.{Code}
+use Rattle.clock_http.specs.declared.code.Code.TheVariants.{CutShort, NoPage}
+use Rattle.clock_http.specs.Heads.{same_bytes}
+use Rattle.clock_http.specs.Framing.{Framing, incomplete, refusal, whole, Head, framing, head_in}
+use Rattle.clock_http.specs.Routes.{page_of, last_segment, has_method}
 use Rattle.clock_bodies.specs.Bodies.{put_body}
 use Rattle.clock_bodies.specs.CloseBodies.{close_body}
-use Rattle.clock_front.specs.declared.routes.Page.{Page}
-use Rattle.clock_front.specs.declared.routes.Page.TheVariants.{Status, Products, Sheet, Account, Bids, Slip, Close, Results}
+use Rattle.clock_http.specs.declared.routes.Page.{Page}
+use Rattle.clock_http.specs.declared.routes.Page.TheVariants.{Status, Products, Sheet, Account, Bids, Slip, Close, Results}
 use Rattle.clock_bodies.specs.declared.put_body.PutBody.{PutBody}
 use Rattle.clock_bodies.specs.declared.close_body.CloseBody.{CloseBody}
 use Rattle.clock_bodies.specs.declared.body_fault.BodyFault.{BodyFault}
@@ -53,7 +53,7 @@ ask_by_route (Some page) head body = if has_method page head.method then ask_of_
 
 -- what a text asks for; one that still needs more at its end was cut short
 abbrev pub ask_of : Framing → Ask
-ask_of needs_more = turned_away CutShort
+ask_of incomplete = turned_away CutShort
 ask_of (refusal code) = turned_away code
 ask_of (whole head body) = ask_by_route (page_of head.path) head body
 

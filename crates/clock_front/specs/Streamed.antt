@@ -8,9 +8,11 @@ use Rattle.std.specs.Prelude.{◌≡◌, ◌≤◌, ◌⊎◌, ◌++◌, ℕ, Li
 use Rattle.clock_device.specs.Calls.{IsUnused}
 use Rattle.clock_device.specs.Streams.{HasWritten, HasWrittenFront, HasWrittenNothing}
 use Rattle.clock_house.specs.House.{HouseFields}
-use Rattle.clock_views.specs.declared.code.Code.{Code}
-use Rattle.clock_front.specs.Replies.{Answer}
-use Rattle.clock_front.specs.Fronts.{AnswersText, StandsForTexts, no_memory}
+use Rattle.clock_http.specs.declared.code.Code.{Code}
+use Rattle.clock_http.specs.Replies.{Answer}
+use Rattle.clock_front.specs.FixedReplies.{no_memory}
+use Rattle.clock_front.specs.Fronts.{AnswersText, IsStruckOut, StandsForTexts}
+use Rattle.clock_front.specs.Private.{IsPrivateReply}
 use Rattle.clock_device.specs.Readings.{Reading}
 use Rattle.clock_front.specs.Arrivals.{HasArrived, HasFailedRead, RunsOutOfReads, HasNoRoom}
 use Rattle.clock_front.specs.declared.stream_fault.StreamFault.{StreamFault}
@@ -28,10 +30,11 @@ pub record Writing : Type 0 where
 abbrev pub IsUnanswered : Reading → HouseFields → HouseFields → Type 0
 IsUnanswered reading old new = (HasFailedRead reading ⊎ RunsOutOfReads reading) × (new ≡ old)
 
--- the reply to the text that was read; or that of want of memory for the text itself, and the front is as it was
+-- the reply to the text that was read, private to each bidder whose own request it is; or that of want of memory for the text
+-- itself, and the front is as it was
 abbrev pub IsAnswerTo : Reading → Answer → HouseFields → HouseFields → Type 0
 IsAnswerTo reading answer old new =
-    ((text : List ℕ) × HasArrived reading text × AnswersText text answer old new)
+    ((text : List ℕ) × HasArrived reading text × AnswersText text answer old new × (IsStruckOut text answer ⊎ IsPrivateReply text old answer))
     ⊎ (HasNoRoom reading × (answer ≡ no_memory) × (new ≡ old))
 
 -- all of the reply was written

@@ -7,23 +7,23 @@
 --     bidder_outcome setup row known ask      what a bidder is told: no rival, and no number of bidders, is an argument
 --     answer setup row view text      the reply to an own request, by the public set-up, the bidder's row and its view
 use Rattle.std.specs.Prelude.{ℕ, Bool, false, List, [], ◌∷◌, ◌++◌, if◌then◌else◌, Option, Some, None, option_map, option_and_then, Ok, Err}
-use Rattle.clock_setup.specs.declared.setup.Bidder.{Bidder}
-use Rattle.clock_setup.specs.Limits.{SetupFields, PublicSetup}
+use Rattle.clock_terms.specs.declared.setup.Bidder.{Bidder}
+use Rattle.clock_terms.specs.Limits.{SetupFields, PublicSetup}
 use Rattle.clock_bids.specs.declared.sheet.Bid.{Bid}
 use Rattle.clock_bids.specs.Holding.{Holding}
 use Rattle.clock_posting.specs.declared.sheet.RoundSheet.{RoundSheet}
-use Rattle.clock_house.specs.declared.slip.Slip.{Slip}
+use Rattle.clock_closing.specs.declared.slip.Slip.{Slip}
 use Rattle.clock_house.specs.Standing.{Standing, put_fault}
 use Rattle.clock_house.specs.History.{history, bidder_at}
 use Rattle.clock_house.specs.View.{Seen, seen_of, seen_standing, seen_holding, seen_in_force, seen_round}
 use Rattle.clock_house.specs.View as typed
-use Rattle.clock_views.specs.declared.code.Code.TheVariants as code
+use Rattle.clock_http.specs.declared.code.Code.TheVariants as code
 use Rattle.clock_views.specs.Refusals.{alone}
 use Rattle.clock_views.specs.PublicPages.{status_value, products_value, sheet_value}
 use Rattle.clock_views.specs.BidderPages.{account_value, bids_value, slip_value}
-use Rattle.clock_front.specs.Heads.{same_bytes}
-use Rattle.clock_front.specs.Routes.{round_named}
-use Rattle.clock_front.specs.Replies.{Answer}
+use Rattle.clock_http.specs.Heads.{same_bytes}
+use Rattle.clock_http.specs.Decimals.{plain_number}
+use Rattle.clock_http.specs.Replies.{Answer}
 use Rattle.clock_front.specs.Requests.{Ask, request_of}
 use Rattle.clock_front.specs.Requests as asked
 use Rattle.clock_front.specs.Outcomes.{Outcome, done, refused, not_allowed, answer_of, body_code, page_or_no_round, put_outcome}
@@ -95,7 +95,7 @@ known_from setup row view = record {
 
 -- the closed round that a segment of a path names
 abbrev pub known_round : Known → List ℕ → Option (RoundSheet × Slip)
-known_round known segment = option_and_then known.rounds (round_named segment)
+known_round known segment = option_and_then known.rounds (plain_number segment)
 
 -- pages of everyone and its own, and the answers to its sheets; the operator's pages are not for it
 unfoldable pub bidder_outcome : PublicSetup → Bidder → Known → Ask → Outcome

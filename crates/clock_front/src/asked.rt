@@ -1,15 +1,11 @@
 //! What a request asks for, once its path and method are known.
 
-ghost use Rattle.std.specs.Prelude.{◌≡◌, IsTrue, codes};
-ghost use Rattle.clock_front.specs.Heads.{same_bytes};
+ghost use Rattle.std.specs.Prelude.{◌≡◌};
 ghost use Rattle.clock_front.specs.Requests as spec;
-ghost use Rattle.clock_front.specs.Routes.{has_method};
-ghost use Rattle.clock_front.specs.Shown.{shown_head};
-ghost use Rattle.clock_front.specs.ShownAsked.{shown_asked};
+ghost use Rattle.clock_http.specs.Shown.{shown_head};
+ghost use Rattle.clock_front.specs.inside.ShownAsked.{shown_asked};
 
-use crate::request_text::Head;
-use crate::routes::{Page, is_method, last_segment};
-use http::Method;
+use clock_http::{Head, Page, last_segment};
 
 /// What is asked to be told. It changes nothing.
 #[derive(Clone, Copy, Debug)]
@@ -41,7 +37,7 @@ pub(crate) fn asked_of<'a>(page: Page, head: &Head<'a>, body: &'a [u8]) -> Asked
         Page::Sheet => Asked::Read(Reading::Sheet(last_segment(head.path))),
         Page::Account => Asked::Read(Reading::Account),
         Page::Bids => {
-            if is_method(head.method, Method::PUT) {
+            if head.is_put() {
                 Asked::Put(body)
             } else {
                 Asked::Read(Reading::Bids)

@@ -8,16 +8,15 @@ ghost use Rattle.clock_bodies.specs.Bodies.{put_body};
 ghost use Rattle.clock_bodies.specs.CloseBodies.{close_body, in_version};
 ghost use Rattle.clock_front.specs.Outcomes as told;
 ghost use Rattle.clock_front.specs.Outcomes.{answer_of};
-ghost use Rattle.clock_front.specs.Private.{IsToldByView};
+ghost use Rattle.clock_front.specs.inside.Private.{IsToldByView};
 ghost use Rattle.clock_front.specs.Requests as asked;
 ghost use Rattle.clock_views.specs.OperatorPages.{closed_value};
 
-use crate::head_room::text_with_room;
 use crate::pages::refusal;
-use crate::reply::Reply;
 use clock_bodies::{BodyFault, CloseBody, PutBody, is_of_version, read_close, read_put};
 use clock_device::NoMemory;
 use clock_house::{CloseFault, House, PutFault};
+use clock_http::{Reply, text_with_room};
 use clock_processor::Processor;
 use clock_views::{Code, Refusal, push_accepted_page, push_closed_page};
 use std::alloc::Global;
@@ -80,7 +79,7 @@ pub(crate) fn put<P: Processor>(
     ensures followed { OnOk result (IsFollowedBy (told.put_command bidder (put_body body.now)) house.old house.new) }
     ensures still { OnErr result (StandsStill house.old house.new) }
 {
-    house.keeps();
+    house.law_of_house();
     match read_put(alloc, body) {
         Ok(sheet) => put_sheet(alloc, house, bidder, sheet),
         Err(BodyFault::NotJson) => refusal(alloc, Refusal::alone(Code::BadJson)),
@@ -156,7 +155,7 @@ pub(crate) fn close<P: Processor>(
     ensures followed { OnOk result (IsFollowedBy (told.close_command (in_version house.old.setup.version (close_body body.now))) house.old house.new) }
     ensures still { OnErr result (StandsStill house.old house.new) }
 {
-    house.keeps();
+    house.law_of_house();
     match read_close(alloc, body) {
         Ok(closing) => {
             if is_of_version(house.setup().version, &closing.increments) {

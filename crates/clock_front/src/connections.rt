@@ -1,14 +1,13 @@
 ghost use Rattle.std.specs.Prelude.{◌≡◌, ◌⊎◌, ◌++◌, ℕ, true, List, [], Some, IfOk, IfErr, OnOk, OnErr, ◌==◌, is_some, IsSome};
 ghost use Rattle.clock_front.specs.Fronts.{AnswersText, IsCutShort, IsStruckOut};
 ghost use Rattle.clock_front.specs.Private.{IsPrivateReply};
-ghost use Rattle.clock_front.specs.Pieces.{needs_more};
+ghost use Rattle.clock_http.specs.Framing.{needs_more};
 ghost use Rattle.clock_front.specs.Hubs.{text_of, is_full as is_full_of, standing_count, IsConnected, IsConnectFault, IsTaken, IsGone};
 
-use crate::arriving::Arriving;
 use crate::front::Front;
 use crate::hub_fault::HubFault;
-use crate::reply::Reply;
 use clock_device::NoMemory;
+use clock_http::{Arriving, Reply};
 use clock_processor::Processor;
 use slab::Slab;
 use std::alloc::Global;

@@ -1,14 +1,15 @@
 ghost use Rattle.std.specs.Prelude.{◌≡◌, [], IfOk, OnOk};
-ghost use Rattle.clock_front.specs.EventRuns.{IsEventRun, kept};
+ghost use Rattle.clock_front.specs.Headline.{IsEventRun};
+ghost use Rattle.clock_front.specs.inside.EventRuns.{kept};
 ghost use Rattle.clock_front.specs.Fronts.{StandsForTexts};
-ghost use Rattle.clock_front.specs.NumberedHubs.{Stands};
+ghost use Rattle.clock_front.specs.inside.NumberedHubs.{Stands};
 
 use crate::front::Front;
 use crate::numbered::NumberedHub;
-use crate::reply::Reply;
 use clock_device::{Items, NoMemory, Text};
+use clock_http::Reply;
 use clock_processor::Processor;
-use clock_setup::Setup;
+use clock_terms::Setup;
 use std::alloc::Global;
 
 /// What comes of connections, which are numbered from 0 as they are asked for, those that are refused too.
@@ -55,13 +56,13 @@ fn take_each<P: Processor>(
     requires new { StandsForTexts [] hub.old.hub.house }
     ensures { IfOk result (IsEventRun hub.old.hub.house.setup events.now) }
 {
-    hub.front().house().keeps();
+    hub.front().house().law_of_house();
     let mut replies = EventReplies::new(alloc);
     for event in events {
         let told = hub.take_event(event)?;
         keep(&mut replies, told)?;
     }
-    hub.front().house().keeps();
+    hub.front().house().law_of_house();
     Ok(replies)
 }
 

@@ -1,4 +1,4 @@
-use crate::reply::Reply;
+use clock_http::Reply;
 
 /// What a piece has led to.
 #[derive(Drop)]

@@ -1,31 +1,30 @@
-ghost use Rattle.std.specs.Prelude.{◌≡◌, ◌⊎◌, [], length, IfOk, IsOk, OnOk, OnErr};
+ghost use Rattle.std.specs.Prelude.{◌≡◌, ◌⊎◌, true, [], length, IfOk, IsOk, OnOk, OnErr};
 ghost use Rattle.clock_house.specs.House.{IsFollowedBy, StandsStill};
-ghost use Rattle.clock_views.specs.declared.code.Code.{Code as ReplyCode};
-ghost use Rattle.clock_front.specs.Askers.{IsKnown, asker as asker_with};
-ghost use Rattle.clock_front.specs.Framing.{framing as framing_of, needs_more, refusal as refusal_of};
-ghost use Rattle.clock_front.specs.Fronts.{AnswersText, IsCutShort, IsStruckOut, StandsForTexts};
+ghost use Rattle.clock_http.specs.declared.code.Code.{Code as ReplyCode};
+ghost use Rattle.clock_front.specs.Askers.{asker as asker_with};
+ghost use Rattle.clock_front.specs.inside.Askers.{IsKnown};
+ghost use Rattle.clock_http.specs.Framing.{framing as framing_of, needs_more, refusal as refusal_of};
+ghost use Rattle.clock_front.specs.Fronts.{AnswersText, IsCutShort, IsDoneBy, IsStruckOut, StandsForTexts};
 ghost use Rattle.clock_front.specs.Outcomes.{answer_of, outcome, command_of};
-ghost use Rattle.clock_front.specs.Private.{IsToldAsker, IsPrivateReply};
-ghost use Rattle.clock_front.specs.Replies.{refusal_bytes};
+ghost use Rattle.clock_front.specs.Private.{IsPrivateReply};
+ghost use Rattle.clock_front.specs.inside.Private.{IsToldAsker};
 ghost use Rattle.clock_front.specs.Requests.{ask_by_route, request_of};
-ghost use Rattle.clock_front.specs.Routes.{page_of};
-ghost use Rattle.clock_front.specs.Shown.{Knows, shown_head, shown_bytes};
-ghost use Rattle.clock_front.specs.ShownAsked.{shown_asked};
-ghost use Rattle.clock_front.specs.TokenTable.{IsTableOf};
+ghost use Rattle.clock_http.specs.Routes.{page_of};
+ghost use Rattle.clock_http.specs.Shown.{Knows, shown_head, shown_bytes};
+ghost use Rattle.clock_front.specs.inside.ShownAsked.{shown_asked};
+ghost use Rattle.clock_front.specs.inside.TokenTable.{IsTableOf};
 
 use crate::asked::{Asked, asked_of};
 use crate::changes::{close, put};
+use crate::fixed_replies::{fixed_reply, no_memory_reply};
 use crate::pages::{not_allowed, refusal};
-use crate::progress::Progress;
-use crate::reply::Reply;
-use crate::request_text::{Framing, Head};
-use crate::routes::Routes;
 use crate::telling::{bidder_of, operator_of, tell};
 use crate::tokens::{Asker, Tokens};
 use clock_device::NoMemory;
 use clock_house::House;
+use clock_http::{Framing, Head, Progress, Reply, Routes};
 use clock_processor::Processor;
-use clock_setup::Setup;
+use clock_terms::Setup;
 use clock_views::{Code, Refusal};
 use std::alloc::Global;
 use std::marker::Model;
@@ -44,7 +43,7 @@ pub struct Front<P> {
 
 impl<P> Model for Front<P> {
     ghost use Rattle.clock_house.specs.House.{HouseFields};
-    ghost use Rattle.clock_front.specs.TokenTable.{IsTableOf};
+    ghost use Rattle.clock_front.specs.inside.TokenTable.{IsTableOf};
 
     ghost Value = { HouseFields };
 
@@ -65,7 +64,7 @@ fn answer_asked<P: Processor>(
     ensures followed { OnOk result (IsFollowedBy (command_of house.old.setup asker (shown_asked what.entry)) house.old house.new) }
     ensures still { OnErr result (StandsStill house.old house.new) }
 {
-    house.keeps();
+    house.law_of_house();
     match what {
         Asked::Read(what) => tell(alloc, house, asker, what),
         Asked::Put(body) => match bidder_of(asker) {
@@ -96,7 +95,7 @@ fn answer_head<P: Processor>(
         (command_of house.old.setup asker (ask_by_route (page_of head.now.path.now) (shown_head head.now) body.now)) house.old house.new) }
     ensures still { OnErr result (StandsStill house.old house.new) }
 {
-    house.keeps();
+    house.law_of_house();
     let Some(page) = routes.page_of(head.path) else {
         return refusal(alloc, Refusal::alone(Code::NoPage));
     };
@@ -147,10 +146,10 @@ impl<P: Processor> Front<P> {
         ensures private { IfOk result (IsPrivateReply text.now self.old) }
         ensures refused { (code : ReplyCode) → framing_of text.now ≡ refusal_of code → IsOk result }
     {
-        self.house.keeps();
+        self.house.law_of_house();
         match progress.framing(text) {
             Framing::NeedMore => refusal(self.alloc, Refusal::alone(Code::CutShort)),
-            Framing::Refused(code) => Ok(Reply::constant(code)),
+            Framing::Refused(code) => Ok(fixed_reply(code)),
             Framing::Whole { head, body } => {
                 let asker = self.tokens.asker(head.token);
                 answer_head(
@@ -170,14 +169,15 @@ impl<P: Processor> Front<P> {
     pub fn answer_known(&mut self, text: &[u8], progress: Progress) -> Reply
         requires { Knows text.now progress }
         ensures answered { AnswersText text.now result self.old self.new }
+        ensures done { IsDoneBy text.now result self.old self.new }
         ensures private { IsStruckOut text.now result ⊎ IsPrivateReply text.now self.old result }
         ensures setup { self.new.setup ≡ self.old.setup }
         ensures refused { (code : ReplyCode) → framing_of text.now ≡ refusal_of code → result.code ≡ code }
-        ensures cut_short { framing_of text.now ≡ needs_more → IsCutShort result }
+        ensures cut_short { needs_more text.now ≡ true → IsCutShort result }
     {
         match self.answer_text(text, progress) {
             Ok(reply) => reply,
-            Err(_) => Reply::no_memory(),
+            Err(_) => no_memory_reply(),
         }
     }
 
@@ -187,6 +187,7 @@ impl<P: Processor> Front<P> {
     /// head or at its length needs none. The page of a change is built before the change is made.
     pub fn answer(&mut self, text: &[u8]) -> Reply
         ensures answered { AnswersText text.now result self.old self.new }
+        ensures done { IsDoneBy text.now result self.old self.new }
         ensures private { IsStruckOut text.now result ⊎ IsPrivateReply text.now self.old result }
         ensures setup { self.new.setup ≡ self.old.setup }
         ensures refused { (code : ReplyCode) → framing_of text.now ≡ refusal_of code → result.code ≡ code }

@@ -1,13 +1,14 @@
 ghost use Rattle.std.specs.Prelude.{◌≡◌, ◌++◌, ℕ, true, List, [], Some, IfOk, IfErr, OnErr, OnOk, IsSome};
 ghost use Rattle.clock_front.specs.Fronts.{IsCutShort};
-ghost use Rattle.clock_front.specs.Pieces.{needs_more};
-ghost use Rattle.clock_front.specs.Hubs.{text_of, IsConnected, IsConnectFault, IsFed, IsFeedFault, IsAnswered, IsReply, IsFinishFault};
+ghost use Rattle.clock_http.specs.Framing.{needs_more};
+ghost use Rattle.clock_front.specs.Hubs.{text_of, IsConnected, IsConnectFault, IsFed, IsFeedFault, IsAnswered, IsFinishFault};
+ghost use Rattle.clock_front.specs.inside.Hubs.{IsReply};
 
 use crate::connections::{Conn, Connections};
 use crate::fed::Fed;
 use crate::front::Front;
 use crate::hub_fault::HubFault;
-use crate::reply::Reply;
+use clock_http::Reply;
 use clock_processor::Processor;
 use std::alloc::Global;
 use std::marker::Model;
@@ -23,7 +24,8 @@ pub struct Hub<P> {
 }
 
 impl<P> Model for Hub<P> {
-    ghost use Rattle.clock_front.specs.Hubs.{HubFields, AllNeedMore};
+    ghost use Rattle.clock_front.specs.Hubs.{HubFields};
+    ghost use Rattle.clock_front.specs.inside.Hubs.{AllNeedMore};
 
     ghost Value = { HubFields };
 

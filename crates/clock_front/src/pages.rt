@@ -3,14 +3,12 @@
 ghost use Rattle.std.specs.Prelude.{◌≡◌, ◌<◌, length, Some, None, IfOk};
 ghost use Rattle.clock_front.specs.Outcomes as told;
 ghost use Rattle.clock_front.specs.Outcomes.{answer_of};
-ghost use Rattle.clock_front.specs.Private.{IsToldByView};
+ghost use Rattle.clock_front.specs.inside.Private.{IsToldByView};
 ghost use Rattle.clock_front.specs.Requests as asked;
 
-use crate::head_room::text_with_room;
-use crate::reply::Reply;
-use crate::routes::{Page, round_named};
 use clock_device::NoMemory;
 use clock_house::House;
+use clock_http::{Page, Reply, plain_number, text_with_room};
 use clock_views::{
     Code, Refusal, push_account_page, push_bids_page, push_products_page, push_refusal_page,
     push_results_page, push_sheet_page, push_slip_page, push_status_page,
@@ -57,7 +55,7 @@ pub(crate) fn products<P>(alloc: Global, house: &House<P>) -> Result<Reply, NoMe
 pub(crate) fn sheet<P>(alloc: Global, house: &House<P>, segment: &[u8]) -> Result<Reply, NoMemory>
     ensures { IfOk result (λ reply. reply ≡ answer_of (told.told_anyone house.now (asked.sheet segment.now))) }
 {
-    let Some(round) = round_named(segment) else {
+    let Some(round) = plain_number(segment) else {
         return refusal(alloc, Refusal::alone(Code::NoRound));
     };
     let Some(sheet) = house.sheet(round) else {
@@ -105,7 +103,7 @@ pub(crate) fn slip<P>(
     requires { bidder < length house.now.setup.bidders }
     ensures { IfOk result (λ reply. reply ≡ answer_of (told.told_bidder house.now bidder (asked.slip segment.now))) }
 {
-    let Some(round) = round_named(segment) else {
+    let Some(round) = plain_number(segment) else {
         return refusal(alloc, Refusal::alone(Code::NoRound));
     };
     let Some(slip) = house.slip(bidder, round) else {

@@ -1,11 +1,12 @@
-ghost use Rattle.std.specs.Prelude.{◌≡◌, ◌≤◌, ◌<◌, ◌+◌, ◌||◌, Ok, false, length};
+ghost use Rattle.std.specs.Prelude.{◌≡◌, ◌≤◌, ◌<◌, ◌+◌, ◌||◌, Ok, true, false, length};
 ghost use Rattle.clock_device.specs.Calls.{IsUnread, count_after};
-ghost use Rattle.clock_front.specs.Framing.{framing, needs_more};
-ghost use Rattle.clock_device.specs.Readings.{GrowsByOneAtMost};
-ghost use Rattle.clock_front.specs.Arrivals.{EndsArrival, IsStepOf, is_read_fault, most_reads};
+ghost use Rattle.clock_http.specs.Framing.{needs_more};
+ghost use Rattle.clock_device.specs.inside.Readings.{GrowsByOneAtMost};
+ghost use Rattle.clock_front.specs.Arrivals.{most_reads};
+ghost use Rattle.clock_front.specs.inside.Arrivals.{EndsArrival, IsStepOf, is_read_fault};
 
-use crate::arriving::Arriving;
 use clock_device::{NoMemory, Source, Stop, room_for_read};
+use clock_http::Arriving;
 use std::alloc::{AllocError, Global};
 
 /// How many reads are made at most.
@@ -51,7 +52,7 @@ fn read_once<R: Source>(
     request: &mut Arriving,
 ) -> Result<bool, Unread>
     requires room { 0 < length piece.old }
-    requires needed { framing request.old ≡ needs_more }
+    requires needed { needs_more request.old ≡ true }
     requires uncounted { R.interruptions source.old < most_reads }
     ensures step { IsStepOf (R.bytes_left source.old) (R.bytes_left source.new) request.old request.new result }
     ensures used { result ≡ Ok false

@@ -1,12 +1,12 @@
 ghost use Rattle.std.specs.Prelude.{[], IfOk};
 ghost use Rattle.clock_front.specs.Fronts.{StandsForTexts};
-ghost use Rattle.clock_front.specs.Runs.{IsRun};
+ghost use Rattle.clock_front.specs.Headline.{IsRun};
 
 use crate::front::Front;
-use crate::reply::Reply;
 use clock_device::{Items, NoMemory, Text};
+use clock_http::Reply;
 use clock_processor::Processor;
-use clock_setup::Setup;
+use clock_terms::Setup;
 use std::alloc::Global;
 
 /// Replies in the order of their requests.
@@ -23,10 +23,10 @@ fn answer_each<P: Processor>(
 {
     let mut replies = Replies::new(alloc);
     for text in texts {
-        front.house().keeps();
+        front.house().law_of_house();
         replies.push(front.answer(text.as_slice()))?;
     }
-    front.house().keeps();
+    front.house().law_of_house();
     Ok(replies)
 }
 

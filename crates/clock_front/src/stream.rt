@@ -5,11 +5,12 @@ ghost use Rattle.clock_front.specs.Arrivals.{most_reads};
 ghost use Rattle.clock_front.specs.Fronts.{StandsForTexts};
 ghost use Rattle.clock_front.specs.Streamed.{HasServed, IsAnswerTo, IsServed, IsUnanswered};
 
+use crate::fixed_replies::no_memory_reply;
 use crate::front::Front;
 use crate::reading::{Unread, read_request};
-use crate::reply::Reply;
 use crate::stream_fault::StreamFault;
 use clock_device::{Sink, Source, write_all};
+use clock_http::Reply;
 use clock_processor::Processor;
 use clock_views::Code;
 use std::alloc::Global;
@@ -34,7 +35,7 @@ fn answer_source<P: Processor, R: Source>(
 {
     match read_request(alloc, source) {
         Ok(request) => Some(front.answer_known(request.as_slice(), request.progress())),
-        Err(Unread::Memory) => Some(Reply::no_memory()),
+        Err(Unread::Memory) => Some(no_memory_reply()),
         Err(Unread::Read) => None,
     }
 }

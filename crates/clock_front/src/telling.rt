@@ -2,25 +2,24 @@
 
 ghost use Rattle.std.specs.Prelude.{◌≡◌, ◌<◌, length, Some, IfOk, IfErr, OnOk};
 ghost use Rattle.clock_views.specs.Refusals.{alone};
-ghost use Rattle.clock_front.specs.Askers.{IsKnown};
+ghost use Rattle.clock_front.specs.inside.Askers.{IsKnown};
 ghost use Rattle.clock_front.specs.Outcomes as told;
 ghost use Rattle.clock_front.specs.Outcomes.{answer_of, outcome, turned_away_by};
-ghost use Rattle.clock_front.specs.ShownAsked.{shown_reading};
+ghost use Rattle.clock_front.specs.inside.ShownAsked.{shown_reading};
 
 use crate::asked::Reading;
 use crate::pages::{account, bids, products, refusal, results, sheet, slip, status};
-use crate::reply::Reply;
-use crate::routes::Role;
 use crate::tokens::Asker;
 use clock_device::NoMemory;
 use clock_house::House;
+use clock_http::Reply;
 use clock_views::{Code, Refusal};
 use std::alloc::Global;
 
 /// The bidder that asks, or why pages of bidders are not for this asker.
 pub(crate) fn bidder_of(asker: Asker) -> Result<u32, Refusal>
     ensures ok { IfOk result (λ bidder. asker ≡ Asker.Bidder bidder) }
-    ensures err { IfErr result (λ away. (turned_away_by Role.Bidder asker ≡ Some away.code) × (away ≡ alone away.code)) }
+    ensures err { IfErr result (λ away. (turned_away_by told.for_bidder asker ≡ Some away.code) × (away ≡ alone away.code)) }
 {
     match asker {
         Asker::Bidder(bidder) => Ok(bidder),
@@ -32,7 +31,7 @@ pub(crate) fn bidder_of(asker: Asker) -> Result<u32, Refusal>
 /// Why pages of the operator are not for this asker, if they are not.
 pub(crate) fn operator_of(asker: Asker) -> Result<(), Refusal>
     ensures ok { OnOk result (asker ≡ Asker.Operator) }
-    ensures err { IfErr result (λ away. (turned_away_by Role.Operator asker ≡ Some away.code) × (away ≡ alone away.code)) }
+    ensures err { IfErr result (λ away. (turned_away_by told.for_operator asker ≡ Some away.code) × (away ≡ alone away.code)) }
 {
     match asker {
         Asker::Operator => Ok(()),

@@ -1,12 +1,13 @@
 ghost use Rattle.std.specs.Prelude.{◌≡◌, ◌≤◌, ℕ, List, [], length, IfOk, OnOk, if◌then◌else◌};
 ghost use Rattle.clock_front.specs.Askers as askers;
-ghost use Rattle.clock_setup.specs.Limits.{SetupFields};
-ghost use Rattle.clock_front.specs.HeldTokens.{found};
-ghost use Rattle.clock_front.specs.Heads.{same_bytes};
-ghost use Rattle.clock_front.specs.Shown.{shown_bytes};
+ghost use Rattle.clock_front.specs.inside.Askers.{IsKnown};
+ghost use Rattle.clock_terms.specs.Limits.{SetupFields};
+ghost use Rattle.clock_front.specs.inside.HeldTokens.{found};
+ghost use Rattle.clock_http.specs.Heads.{same_bytes};
+ghost use Rattle.clock_http.specs.Shown.{shown_bytes};
 
 use clock_device::NoMemory;
-use clock_setup::{Bidder, Setup};
+use clock_terms::{Bidder, Setup};
 use indexmap::IndexMap;
 use std::alloc::Global;
 
@@ -78,7 +79,7 @@ pub(crate) struct Tokens {
 }
 
 impl Tokens {
-    ghost use Rattle.clock_front.specs.TokenTable.{IsTableOf};
+    ghost use Rattle.clock_front.specs.inside.TokenTable.{IsTableOf};
 
     /// The tokens of a set-up.
     pub(crate) fn new(alloc: Global, setup: &Setup) -> Result<Tokens, NoMemory>
@@ -92,7 +93,7 @@ impl Tokens {
     /// Who asks with a token, or with none. It takes no memory.
     pub(crate) fn asker(&self, token: Option<&[u8]>) -> Asker
         ensures shown { (setup : SetupFields) → IsTableOf setup self.now → result ≡ askers.asker setup (shown_bytes token.entry) }
-        ensures known { (setup : SetupFields) → IsTableOf setup self.now → askers.IsKnown (length setup.bidders) result }
+        ensures known { (setup : SetupFields) → IsTableOf setup self.now → IsKnown (length setup.bidders) result }
     {
         holder_of(&self.holders, token)
     }

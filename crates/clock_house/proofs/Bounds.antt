@@ -2,10 +2,10 @@
 use Rattle.std.proofs.Common.{ℕ, zero, suc, ◌*◌, ◌≤◌, List, arith, length}
 use Rattle.std.specs.Prelude.{sum_by}
 use Rattle.std.proofs.lemmas.List.Sums.{sum_by-le}
-use Rattle.clock_setup.specs.declared.setup.Product.{Product}
-use Rattle.clock_setup.specs.declared.prices.PricePair.{PricePair}
+use Rattle.clock_terms.specs.declared.setup.Product.{Product}
+use Rattle.clock_terms.specs.declared.prices.PricePair.{PricePair}
 use Rattle.clock_house.specs.Standing.{Standing}
-use Rattle.clock_setup.specs.Limits.{most_products}
+use Rattle.clock_terms.specs.Limits.{most_products}
 use Rattle.clock_house.specs.Laws.{HasSoundPrices, most_rounds}
 
 by_round : (round : ℕ) → (2 ≤ round → round ≤ most_rounds) → round ≤ most_rounds

@@ -1,31 +1,34 @@
 -- What a closing does to the commands that a house stands for.
 use Rattle.std.proofs.Common.{◌≡◌, ◌≢◌, ℕ, List, ◌∷◌, Bool, true, false, length, refl, ap, sym, subst, ◌∙◌}
 use Rattle.std.specs.Prelude.{Option, Some, None, Result, Ok, Err, ◌↔◌, IsNone, IsTrue, IfSome, IfOk, IfErr, map, unwrap_or}
-use Rattle.clock_setup.specs.declared.prices.PricePair.{PricePair}
+use Rattle.clock_terms.specs.declared.prices.PricePair.{PricePair}
 use Rattle.clock_posting.specs.Posting.{next_pair}
 use Rattle.clock_posting.specs.declared.sheet.Line.{Line}
-use Rattle.clock_setup.specs.declared.increments.Increments.{Increments}
-use Rattle.clock_setup.specs.Limits.{SetupFields, IsSetup, public_setup}
+use Rattle.clock_terms.specs.declared.increments.Increments.{Increments}
+use Rattle.clock_terms.specs.Limits.{SetupFields, public_setup}
 use Rattle.clock_bids.specs.declared.sheet.Bid.{Bid}
 use Rattle.clock_order.specs.declared.ties.Tie.{Tie}
-use Rattle.clock_house.specs.declared.fault.CloseFault.{CloseFault}
-use Rattle.clock_house.specs.declared.fault.CloseFault.TheVariants as close_faults
+use Rattle.clock_closing.specs.declared.fault.CloseFault.{CloseFault}
+use Rattle.clock_closing.specs.declared.fault.CloseFault.TheVariants as close_faults
 use Rattle.clock_house.specs.Command.{Command, close}
-use Rattle.clock_house.specs.Closing.{OpenRound, closing}
+use Rattle.clock_closing.specs.OpenRound.{OpenRound, OpenRoundFields}
+use Rattle.clock_closing.specs.Closing.{closing, closing_now}
 use Rattle.clock_house.specs.History.{ClosedRound, history, standing, closing_of, after_closing, for_each_bidder, sheet_in_force}
 use Rattle.clock_house.specs.House.{HouseFields, StandsFor, IsFollowedBy, StandsStill, IsUnchanged, HasClosed, AnswersClose, ToHistory}
+use Rattle.clock_house.specs.Standing.{Standing}
 use Rattle.clock_house.specs.House.{standing_in, open_round_in, closing_in}
-use Rattle.clock_house.specs.Prepared.{PreparedClosing, FitsClosing, Answers}
-use Rattle.clock_house.proofs.Closings.{IsClosing, closing_passed}
+use Rattle.clock_closing.specs.Prepared.{Answers}
+use Rattle.clock_house.specs.Prepared.{PreparedClosing, FitsClosing}
+use Rattle.clock_closing.proofs.Closings.{IsClosing, closing_passed}
 use Rattle.std.proofs.lemmas.List.FromFn.{length-map-range_with_len}
 use Rattle.clock_house.proofs.InHouse.{in-many}
 use Rattle.clock_house.proofs.Kept.{stands_open}
 
-module _ (house : HouseFields) (limits : IsSetup house.setup) (round : ℕ) (increments : Increments) (ties : List Tie) (commands : List Command)
+module _ (house : HouseFields) (round : ℕ) (increments : Increments) (ties : List Tie) (commands : List Command)
     (stands : StandsFor commands house) where
   -- the closing by the commands is that by the house
   pub closing_same : closing_of house.setup (history house.setup commands) round increments ties ≡ closing_in house round increments ties
-  closing_same = ap (λ (now : OpenRound). closing (public_setup house.setup) now round increments ties) (sym (stands_open house limits commands stands))
+  closing_same = ap (λ (now : OpenRound). closing (public_setup house.setup) now round increments ties) (sym (stands_open house commands stands))
 
   abbrev closed_with : Result ClosedRound CloseFault → List ClosedRound
   closed_with answer = (after_closing (history house.setup commands) (close round increments ties) answer).closed
@@ -52,22 +55,19 @@ module _ (house : HouseFields) (limits : IsSetup house.setup) (round : ℕ) (inc
   }
 
 -- a refused closing is one more command
-pub close-followed : (house : HouseFields) (limits : IsSetup house.setup) (round : ℕ) (increments : Increments) (ties : List Tie) (fault : CloseFault) →
+pub close-followed : (house : HouseFields) (round : ℕ) (increments : Increments) (ties : List Tie) (fault : CloseFault) →
     closing_in house round increments ties ≡ Err fault →
     IsFollowedBy (close round increments ties) house house
-close-followed house limits round increments ties fault e = record {
+close-followed house round increments ties fault e = record {
   setup = refl;
-  stands = λ commands stands. close-refused house limits round increments ties commands stands fault e;
+  stands = λ commands stands. close-refused house round increments ties commands stands fault e;
 }
 
--- an accepted closing of an equal house, by equal increments and tie numbers
-pub close-kept : (like house : HouseFields) (round : ℕ) (increments copy : Increments) (ties list : List Tie) (done : ClosedRound) →
-    house ≡ like → copy ≡ increments → list ≡ ties → closing_in house round increments ties ≡ Ok done → closing_in like round copy list ≡ Ok done
-close-kept like house round increments copy ties list done houses copies lists e =
-    ap (λ (one : List Tie). closing_in like round copy one) lists
-    ∙ ap (λ (one : Increments). closing_in like round one ties) copies
-    ∙ ap (λ (one : HouseFields). closing_in one round increments ties) (sym houses)
-    ∙ e
+-- an accepted closing of an equal house
+pub fits_like : (like house : HouseFields) (prepared : PreparedClosing) → house ≡ like → FitsClosing prepared house →
+    closing_in like prepared.round prepared.increments prepared.ties ≡ Ok prepared.closed
+fits_like like house prepared same fits =
+    subst (λ (one : HouseFields). closing_in one prepared.round prepared.increments prepared.ties ≡ Ok prepared.closed) same fits
 
 -- room for further rounds is no matter of the commands
 pub stands_unchanged : (old new : HouseFields) (commands : List Command) → IsUnchanged old new → StandsFor commands old → StandsFor commands new
@@ -124,26 +124,50 @@ pub answers-close : (closing : Result ClosedRound CloseFault) (result : Result P
 answers-close closing (Ok prepared) is = rw is refl
 answers-close closing (Err fault) is = is
 
--- an answer of a house in which room was taken
-module _ (old new : HouseFields) (limits : IsSetup old.setup) (same : IsUnchanged old new) (round : ℕ) (increments : Increments) (ties : List Tie)
-    (result : Result PreparedClosing CloseFault) (is : Answers (closing_in new round increments ties) result) where
-  pub answers-same : Answers (closing_in old round increments ties) result
-  answers-same = subst (λ (closing : Result ClosedRound CloseFault). Answers closing result) (closing_unchanged old new same round increments ties) is
+-- a prepared closing fits the house that answered it
+pub fits-asked : (house : HouseFields) (round : ℕ) (increments : Increments) (ties : List Tie) (result : Result PreparedClosing CloseFault) →
+    Answers (closing_in house round increments ties) result →
+    IfOk result (λ prepared. (prepared.round ≡ round) × (prepared.increments ≡ increments) × (prepared.ties ≡ ties)) →
+    IfOk result (λ prepared. FitsClosing prepared house)
+fits-asked house round increments ties (Ok prepared) is asked =
+    ap (λ (n : ℕ). closing_in house n prepared.increments prepared.ties) asked.0
+    ∙ ap (λ (one : Increments). closing_in house round one prepared.ties) asked.1
+    ∙ ap (closing_in house round increments) asked.2
+    ∙ is
+fits-asked house round increments ties (Err fault) is asked = tt
+
+-- the answer of a house in which room was taken, to a closing of the current round
+module _ (old new : HouseFields) (same : IsUnchanged old new) (round : ℕ) (increments : Increments) (ties : List Tie)
+    (current : round ≡ (standing_in old).round) (result : Result PreparedClosing CloseFault)
+    (round_now : OpenRoundFields) (is_now : round_now ≡ record { setup = new.setup; before = open_round_in new })
+    (is : Answers (closing_now round_now increments ties) result) where
+  pub answers-now : Answers (closing_in new (standing_in new).round increments ties) result
+  answers-now = subst (λ (one : OpenRoundFields). Answers (closing_now one increments ties) result) is_now is
+
+  answers-new : Answers (closing_in new round increments ties) result
+  answers-new =
+      subst (λ (n : ℕ). Answers (closing_in new n increments ties) result)
+      (ap (λ (now : Standing). now.round) (standing_unchanged old new same) ∙ sym current) answers-now
+
+  pub answers-old : Answers (closing_in old round increments ties) result
+  answers-old =
+      subst (λ (closing : Result ClosedRound CloseFault). Answers closing result) (closing_unchanged old new same round increments ties) answers-new
 
   pub answers-history : ToHistory old (λ auction. Answers (closing_of old.setup auction round increments ties) result)
   answers-history = λ commands stands. subst (λ (closing : Result ClosedRound CloseFault). Answers closing result)
-      (sym (closing_same old limits round increments ties commands stands)) answers-same
+      (sym (closing_same old round increments ties commands stands)) answers-old
 
--- a refused closing of a house in which room was taken is one more command
-pub refused-followed : (old new : HouseFields) → IsSetup old.setup → IsUnchanged old new → (round : ℕ) (increments : Increments) (ties : List Tie)
-    (result : Result PreparedClosing CloseFault) → Answers (closing_in new round increments ties) result →
-    IfErr result (λ told. told ≢ close_faults.NoMemory → IsFollowedBy (close round increments ties) old new)
-refused-followed old new limits same round increments ties (Ok prepared) is = tt
-refused-followed old new limits same round increments ties (Err fault) is = λ other. record {
-  setup = same.setup;
-  stands = λ commands stands. close-refused new (subst IsSetup (sym same.setup) limits) round increments ties commands
-      (stands_unchanged old new commands same stands) fault (is other);
-}
+  -- a refused closing is one more command
+  refused_by : (result : Result PreparedClosing CloseFault) → Answers (closing_in new round increments ties) result →
+      IfErr result (λ told. told ≢ close_faults.NoMemory → IsFollowedBy (close round increments ties) old new)
+  refused_by (Ok prepared) is = tt
+  refused_by (Err fault) is = λ other. record {
+    setup = same.setup;
+    stands = λ commands stands. close-refused new round increments ties commands (stands_unchanged old new commands same stands) fault (is other);
+  }
+
+  pub refused-followed : IfErr result (λ told. told ≢ close_faults.NoMemory → IsFollowedBy (close round increments ties) old new)
+  refused-followed = refused_by result answers-new
 
 -- a closing that is prepared and then made
 module _ (old mid new : HouseFields) (round : ℕ) (increments : Increments) (ties : List Tie) (prepared : PreparedClosing)

@@ -1,19 +1,19 @@
 -- Whole closings, computed from lists of commands.
 use Rattle.std.specs.Prelude.{◌≡◌, ℕ, List, [], ◌∷◌, Bool, true, false, Option, Some, None, Err, refl, reverse, map, codes}
-use Rattle.clock_setup.specs.declared.increments.Increments.{Increments}
-use Rattle.clock_setup.specs.declared.increments.Increments.TheVariants.{Single, PerProduct}
-use Rattle.clock_setup.specs.Limits.{SetupFields, public_setup}
-use Rattle.clock_setup.specs.Examples.{one_product, two_products, granules_and_increments, activity_limit}
+use Rattle.clock_terms.specs.declared.increments.Increments.{Increments}
+use Rattle.clock_terms.specs.declared.increments.Increments.TheVariants.{Single, PerProduct}
+use Rattle.clock_terms.specs.Limits.{SetupFields, public_setup}
+use Rattle.clock_terms.proofs.Examples.{one_product, two_products, granules_and_increments, activity_limit}
 use Rattle.clock_bids.specs.declared.sheet.Bid.{Bid}
 use Rattle.clock_bids.specs.declared.sheet.BidFault.TheVariants.{OverCap, OverActivity}
 use Rattle.clock_order.specs.declared.ties.Tie.{Tie}
 use Rattle.clock_posting.specs.declared.sheet.Line.{Line}
 use Rattle.clock_house.specs.declared.fault.PutFault.{PutFault}
 use Rattle.clock_house.specs.declared.fault.PutFault.TheVariants as put_faults
-use Rattle.clock_house.specs.declared.fault.CloseFault.TheVariants as close_faults
+use Rattle.clock_closing.specs.declared.fault.CloseFault.TheVariants as close_faults
 use Rattle.clock_house.specs.Command.{Command, put, close}
 use Rattle.clock_house.specs.Standing.{put_fault}
-use Rattle.clock_house.specs.Closing.{settlement, requests}
+use Rattle.clock_closing.specs.Closing.{settlement, requests}
 use Rattle.clock_house.specs.History.{history, Auction, ClosedRound, closing_of, open_round, standing, holding, sheet_in_force}
 
 abbrev bid : ℕ → ℕ → ℕ → Bid

@@ -5,17 +5,18 @@ use Rattle.std.proofs.lemmas.Option.{none-some, slice_get_within, get_or_from_sl
 use Rattle.std.proofs.lemmas.List.Elements.{All-nil, All-cons, All-head, All-tail, All-append}
 use Rattle.std.proofs.lemmas.List.{reverse-reverse}
 use Rattle.std.proofs.lemmas.List.FromFn.{length-map-range_with_len}
-use Rattle.clock_setup.specs.Limits.{SetupFields, IsSetup, public_setup}
-use Rattle.clock_setup.specs.declared.prices.PricePair.{PricePair}
+use Rattle.clock_terms.specs.Limits.{SetupFields, IsSetup, public_setup}
+use Rattle.clock_terms.specs.declared.prices.PricePair.{PricePair}
 use Rattle.clock_bids.specs.declared.sheet.Bid.{Bid}
 use Rattle.clock_house.specs.Command.{Command}
-use Rattle.clock_house.specs.Closing.{OpenRound}
+use Rattle.clock_terms.specs.Prices.{opening_prices}
+use Rattle.clock_closing.specs.OpenRound.{OpenRound, IsOpenRound}
 use Rattle.clock_house.specs.History.{ClosedRound, round_at, history, standing, holding, for_each_bidder, open_round}
-use Rattle.clock_house.specs.House.{HouseFields, StandsFor, standing_in, open_round_in}
-use Rattle.clock_house.specs.Inside.{IsKept}
+use Rattle.clock_house.specs.House.{HouseFields, StandsFor, standing_in, holding_in, open_round_in}
+use Rattle.clock_house.specs.inside.Kept.{IsKept}
 use Rattle.clock_house.specs.Laws.{AreNumbered, IsSound, IsOpen}
 use Rattle.clock_house.proofs.Sound.{sound, open_sound}
-use Rattle.clock_house.proofs.Numbers.{numbered, reverse_cons}
+use Rattle.clock_house.proofs.Numbers.{numbered, round-closed, first_prices, reverse_cons}
 
 module _ (house : HouseFields) (commands : List Command) (stands : StandsFor commands house) where
   -- its closed rounds are numbered
@@ -26,6 +27,16 @@ module _ (house : HouseFields) (commands : List Command) (stands : StandsFor com
   pub stands_sheets : length house.sheets ≡ length house.setup.bidders
   stands_sheets = ap length stands.sheets ∙ length-map-range_with_len _ 0 (length house.setup.bidders)
 
+  -- what a closing goes by is that of the commands
+  pub stands_open : open_round_in house ≡ open_round house.setup (history house.setup commands)
+  stands_open =
+      let at = λ (closed : List ClosedRound) (sheets : List (Option (List Bid))). let round : OpenRound = record {
+        standing = standing house.setup.products closed;
+        holdings = for_each_bidder house.setup (holding house.setup closed);
+        sheets = sheets;
+      } in round in
+      ap (λ (closed : List ClosedRound). at closed house.sheets) stands.closed ∙ ap (at (history house.setup commands).closed) stands.sheets
+
 -- what a house keeps is the same with other room for further rounds
 pub kept_items : (setup : SetupFields) (sheets : List (Option (List Bid))) (items like : List ClosedRound) (spare more : ℕ) (ended : Bool) (round : ℕ)
     (prices : List PricePair) (demands : List (List ℕ)) → like ≡ items →
@@ -35,6 +46,7 @@ kept_items setup sheets items like spare more ended round prices demands same ke
     subst (λ (list : List ClosedRound). IsKept (record { setup = setup; closed = reverse list; sheets = sheets; spare = more }) ended round prices demands)
     (sym same)
     (record {
+      limits = kept.limits;
       commands = kept.commands;
       stands = record { closed = kept.stands.closed; sheets = kept.stands.sheets };
       ended_is = kept.ended_is;
@@ -86,18 +98,23 @@ module _ (house : HouseFields) (limits : IsSetup house.setup) (commands : List C
       let all : IsSound house.setup (history house.setup commands) = sound house.setup limits commands in
       subst P (sym stands.closed) (record { numbered = all.numbered; within = all.within; priced = all.priced; supplied = all.supplied; count = all.count })
 
-  -- what a closing goes by is that of the commands
-  pub stands_open : open_round_in house ≡ open_round house.setup (history house.setup commands)
-  stands_open =
-      let at = λ (closed : List ClosedRound) (sheets : List (Option (List Bid))). let round : OpenRound = record {
-        standing = standing house.setup.products closed;
-        holdings = for_each_bidder house.setup (holding house.setup closed);
-        sheets = sheets;
-      } in round in
-      ap (λ (closed : List ClosedRound). at closed house.sheets) stands.closed ∙ ap (at (history house.setup commands).closed) stands.sheets
-
   pub stands_going : (standing_in house).ended ≡ false → IsOpen (public_setup house.setup) (open_round_in house)
   stands_going going =
-      subst (IsOpen (public_setup house.setup)) (sym stands_open)
+      subst (IsOpen (public_setup house.setup)) (sym (stands_open house commands stands))
       (open_sound house.setup limits (history house.setup commands) (sound house.setup limits commands)
       (ap (λ (closed : List ClosedRound). (standing house.setup.products closed).ended) (sym stands.closed) ∙ going))
+
+  -- the first round is at the opening prices
+  stands_opening : (standing_in house).ended ≡ false → (standing_in house).round ≡ 1 → (standing_in house).prices ≡ opening_prices house.setup.products
+  stands_opening going first =
+      first_prices house.setup house.closed (round-closed house.setup house.closed (stands_numbered house commands stands) going) first
+
+  -- where the auction goes on, the house has an open round
+  pub stands_open_round : (standing_in house).ended ≡ false → IsOpenRound (record { setup = house.setup; before = open_round_in house })
+  stands_open_round going = record {
+    going = going;
+    holdings = length-map-range_with_len (holding_in house) 0 (length house.setup.bidders);
+    sheets = stands_sheets house commands stands;
+    sound = stands_going going;
+    opening = stands_opening going;
+  }

@@ -1,18 +1,16 @@
 -- Closed rounds are numbered from 1 on, and each has a slip for each bidder and a line for each product.
 use Rattle.std.proofs.Common.{◌≡◌, ℕ, suc, ◌+◌, ◌-◌, List, [], ◌∷◌, ◌++◌, false, cond, length, refl, ap, sym, ◌∙◌, arith}
-use Rattle.std.specs.Prelude.{Some, None, Result, Ok, Err, reverse, slice_get}
+use Rattle.std.specs.Prelude.{Some, Result, Ok, Err, reverse, slice_get}
 use Rattle.std.proofs.lemmas.List.FromFn.{length-map-range_with_len}
 use Rattle.std.proofs.lemmas.List.{reverse-reverse, length-reverse, reverse-append}
-use Rattle.std.proofs.lemmas.Option.{none-some}
-use Rattle.clock_setup.specs.declared.increments.Increments.{Increments}
-use Rattle.clock_setup.specs.Limits.{SetupFields, public_setup}
+use Rattle.clock_terms.specs.declared.increments.Increments.{Increments}
+use Rattle.clock_terms.specs.Limits.{SetupFields, public_setup}
 use Rattle.clock_order.specs.declared.ties.Tie.{Tie}
-use Rattle.clock_house.specs.declared.fault.CloseFault.{CloseFault}
-use Rattle.clock_house.specs.Standing.{first_holding, holding_after}
+use Rattle.clock_closing.specs.declared.fault.CloseFault.{CloseFault}
 use Rattle.clock_house.specs.Command.{Command, put, close, other}
-use Rattle.clock_house.specs.History.{ClosedRound, Auction, standing, holding, bidder_at, slip_of, open_round, closing_of, after_closing, history}
+use Rattle.clock_house.specs.History.{ClosedRound, Auction, standing, open_round, closing_of, after_closing, history}
 use Rattle.clock_house.specs.Laws.{AreNumbered}
-use Rattle.clock_house.proofs.Closings.{IsClosing, closing_passed}
+use Rattle.clock_closing.proofs.Closings.{IsClosing, closing_passed}
 
 module _ (setup : SetupFields) where
   -- while the auction goes on, the current round is one more than the number of closed rounds
@@ -20,6 +18,12 @@ module _ (setup : SetupFields) where
       (standing setup.products closed).ended ≡ false → (standing setup.products closed).round ≡ suc (length closed)
   round-closed [] all going = refl
   round-closed (last ∷ rounds) all going = ap (λ ended. cond ended last.sheet.round (last.sheet.round + 1)) going ∙ omega (arith, all.0)
+
+  -- in the first round the prices are those before it
+  pub first_prices : (closed : List ClosedRound) → (standing setup.products closed).round ≡ suc (length closed) → (standing setup.products closed).round ≡ 1 →
+      (standing setup.products closed).prices ≡ (standing setup.products []).prices
+  first_prices [] number one = refl
+  first_prices (last ∷ rounds) number one = absurd (omega (arith, number, one))
 
   numbered_closing : (auction : Auction) (round : ℕ) (increments : Increments) (ties : List Tie) (answer : Result ClosedRound CloseFault) →
       closing_of setup auction round increments ties ≡ answer →
@@ -64,20 +68,3 @@ module _ {A : Type 0} where
   -- the last of a list is the first of the list from its end
   pub last-reverse : (xs : List A) → slice_get xs (length xs - 1) ≡ slice_get (reverse xs) 0
   last-reverse xs = ap (λ ys. slice_get ys (length ys - 1)) (sym (reverse-reverse xs)) ∙ last_of_reverse (reverse xs)
-
--- the slips of the newest round are one for each bidder
-pub newest_slips : (bidders products : ℕ) (closed : List ClosedRound) (last : ClosedRound) → AreNumbered bidders products closed →
-    slice_get closed 0 ≡ Some last → length last.slips ≡ bidders
-newest_slips bidders products [] last all e = absurd (none-some last e)
-newest_slips bidders products (round ∷ rounds) last all e = let same : round ≡ last = cc in ap (λ one. length one.slips) (sym same) ∙ all.1
-
--- what a bidder holds is on its slip of the newest round, or in its row of the set-up
-pub holding-newest : (setup : SetupFields) (bidder : ℕ) (closed : List ClosedRound) (last : ClosedRound) → slice_get closed 0 ≡ Some last →
-    holding setup closed bidder ≡ holding_after (slip_of bidder last)
-holding-newest setup bidder [] last e = absurd (none-some last e)
-holding-newest setup bidder (round ∷ rounds) last e = let same : round ≡ last = cc in ap (λ one. holding_after (slip_of bidder one)) same
-
-pub holding-first : (setup : SetupFields) (bidder : ℕ) (closed : List ClosedRound) → slice_get closed 0 ≡ None →
-    holding setup closed bidder ≡ first_holding setup.products (bidder_at setup bidder)
-holding-first setup bidder [] e = refl
-holding-first setup bidder (round ∷ rounds) e = absurd (none-some round (sym e))

@@ -5,7 +5,7 @@ use Rattle.std.specs.Prelude.{Option, Some, None, is_none}
 use Rattle.std.proofs.lemmas.Bool.{cases_eq}
 use Rattle.std.proofs.lemmas.List.{get_or-set_same, get_or-set_other, length-set}
 use Rattle.std.proofs.lemmas.List.FromFn.{fill_by_all, length-map-range_with_len, get_or-map-range_with_len}
-use Rattle.clock_setup.specs.Limits.{public_setup}
+use Rattle.clock_terms.specs.Limits.{public_setup}
 use Rattle.clock_bids.specs.declared.sheet.Bid.{Bid}
 use Rattle.clock_house.specs.declared.fault.PutFault.{PutFault}
 use Rattle.clock_house.specs.Command.{Command, put}

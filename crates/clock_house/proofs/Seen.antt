@@ -1,10 +1,10 @@
 -- What a house is for a bidder is what the bidder's view shows.
 use Rattle.std.proofs.Common.{◌≡◌, ℕ, ◌<◌, List, [], refl, ap, ◌∙◌, length}
 use Rattle.std.specs.Prelude.{Option, Some, None, option_map, slice_index_or}
-use Rattle.clock_setup.specs.Limits.{public_setup}
+use Rattle.clock_terms.specs.Limits.{public_setup}
 use Rattle.clock_bids.specs.declared.sheet.Bid.{Bid}
 use Rattle.clock_posting.specs.declared.sheet.RoundSheet.{RoundSheet}
-use Rattle.clock_house.specs.declared.slip.Slip.{Slip}
+use Rattle.clock_closing.specs.declared.slip.Slip.{Slip}
 use Rattle.clock_house.specs.Command.{Command}
 use Rattle.clock_house.specs.Standing.{Standing, Holding, put_fault}
 use Rattle.clock_house.specs.History.{ClosedRound, standing, holding, bidder_at, slip_of, round_at}

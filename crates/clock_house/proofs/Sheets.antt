@@ -3,15 +3,15 @@ use Rattle.std.proofs.Common.{◌≡◌, ℕ, List, [], ◌∷◌, ◌==◌, ◌
 use Rattle.std.specs.Prelude.{Option, Some, None, is_none, slice_get, filter_map}
 use Rattle.std.specs.List.{cons_option}
 use Rattle.std.proofs.lemmas.Option.{none-some}
-use Rattle.clock_setup.specs.Limits.{PublicSetup}
-use Rattle.clock_setup.specs.Faults.{first_fault}
+use Rattle.clock_terms.specs.Limits.{PublicSetup}
+use Rattle.clock_terms.specs.Faults.{first_fault}
 use Rattle.clock_bids.specs.declared.sheet.Bid.{Bid}
 use Rattle.clock_bids.specs.declared.sheet.BidFault.{BidFault}
 use Rattle.clock_bids.specs.Sheet.{sheet_fault, IsGoodSheet}
 use Rattle.clock_house.specs.declared.fault.PutFault.{PutFault}
 use Rattle.clock_house.specs.declared.fault.PutFault.TheVariants as put_faults
 use Rattle.clock_house.specs.Command.{Command, put, close, other}
-use Rattle.clock_house.specs.Faults.{fault_check}
+use Rattle.clock_closing.specs.Faults.{fault_check}
 use Rattle.clock_house.specs.Standing.{Standing, Holding, put_fault}
 use Rattle.clock_house.specs.History.{accepted_bids}
 

@@ -5,36 +5,38 @@ use Rattle.std.specs.List.{range_with_len, AllPairs}
 use Rattle.std.proofs.lemmas.List.{get_or-map, length-map}
 use Rattle.std.proofs.lemmas.List.FromFn.{length-map-range_with_len, get_or-map-range_with_len}
 use Rattle.std.proofs.lemmas.List.Elements.{All-map}
-use Rattle.clock_setup.specs.declared.setup.Product.{Product}
-use Rattle.clock_setup.specs.declared.prices.PricePair.{PricePair}
-use Rattle.clock_setup.specs.declared.increments.Increments.{Increments}
-use Rattle.clock_setup.specs.Limits.{SetupFields, IsSetup, public_setup}
-use Rattle.clock_setup.specs.IncrementLaws.{increments_of_test}
-use Rattle.clock_setup.specs.Demands.{row_of, total_of}
-use Rattle.clock_setup.specs.Eligibility.{activity}
-use Rattle.clock_setup.proofs.DemandLaws.{activity_zeros, zeros_row}
+use Rattle.clock_terms.specs.declared.setup.Product.{Product}
+use Rattle.clock_terms.specs.declared.prices.PricePair.{PricePair}
+use Rattle.clock_terms.specs.declared.increments.Increments.{Increments}
+use Rattle.clock_terms.specs.Limits.{SetupFields, IsSetup, public_setup}
+use Rattle.clock_terms.proofs.IncrementLaws.{increments_of_test}
+use Rattle.clock_terms.specs.Demands.{row_of, total_of}
+use Rattle.clock_terms.specs.Eligibility.{activity}
+use Rattle.clock_terms.proofs.DemandLaws.{activity_zeros, zeros_row}
 use Rattle.clock_bids.specs.declared.sheet.Bid.{Bid}
 use Rattle.clock_bids.specs.Sheet.{IsGoodSheet}
 use Rattle.clock_bids.proofs.Good.{empty_sheet_good}
 use Rattle.clock_order.specs.declared.ties.Tie.{Tie}
 use Rattle.clock_processor.specs.Board.{IsWithinEligibility}
 use Rattle.clock_posting.specs.Posting.{has_ended, next_pair}
-use Rattle.clock_house.specs.declared.slip.Slip.{Slip}
-use Rattle.clock_house.specs.declared.fault.CloseFault.{CloseFault}
+use Rattle.clock_closing.specs.declared.slip.Slip.{Slip}
+use Rattle.clock_closing.specs.declared.fault.CloseFault.{CloseFault}
 use Rattle.clock_house.specs.Command.{Command, put, close, other}
 use Rattle.clock_house.specs.Standing.{Standing, Holding, first_holding, holding_after}
-use Rattle.clock_house.specs.Closing.{OpenRound, Outcome, holding_at, bids_at, outcome, closed_round, slip_after, bidder_numbers}
+use Rattle.clock_closing.specs.OpenRound.{OpenRound, holding_at, bids_at, bidder_numbers}
+use Rattle.clock_closing.specs.inside.OpenRound.{eligibilities_of}
+use Rattle.clock_closing.specs.Closing.{Outcome, outcome, closed_round, slip_after}
 use Rattle.clock_house.specs.History.{ClosedRound, Auction, standing, holding, bidder_at, slip_of, no_slip}
 use Rattle.clock_house.specs.History.{sheet_in_force, open_round, closing_of, after_closing, history}
-use Rattle.clock_house.specs.Laws.{IsWithinLimits, HasSoundPrices, AreNumbered, StaysSupplied, grid_after, IsSound, IsOpen, eligibilities_of}
-use Rattle.clock_house.proofs.Closings.{IsClosing, closing_passed}
-use Rattle.clock_house.proofs.Numbers.{numbered, round-closed}
+use Rattle.clock_house.specs.Laws.{IsWithinLimits, HasSoundPrices, AreNumbered, StaysSupplied, grid_after, IsSound, IsOpen}
+use Rattle.clock_closing.proofs.Closings.{IsClosing, closing_passed}
+use Rattle.clock_house.proofs.Numbers.{numbered, round-closed, first_prices}
 use Rattle.clock_house.proofs.Sheets.{first_accepted_good}
 use Rattle.std.proofs.lemmas.Simd.{map-map}
-use Rattle.clock_house.proofs.Sums.{map-get_or}
-use Rattle.clock_house.proofs.Eligible.{next_eligibility_within}
+use Rattle.clock_closing.proofs.Sums.{map-get_or}
+use Rattle.clock_closing.proofs.Eligible.{next_eligibility_within}
 use Rattle.clock_house.proofs.Bounds.{round_bounded}
-use Rattle.clock_house.proofs.Outcomes.{outcome_within, outcome_posted, outcome_risen, outcome_supplied, priced_next}
+use Rattle.clock_closing.proofs.Outcomes.{outcome_within, outcome_posted, outcome_risen, outcome_supplied, priced_next}
 
 -- a pair of each later element with the first, and all pairs of the later ones
 AllPairs-cons : {A : Type 0} (R : A → A → Type 0) (x : A) (xs : List A) → All (R x) xs → AllPairs R xs → AllPairs R (x ∷ xs)
@@ -122,11 +124,6 @@ module _ (setup : SetupFields) (limits : IsSetup setup) where
     pub round_is : (standing setup.products auction.closed).ended ≡ false → (standing setup.products auction.closed).round ≡ suc (length auction.closed)
     round_is going = round-closed setup auction.closed sound.numbered going
 
-    first_prices : (closed : List ClosedRound) → (standing setup.products closed).round ≡ suc (length closed) → (standing setup.products closed).round ≡ 1 →
-        (standing setup.products closed).prices ≡ (standing setup.products []).prices
-    first_prices [] number one = refl
-    first_prices (last ∷ rounds) number one = absurd (omega (arith, number, one))
-
     -- the demands before a later round are those on the slips of the round before
     before_later : (closed : List ClosedRound) (last : ClosedRound) (rounds : List ClosedRound) → closed ≡ last ∷ rounds →
         length last.slips ≡ length setup.bidders →
@@ -202,7 +199,7 @@ module _ (setup : SetupFields) (limits : IsSetup setup) where
           ap (λ ended. cond ended done.sheet.round (done.sheet.round + 1)) going ∙ ap (λ (one : ClosedRound). one.sheet.round + 1) is.made in
           priced_next setup.products (standing setup.products auction.closed) (sound.priced is.going)
           (outcome setup.products (open_round setup auction) ties).grid (outcome setup.products (open_round setup auction) ties).posted increments
-          (outcome_posted (public_setup setup) (open_round setup auction) here ties some_round increments (first_prices auction.closed (round_is is.going)))
+          (outcome_posted (public_setup setup) (open_round setup auction) here ties some_round increments (first_prices setup auction.closed (round_is is.going)))
           limits.products (increments_of_test (length setup.products) increments is.within) goes_on is.possible
           (λ later. outcome_risen (public_setup setup) (open_round setup auction) here ties some_round increments later goes_on)
           (standing setup.products (done ∷ auction.closed)) number (ap (λ (one : ClosedRound). map next_pair one.sheet.lines) is.made) some_round

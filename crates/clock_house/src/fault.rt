@@ -1,12 +1,9 @@
 use clock_bids::BidFault;
 use clock_device::NoMemory;
-use clock_order::TieFault;
-use clock_posting::PostFault;
-use std::alloc::AllocError;
 use thiserror::Error;
 
-// The cases are described above each enum: `rt plant` takes a comment above a case for its name, and
-// then tries no body of `put_sheet` and `close`.
+// The cases are described above the enum: `rt plant` takes a comment above a case for its name, and
+// then tries no body of `put_sheet`.
 
 /// Why a sheet is not put in force: the first of these that applies, but for want of memory, which
 /// may come at any point.
@@ -27,31 +24,6 @@ pub enum PutFault {
     NoMemory,
 }
 
-/// Why a round is not closed: the first of these that applies, but for want of memory, which may
-/// come at any point.
-///
-/// - `Ended`: the auction has ended.
-/// - `WrongRound`: the closing is for another round than the current one, which is told.
-/// - `Increment`: an increment is not 1 to 50 percent, or a list has not one for each product.
-/// - `Tie`: the tie numbers have this fault.
-/// - `PriceLimit`: the next clock price of this product would be above the highest price.
-/// - `NoMemory`: there was no memory.
-#[derive(Clone, Copy, Debug, PartialEq, Eq, Error)]
-pub enum CloseFault {
-    #[error("the auction has ended")]
-    Ended,
-    #[error("not the current round")]
-    WrongRound(u64),
-    #[error("increment out of range")]
-    Increment,
-    #[error("the tie numbers have a fault")]
-    Tie(TieFault),
-    #[error("a next clock price is too high")]
-    PriceLimit(u64),
-    #[error("out of memory")]
-    NoMemory,
-}
-
 impl From<NoMemory> for PutFault {
     ghost use Rattle.std.specs.Prelude.{◌≡◌};
     ghost use Rattle.clock_house.specs.declared.fault.PutFault.TheVariants as put_faults;
@@ -65,7 +37,7 @@ impl From<NoMemory> for PutFault {
 
 impl From<BidFault> for PutFault {
     ghost use Rattle.std.specs.Prelude.{◌≡◌};
-    ghost use Rattle.clock_house.specs.Faults.{told_of_bid};
+    ghost use Rattle.clock_house.specs.ToldFaults.{told_of_bid};
 
     ghost from_gives = { λ fault told. told ≡ told_of_bid fault };
 
@@ -73,56 +45,6 @@ impl From<BidFault> for PutFault {
         match fault {
             BidFault::NoMemory => PutFault::NoMemory,
             _ => PutFault::Bid(fault),
-        }
-    }
-}
-
-impl From<NoMemory> for CloseFault {
-    ghost use Rattle.std.specs.Prelude.{◌≡◌};
-    ghost use Rattle.clock_house.specs.declared.fault.CloseFault.TheVariants as close_faults;
-
-    ghost from_gives = { λ _ told. told ≡ close_faults.NoMemory };
-
-    fn from(_none: NoMemory) -> CloseFault {
-        CloseFault::NoMemory
-    }
-}
-
-impl From<AllocError> for CloseFault {
-    ghost use Rattle.std.specs.Prelude.{◌≡◌};
-    ghost use Rattle.clock_house.specs.declared.fault.CloseFault.TheVariants as close_faults;
-
-    ghost from_gives = { λ _ told. told ≡ close_faults.NoMemory };
-
-    fn from(_none: AllocError) -> CloseFault {
-        CloseFault::NoMemory
-    }
-}
-
-impl From<TieFault> for CloseFault {
-    ghost use Rattle.std.specs.Prelude.{◌≡◌};
-    ghost use Rattle.clock_house.specs.Faults.{told_of_tie};
-
-    ghost from_gives = { λ fault told. told ≡ told_of_tie fault };
-
-    fn from(fault: TieFault) -> CloseFault {
-        match fault {
-            TieFault::NoMemory => CloseFault::NoMemory,
-            _ => CloseFault::Tie(fault),
-        }
-    }
-}
-
-impl From<PostFault> for CloseFault {
-    ghost use Rattle.std.specs.Prelude.{◌≡◌};
-    ghost use Rattle.clock_house.specs.Faults.{told_of_post};
-
-    ghost from_gives = { λ fault told. told ≡ told_of_post fault };
-
-    fn from(fault: PostFault) -> CloseFault {
-        match fault {
-            PostFault::NoMemory => CloseFault::NoMemory,
-            PostFault::PriceLimit(product) => CloseFault::PriceLimit(product),
         }
     }
 }

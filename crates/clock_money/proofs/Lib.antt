@@ -1,3 +1,5 @@
 pub mod RoundingLaws
+pub mod PriceLaws
+pub mod PointLaws
 pub mod Raising
 mod Examples

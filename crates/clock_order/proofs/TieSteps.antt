@@ -4,8 +4,8 @@ use Rattle.std.proofs.Common.{length, Option, Some, None, is_some, if◌then◌e
 use Rattle.std.specs.List.{slice_index_or, list_any}
 use Rattle.std.specs.Map.{lookup}
 use Rattle.std.proofs.lemmas.List.{take_more, map-append, get_or_default}
-use Rattle.clock_setup.specs.Faults.{first_fault, in_turn}
-use Rattle.clock_setup.proofs.FaultLaws.{turn_passed, turn_failed}
+use Rattle.clock_terms.specs.Faults.{first_fault, in_turn}
+use Rattle.clock_terms.proofs.FaultLaws.{turn_passed, turn_failed}
 use Rattle.clock_order.specs.declared.ties.Tie.{Tie}
 use Rattle.clock_order.specs.declared.ties.TieFault.{TieFault}
 use Rattle.clock_order.specs.declared.ties.TieFault.TheVariants.{Range, Repeated}

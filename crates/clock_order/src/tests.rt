@@ -1,14 +1,14 @@
 //! Ties and the order of processing in two small auctions.
 
 ghost use Rattle.std.specs.Prelude.{◌≡◌, ◌≢◌, AllPairs, IfOk};
-ghost use Rattle.clock_bids.specs.Requests.{AreApart};
+ghost use Rattle.clock_terms.specs.Requests.{AreApart};
 
 use crate::{Tie, TieFault, Ties, ordered};
-use clock_bids::{Change, Changes, Kind};
 use clock_device::NoMemory;
 use clock_money::Point;
 use clock_setup::fixtures::{ONE_PRODUCT, TWO_PRODUCTS};
 use clock_setup::read_setup;
+use clock_terms::{Change, Changes, Kind};
 use std::alloc::Global;
 use std::test::Fail;
 

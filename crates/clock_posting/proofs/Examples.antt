@@ -1,13 +1,13 @@
 -- Posted prices, sheets and price limits of small rounds, computed from their definitions.
 use Rattle.std.specs.Prelude.{◌≡◌, ℕ, List, [], ◌∷◌, Option, Some, None, true, false, refl}
-use Rattle.clock_setup.specs.declared.increments.Increments.TheVariants.{Single, PerProduct}
-use Rattle.clock_setup.specs.declared.setup.Product.{Product}
-use Rattle.clock_setup.specs.declared.prices.PricePair.{PricePair}
-use Rattle.clock_setup.specs.Prices.{opening_prices}
-use Rattle.clock_setup.specs.Examples.{one_product, two_products, two_blocks}
-use Rattle.clock_bids.specs.declared.change.Change.{Change}
-use Rattle.clock_bids.specs.declared.change.Kind.TheVariants.{Increase, Reduction}
-use Rattle.clock_bids.proofs.Examples.{request}
+use Rattle.clock_terms.specs.declared.increments.Increments.TheVariants.{Single, PerProduct}
+use Rattle.clock_terms.specs.declared.setup.Product.{Product}
+use Rattle.clock_terms.specs.declared.prices.PricePair.{PricePair}
+use Rattle.clock_terms.specs.Prices.{opening_prices}
+use Rattle.clock_terms.proofs.Examples.{one_product, two_products, two_blocks}
+use Rattle.clock_terms.specs.declared.change.Change.{Change}
+use Rattle.clock_terms.specs.declared.change.Kind.TheVariants.{Increase, Reduction}
+use Rattle.clock_terms.proofs.Examples.{request}
 use Rattle.clock_posting.specs.declared.sheet.Line.{Line}
 use Rattle.clock_posting.specs.Posting.{opening_posted, price_limit_fault, round_sheet}
 use Rattle.clock_posting.specs.PostedPrice.{posted_prices}

@@ -1,9 +1,9 @@
 -- Which products have excess demand.
 use Rattle.std.proofs.Common.{◌≡◌, ℕ, ◌<◌, true, List, length, get_or, sym, ap, ◌∙◌, ltb, lt-ltb}
 use Rattle.std.proofs.lemmas.List.{get_or_read}
-use Rattle.clock_setup.specs.declared.setup.Product.{Product}
-use Rattle.clock_setup.specs.Limits.{supply_of, no_product}
-use Rattle.clock_setup.specs.Demands.{total_of}
+use Rattle.clock_terms.specs.declared.setup.Product.{Product}
+use Rattle.clock_terms.specs.Limits.{supply_of, no_product}
+use Rattle.clock_terms.specs.Demands.{total_of}
 use Rattle.clock_posting.specs.Posting.{has_excess}
 
 -- the supply of the product that was read at a place

@@ -6,16 +6,16 @@ use Rattle.std.proofs.lemmas.List.{get_or-map, length-map}
 use Rattle.std.proofs.lemmas.List.FromFn.{length-map-range_with_len, get_or-map-range_with_len}
 use Rattle.std.proofs.lemmas.List.Elements.{All-map, All-weaker}
 use Rattle.std.proofs.lemmas.Simd.{map-map}
-use Rattle.clock_setup.specs.declared.increments.Increments.{Increments}
-use Rattle.clock_setup.specs.declared.setup.Product.{Product}
-use Rattle.clock_setup.specs.declared.prices.PricePair.{PricePair}
-use Rattle.clock_setup.specs.Limits.{IsProduct, no_product}
-use Rattle.clock_setup.specs.Increments.{AreIncrements}
-use Rattle.clock_setup.specs.Prices.{prices_at, opening_prices}
+use Rattle.clock_terms.specs.declared.increments.Increments.{Increments}
+use Rattle.clock_terms.specs.declared.setup.Product.{Product}
+use Rattle.clock_terms.specs.declared.prices.PricePair.{PricePair}
+use Rattle.clock_terms.specs.Limits.{IsProduct, no_product}
+use Rattle.clock_terms.specs.Increments.{AreIncrements}
+use Rattle.clock_terms.specs.Prices.{prices_at, opening_prices}
 use Rattle.clock_posting.specs.declared.posting.Posting.{Posting}
 use Rattle.clock_posting.specs.Posting.{has_ended, next_clock, opening_posted, next_prices, sheet_line, lines_of_round}
 use Rattle.clock_posting.specs.Posting.{next_pair, IsBetween, IsRising, IsPosting, IsConsistent}
-use Rattle.clock_posting.specs.RoundEnd.{HasClocks, IsRoundEnd}
+use Rattle.clock_posting.specs.inside.RoundEnd.{HasClocks, IsRoundEnd}
 use Rattle.clock_posting.proofs.Ranges.{all_in_range}
 
 -- there is no next round exactly where the auction has ended

@@ -7,12 +7,12 @@ use Rattle.std.proofs.lemmas.List.FromFn.{length-range_with_len, get_or-range_wi
 use Rattle.std.proofs.lemmas.List.Elements.{All-nil, All-cons}
 use Rattle.clock_money.specs.Price.{highest_price, raised}
 use Rattle.clock_money.proofs.Raising.{above-raised}
-use Rattle.clock_setup.specs.declared.increments.Increments.{Increments}
-use Rattle.clock_setup.specs.declared.setup.Product.{Product}
-use Rattle.clock_setup.specs.declared.prices.PricePair.{PricePair}
-use Rattle.clock_setup.specs.Limits.{IsProduct, granule_of, no_product}
-use Rattle.clock_setup.specs.Increments.{AreIncrements, increment_at}
-use Rattle.clock_setup.specs.IncrementLaws.{increment_within}
+use Rattle.clock_terms.specs.declared.increments.Increments.{Increments}
+use Rattle.clock_terms.specs.declared.setup.Product.{Product}
+use Rattle.clock_terms.specs.declared.prices.PricePair.{PricePair}
+use Rattle.clock_terms.specs.Limits.{IsProduct, granule_of, no_product}
+use Rattle.clock_terms.specs.Increments.{AreIncrements, increment_at}
+use Rattle.clock_terms.proofs.IncrementLaws.{increment_within}
 use Rattle.clock_posting.specs.Posting.{first_at_limit, next_clock, next_price, next_prices, IsRising}
 use Rattle.clock_posting.proofs.Ranges.{all_in_range}
 

@@ -5,17 +5,17 @@ use Rattle.std.specs.List.{list_any, range_with_len}
 use Rattle.std.proofs.lemmas.Bool.Decides.{nat_tests}
 use Rattle.std.proofs.lemmas.List.Elements.{All-nil, All-cons, All-head, All-tail, All-weaker, All-get_or}
 use Rattle.std.proofs.lemmas.List.FromFn.{get_or-map-range_with_len, length-map-range_with_len}
-use Rattle.clock_setup.specs.declared.increments.Increments.{Increments}
-use Rattle.clock_setup.specs.declared.setup.Product.{Product}
-use Rattle.clock_setup.specs.declared.prices.PricePair.{PricePair}
-use Rattle.clock_setup.specs.Increments.{AreIncrements}
-use Rattle.clock_setup.specs.Limits.{IsProduct}
-use Rattle.clock_setup.specs.Prices.{prices_at}
-use Rattle.clock_bids.specs.declared.change.Change.{Change}
+use Rattle.clock_terms.specs.declared.increments.Increments.{Increments}
+use Rattle.clock_terms.specs.declared.setup.Product.{Product}
+use Rattle.clock_terms.specs.declared.prices.PricePair.{PricePair}
+use Rattle.clock_terms.specs.Increments.{AreIncrements}
+use Rattle.clock_terms.specs.Limits.{IsProduct}
+use Rattle.clock_terms.specs.Prices.{prices_at}
+use Rattle.clock_terms.specs.declared.change.Change.{Change}
 use Rattle.clock_posting.specs.declared.posting.Posting.{Posting}
 use Rattle.clock_posting.specs.Posting.{has_excess, has_ended, next_prices, sheet_line, lines_of_round, IsBetween, IsAtClock, IsPosting}
 use Rattle.clock_posting.specs.PostedPrice.{is_applied_reduction, applied_prices, highest_or, posted_price, posted_prices, IsWithinPrices, IsPriceRange}
-use Rattle.clock_posting.specs.RoundEnd.{IsRoundEnd}
+use Rattle.clock_posting.specs.inside.RoundEnd.{IsRoundEnd}
 use Rattle.clock_posting.proofs.Ranges.{all_in_range, some_in_range}
 use Rattle.clock_posting.proofs.Laws.{some_if_going_on}
 

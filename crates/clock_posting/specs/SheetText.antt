@@ -3,7 +3,7 @@
 use Rattle.std.specs.Prelude.{ℕ, List, ◌++◌, codes, decimal, zip}
 use Rattle.std.specs.List.{flat_map}
 use Rattle.clock_device.specs.Decimal.{number_or_dash}
-use Rattle.clock_setup.specs.declared.setup.Product.{Product}
+use Rattle.clock_terms.specs.declared.setup.Product.{Product}
 use Rattle.clock_posting.specs.declared.sheet.Line.{Line}
 use Rattle.clock_posting.specs.declared.sheet.RoundSheet.{RoundSheet}
 

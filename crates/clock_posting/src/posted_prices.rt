@@ -1,12 +1,11 @@
 ghost use Rattle.std.specs.Prelude.{◌≡◌, ◌<◌, ◌≤◌, ℕ, length, max, slice_index, if◌then◌else◌, All, IfOk};
-ghost use Rattle.clock_setup.specs.Prices.{prices_at};
+ghost use Rattle.clock_terms.specs.Prices.{prices_at};
 ghost use Rattle.clock_posting.specs.Posting.{opening_posted};
 ghost use Rattle.clock_posting.specs.PostedPrice as rules;
 
-use clock_bids::{Change, Kind};
 use clock_device::{Items, NoMemory};
 use clock_money::Price;
-use clock_setup::{Grid, PricePair, Product};
+use clock_terms::{Change, Grid, Kind, PricePair, Product};
 use std::alloc::Global;
 
 /// The prices posted in the first round.

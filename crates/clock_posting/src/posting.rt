@@ -1,8 +1,8 @@
 ghost use Rattle.std.specs.Prelude.{◌≡◌, ◌≤◌, length, All, Any, IfOk, IfErr, IfSome};
-ghost use Rattle.clock_setup.specs.Demands.{IsGrid};
-ghost use Rattle.clock_setup.specs.Faults.{IsFirstFault};
-ghost use Rattle.clock_setup.specs.Increments.{AreIncrements};
-ghost use Rattle.clock_setup.specs.Prices.{opening_prices};
+ghost use Rattle.clock_terms.specs.Demands.{IsGrid};
+ghost use Rattle.clock_terms.specs.Faults.{IsFirstFault};
+ghost use Rattle.clock_terms.specs.Increments.{AreIncrements};
+ghost use Rattle.clock_terms.specs.Prices.{opening_prices};
 ghost use Rattle.clock_posting.specs.PostedPrice.{IsPriceRange, IsWithinPrices, posted_prices};
 ghost use Rattle.clock_posting.specs.Posting as rules;
 
@@ -10,9 +10,8 @@ use crate::fault::PostFault;
 use crate::posted_prices::{opening_posted, posted_prices};
 use crate::round_end::RoundEnd;
 use crate::sheet::RoundSheet;
-use clock_bids::Changes;
 use clock_processor::Settled;
-use clock_setup::{Grid, Increments, OpeningPrices, Prices, Setup};
+use clock_terms::{Changes, Grid, Increments, OpeningPrices, Prices, Setup};
 use std::alloc::Global;
 
 /// What the closing of a round posts: its sheet, and the prices of the next round.

@@ -1,16 +1,16 @@
 ghost use Rattle.std.specs.Prelude.{◌≡◌, ◌<◌, if◌then◌else◌, None, length, All, IfOk, IfErr, IfSome, slice_index};
-ghost use Rattle.clock_setup.specs.Faults.{IsFirstFault};
-ghost use Rattle.clock_setup.specs.Increments.{AreIncrements};
-ghost use Rattle.clock_setup.specs.Limits.{IsProduct};
+ghost use Rattle.clock_terms.specs.Faults.{IsFirstFault};
+ghost use Rattle.clock_terms.specs.Increments.{AreIncrements};
+ghost use Rattle.clock_terms.specs.Limits.{IsProduct};
 ghost use Rattle.clock_posting.specs.Posting as rules;
-ghost use Rattle.clock_posting.specs.RoundEnd.{IsRoundEnd, HasClocks};
+ghost use Rattle.clock_posting.specs.inside.RoundEnd.{IsRoundEnd, HasClocks};
 
 use crate::fault::PostFault;
 use crate::posting::Posting;
 use crate::sheet::{Line, Lines, RoundSheet};
 use clock_device::NoMemory;
 use clock_money::{Price, clock_price};
-use clock_setup::{Grid, Increments, PricePair, Prices, Product};
+use clock_terms::{Grid, Increments, PricePair, Prices, Product};
 use std::alloc::Global;
 
 /// What a round has come to, from which its sheet and the prices of the next round are made.
@@ -166,7 +166,7 @@ fn next_prices(
 
 /// The next clock price of a product: its posted price raised by its increment, to a whole multiple of
 /// its granule. `None` where that is above the highest price.
-#[tactic(auto, using(clock_setup::specs::IncrementLaws::increment_there))]
+#[tactic(auto, using(clock_terms::proofs::IncrementLaws::increment_there))]
 fn next_clock(
     products: &[Product],
     increments: &Increments,

@@ -3,7 +3,7 @@ ghost use Rattle.clock_posting.specs.SheetText.{sheet_text, line_text};
 
 use crate::sheet::{Line, RoundSheet};
 use clock_device::{NoMemory, Text};
-use clock_setup::{Product, Setup};
+use clock_terms::{Product, Setup};
 use std::alloc::Global;
 
 /// The lines that tell a round's sheet: `round N`, then for each product

@@ -1,8 +1,8 @@
 -- What every application and every admission keeps, holds where the settling ends.
 use Rattle.std.proofs.Common.{◌≡◌, ℕ, zero, suc, ◌<◌, List, Bool, true, false, cond, refl, ltb-true}
 use Rattle.std.specs.Prelude.{Option, Some, None, length, nat_lt}
-use Rattle.clock_setup.specs.declared.setup.Product.{Product}
-use Rattle.clock_bids.specs.declared.change.Change.{Change}
+use Rattle.clock_terms.specs.declared.setup.Product.{Product}
+use Rattle.clock_terms.specs.declared.change.Change.{Change}
 use Rattle.clock_processor.specs.Settling.{Progress, next_by, first_with_room, with_application, with_admission, after_steps, settled, start_of, most_steps}
 
 module _ (products : List Product) (eligibilities : List ℕ) (changes : List Change) (P : Progress → Type 0)

@@ -2,10 +2,10 @@
 use Rattle.std.proofs.Common.{ℕ, List, [], length, replicate, arith}
 use Rattle.std.proofs.lemmas.List.{length-replicate, get_or-replicate}
 use Rattle.std.proofs.lemmas.List.Elements.{All-replicate}
-use Rattle.clock_setup.specs.declared.setup.Product.{Product}
-use Rattle.clock_setup.specs.Limits.{IsRow}
-use Rattle.clock_setup.specs.Demands.{no_demands}
-use Rattle.clock_setup.proofs.DemandLaws.{activity_zeros, zeros_row}
+use Rattle.clock_terms.specs.declared.setup.Product.{Product}
+use Rattle.clock_terms.specs.Limits.{IsRow}
+use Rattle.clock_terms.specs.Demands.{no_demands}
+use Rattle.clock_terms.proofs.DemandLaws.{activity_zeros, zeros_row}
 use Rattle.clock_processor.specs.Board.{IsWithinEligibility}
 
 pub nothing_demanded : (products : List Product) (eligibilities : List ℕ) →

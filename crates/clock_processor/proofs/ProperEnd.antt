@@ -6,16 +6,16 @@ use Rattle.std.specs.List.{position_from}
 use Rattle.std.proofs.lemmas.Bool.{ltb-false}
 use Rattle.std.proofs.lemmas.Option.{none-some}
 use Rattle.std.proofs.lemmas.List.{get_or-set_same, get_or-set_other, length-set}
-use Rattle.clock_setup.specs.declared.setup.Product.{Product}
-use Rattle.clock_setup.specs.Demands.{total_of}
-use Rattle.clock_bids.specs.declared.change.Change.{Change}
+use Rattle.clock_terms.specs.declared.setup.Product.{Product}
+use Rattle.clock_terms.specs.Demands.{total_of}
+use Rattle.clock_terms.specs.declared.change.Change.{Change}
 use Rattle.clock_processor.specs.Room.{room}
 use Rattle.clock_processor.specs.Board.{BoardFields, IsBoard, IsWithinEligibility, MayApply}
 use Rattle.clock_processor.specs.Settling.{Progress, next_by, first_with_room, room_at, with_application}
 use Rattle.clock_processor.specs.Settling.{with_admission, HasEnded, Settles, no_change, settled, start_of}
 use Rattle.clock_processor.specs.Requests.{IsRequest, CanSettle}
 use Rattle.clock_processor.specs.Settlement.{SettledFields, IsSettlement, IsProperEnd, end_of}
-use Rattle.clock_processor.specs.UnderWay.{StaysWithinCaps}
+use Rattle.clock_processor.specs.inside.UnderWay.{StaysWithinCaps}
 use Rattle.clock_processor.proofs.Supply.{same_or_not, settled_supplied}
 use Rattle.clock_processor.proofs.Kept.{settled_keep}
 use Rattle.clock_processor.proofs.End.{has_room, settled_ended, settled_settles}

@@ -4,12 +4,12 @@
 --     most_requests      the most requests of a round
 --     CanSettle board changes      what a processor asks for
 use Rattle.std.specs.Prelude.{◌≡◌, ℕ, ◌+◌, ◌*◌, ◌<◌, ◌≤◌, List, length, All}
-use Rattle.clock_setup.specs.declared.setup.Product.{Product}
-use Rattle.clock_setup.specs.Limits.{most_products, most_bidders, most_supply}
-use Rattle.clock_setup.specs.Demands.{row_of}
-use Rattle.clock_bids.specs.declared.change.Change.{Change}
-use Rattle.clock_bids.specs.Sheet.{most_bids}
-use Rattle.clock_bids.specs.Requests.{KeepWithinCap}
+use Rattle.clock_terms.specs.declared.setup.Product.{Product}
+use Rattle.clock_terms.specs.Limits.{most_products, most_bidders, most_supply}
+use Rattle.clock_terms.specs.Demands.{row_of}
+use Rattle.clock_terms.specs.declared.change.Change.{Change}
+use Rattle.clock_terms.specs.Limits.{most_bids}
+use Rattle.clock_terms.specs.Requests.{KeepWithinCap}
 use Rattle.clock_processor.specs.Board.{BoardFields}
 
 -- the request is of one of so many bidders and products, for 1 to 1,000 blocks

@@ -2,9 +2,9 @@
 --     IsSettlement board changes end      the settling of the board's round ended so
 --     IsProperEnd board changes end      what holds at the end of every settling
 use Rattle.std.specs.Prelude.{◌≡◌, ℕ, ◌≤◌, List, length, min, EachIndex, slice_index, slice_index_or}
-use Rattle.clock_setup.specs.Limits.{supply_of}
-use Rattle.clock_setup.specs.Demands.{total_of}
-use Rattle.clock_bids.specs.declared.change.Change.{Change}
+use Rattle.clock_terms.specs.Limits.{supply_of}
+use Rattle.clock_terms.specs.Demands.{total_of}
+use Rattle.clock_terms.specs.declared.change.Change.{Change}
 use Rattle.clock_processor.specs.Room.{room}
 use Rattle.clock_processor.specs.Board.{BoardFields, IsWithinEligibility}
 use Rattle.clock_processor.specs.Settling.{Progress, Settles, start_of, settled, no_change}

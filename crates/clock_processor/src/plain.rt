@@ -3,14 +3,13 @@ ghost use Rattle.clock_processor.specs.Board.{IsBoard, one_more};
 ghost use Rattle.clock_processor.specs.Room.{with_change};
 ghost use Rattle.clock_processor.specs.Settling as settling;
 ghost use Rattle.clock_processor.specs.Requests.{IsRequest};
-ghost use Rattle.clock_processor.specs.UnderWay.{IsUnderWay, SameButTests, StaysWithinCaps, progress_of};
+ghost use Rattle.clock_processor.specs.inside.UnderWay.{IsUnderWay, SameButTests, StaysWithinCaps, progress_of};
 
 use crate::board::Board;
 use crate::processor::Processor;
 use crate::settled::Settled;
-use clock_bids::{Change, Changes};
 use clock_device::NoMemory;
-use clock_setup::Amounts;
+use clock_terms::{Amounts, Change, Changes};
 use std::alloc::Global;
 
 /// Tests the admitted requests from the first on after each application.

@@ -1,6 +1,6 @@
 ghost use Rattle.std.specs.Prelude.{◌≡◌};
 
-use clock_setup::{Amounts, Grid};
+use clock_terms::{Amounts, Grid};
 use std::marker::Model;
 
 /// What a settling ends with. Only [`Board::end`](crate::Board::end) makes one.

@@ -10,11 +10,11 @@ use Rattle.std.proofs.lemmas.List.{get_or-set_same, get_or-set_other, length-set
 use Rattle.std.proofs.lemmas.List.Sums.{sum_by-cons, sum_by-append, sum_by-take-le, count_by-le-length}
 use Rattle.std.proofs.lemmas.List.Sorted.{sum_by-IsPermutation, length_permutation, All-permutation, Contains-permutation}
 use Rattle.std.proofs.lemmas.List.Elements.{All-cons, All-head, All-tail, All-append, All-nil, All-weaker, Contains-append_left, Contains-append_right}
-use Rattle.clock_setup.specs.Limits.{IsRow, IsProduct, units_of, cap_of, no_product}
-use Rattle.clock_setup.specs.Demands.{row_of, demand_at, with_demand}
-use Rattle.clock_bids.specs.declared.change.Change.{Change}
-use Rattle.clock_bids.specs.declared.change.Kind.{Kind}
-use Rattle.clock_bids.specs.declared.change.Kind.TheVariants.{Increase, Reduction}
+use Rattle.clock_terms.specs.Limits.{IsRow, IsProduct, units_of, cap_of, no_product}
+use Rattle.clock_terms.specs.Demands.{row_of, demand_at, with_demand}
+use Rattle.clock_terms.specs.declared.change.Change.{Change}
+use Rattle.clock_terms.specs.declared.change.Kind.{Kind}
+use Rattle.clock_terms.specs.declared.change.Kind.TheVariants.{Increase, Reduction}
 use Rattle.clock_processor.specs.Room.{room_of, changed_demand}
 use Rattle.clock_processor.specs.Board.{IsBoard, MayApply, StaysWithin, applied_to, one_more}
 use Rattle.clock_processor.specs.Requests.{IsRequest}
@@ -22,9 +22,9 @@ use Rattle.clock_processor.specs.Settling.{no_change, with_application}
 use Rattle.clock_processor.proofs.Supply.{same_or_not}
 use Rattle.clock_processor.proofs.Apply.{may_apply, sum_after, under_way_applied}
 use Rattle.clock_queue.specs.declared.queue.Queue.{Queue}
-use Rattle.clock_queue.specs.Lines.{line_of, line_by, woken_line, woken_by, product_line, bidder_line, HasLines}
-use Rattle.clock_queue.specs.Queue.{IsQueue, IsTracked, IsWaiting, IsInLine, StaysWithinTests, SameTerms}
-use Rattle.clock_queue.specs.Queue.{line_at, count_in, room_in, with_first, progress, work}
+use Rattle.clock_queue.specs.inside.Lines.{line_of, line_by, woken_line, woken_by, product_line, bidder_line, HasLines}
+use Rattle.clock_queue.specs.inside.Queue.{IsQueue, IsTracked, IsWaiting, IsInLine, StaysWithinTests, SameTerms}
+use Rattle.clock_queue.specs.inside.Queue.{line_at, count_in, room_in, with_first, progress, work}
 use Rattle.clock_queue.specs.Bound.{most_of_one}
 use Rattle.clock_queue.proofs.Members.{Contains-cons_cases, Contains-first, Contains-rest, count_by_none}
 use Rattle.clock_queue.proofs.Counts.{line_most}

@@ -5,12 +5,12 @@ use Rattle.std.specs.Prelude.{max, count_by, ◌==◌}
 use Rattle.std.specs.List.{fold}
 use Rattle.std.proofs.lemmas.Bool.{cases_lt, eqb-true}
 use Rattle.std.proofs.lemmas.List.Sums.{sum_by-cons, sum_by-le-sum_by}
-use Rattle.clock_bids.specs.declared.change.Change.{Change}
-use Rattle.clock_bids.specs.declared.change.Kind.{Kind}
-use Rattle.clock_bids.specs.declared.change.Kind.TheVariants.{Increase, Reduction}
+use Rattle.clock_terms.specs.declared.change.Change.{Change}
+use Rattle.clock_terms.specs.declared.change.Kind.{Kind}
+use Rattle.clock_terms.specs.declared.change.Kind.TheVariants.{Increase, Reduction}
 use Rattle.clock_processor.specs.Settling.{no_change}
 use Rattle.clock_processor.proofs.Supply.{same_or_not}
-use Rattle.clock_queue.specs.Lines.{line_of, line_by, product_line, bidder_line}
+use Rattle.clock_queue.specs.inside.Lines.{line_of, line_by, product_line, bidder_line}
 use Rattle.clock_queue.specs.Bound.{most_of_one, count_of_product, count_of_bidder}
 
 -- a running greatest is no less than its start, and than each value

@@ -1,15 +1,15 @@
 -- Where all requests are admitted and none is ready, the settling has ended.
 use Rattle.std.proofs.Common.{◌≡◌, List, [], map, ap, sym, subst, arith, length}
-use Rattle.clock_bids.specs.declared.change.Change.{Change}
+use Rattle.clock_terms.specs.declared.change.Change.{Change}
 use Rattle.clock_processor.specs.Board.{BoardFields, IsBoard}
 use Rattle.clock_processor.specs.Requests.{CanSettle}
 use Rattle.clock_processor.specs.Settling.{Reaches, HasEnded}
 use Rattle.clock_processor.specs.Settlement.{SettledFields, IsSettlement, IsProperEnd}
-use Rattle.clock_processor.specs.UnderWay.{progress_of}
+use Rattle.clock_processor.specs.inside.UnderWay.{progress_of}
 use Rattle.clock_processor.proofs.Apply.{settlement_reached}
 use Rattle.clock_processor.proofs.ProperEnd.{proper_end, held_at_end}
 use Rattle.clock_queue.specs.declared.queue.Queue.{Queue}
-use Rattle.clock_queue.specs.Queue.{IsQueue, StaysWithinTests, progress}
+use Rattle.clock_queue.specs.inside.Queue.{IsQueue, StaysWithinTests, progress}
 use Rattle.clock_queue.specs.Bound.{IsWithinTests}
 use Rattle.clock_queue.proofs.Steps.{ends}
 

@@ -3,17 +3,17 @@ use Rattle.std.proofs.Common.{◌≡◌, ℕ, ◌+◌, ◌-◌, ◌*◌, ◌/◌
 use Rattle.std.proofs.Math.Nat.{mul-le-mul_left, div-mul-le_self, div-eq_of_lt-le}
 use Rattle.std.proofs.lemmas.Nat.{le-div}
 use Rattle.std.proofs.lemmas.List.{get_or-set_same, get_or-set_other}
-use Rattle.clock_setup.specs.declared.setup.Product.{Product}
-use Rattle.clock_setup.specs.Limits.{units_of}
-use Rattle.clock_setup.specs.Demands.{row_of, demand_at, with_demand}
-use Rattle.clock_setup.specs.Eligibility.{activity}
-use Rattle.clock_setup.proofs.DemandLaws.{total-with_demand_same, total-with_demand_other}
-use Rattle.clock_bids.specs.declared.change.Kind.{Kind}
-use Rattle.clock_bids.specs.declared.change.Kind.TheVariants.{Increase, Reduction}
+use Rattle.clock_terms.specs.declared.setup.Product.{Product}
+use Rattle.clock_terms.specs.Limits.{units_of}
+use Rattle.clock_terms.specs.Demands.{row_of, demand_at, with_demand}
+use Rattle.clock_terms.specs.Eligibility.{activity}
+use Rattle.clock_terms.proofs.DemandLaws.{total-with_demand_same, total-with_demand_other}
+use Rattle.clock_terms.specs.declared.change.Kind.{Kind}
+use Rattle.clock_terms.specs.declared.change.Kind.TheVariants.{Increase, Reduction}
 use Rattle.clock_processor.specs.Room.{room_of, excess_of, affordable_blocks, changed_demand}
 use Rattle.clock_processor.proofs.Supply.{same_or_not}
 use Rattle.clock_processor.proofs.BoardKept.{activity-set}
-use Rattle.clock_queue.specs.Lines.{line_by, woken_by}
+use Rattle.clock_queue.specs.inside.Lines.{line_by, woken_by}
 
 -- less is left to pay with, so less can be paid
 div_less : (a b units : ℕ) → a ≤ b → 0 < units → a / units ≤ b / units

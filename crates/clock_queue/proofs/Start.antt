@@ -2,13 +2,13 @@
 use Rattle.std.proofs.Common.{◌≡◌, ℕ, zero, suc, ◌<◌, List, [], map, refl, ap, sym, subst, arith, get_or, length, replicate, All}
 use Rattle.std.proofs.lemmas.List.{length-replicate}
 use Rattle.std.proofs.lemmas.List.Elements.{All-nil}
-use Rattle.clock_bids.specs.declared.change.Change.{Change}
+use Rattle.clock_terms.specs.declared.change.Change.{Change}
 use Rattle.clock_processor.specs.Board.{BoardFields}
 use Rattle.clock_processor.specs.Requests.{CanSettle}
 use Rattle.clock_processor.proofs.Apply.{under_way_start}
 use Rattle.clock_queue.specs.declared.queue.Queue.{Queue}
-use Rattle.clock_queue.specs.Lines.{HasLines}
-use Rattle.clock_queue.specs.Queue.{IsQueue, IsInLine}
+use Rattle.clock_queue.specs.inside.Lines.{HasLines}
+use Rattle.clock_queue.specs.inside.Queue.{IsQueue, IsInLine}
 
 -- nobody waits in any line
 nobody : (n line : ℕ) → get_or {A = List ℕ} (replicate n []) line [] ≡ []

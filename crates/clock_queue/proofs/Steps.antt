@@ -3,13 +3,13 @@ use Rattle.std.proofs.Common.{◌≡◌, ℕ, zero, suc, ◌<◌, ◌≤◌, Lis
 use Rattle.std.specs.List.{Contains}
 use Rattle.std.proofs.lemmas.Bool.{le-ltb}
 use Rattle.std.proofs.lemmas.List.Elements.{All-contains}
-use Rattle.clock_setup.specs.declared.setup.Product.{Product}
-use Rattle.clock_bids.specs.declared.change.Change.{Change}
+use Rattle.clock_terms.specs.declared.setup.Product.{Product}
+use Rattle.clock_terms.specs.declared.change.Change.{Change}
 use Rattle.clock_processor.specs.Settling.{Progress, Reaches, next, next_by, after_steps, first_with_room, with_application, with_admission, HasEnded}
 use Rattle.clock_processor.proofs.End.{step_reaches}
 use Rattle.clock_processor.proofs.FirstRoom.{first_has_room, none_has_room}
 use Rattle.clock_queue.specs.declared.queue.Queue.{Queue}
-use Rattle.clock_queue.specs.Queue.{IsQueue, IsTracked, SameTerms, after_test, progress, room_in, with_first}
+use Rattle.clock_queue.specs.inside.Queue.{IsQueue, IsTracked, SameTerms, after_test, progress, room_in, with_first}
 use Rattle.clock_queue.proofs.Members.{Contains-cons_cases, none_in_nil}
 
 -- a request that is not ready has no room

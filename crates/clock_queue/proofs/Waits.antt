@@ -9,12 +9,12 @@ use Rattle.std.proofs.lemmas.List.{get_or-set_same, get_or-set_other, length-set
 use Rattle.std.proofs.lemmas.List.Sums.{sum_by-cons, sum_by_more}
 use Rattle.std.proofs.lemmas.List.Sorted.{sum_by-IsPermutation, sum_by_pushed, All-permutation, Contains-permutation}
 use Rattle.std.proofs.lemmas.List.Elements.{All-cons, All-tail, All-push, All-weaker, Contains-append_left, Contains-push}
-use Rattle.clock_bids.specs.declared.change.Change.{Change}
+use Rattle.clock_terms.specs.declared.change.Change.{Change}
 use Rattle.clock_processor.specs.Settling.{no_change}
 use Rattle.clock_processor.proofs.Supply.{same_or_not}
 use Rattle.clock_queue.specs.declared.queue.Queue.{Queue}
-use Rattle.clock_queue.specs.Lines.{line_of, HasLines}
-use Rattle.clock_queue.specs.Queue.{IsQueue, IsTracked, IsInLine, line_at, count_in, room_in, with_first}
+use Rattle.clock_queue.specs.inside.Lines.{line_of, HasLines}
+use Rattle.clock_queue.specs.inside.Queue.{IsQueue, IsTracked, IsInLine, line_at, count_in, room_in, with_first}
 use Rattle.clock_queue.proofs.Members.{Contains-cons_cases, none_in_nil}
 
 module _ (changes : List Change) where

@@ -3,7 +3,7 @@
 --     IsWithinTests changes end      no more tests than one for each request, and that number for each application
 use Rattle.std.specs.Prelude.{ℕ, ◌+◌, ◌*◌, ◌≤◌, ◌==◌, List, length, max, count_by}
 use Rattle.std.specs.List.{fold}
-use Rattle.clock_bids.specs.declared.change.Change.{Change}
+use Rattle.clock_terms.specs.declared.change.Change.{Change}
 use Rattle.clock_processor.specs.Settlement.{SettledFields}
 
 -- how many requests are of a product

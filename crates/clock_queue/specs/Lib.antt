@@ -1,3 +1,2 @@
-pub mod Lines
 pub mod Bound
-pub mod Queue
+pub mod inside

@@ -1,9 +1,9 @@
 ghost use Rattle.std.specs.Prelude.{◌≡◌, ◌<◌, [], ◌∷◌, ◌++◌, length, replicate, All, IfOk, OnOk, slice_index_or, slice_set};
-ghost use Rattle.clock_queue.specs.Lines as lines;
-ghost use Rattle.clock_queue.specs.Lines.{HasLines};
+ghost use Rattle.clock_queue.specs.inside.Lines as lines;
+ghost use Rattle.clock_queue.specs.inside.Lines.{HasLines};
 
-use clock_bids::{Change, Kind};
 use clock_device::{Items, NoMemory};
+use clock_terms::{Change, Kind};
 use std::alloc::Global;
 use std::marker::Model;
 use std::mem;

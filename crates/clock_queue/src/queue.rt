@@ -2,15 +2,14 @@ ghost use Rattle.std.specs.Prelude.{◌≡◌, ◌+◌, ◌<◌, ◌≤◌, [], 
 ghost use Rattle.std.specs.List.Sorted.{IsPermutation};
 ghost use Rattle.clock_processor.specs.Board.{IsBoard};
 ghost use Rattle.clock_processor.specs.Requests.{CanSettle};
-ghost use Rattle.clock_queue.specs.Queue as states;
-ghost use Rattle.clock_queue.specs.Queue.{IsQueue, LeadsTo, SameTerms, StaysWithinTests, progress, progress_with, room_in, with_first, work};
+ghost use Rattle.clock_queue.specs.inside.Queue as states;
+ghost use Rattle.clock_queue.specs.inside.Queue.{IsQueue, LeadsTo, SameTerms, StaysWithinTests, progress, progress_with, room_in, with_first, work};
 
 use crate::lines::{Lines, line_of, lines_for, woken_line};
 use crate::ready::Ready;
-use clock_bids::Change;
 use clock_device::NoMemory;
 use clock_processor::{Board, Settled};
-use clock_setup::Amounts;
+use clock_terms::{Amounts, Change};
 use std::alloc::Global;
 
 /// A settling on its way.

@@ -4,9 +4,9 @@ ghost use Rattle.clock_processor.specs.Settlement.{IsSettlement, IsProperEnd};
 ghost use Rattle.clock_queue.specs.Bound.{IsWithinTests};
 
 use crate::queue::Queue;
-use clock_bids::Changes;
 use clock_device::NoMemory;
 use clock_processor::{Board, Processor, Settled};
+use clock_terms::Changes;
 use std::alloc::Global;
 
 /// Tests a request once when it is admitted, and again after each application that may have made room for it.

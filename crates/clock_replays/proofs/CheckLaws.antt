@@ -9,11 +9,11 @@ use Rattle.std.proofs.lemmas.List.Elements.{All-nil, All-cons}
 use Rattle.std.proofs.lemmas.List.Kept.{AllPairs-cons}
 use Rattle.std.proofs.lemmas.List.Sums.{AllPass-from_list_all, list_all-from_AllPass}
 use Rattle.std.proofs.lemmas.Slice.Zip.{get_or-zip, length-zip}
-use Rattle.clock_setup.specs.declared.setup.Product.{Product}
-use Rattle.clock_setup.specs.Demands.{row_of}
-use Rattle.clock_setup.specs.Faults.{first_fault, in_turn}
-use Rattle.clock_setup.specs.Limits.{IsSetup, cap_of}
-use Rattle.clock_setup.proofs.FaultLaws.{both_pass, turn_passed, turn_failed, turn_none}
+use Rattle.clock_terms.specs.declared.setup.Product.{Product}
+use Rattle.clock_terms.specs.Demands.{row_of}
+use Rattle.clock_terms.specs.Faults.{first_fault, in_turn}
+use Rattle.clock_terms.specs.Limits.{IsSetup, cap_of}
+use Rattle.clock_terms.proofs.FaultLaws.{both_pass, turn_passed, turn_failed, turn_none}
 use Rattle.clock_replays.specs.declared.script.Script.{Script}
 use Rattle.clock_replays.specs.declared.script.Script.TheVariants.{Literal, Sincere}
 use Rattle.clock_replays.specs.declared.fault.ScriptFault.TheVariants.{Shape, Scripts, Limits}

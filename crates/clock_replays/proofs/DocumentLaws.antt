@@ -1,8 +1,8 @@
 -- Laws of what a replay document means.
 use Rattle.std.proofs.Common.{◌≡◌, Some, None, Ok, Err, refl}
 use Rattle.serde_json.specs.Data.{Data}
-use Rattle.clock_setup.specs.Faults.{first_fault, unless}
-use Rattle.clock_setup.specs.Limits.{SetupFields}
+use Rattle.clock_terms.specs.Faults.{first_fault, unless}
+use Rattle.clock_terms.specs.Limits.{SetupFields}
 use Rattle.clock_setup.specs.SetupDocument.{setup_of}
 use Rattle.clock_replays.specs.declared.fault.ScriptFault.{ScriptFault}
 use Rattle.clock_replays.specs.declared.fault.ScriptFault.TheVariants.{Shape}

@@ -1,7 +1,8 @@
 -- Laws of rows that stand in one list, each with the place where it ends.
 use Rattle.std.proofs.Common.{◌≡◌, ℕ, ◌+◌, ◌-◌, ◌<◌, ◌≤◌, zero, suc, List, [], ◌∷◌, ◌++◌, length, take, drop, get_or, refl, sym, ap, subst, ◌∙◌, arith}
 use Rattle.std.proofs.lemmas.List.{take_all, drop_all, take-append-le, drop-append-le, length-append, length-drop}
-use Rattle.clock_replays.specs.EndedRows.{rows_from, AreEnds}
+use Rattle.clock_replays.specs.EndedRows.{rows_from}
+use Rattle.clock_replays.specs.inside.EndedRows.{AreEnds}
 
 -- there are as many rows as ends
 pub length-rows : (start : ℕ) (ends numbers : List ℕ) → length (rows_from start ends numbers) ≡ length ends

@@ -1,8 +1,8 @@
 -- The checks of replay documents, computed on small ones.
 use Rattle.std.specs.Prelude.{◌≡◌, List, [], ◌∷◌, Some, None, refl}
-use Rattle.clock_setup.specs.declared.increments.Increments.TheVariants.{PerProduct}
-use Rattle.clock_setup.specs.Examples.{one_product}
-use Rattle.clock_setup.specs.Faults.{first_fault}
+use Rattle.clock_terms.specs.declared.increments.Increments.TheVariants.{PerProduct}
+use Rattle.clock_terms.proofs.Examples.{one_product}
+use Rattle.clock_terms.specs.Faults.{first_fault}
 use Rattle.clock_replays.specs.declared.script.Script.{Script}
 use Rattle.clock_replays.specs.declared.script.Script.TheVariants.{Literal, Sincere}
 use Rattle.clock_replays.specs.declared.fault.ScriptFault.TheVariants.{Shape, Scripts, Limits}

@@ -1,15 +1,16 @@
 -- What is read of a replay document without a tree is what the document means.
 use Rattle.std.proofs.Common.{◌≡◌, ℕ, ◌≤◌, true, List, ◌∷◌, Option, Some, None, option_map, refl, ap, ◌∙◌}
 use Rattle.serde_json.specs.Data.{Data}
-use Rattle.clock_scan.specs.Reading.{Token, whole, numbers, Fields, is_field, with_field, Reads, AddsMember}
+use Rattle.clock_scan.specs.Reading.{Token, whole, numbers, Fields, Reads}
+use Rattle.clock_scan.specs.inside.Reading.{is_field, with_field, AddsMember}
 use Rattle.clock_scan.proofs.Steps.{adds_member, reads_deeper}
-use Rattle.clock_setup.specs.Faults.{first_fault, unless}
+use Rattle.clock_terms.specs.Faults.{first_fault, unless}
 use Rattle.clock_setup.specs.SetupData.{setup_data}
 use Rattle.clock_setup.specs.Members.{number_from}
 use Rattle.clock_setup.specs.OpeningShape.{row_of}
 use Rattle.clock_setup.specs.SetupDocument.{json}
-use Rattle.clock_setup.specs.declared.increments.Increments.{Increments}
-use Rattle.clock_setup.specs.declared.increments.Increments.TheVariants.{Single, PerProduct}
+use Rattle.clock_terms.specs.declared.increments.Increments.{Increments}
+use Rattle.clock_terms.specs.declared.increments.Increments.TheVariants.{Single, PerProduct}
 use Rattle.clock_bids.specs.declared.sheet.Bid.{Bid}
 use Rattle.clock_order.specs.declared.ties.Tie.{Tie}
 use Rattle.clock_bodies.specs.Bodies.{bid_of}
@@ -20,7 +21,8 @@ use Rattle.clock_replays.specs.declared.script.Script.{Script}
 use Rattle.clock_replays.specs.declared.script.Script.TheVariants.{Literal, Sincere}
 use Rattle.clock_replays.specs.declared.closing.Closing.{Closing}
 use Rattle.clock_replays.specs.ReplayShape.{ReplayParts, sheet_of, literal_of, sincere_of, script_of, closing_of, parts_of}
-use Rattle.clock_replays.specs.ReplayData.{sheet_data, script_data, closing_data, replay_data, found_data}
+use Rattle.clock_replays.specs.ReplayData.{sheet_data, script_data, closing_data}
+use Rattle.clock_replays.specs.inside.ReplayData.{replay_data, found_data}
 use Rattle.clock_replays.specs.declared.scanned_replay.ScannedReplay.{ScannedReplay}
 use Rattle.clock_replays.specs.Replays.{ReplayFields}
 use Rattle.clock_replays.specs.ReplayChecks.{replay_checks}

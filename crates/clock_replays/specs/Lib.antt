@@ -4,3 +4,4 @@ pub mod ReplayShape
 pub mod ReplayData
 pub mod ReplayChecks
 pub mod ReplayDocument
+pub mod inside

@@ -5,8 +5,8 @@
 --     replay_checks replay      all checks, in order
 use Rattle.std.specs.Prelude.{ℕ, Bool, true, ◌&&◌, ◌==◌, List, [], ◌∷◌, length, zip, nat_le}
 use Rattle.std.specs.List.{list_all}
-use Rattle.clock_setup.specs.declared.setup.Product.{Product}
-use Rattle.clock_setup.specs.Faults.{in_turn}
+use Rattle.clock_terms.specs.declared.setup.Product.{Product}
+use Rattle.clock_terms.specs.Faults.{in_turn}
 use Rattle.clock_replays.specs.declared.script.Script.{Script}
 use Rattle.clock_replays.specs.declared.script.Script.TheVariants.{Literal, Sincere}
 use Rattle.clock_replays.specs.declared.closing.Closing.{Closing}

@@ -4,7 +4,6 @@
 use Rattle.std.specs.Prelude.{ℕ, List, [], ◌∷◌, map, Option, Some, None, option_map, codes}
 use Rattle.serde_json.specs.Data.{Data, null, string, object, array}
 use Rattle.clock_scan.specs.Reading.{whole, numbers, rows, items_of, Fields, members_of}
-use Rattle.clock_setup.specs.SetupData.{setup_data}
 use Rattle.clock_bids.specs.declared.sheet.Bid.{Bid}
 use Rattle.clock_bodies.specs.QuickBodies.{bids_data, ties_data, single_of, listed_of}
 use Rattle.clock_replays.specs.declared.script.Script.{Script}
@@ -14,8 +13,6 @@ use Rattle.clock_replays.specs.declared.scanned_scripts.Kind.{Kind}
 use Rattle.clock_replays.specs.declared.scanned_scripts.Kind.TheVariants as kinds
 use Rattle.clock_replays.specs.declared.scanned_scripts.FoundScript.{FoundScript}
 use Rattle.clock_replays.specs.declared.scanned_closings.FoundClosing.{FoundClosing}
-use Rattle.clock_replays.specs.declared.scanned_replay.FoundReplay.{FoundReplay}
-use Rattle.clock_replays.specs.declared.scanned_replay.ScannedReplay.{ScannedReplay}
 
 -- a sheet of a literal script as a value
 abbrev pub sheet_data : Option (List Bid) → Data
@@ -63,23 +60,3 @@ found_closing closing = record { increment = single_of closing.increments; incre
 -- a closing as a value
 abbrev pub closing_data : Closing → Data
 closing_data closing = object (members_of (closing_fields (found_closing closing)))
-
--- a replay's keys, each with its value where one was found
-abbrev pub replay_fields : Option (List Closing) → Option (List Script) → Option Data → Fields
-replay_fields closings scripts setup =
-    (codes "closings", option_map (λ list. array (items_of (map closing_data list))) closings)
-    ∷ (codes "scripts", option_map (λ list. array (items_of (map script_data list))) scripts)
-    ∷ (codes "setup", setup)
-    ∷ []
-
--- what was found of a replay
-abbrev pub found_replay : FoundReplay → Fields
-found_replay found = replay_fields found.closings found.scripts (option_map (λ held. setup_data held.setup) found.held)
-
--- a replay document as a value, over the value of its set-up
-abbrev pub replay_data : Data → List Script → List Closing → Data
-replay_data setup scripts closings = object (members_of (replay_fields (Some closings) (Some scripts) (Some setup)))
-
--- what was read of a replay document, as a value
-abbrev pub found_data : ScannedReplay → Data
-found_data found = replay_data (setup_data found.held.setup) found.scripts found.closings

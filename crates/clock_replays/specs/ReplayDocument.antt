@@ -4,8 +4,8 @@
 use Rattle.std.specs.Prelude.{ℕ, List, Result, Ok, Err}
 use Rattle.serde_json.specs.Data.{Data}
 use Rattle.clock_setup.specs.declared.fault.SetupFault.{SetupFault}
-use Rattle.clock_setup.specs.Limits.{SetupFields}
-use Rattle.clock_setup.specs.Faults.{first_fault, unless, or_fault, ◌>>=◌}
+use Rattle.clock_terms.specs.Limits.{SetupFields}
+use Rattle.clock_terms.specs.Faults.{first_fault, unless, or_fault, ◌>>=◌}
 use Rattle.clock_setup.specs.SetupDocument.{json, setup_of}
 use Rattle.clock_replays.specs.declared.fault.ScriptFault.{ScriptFault}
 use Rattle.clock_replays.specs.declared.fault.ScriptFault.TheVariants.{NotJson, Shape, Setup}

@@ -6,9 +6,9 @@
 --     ReplayFields, IsReplay      the parts of a replay, and how they fit together
 use Rattle.std.specs.Prelude.{◌≡◌, ℕ, ◌≤◌, List, EachIndex, All, true, ⊤, length}
 use Rattle.std.specs.List.{AllPairs}
-use Rattle.clock_setup.specs.declared.setup.Product.{Product}
-use Rattle.clock_setup.specs.Limits.{SetupFields, IsSetup, cap_of}
-use Rattle.clock_setup.specs.Demands.{row_of}
+use Rattle.clock_terms.specs.declared.setup.Product.{Product}
+use Rattle.clock_terms.specs.Limits.{SetupFields, IsSetup, cap_of}
+use Rattle.clock_terms.specs.Demands.{row_of}
 pub use Rattle.clock_bodies.specs.CloseBodies.{is_of_version}
 use Rattle.clock_replays.specs.declared.script.Script.{Script}
 use Rattle.clock_replays.specs.declared.script.Script.TheVariants.{Literal, Sincere}

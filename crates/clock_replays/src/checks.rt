@@ -1,7 +1,7 @@
 ghost use Rattle.std.specs.Prelude.{◌≡◌, ◌≢◌, ◌&&◌, true, Some, length, zip, nat_le};
 ghost use Rattle.std.specs.List.{list_all};
-ghost use Rattle.clock_setup.specs.Faults.{first_fault, in_turn};
-ghost use Rattle.clock_setup.specs.Limits.{IsSetup};
+ghost use Rattle.clock_terms.specs.Faults.{first_fault, in_turn};
+ghost use Rattle.clock_terms.specs.Limits.{IsSetup};
 ghost use Rattle.clock_replays.specs.ReplayChecks as rules;
 ghost use Rattle.clock_replays.specs.ReplayChecks.{limit_checks, replay_checks, script_checks};
 

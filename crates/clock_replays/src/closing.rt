@@ -1,6 +1,6 @@
 use clock_device::Items;
 use clock_order::Tie;
-use clock_setup::Increments;
+use clock_terms::Increments;
 
 /// Tie numbers, in the order given.
 pub type TieList = Items<Tie>;

@@ -2,7 +2,7 @@ ghost use Rattle.std.specs.Prelude.{◌≡◌, Ok};
 ghost use Rattle.clock_setup.specs.SetupData.{setup_data};
 ghost use Rattle.clock_setup.specs.SetupDocument.{setup_of};
 
-use clock_setup::Setup;
+use clock_terms::Setup;
 
 /// A set-up that was read without a tree and judged.
 #[derive(Drop)]

@@ -1,12 +1,13 @@
 //! The limits of a sincere bidder, which are mostly none: all in one list.
 ghost use Rattle.std.specs.Prelude.{◌≡◌, ◌<◌, ◌≤◌, ◌∷◌, length, slice_index, IfOk, OnOk};
 ghost use Rattle.clock_scan.specs.Reading.{rows, Reads};
-ghost use Rattle.clock_setup.specs.Demands.{row_of};
-ghost use Rattle.clock_replays.specs.EndedRows.{rows_from, AreEnds};
+ghost use Rattle.clock_terms.specs.Demands.{row_of};
+ghost use Rattle.clock_replays.specs.EndedRows.{rows_from};
+ghost use Rattle.clock_replays.specs.inside.EndedRows.{AreEnds};
 
 use clock_device::NoMemory;
 use clock_scan::{Scan, Stop};
-use clock_setup::Amounts;
+use clock_terms::Amounts;
 use std::alloc::Global;
 use std::marker::Model;
 
@@ -23,7 +24,8 @@ pub struct LimitLists {
 
 impl Model for LimitLists {
     ghost use Rattle.std.specs.Prelude.{List, ℕ, length};
-    ghost use Rattle.clock_replays.specs.EndedRows.{rows_from, AreEnds};
+    ghost use Rattle.clock_replays.specs.EndedRows.{rows_from};
+    ghost use Rattle.clock_replays.specs.inside.EndedRows.{AreEnds};
 
     ghost Value = { List (List ℕ) };
 

@@ -1,6 +1,6 @@
 ghost use Rattle.std.specs.Prelude.{◌≡◌, ◌≢◌, Ok, IfOk, IfErr};
 ghost use Rattle.serde_json.specs.View.{view};
-ghost use Rattle.clock_setup.specs.Faults.{IsRefusal, first_fault, unless};
+ghost use Rattle.clock_terms.specs.Faults.{IsRefusal, first_fault, unless};
 ghost use Rattle.clock_setup.specs.SetupDocument as document;
 ghost use Rattle.clock_replays.specs.Replays.{IsReplay, ReplayFields};
 ghost use Rattle.clock_replays.specs.ReplayChecks.{replay_checks};

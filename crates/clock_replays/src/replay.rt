@@ -1,6 +1,6 @@
 use crate::closing::Closings;
 use crate::script::Scripts;
-use clock_setup::Setup;
+use clock_terms::Setup;
 use std::marker::Model;
 
 /// An auction to be played: its set-up, what each bidder does, and how each round is closed. The type keeps that there

@@ -1,7 +1,8 @@
 //! Closings read without a tree, where no text has an escape and each number is written in digits alone.
 ghost use Rattle.std.specs.Prelude.{◌≡◌, ◌<◌, length, IfSome, IfOk, OnOk};
 ghost use Rattle.serde_json.specs.Data.{object};
-ghost use Rattle.clock_scan.specs.Reading.{members_of, Reads, AddsMember};
+ghost use Rattle.clock_scan.specs.Reading.{members_of, Reads};
+ghost use Rattle.clock_scan.specs.inside.Reading.{AddsMember};
 ghost use Rattle.clock_bodies.specs.QuickBodies.{tie_data};
 ghost use Rattle.clock_replays.specs.ReplayData.{closing_fields, closing_data};
 
@@ -10,7 +11,7 @@ use crate::scanned_part::{ScannedPart, scanned_parts};
 use clock_bodies::{next_tie, one_form};
 use clock_order::Tie;
 use clock_scan::{Scan, Stop, is_key};
-use clock_setup::{Amounts, Increments};
+use clock_terms::{Amounts, Increments};
 use std::alloc::Global;
 
 impl ScannedPart for Tie {

@@ -1,9 +1,10 @@
 //! A replay document read without a tree, where no text has an escape and each number is written in digits alone.
 ghost use Rattle.std.specs.Prelude.{◌≡◌, ◌<◌, length, Some, IfSome, IfOk, OnOk};
 ghost use Rattle.serde_json.specs.Data.{object};
-ghost use Rattle.clock_scan.specs.Reading.{members_of, Reads, AddsMember};
+ghost use Rattle.clock_scan.specs.Reading.{members_of, Reads};
+ghost use Rattle.clock_scan.specs.inside.Reading.{AddsMember};
 ghost use Rattle.clock_setup.specs.SetupDocument.{json};
-ghost use Rattle.clock_replays.specs.ReplayData.{found_replay, found_data};
+ghost use Rattle.clock_replays.specs.inside.ReplayData.{found_replay, found_data};
 
 use crate::closing::Closings;
 use crate::held_setup::HeldSetup;

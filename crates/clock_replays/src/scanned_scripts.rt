@@ -1,7 +1,8 @@
 //! Scripts read without a tree, where no text has an escape and each number is written in digits alone.
 ghost use Rattle.std.specs.Prelude.{◌≡◌, ◌<◌, length, IfSome, IfOk, OnOk};
 ghost use Rattle.serde_json.specs.Data.{object};
-ghost use Rattle.clock_scan.specs.Reading.{members_of, Reads, AddsMember};
+ghost use Rattle.clock_scan.specs.Reading.{members_of, Reads};
+ghost use Rattle.clock_scan.specs.inside.Reading.{AddsMember};
 ghost use Rattle.clock_bodies.specs.QuickBodies.{bid_data};
 ghost use Rattle.clock_replays.specs.ReplayData.{sheet_data, kind_text, script_fields, script_data};
 

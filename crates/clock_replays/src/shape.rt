@@ -14,7 +14,7 @@ use clock_bodies::{bid_of, tie_of};
 use clock_device::NoMemory;
 use clock_order::Tie;
 use clock_setup::members::{has_members, items_at, number_at, numbers_of, text_at};
-use clock_setup::{Amounts, Increments};
+use clock_terms::{Amounts, Increments};
 use serde_json::Value;
 use std::alloc::Global;
 

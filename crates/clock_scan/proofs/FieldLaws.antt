@@ -6,7 +6,8 @@ use Rattle.std.proofs.lemmas.Slice.Eq.{bytes_eq-Decides}
 use Rattle.std.specs.Ordering.{nat_cmp, match_ordering}
 use Rattle.std.specs.Cmp.Lexicographic.{slice_cmp}
 use Rattle.serde_json.specs.Data.{Data, member, put}
-use Rattle.clock_scan.specs.Reading.{Fields, field_before, members_of, with_field, is_before, is_field}
+use Rattle.clock_scan.specs.Reading.{Fields, field_before, members_of}
+use Rattle.clock_scan.specs.inside.Reading.{with_field, is_before, is_field}
 
 put_first_at : (o : Ordering) (name key : List ℕ) (d : Data) (value : Option Data) (fields : Fields) → slice_cmp nat_cmp name key ≡ o
     → match_ordering o (is_before name fields) false false ≡ true

@@ -3,3 +3,4 @@ mod Turns
 mod FieldLaws
 pub mod Steps
 mod RowSteps
+mod CompactLaws

@@ -3,7 +3,8 @@ use Rattle.std.proofs.Common.{◌≡◌, ℕ, ◌+◌, ◌-◌, ◌≤◌, ◌==
 use Rattle.std.specs.List.{list_all}
 use Rattle.std.proofs.lemmas.List.{nil_from_length, take_all, take-append-le, drop-append-le, take-append-drop, length-take-le}
 use Rattle.std.proofs.lemmas.List.{length-append, length-drop}
-use Rattle.clock_scan.specs.Rows.{cut, numbers_in, joined}
+use Rattle.clock_scan.specs.Rows.{cut, joined}
+use Rattle.clock_scan.specs.inside.Rows.{numbers_in}
 
 -- one row more has its own numbers more
 pub numbers_more : (lengths : List ℕ) (count : ℕ) → numbers_in (lengths ++ count ∷ []) ≡ numbers_in lengths + count

@@ -11,7 +11,8 @@ use Rattle.json.proofs.Grammar.{left, skip_value-shorter, value_is}
 use Rattle.serde_json.specs.Data.{Data, Items, item, array, object, string, null, Members, no_members, put}
 use Rattle.serde_json.specs.Read.{of_json, converted, read}
 use Rattle.serde_json.proofs.Numbers.{number_of-decimal}
-use Rattle.clock_scan.specs.Reading.{whole, items_before, items_of, Fields, members_of, with_field, is_field, Reads, HasItems, HasMembers, AddsMember}
+use Rattle.clock_scan.specs.Reading.{whole, items_before, items_of, Fields, members_of, Reads}
+use Rattle.clock_scan.specs.inside.Reading.{with_field, is_field, HasItems, HasMembers, AddsMember}
 use Rattle.clock_scan.proofs.Turns.{converted_some, item_read, items_over, member_read, members_over, object_read, array_read, last, last_read}
 use Rattle.clock_scan.proofs.FieldLaws.{put_in}
 use Rattle.clock_scan.proofs.LexLaws.{space_at, at_end}

@@ -1,6 +1,5 @@
 -- Rows of numbers that stand in one list.
 --     cut lengths numbers      the list cut into rows of these lengths
---     numbers_in lengths      how many numbers such rows have
 --     joined rows      the numbers of all rows, row by row
 use Rattle.std.specs.Prelude.{ℕ, ◌+◌, List, [], ◌∷◌, ◌++◌, take, drop}
 
@@ -8,11 +7,6 @@ use Rattle.std.specs.Prelude.{ℕ, ◌+◌, List, [], ◌∷◌, ◌++◌, take,
 unfoldable pub cut : List ℕ → List ℕ → List (List ℕ)
 cut [] numbers = []
 cut (count ∷ lengths) numbers = take count numbers ∷ cut lengths (drop count numbers)
-
--- how many numbers rows of these lengths have
-unfoldable pub numbers_in : List ℕ → ℕ
-numbers_in [] = 0
-numbers_in (count ∷ lengths) = count + numbers_in lengths
 
 -- the numbers of all rows, row by row
 unfoldable pub joined : List (List ℕ) → List ℕ

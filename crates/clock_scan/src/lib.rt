@@ -2,6 +2,7 @@
 //! `serde_json` reads; where nothing is read, nothing is said of the text.
 #![tactic(auto)]
 
+mod compact;
 mod lists;
 mod place;
 mod rows;
@@ -11,6 +12,7 @@ mod stop;
 mod tests;
 mod words;
 
+pub use compact::CompactBid;
 pub use rows::FlatRows;
 pub use scan::Scan;
 pub use stop::Stop;

@@ -52,7 +52,7 @@ impl<'a> Scan<'a> {
             return Err(Stop::Unusual);
         }
         'items: while !self.closes_array() {
-            let Some(next) = self.number() else {
+            let Some(next) = self.short_number() else {
                 return Err(Stop::Unusual);
             };
             list.push(next)?;

@@ -17,7 +17,8 @@ pub struct FlatRows {
 
 impl Model for FlatRows {
     ghost use Rattle.std.specs.Prelude.{◌≡◌, List, ℕ, length};
-    ghost use Rattle.clock_scan.specs.Rows.{cut, numbers_in};
+    ghost use Rattle.clock_scan.specs.Rows.{cut};
+    ghost use Rattle.clock_scan.specs.inside.Rows.{numbers_in};
 
     ghost Value = { List (List ℕ) };
 

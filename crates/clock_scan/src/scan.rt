@@ -1,12 +1,14 @@
 //! A text read mark by mark.
-ghost use Rattle.std.specs.Prelude.{◌≡◌, ◌∷◌, [], ◌<◌, ◌^◌, length, IsTrue, IfSome};
+ghost use Rattle.std.specs.Prelude.{◌≡◌, ◌∷◌, [], ◌<◌, ◌^◌, length, IsTrue, IfSome, IfNone};
 ghost use Rattle.std.specs.Bool.{MatchBool};
 ghost use Rattle.json.specs.Token.{begin_array, begin_object, end_array, end_object, key as key_token};
 ghost use Rattle.json.specs.Lex.{tokens};
 ghost use Rattle.serde_json.specs.Data.{null, string};
+ghost use Rattle.clock_scan.specs.Compact.{compact_bid};
 ghost use Rattle.clock_scan.specs.Left.{left};
 ghost use Rattle.clock_scan.specs.Reading.{whole, Reads};
 
+use crate::compact::{CompactBid, compact_bid_at, digit_at};
 use crate::place::Place;
 use crate::words::{after_space, after_value, byte_at, ends_text, null_at, number_at, quoted};
 use std::marker::Model;
@@ -136,6 +138,50 @@ impl<'a> Scan<'a> {
         self.at = at;
         self.place = place;
         Some(n)
+    }
+
+    /// Reads a bid that is written without white space, its keys in the order of their bytes, where a comma follows it.
+    #[inline(never)]
+    pub fn compact_bid(&mut self) -> Option<CompactBid>
+        ensures value { IfSome result (λ bid. Reads 1 self.old (compact_bid bid) self.new) }
+        ensures shorter { IfSome result (λ _. length self.new < length self.old) }
+        ensures same { IfNone result (self.new ≡ self.old) }
+    {
+        if !self.place.may_begin() {
+            return None;
+        }
+        let (bid, at) = compact_bid_at(self.bytes, self.at)?;
+        self.at = at;
+        self.place = Place::AfterComma;
+        Some(bid)
+    }
+
+    /// Reads a number of one digit, where a comma is right behind it.
+    #[inline(always)]
+    fn digit(&mut self) -> Option<u64>
+        ensures value { IfSome result (λ n. Reads 0 self.old (whole n) self.new) }
+        ensures shorter { IfSome result (λ _. length self.new < length self.old) }
+        ensures same { IfNone result (self.new ≡ self.old) }
+    {
+        if !self.place.may_begin() {
+            return None;
+        }
+        let n = digit_at(self.bytes, self.at)?;
+        self.at += 2;
+        self.place = Place::AfterComma;
+        Some(n)
+    }
+
+    /// Reads a number as [`number`](Scan::number) does, one of a single digit in a few steps.
+    #[inline(always)]
+    pub fn short_number(&mut self) -> Option<u64>
+        ensures value { IfSome result (λ n. Reads 0 self.old (whole n) self.new) }
+        ensures shorter { IfSome result (λ _. length self.new < length self.old) }
+    {
+        if let Some(n) = self.digit() {
+            return Some(n);
+        }
+        self.number()
     }
 
     /// Passes the word `null`.

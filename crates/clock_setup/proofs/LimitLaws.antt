@@ -9,23 +9,23 @@ use Rattle.std.proofs.lemmas.Map.Made.{AllPairs-from_IsDistinct, IsDistinct-from
 use Rattle.std.proofs.lemmas.Slice.Eq.{bytes_eq-Decides}
 use Rattle.serde_json.specs.Data.{Data}
 use Rattle.clock_money.specs.Price.{highest_price}
-use Rattle.clock_setup.specs.declared.setup.Product.{Product}
-use Rattle.clock_setup.specs.declared.setup.Bidder.{Bidder}
+use Rattle.clock_terms.specs.declared.setup.Product.{Product}
+use Rattle.clock_terms.specs.declared.setup.Bidder.{Bidder}
 use Rattle.clock_setup.specs.declared.fault.SetupFault.{SetupFault}
 use Rattle.clock_setup.specs.declared.fault.SetupFault.TheVariants.{Range}
 use Rattle.clock_setup.specs.declared.fault.Place.TheVariants.{Products, Bidders}
-use Rattle.clock_setup.specs.Limits.{SetupFields, IsWithin, is_within, IsName, is_name, IsToken, is_token, is_name_character}
-use Rattle.clock_setup.specs.Limits.{is_letter_or_digit, AreDistinct, is_distinct, IsProduct}
-use Rattle.clock_setup.specs.Limits.{IsBidder, IsSetup, IsOfFirstVersion, longest_name, shortest_token, longest_token, latest_version}
-use Rattle.clock_setup.specs.Limits.{most_products, most_bidders, most_units, most_supply, most_granule}
-use Rattle.clock_setup.specs.Limits.{most_eligibility, least_requirement, most_requirement, least_limit, most_limit}
-use Rattle.clock_setup.specs.WithinLaws.{both_true, within_of_test, test_of_within}
+use Rattle.clock_terms.specs.Limits.{SetupFields, IsWithin, is_within, IsName, is_name, IsToken, is_token, is_name_character}
+use Rattle.clock_terms.specs.Limits.{is_letter_or_digit, AreDistinct, is_distinct, IsProduct}
+use Rattle.clock_terms.specs.Limits.{IsBidder, IsSetup, IsOfFirstVersion, longest_name, shortest_token, longest_token, latest_version}
+use Rattle.clock_terms.specs.Limits.{most_products, most_bidders, most_units, most_supply, most_granule}
+use Rattle.clock_terms.specs.Limits.{most_eligibility, least_requirement, most_requirement, least_limit, most_limit}
+use Rattle.clock_terms.proofs.WithinLaws.{both_true, within_of_test, test_of_within}
 use Rattle.clock_setup.specs.Members.{number_at}
 use Rattle.clock_setup.specs.SetupShape.{fields_of}
-use Rattle.clock_setup.proofs.FaultLaws.{passed, failed, both_pass}
-use Rattle.clock_setup.specs.Faults.{first_fault, in_turn}
+use Rattle.clock_terms.proofs.FaultLaws.{passed, failed, both_pass}
+use Rattle.clock_terms.specs.Faults.{first_fault, in_turn}
 use Rattle.clock_setup.specs.SetupDocument.{product_checks, bidder_checks, setup_checks, has_distinct_names, has_distinct_tokens, setup_of}
-use Rattle.clock_setup.specs.SetupDocument.{head_checks, products_checks, bidders_checks, distinct_checks}
+use Rattle.clock_setup.specs.inside.SetupDocument.{head_checks, products_checks, bidders_checks, distinct_checks}
 
 -- every check passes
 abbrev pub Passing : {F : Type 0} → List (F × Bool) → Type 0

@@ -10,7 +10,7 @@ use Rattle.std.proofs.lemmas.List.{map-append, take_more, take_all}
 use Rattle.std.proofs.lemmas.Bool.Decides.{nat_tests}
 use Rattle.std.proofs.lemmas.Cmp.{nat_list_eq_equiv, on_equiv}
 use Rattle.std.proofs.lemmas.Map.Made.{distinct_count-le, hash_set_len-from_list}
-use Rattle.clock_setup.specs.Limits.{is_distinct}
+use Rattle.clock_terms.specs.Limits.{is_distinct}
 
 -- two borrowed texts have the same bytes
 abbrev pub same_text : Bor (List ℕ) → Bor (List ℕ) → Bool

@@ -8,17 +8,17 @@ use Rattle.std.proofs.lemmas.List.{get_or_default}
 use Rattle.std.proofs.lemmas.List.Sums.{AllPass-from_list_all}
 use Rattle.std.proofs.lemmas.Slice.Zip.{get_or-zip, length-zip}
 use Rattle.serde_json.specs.Data.{Data}
-use Rattle.clock_setup.specs.declared.setup.Product.{Product}
+use Rattle.clock_terms.specs.declared.setup.Product.{Product}
 use Rattle.clock_setup.specs.declared.opening.Opening.{Opening}
 use Rattle.clock_setup.specs.declared.opening.OpeningFault.{OpeningFault}
 use Rattle.clock_setup.specs.declared.opening.OpeningFault.TheVariants.{Shape, Demand, Increment, NoMemory}
-use Rattle.clock_setup.specs.Demands.{IsGrid}
-use Rattle.clock_setup.specs.Faults.{IsRefusal, first_fault, in_turn, unless, or_fault}
-use Rattle.clock_setup.specs.Limits.{SetupFields, IsProduct, IsRow, is_within, cap_of, no_product, most_supply, least_increment, most_increment}
+use Rattle.clock_terms.specs.Demands.{IsGrid}
+use Rattle.clock_terms.specs.Faults.{IsRefusal, first_fault, in_turn, unless, or_fault}
+use Rattle.clock_terms.specs.Limits.{SetupFields, IsProduct, IsRow, is_within, cap_of, no_product, most_supply, least_increment, most_increment}
 use Rattle.clock_setup.specs.SetupDocument.{setup_of}
 use Rattle.clock_setup.specs.OpeningShape.{OpeningParts, parts_of}
 use Rattle.clock_setup.specs.OpeningDocument.{has_counts, demand_checks, row_checks, opening_checks, in_opening, opening_of}
-use Rattle.clock_setup.proofs.FaultLaws.{turn_passed, turn_failed, turn_none}
+use Rattle.clock_terms.proofs.FaultLaws.{turn_passed, turn_failed, turn_none}
 
 -- a pair of two lists
 pub zip_at : {A B : Type 0} (ks : List A) (vs : List B) (i : ℕ) (a : A) (b : B) → i < length ks → i < length vs → a ≡ get_or ks i a → b ≡ get_or vs i b

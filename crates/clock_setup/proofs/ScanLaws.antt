@@ -6,13 +6,13 @@ use Rattle.std.proofs.lemmas.Bool.{eqb-true}
 use Rattle.std.proofs.lemmas.List.Elements.{All-nil, All-head, All-tail}
 use Rattle.serde_json.specs.Data.{Data, object}
 use Rattle.clock_scan.specs.Reading.{items_of, members_of}
-use Rattle.clock_setup.specs.declared.setup.Product.{Product}
-use Rattle.clock_setup.specs.declared.setup.Bidder.{Bidder}
-use Rattle.clock_setup.specs.Limits.{SetupFields, IsWithin, IsOfFirstVersion, latest_version, first_granule}
+use Rattle.clock_terms.specs.declared.setup.Product.{Product}
+use Rattle.clock_terms.specs.declared.setup.Bidder.{Bidder}
+use Rattle.clock_terms.specs.Limits.{SetupFields, IsWithin, IsOfFirstVersion, latest_version, first_granule}
 use Rattle.clock_setup.specs.declared.fault.SetupFault.{SetupFault}
 use Rattle.clock_setup.specs.declared.fault.SetupFault.TheVariants.{NoMemory}
-use Rattle.clock_setup.specs.Faults.{first_fault, unless, IsFirstFault, IsRefusal}
-use Rattle.clock_setup.specs.WithinLaws.{test_of_within}
+use Rattle.clock_terms.specs.Faults.{first_fault, unless, IsFirstFault, IsRefusal}
+use Rattle.clock_terms.proofs.WithinLaws.{test_of_within}
 use Rattle.clock_setup.specs.Members.{each, number_at, ◌>>=◌}
 use Rattle.clock_setup.specs.SetupShape.{product_of, bidder_of, fields_of}
 use Rattle.clock_setup.specs.SetupDocument.{json, setup_checks, setup_of, document_setup}

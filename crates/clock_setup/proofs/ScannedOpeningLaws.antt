@@ -6,12 +6,12 @@ use Rattle.clock_scan.specs.Reading.{whole, numbers, items_of}
 use Rattle.clock_setup.specs.declared.opening.Opening.{Opening}
 use Rattle.clock_setup.specs.declared.opening.OpeningFault.{OpeningFault}
 use Rattle.clock_setup.specs.declared.opening.OpeningFault.TheVariants.{NoMemory}
-use Rattle.clock_setup.specs.Faults.{IsRefusal}
+use Rattle.clock_terms.specs.Faults.{IsRefusal}
 use Rattle.clock_setup.specs.Members.{number_from, each}
 use Rattle.clock_setup.specs.SetupDocument.{json}
 use Rattle.clock_setup.specs.OpeningShape.{row_of, parts_of}
 use Rattle.clock_setup.specs.OpeningDocument.{opening_of, document_opening}
-use Rattle.clock_setup.specs.OpeningData.{opening_data}
+use Rattle.clock_setup.specs.inside.OpeningData.{opening_data}
 use Rattle.clock_setup.proofs.ScanLaws.{each_of}
 
 numbers_are : (row : List ℕ) → each number_from (items_of (map whole row)) ≡ Some row

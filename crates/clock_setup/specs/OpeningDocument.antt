@@ -6,15 +6,15 @@
 use Rattle.std.specs.Prelude.{ℕ, Bool, ◌&&◌, ◌==◌, List, [], ◌∷◌, ◌++◌, length, zip, nat_le, Result, Ok, Err}
 use Rattle.std.specs.List.{list_all}
 use Rattle.serde_json.specs.Data.{Data}
-use Rattle.clock_setup.specs.declared.setup.Product.{Product}
-use Rattle.clock_setup.specs.declared.setup.Bidder.{Bidder}
+use Rattle.clock_terms.specs.declared.setup.Product.{Product}
+use Rattle.clock_terms.specs.declared.setup.Bidder.{Bidder}
 use Rattle.clock_setup.specs.declared.fault.SetupFault.{SetupFault}
 use Rattle.clock_setup.specs.declared.opening.Opening.{Opening}
 use Rattle.clock_setup.specs.declared.opening.OpeningFault.{OpeningFault}
 use Rattle.clock_setup.specs.declared.opening.OpeningFault.TheVariants.{NotJson, Shape, Setup, Demand, Activity, Increment}
-use Rattle.clock_setup.specs.Limits.{SetupFields, is_within, least_increment, most_increment}
-use Rattle.clock_setup.specs.Eligibility.{activity}
-use Rattle.clock_setup.specs.Faults.{first_fault, in_turn, unless, or_fault, ◌>>=◌}
+use Rattle.clock_terms.specs.Limits.{SetupFields, is_within, least_increment, most_increment}
+use Rattle.clock_terms.specs.Eligibility.{activity}
+use Rattle.clock_terms.specs.Faults.{first_fault, in_turn, unless, or_fault, ◌>>=◌}
 use Rattle.clock_setup.specs.SetupDocument.{json, setup_of}
 use Rattle.clock_setup.specs.OpeningShape.{OpeningParts, parts_of}
 

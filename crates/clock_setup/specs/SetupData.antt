@@ -5,9 +5,9 @@
 use Rattle.std.specs.Prelude.{ℕ, List, [], ◌∷◌, ◌==◌, map, Option, Some, None, option_map, if◌then◌else◌, codes}
 use Rattle.serde_json.specs.Data.{Data, string, array, object}
 use Rattle.clock_scan.specs.Reading.{whole, items_of, Fields, members_of}
-use Rattle.clock_setup.specs.declared.setup.Product.{Product}
-use Rattle.clock_setup.specs.declared.setup.Bidder.{Bidder}
-use Rattle.clock_setup.specs.Limits.{SetupFields}
+use Rattle.clock_terms.specs.declared.setup.Product.{Product}
+use Rattle.clock_terms.specs.declared.setup.Bidder.{Bidder}
+use Rattle.clock_terms.specs.Limits.{SetupFields}
 
 -- a number that documents have from version 2 on
 abbrev pub added : ℕ → ℕ → Option ℕ

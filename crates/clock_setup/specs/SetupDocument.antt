@@ -7,18 +7,18 @@ use Rattle.std.specs.Str.{is_utf8}
 use Rattle.serde_json.specs.Data.{Data}
 use Rattle.serde_json.specs.Read.{read}
 use Rattle.clock_money.specs.Price.{highest_price}
-use Rattle.clock_setup.specs.declared.setup.Product.{Product}
-use Rattle.clock_setup.specs.declared.setup.Bidder.{Bidder}
+use Rattle.clock_terms.specs.declared.setup.Product.{Product}
+use Rattle.clock_terms.specs.declared.setup.Bidder.{Bidder}
 use Rattle.clock_setup.specs.declared.fault.Place.TheVariants.{Requirement, Limit, Operator, Products, Bidders}
 use Rattle.clock_setup.specs.declared.fault.Place.TheVariants.{Name, Units, Supply, Cap, Opening, Granule, BidderName, Token, Eligibility}
 use Rattle.clock_setup.specs.declared.fault.SetupFault.{SetupFault}
 use Rattle.clock_setup.specs.declared.fault.SetupFault.TheVariants.{NotJson, Shape, Version, Range, DuplicateName, DuplicateToken}
-use Rattle.clock_setup.specs.Limits.{SetupFields, is_within, is_name, is_token, is_distinct}
-use Rattle.clock_setup.specs.Limits.{latest_version, least_requirement, most_requirement, least_limit, most_limit, most_products, most_bidders}
-use Rattle.clock_setup.specs.Limits.{most_units, most_supply, most_granule, most_eligibility}
+use Rattle.clock_terms.specs.Limits.{SetupFields, is_within, is_name, is_token, is_distinct}
+use Rattle.clock_terms.specs.Limits.{latest_version, least_requirement, most_requirement, least_limit, most_limit, most_products, most_bidders}
+use Rattle.clock_terms.specs.Limits.{most_units, most_supply, most_granule, most_eligibility}
 use Rattle.clock_setup.specs.Members.{number_at}
 use Rattle.clock_setup.specs.SetupShape.{fields_of}
-use Rattle.clock_setup.specs.Faults.{first_fault, in_turn, unless, or_fault, ◌>>=◌}
+use Rattle.clock_terms.specs.Faults.{first_fault, in_turn, unless, or_fault, ◌>>=◌}
 
 -- of a product its name, units, supply, cap (at most the supply), opening price and granule
 unfoldable pub product_checks : ℕ → Product → List (SetupFault × Bool)
@@ -48,27 +48,8 @@ has_distinct_names setup =
 abbrev pub has_distinct_tokens : SetupFields → Bool
 has_distinct_tokens setup = is_distinct (setup.operator ∷ map (λ bidder. bidder.token) setup.bidders)
 
--- its parts that stand before the products
-unfoldable pub head_checks : SetupFields → List (SetupFault × Bool)
-head_checks setup =
-    (Range Requirement, is_within least_requirement most_requirement setup.requirement)
-    ∷ (Range Limit, is_within least_limit most_limit setup.limit)
-    ∷ (Range Operator, is_token setup.operator)
-    ∷ []
-
--- how many products there are, then each of them
-unfoldable pub products_checks : List Product → List (SetupFault × Bool)
-products_checks products = (Range Products, is_within 1 most_products (length products)) ∷ in_turn product_checks 0 products
-
--- how many bidders there are, then each of them
-unfoldable pub bidders_checks : List Bidder → List (SetupFault × Bool)
-bidders_checks bidders = (Range Bidders, is_within 1 most_bidders (length bidders)) ∷ in_turn bidder_checks 0 bidders
-
--- its names, then its tokens
-unfoldable pub distinct_checks : SetupFields → List (SetupFault × Bool)
-distinct_checks setup = (DuplicateName, has_distinct_names setup) ∷ (DuplicateToken, has_distinct_tokens setup) ∷ []
-
--- the limits of a set-up, in the order in which they are looked at: those four lists, one behind the other
+-- the limits of a set-up, in the order in which they are looked at: its parts before the products, the products, the bidders, and
+-- that names and tokens are distinct
 unfoldable pub setup_checks : SetupFields → List (SetupFault × Bool)
 setup_checks setup =
     (Range Requirement, is_within least_requirement most_requirement setup.requirement)

@@ -5,9 +5,9 @@
 use Rattle.std.specs.Prelude.{ℕ, ◌+◌, ◌==◌, List, Option, Some, None, option_and_then, if◌then◌else◌, codes}
 use Rattle.serde_json.specs.Data.{Data}
 use Rattle.clock_setup.specs.Members.{number_at, text_at, items_at, has_members, each, ◌>>=◌}
-use Rattle.clock_setup.specs.declared.setup.Product.{Product}
-use Rattle.clock_setup.specs.declared.setup.Bidder.{Bidder}
-use Rattle.clock_setup.specs.Limits.{SetupFields, first_limit, first_granule}
+use Rattle.clock_terms.specs.declared.setup.Product.{Product}
+use Rattle.clock_terms.specs.declared.setup.Bidder.{Bidder}
+use Rattle.clock_terms.specs.Limits.{SetupFields, first_limit, first_granule}
 
 -- a number that documents have from version 2 on, and what it is in version 1
 abbrev pub added_number : ℕ → ℕ → List ℕ → Data → Option ℕ

@@ -1,25 +1,26 @@
 ghost use Rattle.std.specs.Prelude.{◌≡◌, ◌<◌, length, codes, None, Some, Ok, IfOk, IfErr, OnOk};
 ghost use Rattle.serde_json.specs.View.{view};
 ghost use Rattle.clock_scan.specs.Reading.{Reads};
-ghost use Rattle.clock_setup.specs.Faults.{IsFirstFault, IsRefusal, first_fault};
-ghost use Rattle.clock_setup.specs.Limits.{SetupFields, IsOfFirstVersion, IsSetup, IsWithin, latest_version};
+ghost use Rattle.clock_terms.specs.Faults.{IsFirstFault, IsRefusal, first_fault};
+ghost use Rattle.clock_terms.specs.Limits.{SetupFields, IsOfFirstVersion, IsSetup, IsWithin, latest_version};
 ghost use Rattle.clock_setup.specs.Members.{number_at};
 ghost use Rattle.clock_setup.specs.SetupData.{setup_data};
 ghost use Rattle.clock_setup.specs.SetupShape.{fields_of};
 ghost use Rattle.clock_setup.specs.SetupDocument as document;
+ghost use Rattle.clock_setup.specs.inside.SetupDocument.{distinct_checks, head_checks};
 
-use crate::entries::{SetupEntries, setup_entries};
+use crate::entries::SetupEntries;
 use crate::fault::{Place, SetupFault};
-use crate::limits::{
-    LATEST_VERSION, LEAST_LIMIT, LEAST_REQUIREMENT, MOST_LIMIT, MOST_REQUIREMENT, bidders_within,
-    is_token, is_within, products_within,
-};
 use crate::members::{number_at, read_value};
 use crate::names::{bidder_names, is_distinct, product_names, tokens};
-use crate::scanned_setup::scanned_setup;
-use crate::setup::Setup;
+use crate::setup_checks::{bidders_within, is_token, products_within};
+use crate::setup_scan::scanned_setup;
+use crate::setup_tree::setup_entries;
 use clock_device::Text;
 use clock_scan::{Scan, Stop, is_text};
+use clock_terms::{
+    LATEST_VERSION, LEAST_LIMIT, LEAST_REQUIREMENT, MOST_LIMIT, MOST_REQUIREMENT, Setup, is_within,
+};
 use serde_json::Value;
 use std::alloc::{AllocError, Global};
 
@@ -41,9 +42,9 @@ fn has_distinct_tokens(alloc: Global, entries: &SetupEntries) -> Result<bool, Al
 }
 
 /// The first fault of the parts that stand before the products.
-#[tactic(auto, unfolding(crate::specs::SetupDocument::head_checks))]
+#[tactic(auto, unfolding(crate::specs::inside::SetupDocument::head_checks))]
 fn head_fault(entries: &SetupEntries) -> Option<SetupFault>
-    ensures { result ≡ first_fault (document.head_checks entries.now) }
+    ensures { result ≡ first_fault (head_checks entries.now) }
 {
     if !is_within(LEAST_REQUIREMENT, MOST_REQUIREMENT, entries.requirement) {
         return Some(SetupFault::Range(Place::Requirement));
@@ -58,10 +59,10 @@ fn head_fault(entries: &SetupEntries) -> Option<SetupFault>
 }
 
 /// Refuses names, and then tokens, that are not distinct.
-#[tactic(auto, unfolding(crate::specs::SetupDocument::distinct_checks))]
+#[tactic(auto, unfolding(crate::specs::inside::SetupDocument::distinct_checks))]
 fn check_distinct(alloc: Global, entries: &SetupEntries) -> Result<(), SetupFault>
-    ensures ok { OnOk result (first_fault (document.distinct_checks entries.now) ≡ None) }
-    ensures err { IfErr result (IsFirstFault SetupFault.NoMemory (first_fault (document.distinct_checks entries.now))) }
+    ensures ok { OnOk result (first_fault (distinct_checks entries.now) ≡ None) }
+    ensures err { IfErr result (IsFirstFault SetupFault.NoMemory (first_fault (distinct_checks entries.now))) }
 {
     if !has_distinct_names(alloc, entries)? {
         return Err(SetupFault::DuplicateName);

@@ -9,9 +9,9 @@ ghost use Rattle.serde_json.specs.Data.{Data};
 ghost use Rattle.clock_setup.specs.Members.{each, number_from};
 ghost use Rattle.clock_setup.specs.SetupDocument.{json};
 
-use crate::grid::Amounts;
 use clock_device::NoMemory;
 use clock_scan::is_blank;
+use clock_terms::Amounts;
 use serde_json::Value;
 use std::alloc::Global;
 

@@ -1,7 +1,7 @@
 ghost use Rattle.std.specs.Prelude.{◌≡◌, ◌∷◌, map, nat_eq, IfOk};
 ghost use Rattle.std.specs.Cmp.Lexicographic.{pointwise};
 ghost use Rattle.std.specs.HashSet.{IsFromIterResult};
-ghost use Rattle.clock_setup.specs.Limits as limits;
+ghost use Rattle.clock_terms.specs.Limits as limits;
 
 use crate::entries::{BidderEntry, ProductEntry};
 use std::alloc::{AllocError, Global};

@@ -1,24 +1,23 @@
 ghost use Rattle.std.specs.Prelude.{◌≡◌, ◌≢◌, ◌≤◌, None, Some, length, Ok, Err, All, IfOk, IfErr};
 ghost use Rattle.serde_json.specs.Data.{Data};
-ghost use Rattle.clock_setup.specs.Demands.{IsGrid};
-ghost use Rattle.clock_setup.specs.Faults.{IsRefusal, first_fault};
-ghost use Rattle.clock_setup.specs.Limits.{IsWithin, least_increment, most_increment};
-ghost use Rattle.clock_setup.specs.OpeningData.{held_data, source_data};
+ghost use Rattle.clock_terms.specs.Demands.{IsGrid};
+ghost use Rattle.clock_terms.specs.Faults.{IsRefusal, first_fault};
+ghost use Rattle.clock_terms.specs.Limits.{IsWithin, least_increment, most_increment};
+ghost use Rattle.clock_setup.specs.inside.OpeningData.{held_data, source_data};
 ghost use Rattle.clock_setup.specs.OpeningDocument.{document_opening, opening_of, in_opening};
 ghost use Rattle.clock_setup.specs.OpeningShape.{parts_of};
 ghost use Rattle.clock_setup.specs.SetupDocument as document;
 
 use crate::document::{setup_of, within_limits};
 use crate::fault::SetupFault;
-use crate::grid::Grid;
 use crate::members::read_value;
-use crate::parts::source_parts;
-use crate::rows::grid_within;
-use crate::scanned_opening::scanned_opening;
-use crate::setup::Setup;
-use crate::source::{HeldSetup, Source};
+use crate::opening_checks::grid_within;
+use crate::opening_entries::{InnerSetup, OpeningInput};
+use crate::opening_scan::scanned_opening;
+use crate::opening_tree::source_parts;
 use clock_device::NoMemory;
 use clock_scan::{FlatRows, Stop};
+use clock_terms::{Grid, Setup};
 use std::alloc::{AllocError, AllocFailed, Global};
 use thiserror::Error;
 
@@ -96,18 +95,18 @@ impl<T: Drop> From<AllocFailed<T>> for OpeningFault {
 }
 
 /// The set-up that is held, or its first fault.
-fn judged_setup(alloc: Global, held: &HeldSetup<'_>) -> Result<Setup, SetupFault>
+fn judged_setup(alloc: Global, held: &InnerSetup<'_>) -> Result<Setup, SetupFault>
     ensures ok { IfOk result (λ setup. document.setup_of (held_data held.now) ≡ Ok setup) }
     ensures err { IfErr result (IsRefusal SetupFault.NoMemory (document.setup_of (held_data held.now))) }
 {
     match held {
-        HeldSetup::Tree(value) => setup_of(alloc, value),
-        HeldSetup::Scanned(setup) => within_limits(alloc, &setup.entries),
+        InnerSetup::Tree(value) => setup_of(alloc, value),
+        InnerSetup::Scanned(setup) => within_limits(alloc, &setup.entries),
     }
 }
 
 /// The set-up that is held, its faults as those of the document.
-fn held_setup(alloc: Global, held: &HeldSetup<'_>) -> Result<Setup, OpeningFault>
+fn held_setup(alloc: Global, held: &InnerSetup<'_>) -> Result<Setup, OpeningFault>
     ensures ok { IfOk result (λ setup. document.setup_of (held_data held.now) ≡ Ok setup) }
     ensures err { IfErr result (IsRefusal OpeningFault.NoMemory (in_opening (document.setup_of (held_data held.now)))) }
     ensures held { IfErr result (λ fault. fault ≢ OpeningFault.Setup SetupFault.NoMemory) }
@@ -127,7 +126,7 @@ fn held_setup(alloc: Global, held: &HeldSetup<'_>) -> Result<Setup, OpeningFault
 /// The opening that parts of a document make, or the first fault behind that of its shape.
 fn opening_of_parts(
     alloc: Global,
-    held: &HeldSetup<'_>,
+    held: &InnerSetup<'_>,
     demands: FlatRows,
     increment: u64,
 ) -> Result<Opening, OpeningFault>
@@ -152,7 +151,7 @@ fn opening_of_parts(
 }
 
 /// The opening that a value of JSON means, or its first fault.
-fn opening_in(alloc: Global, source: Source<'_>) -> Result<Opening, OpeningFault>
+fn opening_in(alloc: Global, source: OpeningInput<'_>) -> Result<Opening, OpeningFault>
     ensures ok { IfOk result (λ opening. opening_of (source_data source.entry) ≡ Ok opening) }
     ensures grid { IfOk result
         (λ opening. IsGrid (length opening.setup.bidders) (length opening.setup.products) opening.grid) }
@@ -178,7 +177,7 @@ fn opening_by_tree(alloc: Global, bytes: &[u8]) -> Result<Opening, OpeningFault>
     ensures held { IfErr result (λ fault. fault ≢ OpeningFault.Setup SetupFault.NoMemory) }
 {
     let value = read_value(alloc, bytes)?.ok_or(OpeningFault::NotJson)?;
-    opening_in(alloc, Source::Document(&value))
+    opening_in(alloc, OpeningInput::Document(&value))
 }
 
 /// The opening that the bytes of a document mean, or the document's first fault.
@@ -195,7 +194,7 @@ pub fn read_opening(alloc: Global, bytes: &[u8]) -> Result<Opening, OpeningFault
     ensures held { IfErr result (λ fault. fault ≢ OpeningFault.Setup SetupFault.NoMemory) }
 {
     match scanned_opening(alloc, bytes) {
-        Ok(entries) => opening_in(alloc, Source::Entries(entries)),
+        Ok(entries) => opening_in(alloc, OpeningInput::Entries(entries)),
         Err(Stop::Unusual) => opening_by_tree(alloc, bytes),
         Err(Stop::NoMemory) => Err(OpeningFault::NoMemory),
     }

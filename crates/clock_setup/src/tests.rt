@@ -1,15 +1,8 @@
-ghost use Rattle.std.specs.Prelude.{◌≤◌, IfOk};
-ghost use Rattle.clock_setup.specs.Demands.{IsGrid};
-
-use crate::fixtures::{
-    ACTIVITY_LIMIT, GRANULES_AND_INCREMENTS, ONE_PRODUCT, PRICE_EDGES, TWO_PRODUCTS,
-};
+use crate::fixtures::{ACTIVITY_LIMIT, GRANULES_AND_INCREMENTS, ONE_PRODUCT, TWO_PRODUCTS};
 use crate::{
-    Amounts, Grid, Increments, OpeningFault, OpeningPrices, Place, Prices, Product, Setup,
-    SetupFault, products_copy, read_opening, read_setup, setup_of,
+    OpeningFault, Place, Product, Setup, SetupFault, products_copy, read_opening, read_setup,
+    setup_of,
 };
-use clock_device::NoMemory;
-use clock_money::Price;
 use serde_json::Value;
 use std::alloc::Global;
 use std::test::Fail;
@@ -292,69 +285,6 @@ fn refuses_each_fault_of_version_2(rt: HostRuntime) -> Result<(), Fail> {
             "{to}"
         );
     }
-    Ok(())
-}
-
-/// Start and clock price of the last product in round 1.
-fn last_prices(alloc: Global, text: &str) -> Result<Option<(u64, u64)>, SetupFault> {
-    let setup = read_setup(alloc, text.as_bytes())?;
-    let prices = Prices::opening(alloc, &setup)?;
-    let Some(pair) = prices.as_slice().last() else {
-        return Ok(None);
-    };
-    Ok(Some((pair.start.get(), pair.clock.get())))
-}
-
-#[test]
-fn opens_at_the_opening_prices(rt: HostRuntime) -> Result<(), Fail> {
-    for (text, price) in [(ONE_PRODUCT, 100), (PRICE_EDGES, Price::HIGHEST)] {
-        assert_eq!(rt; last_prices(rt.alloc(), text)?, Some((price, price)));
-    }
-    Ok(())
-}
-
-/// The grid of two bidders and one product in which nobody demands anything.
-fn zero_grid(alloc: Global, text: &str) -> Result<Grid, Fail>
-    ensures { IfOk result (IsGrid 2 1) }
-{
-    let setup = read_setup(alloc, text.as_bytes())?;
-    if setup.bidders.as_slice().len() != 2 || setup.products.as_slice().len() != 1 {
-        Err("not two bidders and one product")?;
-    }
-    Ok(Grid::zero(alloc, &setup)?)
-}
-
-/// Sets the demands of both bidders, and answers their total in the grid and in a copy that the first left.
-fn totals(alloc: Global, grid: &mut Grid, first: u64, second: u64) -> Result<(u64, u64), NoMemory>
-    requires grid { IsGrid 2 1 grid.old }
-    requires first { first ≤ 2 }
-    requires second { second ≤ 2 }
-{
-    grid.set(0, 0, first);
-    grid.set(1, 0, second);
-    let mut copy = grid.copy(alloc)?;
-    copy.set(0, 0, 0);
-    Ok((grid.total(0), copy.total(0)))
-}
-
-#[test]
-fn a_copy_of_a_grid_is_its_own(rt: HostRuntime) -> Result<(), Fail> {
-    let mut grid = zero_grid(rt.alloc(), ONE_PRODUCT)?;
-    assert_eq!(rt; totals(rt.alloc(), &mut grid, 2, 1)?, (3, 1));
-    Ok(())
-}
-
-/// Whether increments for each of two products are within their limits.
-fn are_for_two(alloc: Global, increments: &[u64]) -> Result<bool, NoMemory> {
-    let increments = Increments::PerProduct(Amounts::from_slice(alloc, increments)?);
-    Ok(increments.are_within(2))
-}
-
-#[test]
-fn increments_are_one_for_each_product_within_limits(rt: HostRuntime) -> Result<(), Fail> {
-    assert!(rt; are_for_two(rt.alloc(), &[10, 20])?);
-    assert!(rt; !are_for_two(rt.alloc(), &[10])?);
-    assert!(rt; !are_for_two(rt.alloc(), &[10, 51])?);
     Ok(())
 }
 

@@ -1,7 +1,7 @@
 -- The text of a report, computed on a small one.
 use Rattle.std.specs.Prelude.{◌≡◌, [], ◌∷◌, None, true, codes, refl}
 use Rattle.std.specs.Fmt.{digits}
-use Rattle.clock_setup.specs.Examples.{one_product}
+use Rattle.clock_terms.proofs.Examples.{one_product}
 use Rattle.clock_sim.specs.ReportText.{report_text}
 
 -- X and Y have won a block of A each at 115

@@ -6,10 +6,10 @@ use Rattle.std.proofs.lemmas.Bool.{cases_Bool, eqb-false}
 use Rattle.std.proofs.lemmas.Bool.Decides.{nat_tests}
 use Rattle.std.proofs.lemmas.List.{get_or_default, get_or_append_left, get_or_push, drop_more, drop_all, length_push}
 use Rattle.std.proofs.lemmas.List.Elements.{All-push}
-use Rattle.clock_setup.specs.Limits.{SetupFields}
-use Rattle.clock_setup.specs.Faults.{◌>>=◌}
+use Rattle.clock_terms.specs.Limits.{SetupFields}
+use Rattle.clock_terms.specs.Faults.{◌>>=◌}
 use Rattle.clock_house.specs.House.{HouseFields}
-use Rattle.clock_front.specs.Pieces.{needs_more}
+use Rattle.clock_http.specs.Framing.{needs_more}
 use Rattle.clock_front.specs.Hubs.{ConnectionFields, HubFields, text_of, KeepsOthers, IsConnected, IsFed}
 use Rattle.clock_front.specs.declared.connections.Conn.{Conn}
 use Rattle.clock_front.specs.declared.fed.Fed.{Fed}
@@ -17,8 +17,8 @@ use Rattle.clock_front.specs.declared.fed.Fed.TheVariants.{More, Reply}
 use Rattle.clock_sim.specs.declared.groups.Waiting.{Waiting}
 use Rattle.clock_sim.specs.declared.sim_fault.SimFault.{SimFault}
 use Rattle.clock_sim.specs.Rehearsal.{after_request}
-use Rattle.clock_sim.specs.Groups.{ClosesNoRound, text_in, after_group, StandFrom, AreApart, IsGroup}
-use Rattle.clock_sim.specs.Steps.{MakesStep}
+use Rattle.clock_sim.specs.inside.Groups.{ClosesNoRound, text_in, after_group, StandFrom, AreApart, IsGroup}
+use Rattle.clock_sim.specs.inside.Steps.{MakesStep}
 use Rattle.clock_sim.proofs.StepLaws.{Texts, Step, IsOnWay, goes_on, stops, ends}
 
 -- ---- one connection has changed

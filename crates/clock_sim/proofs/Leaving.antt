@@ -7,11 +7,11 @@ use Rattle.std.proofs.lemmas.Bool.Decides.{nat_tests}
 use Rattle.std.proofs.lemmas.List.{reverse-append, length-reverse, length-take, get_or-take, take_all}
 use Rattle.std.proofs.Math.Seq.{take-suc}
 use Rattle.std.proofs.lemmas.List.Sums.{sum_by-cons}
-use Rattle.clock_setup.specs.declared.prices.PricePair.{PricePair}
+use Rattle.clock_terms.specs.declared.prices.PricePair.{PricePair}
 use Rattle.clock_bids.specs.declared.sheet.Bid.{Bid}
 use Rattle.clock_replays.specs.Replays.{NeverRises}
 use Rattle.clock_sim.specs.Sincere.{leaving_price, leaving_prices, staying, bid_of, leaving_bids, keeping_or_leaving}
-use Rattle.clock_sim.specs.Blocks.{last_leaving, block_bid, block_bids}
+use Rattle.clock_sim.specs.inside.Blocks.{last_leaving, block_bid, block_bids}
 
 -- ---- rising lists
 

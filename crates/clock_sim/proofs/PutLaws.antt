@@ -1,30 +1,30 @@
 -- A sheet closes no round: a text that begins with the method PUT asks for no closing.
 use Rattle.std.proofs.Common.{◌≡◌, ℕ, suc, Bool, true, false, List, [], ◌∷◌, take, length, Option, Some, None, Result, Ok, Err, codes, refl, sym, ap, subst}
 use Rattle.std.specs.Prelude.{option_map, if◌then◌else◌}
-use Rattle.clock_setup.specs.Limits.{SetupFields}
+use Rattle.clock_terms.specs.Limits.{SetupFields}
 use Rattle.clock_bids.specs.declared.sheet.Bid.{Bid}
 use Rattle.clock_house.specs.Command.{Command}
 use Rattle.clock_house.specs.History.{Auction, history, after_command}
-use Rattle.clock_house.specs.declared.closed_round.ClosedRound.{ClosedRound}
-use Rattle.clock_views.specs.declared.code.Code.{Code}
-use Rattle.clock_views.specs.declared.code.Code.TheVariants.{LongHead, BadHead}
-use Rattle.clock_front.specs.Scans.{head_length}
-use Rattle.clock_front.specs.Heads.{same_bytes, onto_first, lines_of, head_from, head_of}
-use Rattle.clock_front.specs.Framing.{Head, Framing, framed, framing, known, known_with_end, known_with_head, ended_head, or_bad_head, length_read, and_length}
-use Rattle.clock_front.specs.Framing as framed_as
+use Rattle.clock_closing.specs.declared.closed_round.ClosedRound.{ClosedRound}
+use Rattle.clock_http.specs.declared.code.Code.{Code}
+use Rattle.clock_http.specs.declared.code.Code.TheVariants.{LongHead, BadHead}
+use Rattle.clock_http.specs.Scans.{head_length}
+use Rattle.clock_http.specs.Heads.{same_bytes, onto_first, lines_of, head_from, head_of}
+use Rattle.clock_http.specs.Framing.{Head, Framing, framed, framing, known, known_with_end, known_with_head, ended_head, or_bad_head, length_read, and_length}
+use Rattle.clock_http.specs.Framing as framed_as
 use Rattle.clock_front.specs.Requests.{Ask, ask_of, ask_by_route, ask_of_page, request_of}
 use Rattle.clock_front.specs.Requests as asked
 use Rattle.clock_bodies.specs.Bodies.{put_body}
-use Rattle.clock_front.specs.Routes.{page_of, has_method}
+use Rattle.clock_http.specs.Routes.{page_of, has_method}
 use Rattle.clock_front.specs.Outcomes.{command_of}
 use Rattle.clock_front.specs.Askers.{asker}
 use Rattle.clock_front.specs.Fronts.{commands_of}
-use Rattle.clock_front.specs.declared.routes.Page.{Page}
-use Rattle.clock_front.specs.declared.routes.Page.TheVariants.{Status, Products, Sheet, Account, Bids, Slip, Close, Results}
+use Rattle.clock_http.specs.declared.routes.Page.{Page}
+use Rattle.clock_http.specs.declared.routes.Page.TheVariants.{Status, Products, Sheet, Account, Bids, Slip, Close, Results}
 use Rattle.clock_front.specs.declared.tokens.Asker.{Asker}
 use Rattle.clock_front.specs.declared.tokens.Asker.TheVariants.{Nobody, Operator, Bidder}
 use Rattle.clock_replays.specs.declared.script.Script.{Script}
-use Rattle.clock_sim.specs.Groups.{ClosesNoRound}
+use Rattle.clock_sim.specs.inside.Groups.{ClosesNoRound}
 use Rattle.clock_sim.specs.RequestTexts.{put_text}
 use Rattle.clock_sim.specs.ScriptedRequests.{scripted_put}
 
@@ -63,7 +63,7 @@ begun_head rest = tested _ _ _ (lines_of (begun rest)) (begun_lines rest)
 -- ---- what the text is
 
 abbrev IsPutFraming : Framing → Type 0
-IsPutFraming framed_as.needs_more = Unit {0}
+IsPutFraming framed_as.incomplete = Unit {0}
 IsPutFraming (framed_as.refusal code) = Unit {0}
 IsPutFraming (framed_as.whole head body) = head.method ≡ codes "PUT"
 
@@ -154,7 +154,7 @@ by_route None head body is = tt
 by_route (Some page) head body is = of_page page head body is
 
 of_framing : (is : Framing) → IsPutFraming is → IsNoClosing (ask_of is)
-of_framing framed_as.needs_more put = tt
+of_framing framed_as.incomplete put = tt
 of_framing (framed_as.refusal code) put = tt
 of_framing (framed_as.whole head body) put = by_route (page_of head.path) head body put
 

@@ -6,17 +6,17 @@ use Rattle.std.proofs.lemmas.List.{reverse-append, length-reverse, length-map, m
 use Rattle.std.specs.List.{range_with_len}
 use Rattle.std.proofs.lemmas.List.Elements.{All-nil, All-push}
 use Rattle.std.proofs.lemmas.List.FromFn.{length-map-range_with_len, get_or-map-range_with_len}
-use Rattle.clock_setup.specs.Limits.{SetupFields, IsRow}
-use Rattle.clock_setup.specs.declared.setup.Product.{Product}
-use Rattle.clock_setup.specs.declared.prices.PricePair.{PricePair}
+use Rattle.clock_terms.specs.Limits.{SetupFields, IsRow}
+use Rattle.clock_terms.specs.declared.setup.Product.{Product}
+use Rattle.clock_terms.specs.declared.prices.PricePair.{PricePair}
 use Rattle.clock_posting.specs.declared.sheet.RoundSheet.{RoundSheet}
 use Rattle.clock_house.specs.Command.{Command}
 use Rattle.clock_house.specs.History.{history, standing, round_at}
-use Rattle.clock_house.specs.declared.closed_round.ClosedRound.{ClosedRound}
+use Rattle.clock_closing.specs.declared.closed_round.ClosedRound.{ClosedRound}
 use Rattle.clock_house.specs.House.{HouseFields, StandsFor}
 use Rattle.clock_house.specs.Laws.{AreNumbered, IsSound}
 use Rattle.clock_posting.specs.Posting.{next_pair}
-use Rattle.clock_sim.specs.RoundPrices.{last_sheet, prices_after}
+use Rattle.clock_sim.specs.inside.RoundPrices.{last_sheet, prices_after}
 
 -- the rounds of a house are numbered from 1 on
 pub numbered_in : (house : HouseFields) → (commands : List Command) × StandsFor commands house

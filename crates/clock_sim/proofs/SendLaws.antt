@@ -1,15 +1,14 @@
 -- A request that comes in pieces is answered as its whole text is.
-use Rattle.std.proofs.Common.{◌≡◌, ℕ, false, List, ◌∷◌, ◌++◌, Option, ◌⊎◌, Result, Ok, Err, inl, inr, sym, ◌∙◌, ap, subst, true≢false}
+use Rattle.std.proofs.Common.{◌≡◌, ℕ, false, List, ◌∷◌, ◌++◌, Option, ◌⊎◌, Result, Ok, Err, inl, inr, sym, ◌∙◌, ap, subst}
 use Rattle.std.specs.Prelude.{option_and_then, IfOk}
 use Rattle.clock_house.specs.House.{HouseFields, StandsFor}
 use Rattle.clock_front.specs.Askers.{asker}
-use Rattle.clock_front.specs.Framing.{Framing, Head, framing, head_in, IsDecided}
-use Rattle.clock_front.specs.FramingLaws.{IsDecidedOnce, HasOneHead}
+use Rattle.clock_http.specs.Framing.{Framing, Head, framing, head_in, needs_more, IsDecided}
+use Rattle.clock_http.specs.FramingLaws.{IsDecidedOnce, HasOneHead}
 use Rattle.clock_front.specs.Fronts.{AnswersText, IsStruckOut, house_after, commands_of}
 use Rattle.clock_front.specs.Outcomes.{answer_of, outcome, command_of}
-use Rattle.clock_front.specs.Pieces.{is_less, needs_more}
 use Rattle.clock_front.specs.Private.{IsPrivateReply}
-use Rattle.clock_front.specs.Replies.{Answer}
+use Rattle.clock_http.specs.Replies.{Answer}
 use Rattle.clock_front.specs.Requests.{Request, request_of, ask_of}
 use Rattle.clock_front.specs.Hubs.{HubFields, IsFed, IsAnswered}
 use Rattle.clock_front.specs.declared.connections.Conn.{Conn}
@@ -36,9 +35,6 @@ pub answered_at_end : (old mid new : HubFields) (conn : Conn) (text : List ℕ) 
 answered_at_end old mid new conn text (Ok reply) fed answered = ended_after old mid new conn text reply fed answered
 answered_at_end old mid new conn text (Err fault) fed answered = answered
 
-is_decided : (text : List ℕ) → needs_more text ≡ false → IsDecided text
-is_decided text less = λ e. true≢false (sym (ap is_less e) ∙ less)
-
 abbrev request_from : Option Head → Framing → Request
 request_from found is = record { token = option_and_then (λ head. head.token) found; ask = ask_of is }
 
@@ -58,11 +54,11 @@ answered_early once one_head head body answer old new less answered texts stands
           (λ (request : Request).
           (answer ≡ answer_of (outcome (house_after old.setup (commands_of old.setup texts)) (asker old.setup request.token) request.ask))
           × StandsFor (command_of new.setup (asker new.setup request.token) request.ask ∷ commands_of new.setup texts) new)
-          (sym (same_request once one_head head body (is_decided head less))) told)
+          (sym (same_request once one_head head body less)) told)
       | inr none ↦ inr (
         record {
           is = none.0.is;
-          needs = λ code refused. none.0.needs code (sym (once head body (is_decided head less)) ∙ refused);
+          needs = λ code refused. none.0.needs code (sym (once head body less) ∙ refused);
         },
         none.1,
       )

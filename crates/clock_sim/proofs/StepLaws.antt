@@ -3,14 +3,14 @@ use Rattle.std.proofs.Common.{◌≡◌, ◌≢◌, ℕ, ◌+◌, ◌<◌, ◌�
 use Rattle.std.proofs.Common.{refl, sym, ◌∙◌, ap, subst, inl, inr}
 use Rattle.std.specs.Prelude.{MatchResult, if◌then◌else◌}
 use Rattle.std.proofs.lemmas.List.{drop_more, drop_all}
-use Rattle.clock_setup.specs.Limits.{SetupFields}
-use Rattle.clock_setup.specs.Faults.{◌>>=◌, IsRefusal}
+use Rattle.clock_terms.specs.Limits.{SetupFields}
+use Rattle.clock_terms.specs.Faults.{◌>>=◌, IsRefusal}
 use Rattle.clock_house.specs.House.{HouseFields, standing_in}
 use Rattle.clock_house.specs.History.{standing}
-use Rattle.clock_house.specs.declared.closed_round.ClosedRound.{ClosedRound}
-use Rattle.clock_views.specs.declared.code.Code.{Code}
-use Rattle.clock_views.specs.declared.code.Code.TheVariants.{Done, Memory}
-use Rattle.clock_front.specs.Replies.{Answer}
+use Rattle.clock_closing.specs.declared.closed_round.ClosedRound.{ClosedRound}
+use Rattle.clock_http.specs.declared.code.Code.{Code}
+use Rattle.clock_http.specs.declared.code.Code.TheVariants.{Done, Memory}
+use Rattle.clock_http.specs.Replies.{Answer}
 use Rattle.clock_front.specs.Fronts.{reply, StandsForTexts, AnswersText}
 use Rattle.clock_sim.specs.declared.sim_fault.SimFault.{SimFault}
 use Rattle.clock_sim.specs.declared.sim_fault.SimFault.TheVariants.{NoMemory, ClosingsSpent}
@@ -20,7 +20,7 @@ use Rattle.clock_replays.specs.Replays.{ReplayFields}
 use Rattle.clock_replays.specs.declared.script.Script.{Script}
 use Rattle.clock_replays.specs.declared.closing.Closing.{Closing}
 use Rattle.clock_sim.specs.ScriptedRequests.{scripted_put, scripted_close}
-use Rattle.clock_sim.specs.Steps.{IsTold, ComesTo, MakesStep, IsLeft}
+use Rattle.clock_sim.specs.inside.Steps.{IsTold, ComesTo, MakesStep, IsLeft}
 
 abbrev pub Texts : Type 0
 Texts = List (List ℕ)

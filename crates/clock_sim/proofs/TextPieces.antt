@@ -2,11 +2,12 @@
 use Rattle.std.proofs.Common.{◌≡◌, ℕ, List, ◌++◌, codes, decimal, refl}
 use Rattle.serde_json.specs.Written.{compact_text}
 use Rattle.serde_json.proofs.OnLiterals.{serde_json_on_literals}
-use Rattle.clock_setup.specs.declared.increments.Increments.{Increments}
-use Rattle.clock_setup.specs.declared.increments.Increments.TheVariants.{Single, PerProduct}
+use Rattle.clock_terms.specs.declared.increments.Increments.{Increments}
+use Rattle.clock_terms.specs.declared.increments.Increments.TheVariants.{Single, PerProduct}
 use Rattle.clock_order.specs.declared.ties.Tie.{Tie}
 use Rattle.clock_views.specs.Values.{list_of}
-use Rattle.clock_sim.specs.RequestTexts.{tie_value, close_value, increments_text}
+use Rattle.clock_sim.specs.RequestTexts.{tie_value, close_value}
+use Rattle.clock_sim.specs.inside.RequestTexts.{increments_text}
 
 pub tie_in_pieces : (tie : Tie)
     → compact_text (tie_value tie)

@@ -4,13 +4,13 @@ use Rattle.std.proofs.Common.{ap, subst, All, arith}
 use Rattle.std.specs.Prelude.{MatchResult, OnOk}
 use Rattle.std.proofs.lemmas.List.{drop_more, drop_all}
 use Rattle.std.proofs.lemmas.List.Elements.{All-tail}
-use Rattle.clock_setup.specs.Limits.{SetupFields}
-use Rattle.clock_setup.specs.Faults.{◌>>=◌, IsRefusal}
+use Rattle.clock_terms.specs.Limits.{SetupFields}
+use Rattle.clock_terms.specs.Faults.{◌>>=◌, IsRefusal}
 use Rattle.clock_house.specs.House.{HouseFields, standing_in}
 use Rattle.clock_house.specs.History.{standing}
-use Rattle.clock_house.specs.declared.closed_round.ClosedRound.{ClosedRound}
-use Rattle.clock_views.specs.declared.code.Code.{Code}
-use Rattle.clock_views.specs.declared.code.Code.TheVariants.{Done}
+use Rattle.clock_closing.specs.declared.closed_round.ClosedRound.{ClosedRound}
+use Rattle.clock_http.specs.declared.code.Code.{Code}
+use Rattle.clock_http.specs.declared.code.Code.TheVariants.{Done}
 use Rattle.clock_front.specs.Fronts.{StandsForTexts}
 use Rattle.clock_sim.specs.declared.groups.Waiting.{Waiting}
 use Rattle.clock_replays.specs.declared.script.Script.{Script}
@@ -18,8 +18,8 @@ use Rattle.clock_sim.specs.declared.sim_fault.SimFault.{SimFault}
 use Rattle.clock_sim.specs.declared.sim_fault.SimFault.TheVariants.{NoMemory}
 use Rattle.clock_sim.specs.Rehearsal.{if_done, after_request, after_request_if, after_put, after_puts, rounds_after}
 use Rattle.clock_sim.specs.ScriptedRequests.{scripted_put}
-use Rattle.clock_sim.specs.Groups.{ClosesNoRound, text_in, after_group, with_request}
-use Rattle.clock_sim.specs.Steps.{ComesTo, MakesStep, IsLeft, MakesWay}
+use Rattle.clock_sim.specs.inside.Groups.{ClosesNoRound, text_in, after_group, with_request}
+use Rattle.clock_sim.specs.inside.Steps.{ComesTo, MakesStep, IsLeft, MakesWay}
 use Rattle.clock_sim.proofs.StepLaws.{Texts, Step, IsOnWay, and_then}
 use Rattle.clock_sim.proofs.GroupLaws.{ended_ok, one_step, with_one}
 

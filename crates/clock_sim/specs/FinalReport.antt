@@ -1,8 +1,8 @@
 -- The report of an auction.
 --     report_of setup closed      the sheets of its rounds, and what each bidder holds in the end
 use Rattle.std.specs.Prelude.{List, map, reverse}
-use Rattle.clock_setup.specs.Limits.{SetupFields}
-use Rattle.clock_house.specs.declared.closed_round.ClosedRound.{ClosedRound}
+use Rattle.clock_terms.specs.Limits.{SetupFields}
+use Rattle.clock_closing.specs.declared.closed_round.ClosedRound.{ClosedRound}
 use Rattle.clock_house.specs.History.{holding, for_each_bidder}
 use Rattle.clock_sim.specs.Reports.{ReportFields}
 

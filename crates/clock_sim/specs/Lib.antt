@@ -1,11 +1,8 @@
 pub mod Reports
 pub mod ReportText
 pub mod Sincere
-pub mod Blocks
 pub mod RequestTexts
-pub mod RoundPrices
 pub mod ScriptedRequests
 pub mod FinalReport
 pub mod Rehearsal
-pub mod Steps
-pub mod Groups
+pub mod inside

@@ -6,12 +6,12 @@
 --     rehearsed setup scripts closings texts      all requests until the end, or the first fault
 --     simulated replay      the report of these requests, or the first fault
 use Rattle.std.specs.Prelude.{ℕ, ◌+◌, List, [], ◌∷◌, Option, Some, None, Result, Ok, Err, if◌then◌else◌}
-use Rattle.clock_setup.specs.Limits.{SetupFields}
-use Rattle.clock_setup.specs.Faults.{◌>>=◌}
+use Rattle.clock_terms.specs.Limits.{SetupFields}
+use Rattle.clock_terms.specs.Faults.{◌>>=◌}
 use Rattle.clock_house.specs.History.{history, standing}
-use Rattle.clock_house.specs.declared.closed_round.ClosedRound.{ClosedRound}
-use Rattle.clock_views.specs.declared.code.Code.{Code}
-use Rattle.clock_views.specs.declared.code.Code.TheVariants as codes
+use Rattle.clock_closing.specs.declared.closed_round.ClosedRound.{ClosedRound}
+use Rattle.clock_http.specs.declared.code.Code.{Code}
+use Rattle.clock_http.specs.declared.code.Code.TheVariants as codes
 use Rattle.clock_front.specs.Fronts.{commands_of, reply}
 use Rattle.clock_replays.specs.declared.script.Script.{Script}
 use Rattle.clock_replays.specs.declared.closing.Closing.{Closing}

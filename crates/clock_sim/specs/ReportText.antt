@@ -4,7 +4,7 @@
 --     report_text report      the whole text
 use Rattle.std.specs.Prelude.{ℕ, ◌*◌, ◌-◌, List, [], ◌++◌, codes, decimal, false, length, slice_index_or, sum_by, zip}
 use Rattle.std.specs.List.{flat_map}
-use Rattle.clock_setup.specs.declared.setup.Bidder.{Bidder}
+use Rattle.clock_terms.specs.declared.setup.Bidder.{Bidder}
 use Rattle.clock_posting.specs.declared.sheet.Line.{Line}
 use Rattle.clock_posting.specs.declared.sheet.RoundSheet.{RoundSheet}
 use Rattle.clock_posting.specs.SheetText.{sheet_text}

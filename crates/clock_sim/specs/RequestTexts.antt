@@ -3,18 +3,16 @@
 --     request_head line token count, request_text line token body      a request of a line, by the holder of a token
 --     put_text token round bids      the request by which a bidder puts a sheet
 --     close_value round increments ties, close_text token round increments ties      the request by which the operator closes a round
---     whole_text written      the text of a request that was written in two pieces
 use Prim.Native.String.{String}
 use Rattle.std.specs.Prelude.{ℕ, List, [], ◌∷◌, ◌++◌, length, codes, decimal, Some}
 use Rattle.serde_json.specs.Data.{Data}
 use Rattle.serde_json.specs.Written.{compact_text}
-use Rattle.clock_setup.specs.declared.increments.Increments.{Increments}
-use Rattle.clock_setup.specs.declared.increments.Increments.TheVariants.{Single, PerProduct}
+use Rattle.clock_terms.specs.declared.increments.Increments.{Increments}
+use Rattle.clock_terms.specs.declared.increments.Increments.TheVariants.{Single, PerProduct}
 use Rattle.clock_bids.specs.declared.sheet.Bid.{Bid}
 use Rattle.clock_order.specs.declared.ties.Tie.{Tie}
 use Rattle.clock_views.specs.Values.{whole, list_of, object_of}
 use Rattle.clock_views.specs.BidderPages.{bids_value}
-use Rattle.clock_sim.specs.declared.request_texts.RequestText.{RequestText}
 
 -- the line, the token, the length of the body and an empty line
 abbrev pub request_head : List ℕ → List ℕ → ℕ → List ℕ
@@ -41,11 +39,6 @@ abbrev pub increments_member : Increments → String × Data
 increments_member (Single increment) = ("increment", whole increment)
 increments_member (PerProduct increments) = ("increments", list_of whole increments)
 
--- that member as it is written
-abbrev pub increments_text : Increments → List ℕ
-increments_text (Single increment) = codes "\"increment\":" ++ decimal increment
-increments_text (PerProduct increments) = codes "\"increments\":" ++ compact_text (list_of whole increments)
-
 unfoldable pub close_value : ℕ → Increments → List Tie → Data
 close_value round increments ties = object_of (
     increments_member increments ∷
@@ -57,7 +50,3 @@ close_body round increments ties = compact_text (close_value round increments ti
 
 abbrev pub close_text : List ℕ → ℕ → Increments → List Tie → List ℕ
 close_text token round increments ties = request_text (codes "POST /v1/close") token (close_body round increments ties)
-
--- the two pieces of a request
-abbrev pub whole_text : RequestText → List ℕ
-whole_text written = written.head.items ++ written.body.items

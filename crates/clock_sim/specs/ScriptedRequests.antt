@@ -3,11 +3,11 @@
 --     scripted_put setup closed bidder script      the request by which the bidder puts it
 --     scripted_close setup closed closing      the request by which the operator closes the round
 use Rattle.std.specs.Prelude.{ℕ, ◌-◌, List, Option, Some, None, option_map, slice_index_or}
-use Rattle.clock_setup.specs.Limits.{SetupFields}
+use Rattle.clock_terms.specs.Limits.{SetupFields}
 use Rattle.clock_bids.specs.declared.sheet.Bid.{Bid}
 use Rattle.clock_house.specs.Standing.{Standing, Holding}
 use Rattle.clock_house.specs.History.{standing, holding, bidder_at}
-use Rattle.clock_house.specs.declared.closed_round.ClosedRound.{ClosedRound}
+use Rattle.clock_closing.specs.declared.closed_round.ClosedRound.{ClosedRound}
 use Rattle.clock_replays.specs.declared.script.Script.{Script}
 use Rattle.clock_replays.specs.declared.script.Script.TheVariants.{Literal, Sincere}
 use Rattle.clock_replays.specs.declared.closing.Closing.{Closing}

@@ -9,9 +9,9 @@
 use Rattle.std.specs.Prelude.{ℕ, ◌-◌, ◌==◌, max, nat_lt, nat_le, nat_eq, slice_index, Option, Some, None, if◌then◌else◌}
 use Rattle.std.specs.Prelude.{List, [], ◌∷◌, length, map, reverse, take, flat_map, filter_map, count_by}
 use Rattle.std.specs.List.{range_with_len, dedup}
-use Rattle.clock_setup.specs.declared.prices.PricePair.{PricePair}
-use Rattle.clock_setup.specs.Prices.{prices_at}
-use Rattle.clock_setup.specs.Demands.{row_of}
+use Rattle.clock_terms.specs.declared.prices.PricePair.{PricePair}
+use Rattle.clock_terms.specs.Prices.{prices_at}
+use Rattle.clock_terms.specs.Demands.{row_of}
 use Rattle.clock_bids.specs.declared.sheet.Bid.{Bid}
 
 -- a block whose limit is below the clock price leaves at its limit, or at the start price where the limit is below that too

@@ -1,17 +1,14 @@
 //! The report of an auction that has ended.
 
 ghost use Rattle.std.specs.Prelude.{◌≡◌, ◌<◌, Some, true, length, map, reverse, slice_get, All, IfOk};
-ghost use Rattle.clock_house.specs.House.{standing_in, holding_in};
-ghost use Rattle.clock_house.specs.History.{for_each_bidder};
-ghost use Rattle.clock_sim.specs.Reports.{IsPricedLine};
+ghost use Rattle.clock_house.specs.House.{standing_in};
+ghost use Rattle.clock_sim.specs.inside.Reports.{IsPricedLine};
 ghost use Rattle.clock_sim.specs.FinalReport as rules;
 
 use crate::report::{Report, RoundSheets};
-use crate::round_prices::closed_rounds;
 use clock_device::NoMemory;
 use clock_house::House;
 use clock_posting::{Line, Lines, RoundSheet};
-use clock_setup::{Grid, Setup};
 use std::alloc::Global;
 
 /// An equal line, whose prices are prices.
@@ -55,7 +52,7 @@ fn sheet_at<P>(house: &House<P>, round: u64) -> &RoundSheet
     requires { round < length house.now.closed }
     ensures { slice_get (map (λ closed. closed.sheet) (reverse house.now.closed)) round ≡ Some result.now }
 {
-    house.keeps();
+    house.law_of_house();
     match house.sheet(round + 1) {
         Some(sheet) => sheet,
         None => unreachable!(),
@@ -68,31 +65,11 @@ fn sheets_of<P>(alloc: Global, house: &House<P>) -> Result<RoundSheets, NoMemory
     ensures priced { IfOk result (All (λ sheet. All IsPricedLine sheet.lines)) }
 {
     let mut sheets = RoundSheets::new(alloc);
-    for round in 0..closed_rounds(house) {
+    for round in 0..house.closed_rounds() {
         let copy = sheet_copy(alloc, sheet_at(house, round))?;
         sheets.push(copy)?;
     }
     Ok(sheets)
-}
-
-/// How many bidders there are.
-fn bidder_count(setup: &Setup) -> u32
-    ensures { result ≡ length setup.now.bidders }
-{
-    setup.bidders.as_slice().len() as u32
-}
-
-/// What each bidder holds.
-fn grid_of<P>(alloc: Global, house: &House<P>) -> Result<Grid, NoMemory>
-    ensures { IfOk result (λ grid. grid ≡ for_each_bidder house.now.setup (λ bidder. (holding_in house.now bidder).demands)) }
-{
-    house.keeps();
-    let setup = house.setup();
-    let mut grid = Grid::zero(alloc, setup)?;
-    for bidder in 0..bidder_count(setup) {
-        grid.set_row(bidder as usize, house.own(bidder).demands);
-    }
-    Ok(grid)
 }
 
 /// The report of an auction that has ended.
@@ -100,10 +77,10 @@ pub(crate) fn final_report<P>(alloc: Global, house: &House<P>) -> Result<Report,
     requires { (standing_in house.now).ended ≡ true }
     ensures { IfOk result (λ report. report ≡ rules.report_of house.now.setup house.now.closed) }
 {
-    house.keeps();
+    house.law_of_house();
     let setup = house.setup().copy(alloc)?;
     let sheets = sheets_of(alloc, house)?;
-    let grid = grid_of(alloc, house)?;
+    let grid = house.demands().copy(alloc)?;
     let report = Report {
         setup,
         sheets,

@@ -1,10 +1,10 @@
 //! The requests of a group: their connections stand at once, all heads come before the first body.
 
 ghost use Rattle.std.specs.Prelude.{◌≡◌, ◌++◌, Some, true, false, nat_le, length, OnOk, OnErr};
-ghost use Rattle.clock_front.specs.Pieces.{needs_more};
-ghost use Rattle.clock_sim.specs.Groups.{IsGroup, StandFrom, AreApart, ClosesNoRound, after_group, with_request};
-ghost use Rattle.clock_sim.specs.RequestTexts.{whole_text};
-ghost use Rattle.clock_sim.specs.Steps.{MakesStep, MakesWay};
+ghost use Rattle.clock_http.specs.Framing.{needs_more};
+ghost use Rattle.clock_sim.specs.inside.Groups.{IsGroup, StandFrom, AreApart, ClosesNoRound, after_group, with_request};
+ghost use Rattle.clock_sim.specs.inside.RequestTexts.{whole_text};
+ghost use Rattle.clock_sim.specs.inside.Steps.{MakesStep, MakesWay};
 
 use crate::request_texts::RequestText;
 use crate::sending::{send, send_body};

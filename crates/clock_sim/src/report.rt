@@ -1,6 +1,6 @@
 use clock_device::Items;
 use clock_posting::RoundSheet;
-use clock_setup::{Grid, Setup};
+use clock_terms::{Grid, Setup};
 use std::marker::Model;
 
 /// The sheets of closed rounds, by rising round from round 1.
@@ -19,7 +19,8 @@ pub struct Report {
 }
 
 impl Model for Report {
-    ghost use Rattle.clock_sim.specs.Reports.{ReportFields, IsReport};
+    ghost use Rattle.clock_sim.specs.Reports.{ReportFields};
+    ghost use Rattle.clock_sim.specs.inside.Reports.{IsReport};
 
     ghost Value = { ReportFields };
 

@@ -1,14 +1,14 @@
 ghost use Rattle.std.specs.Prelude.{◌≡◌, ◌≤◌, ◌++◌, All, IfOk, OnOk, length, decimal, codes, zip};
 ghost use Rattle.std.specs.List.{flat_map};
-ghost use Rattle.clock_setup.specs.Limits.{IsRow, most_products, most_supply};
+ghost use Rattle.clock_terms.specs.Limits.{IsRow, most_products, most_supply};
 ghost use Rattle.clock_posting.specs.SheetText.{sheet_text};
-ghost use Rattle.clock_sim.specs.Reports.{IsReport};
+ghost use Rattle.clock_sim.specs.inside.Reports.{IsReport};
 ghost use Rattle.clock_sim.specs.ReportText as words;
 
 use crate::report::Report;
 use clock_device::{NoMemory, Text};
 use clock_posting::{Line, RoundSheet, sheet_lines};
-use clock_setup::{Bidder, Grid, Setup};
+use clock_terms::{Bidder, Grid, Setup};
 use std::alloc::Global;
 
 /// The text of a report: the lines of each round's sheet, by rising round, then for each bidder the line

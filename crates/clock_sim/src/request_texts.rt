@@ -2,14 +2,16 @@
 
 ghost use Rattle.std.specs.Prelude.{◌≡◌, ◌++◌, decimal, OnOk};
 ghost use Rattle.serde_json.specs.Written.{compact_text, comma_if};
-ghost use Rattle.clock_views.specs.Values.{whole, list_of, Adds, item_text};
+ghost use Rattle.clock_views.specs.Values.{whole, list_of, Adds};
+ghost use Rattle.clock_views.specs.inside.Values.{item_text};
 ghost use Rattle.clock_views.specs.BidderPages.{bid_value};
 ghost use Rattle.clock_sim.specs.RequestTexts as texts;
+ghost use Rattle.clock_sim.specs.inside.RequestTexts.{increments_text, whole_text};
 
 use clock_bids::Bid;
 use clock_device::NoMemory;
 use clock_order::Tie;
-use clock_setup::Increments;
+use clock_terms::Increments;
 use itoa::Buffer;
 use std::alloc::Global;
 
@@ -126,7 +128,7 @@ fn push_ties(text: &mut Vec<u8>, ties: &[Tie]) -> Result<(), NoMemory>
 
 /// Adds the increments of a closing, under their key.
 fn push_increments(text: &mut Vec<u8>, increments: &Increments) -> Result<(), NoMemory>
-    ensures { OnOk result (Adds (texts.increments_text increments.now) text.old.items text.new.items) }
+    ensures { OnOk result (Adds (increments_text increments.now) text.old.items text.new.items) }
 {
     match increments {
         Increments::Single(increment) => {
@@ -193,7 +195,7 @@ impl RequestText {
         round: u64,
         bids: &[Bid],
     ) -> Result<(), NoMemory>
-        ensures { OnOk result (texts.whole_text self.new ≡ texts.put_text token.now round bids.now) }
+        ensures { OnOk result (whole_text self.new ≡ texts.put_text token.now round bids.now) }
     {
         self.body.clear();
         push_put_body(&mut self.body, round, bids)?;
@@ -215,7 +217,7 @@ impl RequestText {
         increments: &Increments,
         ties: &[Tie],
     ) -> Result<(), NoMemory>
-        ensures { OnOk result (texts.whole_text self.new ≡ texts.close_text token.now round increments.now ties.now) }
+        ensures { OnOk result (whole_text self.new ≡ texts.close_text token.now round increments.now ties.now) }
     {
         self.body.clear();
         push_close_body(&mut self.body, round, increments, ties)?;

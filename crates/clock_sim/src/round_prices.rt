@@ -1,13 +1,13 @@
 //! The prices of the current round, read off the sheet of the round before.
 
 ghost use Rattle.std.specs.Prelude.{◌≡◌, ◌<◌, length, option_copied};
-ghost use Rattle.clock_setup.specs.Prices.{prices_at};
-ghost use Rattle.clock_sim.specs.RoundPrices as prices;
-ghost use Rattle.clock_sim.specs.RoundPrices.{prices_after};
+ghost use Rattle.clock_terms.specs.Prices.{prices_at};
+ghost use Rattle.clock_sim.specs.inside.RoundPrices as prices;
+ghost use Rattle.clock_sim.specs.inside.RoundPrices.{prices_after};
 
 use clock_house::House;
 use clock_posting::RoundSheet;
-use clock_setup::Product;
+use clock_terms::Product;
 use std::marker::Model;
 
 /// The prices of a product in a round, in whole dollars. Contracts see it as a price pair.
@@ -20,30 +20,18 @@ pub(crate) struct PriceRange {
 }
 
 impl Model for PriceRange {
-    ghost use Rattle.clock_setup.specs.declared.prices.PricePair.{PricePair};
+    ghost use Rattle.clock_terms.specs.declared.prices.PricePair.{PricePair};
 
     ghost Value = { PricePair };
 
     ghost view = { λ r. record { start = r.start; clock = r.clock } };
 }
 
-/// How many rounds are closed.
-pub(crate) fn closed_rounds<P>(house: &House<P>) -> u64
-    ensures { result ≡ length house.now.closed }
-{
-    house.keeps();
-    if house.ended() {
-        house.round()
-    } else {
-        house.round() - 1
-    }
-}
-
 /// The sheet of the last closed round.
 pub(crate) fn last_sheet<P>(house: &House<P>) -> Option<&RoundSheet>
     ensures { option_copied result ≡ prices.last_sheet house.now.closed }
 {
-    house.sheet(closed_rounds(house))
+    house.sheet(house.closed_rounds())
 }
 
 /// The prices of a product after the last closed round.

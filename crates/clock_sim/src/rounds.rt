@@ -4,8 +4,8 @@ ghost use Rattle.std.specs.Prelude.{◌≡◌, ◌<◌, length, true, All, OnOk}
 ghost use Rattle.clock_house.specs.House.{standing_in};
 ghost use Rattle.clock_sim.specs.Rehearsal as rules;
 ghost use Rattle.clock_replays.specs.Replays.{IsScript};
-ghost use Rattle.clock_sim.specs.Groups.{IsGroup, after_group, with_put};
-ghost use Rattle.clock_sim.specs.Steps.{MakesStep, MakesWay};
+ghost use Rattle.clock_sim.specs.inside.Groups.{IsGroup, after_group, with_put};
+ghost use Rattle.clock_sim.specs.inside.Steps.{MakesStep, MakesWay};
 
 use crate::groups::{Waiting, send_group, take_turn};
 use crate::scripted::Requests;
@@ -59,7 +59,7 @@ fn put_all<P: Processor>(
     requires scripts { All (IsScript hub.old.house.setup.products) scripts.now }
     ensures { MakesStep (rules.after_puts hub.old.house.setup 0 scripts.now) hub.old.house hub.new.house result }
 {
-    hub.front().house().keeps();
+    hub.front().house().law_of_house();
     let mut group = Vec::new(alloc);
     for (bidder, script) in scripts.iter().enumerate() {
         put_scripted(alloc, hub, requests, &mut group, bidder as u32, script)?;

@@ -7,7 +7,8 @@ ghost use Rattle.clock_house.specs.House.{standing_in, holding_in};
 ghost use Rattle.clock_sim.specs.ScriptedRequests as rules;
 ghost use Rattle.clock_replays.specs.Replays.{IsScript, IsLimits};
 ghost use Rattle.clock_sim.specs.Sincere.{sincere_sheet};
-ghost use Rattle.clock_sim.specs.RequestTexts.{put_text, whole_text};
+ghost use Rattle.clock_sim.specs.RequestTexts.{put_text};
+ghost use Rattle.clock_sim.specs.inside.RequestTexts.{whole_text};
 
 use crate::request_texts::RequestText;
 use crate::round_prices::last_sheet;
@@ -16,7 +17,7 @@ use clock_bids::Bid;
 use clock_device::NoMemory;
 use clock_house::House;
 use clock_replays::{BidList, Closing, LimitLists, Script};
-use clock_setup::Setup;
+use clock_terms::Setup;
 use std::alloc::Global;
 
 /// Requests that are written one after the other, each onto the memory of the one before.
@@ -65,7 +66,7 @@ impl Requests {
         ensures { OnOk result (whole_text self.new.request ≡ put_text (bidder_at house.now.setup bidder).token (standing_in house.now).round
             (sincere_sheet (standing_in house.now).round (standing_in house.now).prices (holding_in house.now bidder).demands limits.now)) }
     {
-        house.keeps();
+        house.law_of_house();
         let setup = house.setup();
         let own = house.own(bidder);
         self.bids.clear();

@@ -3,10 +3,11 @@
 ghost use Rattle.std.specs.Prelude.{◌≡◌, ◌++◌, ℕ, List, Some, IfOk, OnOk, OnErr};
 ghost use Rattle.clock_front.specs.Hubs.{text_of, IsAnswered, KeepsOthers};
 ghost use Rattle.clock_sim.specs.Rehearsal as rules;
-ghost use Rattle.clock_sim.specs.Steps.{IsTold, MakesStep};
+ghost use Rattle.clock_sim.specs.inside.Steps.{IsTold, MakesStep};
 
 use crate::sim_fault::SimFault;
-use clock_front::{Conn, Fed, Hub, HubFault, Reply, decided_once, one_head};
+use clock_front::{Conn, Fed, Hub, HubFault, Reply};
+use clock_http::{law_decided_once, law_one_head};
 use clock_processor::Processor;
 use clock_views::Code;
 
@@ -71,8 +72,8 @@ pub(crate) fn send<P: Processor>(
     ensures { MakesStep (λ texts. rules.after_request hub.old.house.setup texts sender round (head.now ++ body.now))
         hub.old.house hub.new.house result }
 {
-    decided_once();
-    one_head();
+    law_decided_once();
+    law_one_head();
     let conn = hub.connect()?;
     match hub.feed(conn, head)? {
         Fed::More => send_body(hub, conn, sender, round, body),

@@ -1,5 +1,5 @@
 ghost use Rattle.std.specs.Prelude.{◌≡◌, [], Ok, length, All, IfOk, IfErr};
-ghost use Rattle.clock_setup.specs.Faults.{IsRefusal};
+ghost use Rattle.clock_terms.specs.Faults.{IsRefusal};
 ghost use Rattle.clock_front.specs.Fronts.{StandsForTexts};
 ghost use Rattle.clock_replays.specs.Replays.{IsScript, ReplayFields};
 ghost use Rattle.clock_sim.specs.Rehearsal as rules;

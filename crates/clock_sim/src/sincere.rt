@@ -3,15 +3,15 @@
 ghost use Rattle.std.specs.Prelude.{◌≡◌, ℕ, ◌≤◌, ◌<◌, ◌==◌, ◌++◌, ◌∷◌, [], false, length, take, reverse, slice_index, All, OnOk, option_copied};
 ghost use Rattle.clock_sim.specs.Sincere as rules;
 ghost use Rattle.clock_replays.specs.Replays.{NeverRises};
-ghost use Rattle.clock_sim.specs.Blocks as one_by_one;
-ghost use Rattle.clock_sim.specs.RoundPrices.{prices_after};
+ghost use Rattle.clock_sim.specs.inside.Blocks as one_by_one;
+ghost use Rattle.clock_sim.specs.inside.RoundPrices.{prices_after};
 
 use crate::round_prices::{PriceRange, price_range};
 use clock_bids::{Bid, Own};
 use clock_device::NoMemory;
 use clock_posting::RoundSheet;
 use clock_replays::LimitLists;
-use clock_setup::{Product, first_held};
+use clock_terms::{Product, first_held};
 
 /// The price at which a block leaves, where it does not stay up to the clock price.
 fn leaving_price(pair: &PriceRange, limit: u64) -> Option<u64>

@@ -6,8 +6,9 @@ use Rattle.serde_json.specs.Written.{compact_text, items_text, comma_if}
 use Rattle.std.specs.List.{range_with_len}
 use Rattle.std.proofs.lemmas.Bool.Decides.{nat_tests}
 use Rattle.std.proofs.lemmas.List.{drop_more}
-use Rattle.clock_house.specs.Blocks.{numbers_in, numbers_of}
-use Rattle.clock_views.specs.Values.{whole, items_of, item_text, Adds, AddsNumbers}
+use Rattle.clock_closing.specs.Blocks.{numbers_in, numbers_of}
+use Rattle.clock_views.specs.Values.{whole, items_of, Adds}
+use Rattle.clock_views.specs.inside.Values.{item_text, AddsNumbers}
 
 -- what the rest of an array adds
 abbrev pub rest_text : {A : Type 0} → (A → Data) → Bool → List A → List ℕ

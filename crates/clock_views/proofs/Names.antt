@@ -4,7 +4,7 @@ use Rattle.std.proofs.lemmas.Bool.Decides.{nat_tests}
 use Rattle.std.specs.List.{list_all}
 use Rattle.std.proofs.lemmas.List.Sums.{list_all-from_AllPass}
 use Rattle.json.specs.Print.{escape_byte, escape}
-use Rattle.clock_setup.specs.Limits.{is_name_character, IsName}
+use Rattle.clock_terms.specs.Limits.{is_name_character, IsName}
 
 plain_byte : (c : ℕ) → 32 ≤ c → c ≢ 34 → c ≢ 92 → escape_byte c ≡ c ∷ []
 unfolding escape_byte

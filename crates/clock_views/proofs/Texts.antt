@@ -4,17 +4,18 @@ use Rattle.std.specs.List.{range_with_len}
 use Rattle.serde_json.specs.Data.{Data, boolean, string}
 use Rattle.serde_json.specs.Written.{compact_text}
 use Rattle.serde_json.proofs.OnLiterals.{serde_json_on_literals}
-use Rattle.clock_setup.specs.declared.setup.Product.{Product}
-use Rattle.clock_setup.specs.Limits.{PublicSetup}
-use Rattle.clock_setup.specs.Eligibility.{activity}
+use Rattle.clock_terms.specs.declared.setup.Product.{Product}
+use Rattle.clock_terms.specs.Limits.{PublicSetup}
+use Rattle.clock_terms.specs.Eligibility.{activity}
 use Rattle.clock_bids.specs.declared.sheet.Bid.{Bid}
 use Rattle.clock_posting.specs.declared.sheet.Line.{Line}
 use Rattle.clock_posting.specs.declared.sheet.RoundSheet.{RoundSheet}
 use Rattle.clock_bids.specs.Holding.{Holding}
-use Rattle.clock_house.specs.declared.slip.Slip.{Slip}
+use Rattle.clock_closing.specs.declared.slip.Slip.{Slip}
 use Rattle.clock_house.specs.House.{HouseFields, standing_in}
 use Rattle.clock_views.specs.Values.{whole, whole_or_null, list_of, object_of, member_if, number_if, true_or_false}
-use Rattle.clock_views.specs.PublicPages.{status_value, status_bytes, from_version_2, product_value, products_value, limit_text, line_value, sheet_value}
+use Rattle.clock_views.specs.PublicPages.{status_value, status_bytes, from_version_2, product_value, products_value, line_value, sheet_value}
+use Rattle.clock_views.specs.inside.PublicPages.{limit_text}
 use Rattle.clock_views.specs.BidderPages.{account_value, bid_value, bids_value, sheet_or_null, accepted_value, accepted_bytes, slip_value}
 use Rattle.clock_views.specs.OperatorPages.{closed_value, closed_bytes, result_value, result_in, results_value}
 

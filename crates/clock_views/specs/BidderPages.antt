@@ -6,11 +6,11 @@
 --     slip_value slip      what a closed round has left it with
 use Rattle.std.specs.Prelude.{ℕ, List, [], ◌∷◌, ◌++◌, Bool, true, Option, Some, None, codes, decimal}
 use Rattle.serde_json.specs.Data.{Data, null, boolean, string}
-use Rattle.clock_setup.specs.declared.setup.Product.{Product}
-use Rattle.clock_setup.specs.Eligibility.{activity}
+use Rattle.clock_terms.specs.declared.setup.Product.{Product}
+use Rattle.clock_terms.specs.Eligibility.{activity}
 use Rattle.clock_bids.specs.declared.sheet.Bid.{Bid}
 use Rattle.clock_bids.specs.Holding.{Holding}
-use Rattle.clock_house.specs.declared.slip.Slip.{Slip}
+use Rattle.clock_closing.specs.declared.slip.Slip.{Slip}
 use Rattle.clock_views.specs.Values.{whole, list_of, object_of}
 
 -- the activity, demands and eligibility that the bidder holds, whether the auction has ended, the

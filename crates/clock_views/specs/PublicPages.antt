@@ -3,12 +3,11 @@
 --     status_bytes setup round ended      the same page, byte for byte
 --     from_version_2 version n      a number that set-up documents have from version 2 on
 --     product_value version product, products_value setup      what is auctioned
---     limit_text limit      how the products page begins where there is a limit
 --     line_value product line, sheet_value setup sheet      what a closed round has posted
 use Rattle.std.specs.Prelude.{ℕ, List, [], ◌∷◌, ◌++◌, Bool, nat_le, Option, Some, None, if◌then◌else◌, codes, decimal, zip}
 use Rattle.serde_json.specs.Data.{Data, boolean, string}
-use Rattle.clock_setup.specs.declared.setup.Product.{Product}
-use Rattle.clock_setup.specs.Limits.{PublicSetup}
+use Rattle.clock_terms.specs.declared.setup.Product.{Product}
+use Rattle.clock_terms.specs.Limits.{PublicSetup}
 use Rattle.clock_posting.specs.declared.sheet.Line.{Line}
 use Rattle.clock_posting.specs.declared.sheet.RoundSheet.{RoundSheet}
 use Rattle.clock_views.specs.Values.{whole, whole_or_null, list_of, object_of, member_if, true_or_false}
@@ -49,11 +48,6 @@ products_value setup = object_of (
     ("products", list_of (product_value setup.version) setup.products) ∷
     ("requirement", whole setup.requirement) ∷
     ("version", whole setup.version) ∷ [])
-
--- the limit and the comma behind it, where there is one
-abbrev pub limit_text : Option ℕ → List ℕ
-limit_text None = []
-limit_text (Some limit) = codes "\"limit\":" ++ (decimal limit ++ codes ",")
 
 -- the clock price, the demand where it is told, the product's name, the next clock price where there
 -- is one, the posted price, and the start price

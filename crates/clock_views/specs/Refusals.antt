@@ -1,19 +1,43 @@
 -- What the page of a refusal shows, and which refusal each fault is.
+--     has_place code, has_round code      a page with this code shows a place, or the current round
+--     is_refusal code      the request was refused
 --     Shown      a code, with the place and the round that stand beside it
 --     IsShown shown      they stand in a page together
 --     shown_bid fault, shown_tie fault, shown_put fault, shown_close fault      what the page of a fault shows
-use Rattle.std.specs.Prelude.{◌≡◌, ℕ, Option, Some, None, is_some, IsTrue}
+use Rattle.std.specs.Prelude.{◌≡◌, ℕ, Bool, true, false, Option, Some, None, is_some, IsTrue}
 use Rattle.clock_bids.specs.declared.sheet.BidFault.{BidFault}
 use Rattle.clock_bids.specs.declared.sheet.BidFault.TheVariants as bid
 use Rattle.clock_order.specs.declared.ties.TieFault.{TieFault}
 use Rattle.clock_order.specs.declared.ties.TieFault.TheVariants as tie
 use Rattle.clock_house.specs.declared.fault.PutFault.{PutFault}
 use Rattle.clock_house.specs.declared.fault.PutFault.TheVariants as put
-use Rattle.clock_house.specs.declared.fault.CloseFault.{CloseFault}
-use Rattle.clock_house.specs.declared.fault.CloseFault.TheVariants as close
-use Rattle.clock_views.specs.declared.code.Code.{Code}
-use Rattle.clock_views.specs.declared.code.Code.TheVariants as reply
-use Rattle.clock_views.specs.Codes.{has_place, has_round, is_refusal}
+use Rattle.clock_closing.specs.declared.fault.CloseFault.{CloseFault}
+use Rattle.clock_closing.specs.declared.fault.CloseFault.TheVariants as close
+use Rattle.clock_http.specs.declared.code.Code.{Code}
+use Rattle.clock_http.specs.declared.code.Code.TheVariants as reply
+
+-- the place of a bid or of a tie number in its list, or a product's number, is shown
+abbrev pub has_place : Code → Bool
+has_place reply.UnknownProduct = true
+has_place reply.PriceRange = true
+has_place reply.OverCap = true
+has_place reply.PriceOrder = true
+has_place reply.MixedDirection = true
+has_place reply.KeepPrice = true
+has_place reply.TieRange = true
+has_place reply.TieRepeated = true
+has_place reply.PriceLimit = true
+has_place _ = false
+
+-- the current round is shown
+abbrev pub has_round : Code → Bool
+has_round reply.WrongRound = true
+has_round _ = false
+
+-- the request was refused
+abbrev pub is_refusal : Code → Bool
+is_refusal reply.Done = false
+is_refusal _ = true
 
 -- a code, with the place and the round that stand beside it
 pub record Shown : Type 0 where

@@ -8,12 +8,10 @@
 --     number_if label number      a label and a number only where there is one
 --     IsPage value text      the text is the value's compact text
 --     Adds piece old new      a piece was added at the end of a text
---     item_text later value      an item of an array, with the comma before it
---     AddsNumbers later numbers old new      numbers were added to an array that goes on
 use Prim.Native.String.{String}
 use Rattle.std.specs.Prelude.{◌≡◌, ℕ, List, [], ◌∷◌, ◌++◌, Bool, true, false, Option, Some, None, codes, decimal}
 use Rattle.serde_json.specs.Data.{Data, null, number, unsigned, array, object, Items, no_items, item, Members, no_members, member}
-use Rattle.serde_json.specs.Written.{compact_text, comma_if, items_text}
+use Rattle.serde_json.specs.Written.{compact_text}
 
 -- a whole number
 abbrev pub whole : ℕ → Data
@@ -64,11 +62,3 @@ IsPage value text = text ≡ compact_text value
 -- a piece was added at the end of a text
 pub record Adds (piece old new : List ℕ) : Type 0 where
   pub is : new ≡ old ++ piece
-
--- an item of an array, behind a comma where it is a later one than the first
-abbrev pub item_text : Bool → Data → List ℕ
-item_text later value = comma_if later ++ compact_text value
-
--- numbers were added to an array that goes on, whatever other numbers follow
-pub record AddsNumbers (later : Bool) (numbers old new : List ℕ) : Type 0 where
-  pub is : (rest : List ℕ) → new ++ items_text true (items_of whole rest) ≡ old ++ items_text later (items_of whole (numbers ++ rest))

@@ -2,10 +2,11 @@
 
 ghost use Rattle.std.specs.Prelude.{◌≡◌, ◌<◌, length, option_copied, IfOk, OnOk};
 ghost use Rattle.serde_json.specs.Written.{compact_text};
-ghost use Rattle.clock_setup.specs.Limits.{IsName, IsRow};
+ghost use Rattle.clock_terms.specs.Limits.{IsName, IsRow};
 ghost use Rattle.clock_house.specs.History.{bidder_at};
 ghost use Rattle.clock_views.specs.BidderPages.{account_value, bids_value, bid_value, sheet_or_null, accepted_value, accepted_bytes, slip_value};
-ghost use Rattle.clock_views.specs.Values.{list_of, IsPage, Adds, item_text};
+ghost use Rattle.clock_views.specs.Values.{list_of, IsPage, Adds};
+ghost use Rattle.clock_views.specs.inside.Values.{item_text};
 
 use crate::pieces::{
     push_blocks, push_comma_if, push_label, push_name, push_number, push_numbers, push_truth,
@@ -13,7 +14,7 @@ use crate::pieces::{
 use clock_bids::{Bid, Own, Sheet};
 use clock_device::{NoMemory, Text};
 use clock_house::Slip;
-use clock_setup::{Setup, activity};
+use clock_terms::{Setup, activity};
 use std::alloc::Global;
 
 /// What a bidder holds before the current round. The bidder is one of the set-up's, and there is a

@@ -1,4 +1,4 @@
-//! The pages of an auction, as compact JSON, and the codes of its replies.
+//! The pages of an auction, as compact JSON, and what a refusal shows.
 //!
 //! Everyone may see [`status_page`], [`products_page`] and [`sheet_page`], which are functions of
 //! what is public of a set-up. A bidder sees its own [`account_page`], [`bids_page`],
@@ -14,22 +14,17 @@
 #![tactic(auto)]
 
 mod bidder;
-mod code;
-#[cfg(test)]
-mod example;
 mod operator;
 mod pieces;
 mod public;
 mod refusal;
 mod refused;
-#[cfg(test)]
-mod tests;
 
 pub use bidder::{
     accepted_page, account_page, bids_page, push_accepted_page, push_account_page, push_bids_page,
     push_slip_page, slip_page,
 };
-pub use code::Code;
+pub use clock_http::Code;
 pub use operator::{closed_page, push_closed_page, push_results_page, results_page};
 pub use public::{
     products_page, push_products_page, push_sheet_page, push_status_page, sheet_page, status_page,

@@ -4,13 +4,14 @@ ghost use Rattle.std.specs.Prelude.{◌≡◌, ◌<◌, nat_lt, length, IfOk, On
 ghost use Rattle.std.specs.List.{range_with_len};
 ghost use Rattle.serde_json.specs.Written.{compact_text};
 ghost use Rattle.clock_views.specs.OperatorPages.{closed_value, closed_bytes, results_value, result_in};
-ghost use Rattle.clock_views.specs.Values.{list_of, IsPage, Adds, item_text};
+ghost use Rattle.clock_views.specs.Values.{list_of, IsPage, Adds};
+ghost use Rattle.clock_views.specs.inside.Values.{item_text};
 
 use crate::bidder::name_of;
 use crate::pieces::{push_comma_if, push_label, push_name, push_number, push_numbers, push_truth};
 use clock_device::{NoMemory, Text};
 use clock_house::House;
-use clock_setup::Setup;
+use clock_terms::Setup;
 use std::alloc::Global;
 
 /// What answers a closing that was accepted: the round that was closed, and whether the auction ends

@@ -3,9 +3,10 @@
 ghost use Rattle.std.specs.Prelude.{◌≡◌, ◌++◌, decimal, length, OnOk};
 ghost use Rattle.serde_json.specs.Data.{string};
 ghost use Rattle.serde_json.specs.Written.{compact_text, comma_if};
-ghost use Rattle.clock_setup.specs.Limits.{IsName};
-ghost use Rattle.clock_house.specs.Blocks.{numbers_in};
-ghost use Rattle.clock_views.specs.Values.{whole, whole_or_null, list_of, number_if, true_or_false, Adds, AddsNumbers, item_text};
+ghost use Rattle.clock_terms.specs.Limits.{IsName};
+ghost use Rattle.clock_closing.specs.Blocks.{numbers_in};
+ghost use Rattle.clock_views.specs.Values.{whole, whole_or_null, list_of, number_if, true_or_false, Adds};
+ghost use Rattle.clock_views.specs.inside.Values.{AddsNumbers, item_text};
 
 use clock_device::{NoMemory, Text};
 use clock_house::{Blocks, blocks_in, zeros_in};

@@ -2,10 +2,12 @@
 
 ghost use Rattle.std.specs.Prelude.{◌≡◌, length, zip, All, IfOk, OnOk};
 ghost use Rattle.serde_json.specs.Written.{compact_text};
-ghost use Rattle.clock_setup.specs.Limits.{IsProduct, public_setup};
+ghost use Rattle.clock_terms.specs.Limits.{IsProduct, public_setup};
 ghost use Rattle.clock_views.specs.PublicPages.{status_value, status_bytes, line_value, sheet_value};
-ghost use Rattle.clock_views.specs.PublicPages.{products_value, product_value, limit_text, from_version_2 as number_from_version_2};
-ghost use Rattle.clock_views.specs.Values.{list_of, IsPage, Adds, item_text};
+ghost use Rattle.clock_views.specs.PublicPages.{products_value, product_value, from_version_2 as number_from_version_2};
+ghost use Rattle.clock_views.specs.inside.PublicPages.{limit_text};
+ghost use Rattle.clock_views.specs.Values.{list_of, IsPage, Adds};
+ghost use Rattle.clock_views.specs.inside.Values.{item_text};
 
 use crate::pieces::{
     push_comma_if, push_label, push_name, push_number, push_number_if, push_number_or_null,
@@ -13,7 +15,7 @@ use crate::pieces::{
 };
 use clock_device::{NoMemory, Text};
 use clock_posting::{Line, RoundSheet};
-use clock_setup::{Product, Setup};
+use clock_terms::{Product, Setup};
 use std::alloc::Global;
 
 /// Where the auction stands: the current round, and whether the auction has ended.

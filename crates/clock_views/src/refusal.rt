@@ -1,10 +1,10 @@
 ghost use Rattle.std.specs.Prelude.{◌≡◌, IsTrue, not};
-ghost use Rattle.clock_views.specs.Codes.{has_place, has_round, is_refusal};
+ghost use Rattle.clock_views.specs.Refusals.{has_place, has_round, is_refusal};
 ghost use Rattle.clock_views.specs.Refusals.{alone as code_alone, at_place as code_at_place, wrong_round as shown_wrong_round};
 
-use crate::code::Code;
 use clock_bids::BidFault;
 use clock_house::{CloseFault, PutFault};
+use clock_http::Code;
 use clock_order::TieFault;
 use std::marker::Model;
 

@@ -6,10 +6,10 @@ ghost use Rattle.clock_views.specs.RefusalPage.{refusal_value, refusal_bytes};
 ghost use Rattle.clock_views.specs.Refusals.{IsShown};
 ghost use Rattle.clock_views.specs.Values.{IsPage, Adds};
 
-use crate::code::Code;
 use crate::pieces::{push_label, push_number, push_number_if};
 use crate::refusal::Refusal;
 use clock_device::{NoMemory, Text};
+use clock_http::Code;
 use std::alloc::Global;
 
 /// Why a request is refused: the code and its status, with a place exactly for the codes that have

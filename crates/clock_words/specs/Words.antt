@@ -11,8 +11,8 @@ use Rattle.clap.specs.Words.{App, Kinds, Row, Rule, Shape, Text, fault_of, first
 use Rattle.clap.specs.Simple.{on_top}
 use Rattle.clap.specs.ValueTests.{is_unsigned_in}
 use Rattle.clap.specs.declared.builder.value_parser.ValueParser.TheVariants as parser
-use Rattle.clock_setup.specs.Increments.{IsIncrement}
-use Rattle.clock_setup.specs.Limits.{least_increment, most_increment}
+use Rattle.clock_terms.specs.Increments.{IsIncrement}
+use Rattle.clock_terms.specs.Limits.{least_increment, most_increment}
 use Rattle.clock_words.specs.declared.words.Job.{Job}
 use Rattle.clock_words.specs.declared.words.Serving.{Serving}
 use Rattle.clock_words.specs.declared.words.Job.TheVariants.{Prices, Opening, Replay}

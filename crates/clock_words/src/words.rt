@@ -1,6 +1,6 @@
 //! What the words after the program's name ask for.
 ghost use Rattle.std.specs.Prelude.{◌≡◌, ◌≢◌, ◌&&◌, if◌then◌else◌, nat_le, Some, None, map, option_map, IfSome, IfOk, IfErr};
-ghost use Rattle.clock_setup.specs.Limits.{IsWithin};
+ghost use Rattle.clock_terms.specs.Limits.{IsWithin};
 ghost use Rattle.clap.specs.Words.{first_of, found_of, kind_of, rows_of, subcommand_rows_of};
 ghost use Rattle.clock_words.specs.Words.{IsJob, job_meant, job_met, job_of, number_of, serving_from, serving_met, serving_of, told};
 

@@ -2,7 +2,7 @@
 use super::rows::have_meanings;
 use clock_bids::Bid;
 use clock_front::{BodyFault, read_close, read_put};
-use clock_setup::Increments;
+use clock_terms::Increments;
 use std::alloc::Global;
 use std::test::Fail;
 

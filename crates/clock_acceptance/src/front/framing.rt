@@ -1,6 +1,6 @@
 //! What a text is, whole and in pieces.
 ghost use Rattle.std.specs.Prelude.{◌≤◌, length};
-ghost use Rattle.clock_front.specs.Shown.{Knows};
+ghost use Rattle.clock_http.specs.Shown.{Knows};
 
 use crate::front::example::on_front;
 use clock_front::{Framing, Front, Head, Progress, frame};

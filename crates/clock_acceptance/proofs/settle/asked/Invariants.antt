@@ -1,5 +1,5 @@
 use Rattle.std.proofs.Common.{◌≡◌, ◌≤◌, ◌*◌, take}
-use Rattle.clock_bids.specs.Requests.{asked_of}
+use Rattle.clock_terms.specs.Requests.{asked_of}
 use Rattle.clock_acceptance.proofs.settle.asked.Given as goal
 
 -- what the requests so far ask for

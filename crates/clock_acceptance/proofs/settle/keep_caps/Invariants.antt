@@ -1,6 +1,6 @@
 use Rattle.std.proofs.Common.{ℕ, ◌<◌, length}
-use Rattle.clock_setup.specs.Demands.{row_of}
-use Rattle.clock_bids.specs.Requests.{KeepWithinCap}
+use Rattle.clock_terms.specs.Demands.{row_of}
+use Rattle.clock_terms.specs.Requests.{KeepWithinCap}
 use Rattle.clock_acceptance.proofs.settle.keep_caps.Given as goal
 
 -- the requests of the bidders so far do

@@ -1,8 +1,8 @@
 use Rattle.std.proofs.Common.{ℕ, ap, arith}
 use Rattle.std.proofs.lemmas.List.{get_or_read}
-use Rattle.clock_setup.specs.declared.setup.Product.{Product}
-use Rattle.clock_setup.specs.Limits.{no_product}
-use Rattle.clock_bids.specs.Requests.{KeepWithinCap}
+use Rattle.clock_terms.specs.declared.setup.Product.{Product}
+use Rattle.clock_terms.specs.Limits.{no_product}
+use Rattle.clock_terms.specs.Requests.{KeepWithinCap}
 use Rattle.clock_acceptance.proofs.settle.row_keeps_caps.Goals as goal
 use borrow.Author.Count.{below_more}
 

@@ -1,5 +1,5 @@
 use Rattle.std.proofs.Common.{ℕ, ◌<◌}
-use Rattle.clock_bids.specs.Requests.{KeepWithinCap}
+use Rattle.clock_terms.specs.Requests.{KeepWithinCap}
 use Rattle.clock_acceptance.proofs.settle.row_keeps_caps.Given as goal
 
 -- they do for the products so far

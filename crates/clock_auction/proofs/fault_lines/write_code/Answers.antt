@@ -1,6 +1,6 @@
 use Rattle.std.proofs.Common.{codes}
 use Rattle.clock_device.proofs.Streams.{both_written, first_failed}
-use Rattle.clock_views.specs.Codes.{text_of}
+use Rattle.clock_http.specs.Codes.{text_of}
 use Rattle.clock_auction.proofs.fault_lines.write_code.Goals as goal
 
 pub returns-in_err-write_all-clause-bytes : goal.returns-in_err-write_all-clause-bytes

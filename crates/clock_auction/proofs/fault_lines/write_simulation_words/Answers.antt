@@ -1,6 +1,6 @@
 use Rattle.std.proofs.Common.{◌++◌, codes, decimal}
 use Rattle.clock_device.proofs.Streams.{both_written, first_failed}
-use Rattle.clock_views.specs.Codes.{text_of}
+use Rattle.clock_http.specs.Codes.{text_of}
 use Rattle.clock_auction.proofs.fault_lines.write_simulation_words.Goals as goal
 
 pub returns-in_err-write_pair-in-Refused-clause-bytes : goal.returns-in_err-write_pair-in-Refused-clause-bytes

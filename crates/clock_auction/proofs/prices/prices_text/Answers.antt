@@ -1,6 +1,6 @@
 use Rattle.std.proofs.Common.{◌≡◌, subst, rules}
 use Rattle.std.specs.Prelude.{All}
-use Rattle.clock_setup.specs.Limits.{SetupFields, IsProduct}
+use Rattle.clock_terms.specs.Limits.{SetupFields, IsProduct}
 use Rattle.clock_auction.proofs.prices.prices_text.Goals as goal
 
 pub lines_text-requires-clause-limits : goal.lines_text-requires-clause-limits

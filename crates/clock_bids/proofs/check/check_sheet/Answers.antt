@@ -1,8 +1,8 @@
 use Rattle.std.proofs.Common.{◌<◌, ◌≤◌, length, arith, subst}
 use Rattle.std.proofs.lemmas.Result.{err_from_is_err_and}
-use Rattle.clock_setup.specs.Limits.{public_setup}
-use Rattle.clock_setup.specs.Faults.{IsFirstFault}
-use Rattle.clock_setup.specs.Eligibility.{activity}
+use Rattle.clock_terms.specs.Limits.{public_setup}
+use Rattle.clock_terms.specs.Faults.{IsFirstFault}
+use Rattle.clock_terms.specs.Eligibility.{activity}
 use Rattle.clock_bids.specs.declared.sheet.BidFault.TheVariants.{OverActivity, NoMemory}
 use Rattle.clock_bids.specs.Holding.{holding_of, activity_limit}
 use Rattle.clock_bids.specs.Sheet.{asked_demands, sheet_fault, IsGoodSheet}

@@ -1,11 +1,11 @@
 use Rattle.std.proofs.Common.{◌≡◌, ◌+◌, [], length, map, take, refl, ◌∙◌, sym, ap, arith, get_or, set}
 use Rattle.std.specs.Prelude.{None}
 use Rattle.std.proofs.lemmas.List.{get_or_default, map-set, take_all}
-use Rattle.clock_setup.specs.Faults.{first_fault}
-use Rattle.clock_setup.proofs.FaultLaws.{turn_passed, turn_failed, turn_none}
-use Rattle.clock_setup.specs.Eligibility.{activity}
+use Rattle.clock_terms.specs.Faults.{first_fault}
+use Rattle.clock_terms.proofs.FaultLaws.{turn_passed, turn_failed, turn_none}
+use Rattle.clock_terms.specs.Eligibility.{activity}
 use Rattle.clock_bids.specs.Sheet.{asked_demands, bid_checks}
-use Rattle.clock_bids.specs.Chains.{bid_at, checks_by_last, last_bids}
+use Rattle.clock_bids.specs.inside.Chains.{bid_at, checks_by_last, last_bids}
 use Rattle.clock_bids.proofs.Tables.{no_bid, filled, last_bids-nil, none_at, bid_here}
 use Rattle.clock_bids.proofs.Good.{no_activity, good_chains-nil, checks_here, good_chains-more, known_here, table-more}
 use Rattle.clock_bids.proofs.Activity.{held_least, taken_more, units_read}

@@ -1,4 +1,4 @@
-use Rattle.clock_setup.specs.Limits.{public_setup}
+use Rattle.clock_terms.specs.Limits.{public_setup}
 use Rattle.clock_bids.specs.Holding.{holding_of}
 use Rattle.clock_bids.proofs.Good.{empty_sheet_good}
 use Rattle.clock_bids.proofs.tests.asked_without.Goals as goal

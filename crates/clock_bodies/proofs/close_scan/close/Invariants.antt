@@ -1,6 +1,7 @@
 use Rattle.std.proofs.Common.{length}
-use Rattle.clock_scan.specs.Reading.{members_of, HasMembers}
-use Rattle.clock_bodies.specs.QuickBodies.{close_fields}
+use Rattle.clock_scan.specs.Reading.{members_of}
+use Rattle.clock_scan.specs.inside.Reading.{HasMembers}
+use Rattle.clock_bodies.specs.inside.QuickBodies.{close_fields}
 use Rattle.clock_bodies.proofs.close_scan.close.Given as goal
 
 abbrev pub invariant-members : goal.invariant-members

@@ -1,6 +1,7 @@
 use Rattle.std.proofs.Common.{◌≡◌, ◌∷◌, length, map, sym, ap, subst, arith}
 use Rattle.json.specs.Token.{Token}
-use Rattle.clock_scan.specs.Reading.{HasItems, Reads}
+use Rattle.clock_scan.specs.Reading.{Reads}
+use Rattle.clock_scan.specs.inside.Reading.{HasItems}
 use Rattle.clock_scan.proofs.Steps.{items_start, items_end, items_push_next}
 use Rattle.clock_bodies.specs.QuickBodies.{tie_data, ties_data}
 use Rattle.clock_bodies.proofs.close_scan.ties.Goals as goal

@@ -1,6 +1,7 @@
 use Rattle.std.proofs.Common.{◌≡◌, ◌∷◌, length, map, sym, ap, subst, arith}
 use Rattle.json.specs.Token.{Token}
-use Rattle.clock_scan.specs.Reading.{HasItems, Reads}
+use Rattle.clock_scan.specs.Reading.{Reads}
+use Rattle.clock_scan.specs.inside.Reading.{HasItems}
 use Rattle.clock_scan.proofs.Steps.{items_start, items_end, items_push_next}
 use Rattle.clock_bodies.specs.QuickBodies.{bid_data, bids_data}
 use Rattle.clock_bodies.proofs.put_scan.bids.Goals as goal
@@ -16,9 +17,9 @@ items-preserved c =
     let start = c.opens_array.new.self in
     let same : c.closes_array.new.self ≡ l.scan = grind arith in
     let next = c.in-Some.next in
-    let reads : Reads 1 l.scan (bid_data next) c.next_bid.new.scan = subst (λ ts. Reads 1 ts (bid_data next) c.next_bid.new.scan) same c.in-Some.ensures.value in (
-      subst (λ list. HasItems 1 start (map bid_data list) c.next_bid.new.scan) (sym c.in_ok-push.ensures.items)
-          (items_push_next 1 bid_data start l.scan c.next_bid.new.scan l.list.items next l.invariant.0 reads),
+    let reads : Reads 1 l.scan (bid_data next) c.next_of.new.scan = subst (λ ts. Reads 1 ts (bid_data next) c.next_of.new.scan) same c.in-Some.ensures.value in (
+      subst (λ list. HasItems 1 start (map bid_data list) c.next_of.new.scan) (sym c.in_ok-push.ensures.items)
+          (items_push_next 1 bid_data start l.scan c.next_of.new.scan l.list.items next l.invariant.0 reads),
       omega (arith, l.invariant.1, c.in-Some.ensures.shorter, ap length same),
     )
 

@@ -1,5 +1,5 @@
 use Rattle.std.proofs.Common.{length, map, ◌≤◌}
-use Rattle.clock_scan.specs.Reading.{HasItems}
+use Rattle.clock_scan.specs.inside.Reading.{HasItems}
 use Rattle.clock_bodies.specs.QuickBodies.{bid_data}
 use Rattle.clock_bodies.proofs.put_scan.bids.Given as goal
 

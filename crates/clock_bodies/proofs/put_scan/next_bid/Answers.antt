@@ -1,7 +1,8 @@
 use Rattle.std.proofs.Common.{◌≡◌, ◌∷◌, length, List, Option, Some, None, IfSome, ap, subst, arith}
 use Rattle.json.specs.Token.{Token}
 use Rattle.serde_json.specs.Data.{Data, object}
-use Rattle.clock_scan.specs.Reading.{members_of, AddsMember, Reads}
+use Rattle.clock_scan.specs.Reading.{members_of, Reads}
+use Rattle.clock_scan.specs.inside.Reading.{AddsMember}
 use Rattle.clock_scan.proofs.Steps.{members_start, members_end}
 use Rattle.clock_bids.specs.declared.sheet.Bid.{Bid}
 use Rattle.clock_bodies.specs.QuickBodies.{bid_fields, bid_data}

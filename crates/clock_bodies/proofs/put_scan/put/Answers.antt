@@ -1,9 +1,10 @@
 use Rattle.std.proofs.Common.{◌≡◌, ◌∷◌, [], subst, arith}
 use Rattle.json.specs.Token.{Token}
 use Rattle.serde_json.specs.Data.{object}
-use Rattle.clock_scan.specs.Reading.{members_of, AddsMember, Reads}
+use Rattle.clock_scan.specs.Reading.{members_of, Reads}
+use Rattle.clock_scan.specs.inside.Reading.{AddsMember}
 use Rattle.clock_scan.proofs.Steps.{members_start, members_end}
-use Rattle.clock_bodies.specs.QuickBodies.{put_fields}
+use Rattle.clock_bodies.specs.inside.QuickBodies.{put_fields}
 use Rattle.clock_bodies.proofs.put_scan.put.Goals as goal
 
 pub members-init : goal.members-init

@@ -1,6 +1,7 @@
 use Rattle.std.proofs.Common.{length}
-use Rattle.clock_scan.specs.Reading.{members_of, HasMembers}
-use Rattle.clock_bodies.specs.QuickBodies.{put_fields}
+use Rattle.clock_scan.specs.Reading.{members_of}
+use Rattle.clock_scan.specs.inside.Reading.{HasMembers}
+use Rattle.clock_bodies.specs.inside.QuickBodies.{put_fields}
 use Rattle.clock_bodies.proofs.put_scan.put.Given as goal
 
 abbrev pub invariant-members : goal.invariant-members

@@ -1,9 +1,9 @@
 use Rattle.std.proofs.Common.{ap, ◌∙◌, List, length, None}
-use Rattle.clock_views.specs.declared.code.Code.TheVariants.{Done}
+use Rattle.clock_http.specs.declared.code.Code.TheVariants.{Done}
 use Rattle.clock_front.specs.Outcomes.{with_page}
 use Rattle.clock_bids.specs.declared.sheet.Bid.{Bid}
 use Rattle.clock_views.specs.BidderPages.{accepted_value}
-use Rattle.clock_front.proofs.ReplyLaws.{written_page}
+use Rattle.clock_front.proofs.PageLaws.{written_page}
 use Rattle.clock_front.proofs.changes.accepted.Goals as goal
 
 pub returns : goal.returns

@@ -1,4 +1,4 @@
-use Rattle.clock_front.proofs.ReplyLaws.{written_page}
+use Rattle.clock_front.proofs.PageLaws.{written_page}
 use Rattle.clock_front.proofs.changes.closed.Goals as goal
 
 pub returns : goal.returns

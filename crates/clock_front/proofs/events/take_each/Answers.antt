@@ -1,5 +1,5 @@
 use Rattle.std.proofs.Common.{List, ◌+◌, refl, sym, ◌∙◌, ap, subst, arith}
-use Rattle.clock_setup.specs.Limits.{SetupFields, IsSetup}
+use Rattle.clock_terms.specs.Limits.{SetupFields, IsSetup}
 use Rattle.clock_house.specs.History.{history}
 use Rattle.clock_house.specs.House.{HouseFields}
 use Rattle.clock_house.specs.Laws.{IsSound}
@@ -17,7 +17,7 @@ pub loop-event-preserved : goal.loop-event-preserved
 loop-event-preserved g c =
     let setup = c.args.hub.now.hub.house.setup in
     let before = c.loop-event.invariant in
-    let limits : IsSetup setup = subst IsSetup (ap (λ (house : HouseFields). house.setup) (c.house.ensures ∙ c.front.ensures)) c.keeps.ensures.limits in
+    let limits : IsSetup setup = subst IsSetup (ap (λ (house : HouseFields). house.setup) (c.house.ensures ∙ c.front.ensures)) c.law_of_house.ensures.limits in
     let hub = c.loop-event.hub in
     let next = c.take_event.new.self in
     let told = c.in_ok-told.ensures in
@@ -35,4 +35,4 @@ returns g c =
     let same = ap (λ (house : HouseFields). house.setup) (c.house-2.ensures ∙ c.front-2.ensures) ∙ way.underway.kept in
     ends c.args.hub.now.hub.house.setup c.args.events.now c.loop-event.event-index c.loop-event.replies
     hub.hub.connections hub.conns hub.hub.house way (omega arith)
-    (λ commands. subst (λ (setup : SetupFields). IsSound setup (history setup commands)) same (c.keeps-2.ensures.sound commands))
+    (λ commands. subst (λ (setup : SetupFields). IsSound setup (history setup commands)) same (c.law_of_house-2.ensures.sound commands))

@@ -1,14 +1,14 @@
 use Rattle.std.proofs.Common.{ap, ◌∙◌, ℕ, Bool, None}
-use Rattle.clock_views.specs.declared.code.Code.TheVariants.{Done}
+use Rattle.clock_http.specs.declared.code.Code.TheVariants.{Done}
 use Rattle.clock_front.specs.Outcomes.{with_page}
-use Rattle.clock_setup.specs.Limits.{SetupFields}
+use Rattle.clock_terms.specs.Limits.{SetupFields}
 use Rattle.clock_bids.specs.Holding.{Holding}
 use Rattle.clock_house.specs.History.{bidder_at}
 use Rattle.clock_house.specs.House.{standing_in, holding_in}
 use Rattle.clock_views.specs.BidderPages.{account_value}
 use Rattle.clock_front.specs.Requests.{account}
 use Rattle.clock_front.proofs.PrivateLaws.{told_by_view}
-use Rattle.clock_front.proofs.ReplyLaws.{held_is, written_page}
+use Rattle.clock_front.proofs.PageLaws.{held_is, written_page}
 use Rattle.clock_front.proofs.pages.account.Goals as goal
 
 pub returns-clause-reply : goal.returns-clause-reply

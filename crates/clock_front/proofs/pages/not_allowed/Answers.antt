@@ -1,9 +1,9 @@
 use Rattle.std.proofs.Common.{ap, ◌∙◌, Some}
-use Rattle.clock_views.specs.declared.code.Code.TheVariants.{Method}
+use Rattle.clock_http.specs.declared.code.Code.TheVariants.{Method}
 use Rattle.clock_front.specs.Outcomes.{with_page}
 use Rattle.clock_views.specs.Refusals.{Shown}
 use Rattle.clock_views.specs.RefusalPage.{refusal_value}
-use Rattle.clock_front.proofs.ReplyLaws.{written_page}
+use Rattle.clock_front.proofs.PageLaws.{written_page}
 use Rattle.clock_front.proofs.pages.not_allowed.Goals as goal
 
 pub returns : goal.returns

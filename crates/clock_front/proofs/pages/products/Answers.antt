@@ -1,9 +1,9 @@
 use Rattle.std.proofs.Common.{ap, ◌∙◌, None}
-use Rattle.clock_setup.specs.Limits.{SetupFields, public_setup}
-use Rattle.clock_views.specs.declared.code.Code.TheVariants.{Done}
+use Rattle.clock_terms.specs.Limits.{SetupFields, public_setup}
+use Rattle.clock_http.specs.declared.code.Code.TheVariants.{Done}
 use Rattle.clock_views.specs.PublicPages.{products_value}
 use Rattle.clock_front.specs.Outcomes.{with_page}
-use Rattle.clock_front.proofs.ReplyLaws.{written_page}
+use Rattle.clock_front.proofs.PageLaws.{written_page}
 use Rattle.clock_front.proofs.pages.products.Goals as goal
 
 pub returns : goal.returns

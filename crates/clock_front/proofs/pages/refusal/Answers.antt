@@ -2,7 +2,7 @@ use Rattle.std.proofs.Common.{ap, ◌∙◌, None}
 use Rattle.clock_views.specs.Refusals.{Shown}
 use Rattle.clock_views.specs.RefusalPage.{refusal_value}
 use Rattle.clock_front.specs.Outcomes.{with_page}
-use Rattle.clock_front.proofs.ReplyLaws.{written_page}
+use Rattle.clock_front.proofs.PageLaws.{written_page}
 use Rattle.clock_front.proofs.pages.refusal.Goals as goal
 
 pub returns : goal.returns

@@ -1,5 +1,5 @@
 use Rattle.clock_views.specs.OperatorPages.{results_value}
-use Rattle.clock_front.proofs.ReplyLaws.{written_page}
+use Rattle.clock_front.proofs.PageLaws.{written_page}
 use Rattle.clock_front.proofs.pages.results.Goals as goal
 
 pub returns : goal.returns

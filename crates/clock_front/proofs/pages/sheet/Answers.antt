@@ -1,14 +1,14 @@
 use Rattle.std.proofs.Common.{ap, ◌∙◌, ℕ, Option, None}
 use Rattle.std.specs.Prelude.{option_map, option_and_then}
-use Rattle.clock_setup.specs.Limits.{SetupFields, public_setup}
+use Rattle.clock_terms.specs.Limits.{SetupFields, public_setup}
 use Rattle.clock_house.specs.History.{round_at}
-use Rattle.clock_house.specs.declared.closed_round.ClosedRound.{ClosedRound}
+use Rattle.clock_closing.specs.declared.closed_round.ClosedRound.{ClosedRound}
 use Rattle.clock_posting.specs.declared.sheet.RoundSheet.{RoundSheet}
-use Rattle.clock_views.specs.declared.code.Code.TheVariants.{Done}
+use Rattle.clock_http.specs.declared.code.Code.TheVariants.{Done}
 use Rattle.clock_views.specs.PublicPages.{sheet_value}
 use Rattle.clock_front.specs.Outcomes.{answer_of, round_in, with_page}
 use Rattle.clock_front.proofs.OutcomeLaws.{found_page}
-use Rattle.clock_front.proofs.ReplyLaws.{written_page}
+use Rattle.clock_front.proofs.PageLaws.{written_page}
 use Rattle.clock_front.proofs.pages.sheet.Goals as goal
 
 pub returns : goal.returns

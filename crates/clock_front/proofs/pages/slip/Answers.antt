@@ -4,7 +4,7 @@ use Rattle.clock_house.specs.History.{slip_of, round_at}
 use Rattle.clock_views.specs.BidderPages.{slip_value}
 use Rattle.clock_front.specs.Outcomes.{answer_of, round_in}
 use Rattle.clock_front.proofs.OutcomeLaws.{found_page}
-use Rattle.clock_front.proofs.ReplyLaws.{written_page}
+use Rattle.clock_front.proofs.PageLaws.{written_page}
 use Rattle.clock_front.proofs.pages.slip.Goals as goal
 
 pub returns : goal.returns

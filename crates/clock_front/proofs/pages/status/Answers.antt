@@ -1,10 +1,10 @@
 use Rattle.std.proofs.Common.{ap, ◌∙◌, ℕ, Bool, None}
-use Rattle.clock_views.specs.declared.code.Code.TheVariants.{Done}
+use Rattle.clock_http.specs.declared.code.Code.TheVariants.{Done}
 use Rattle.clock_front.specs.Outcomes.{with_page}
-use Rattle.clock_setup.specs.Limits.{SetupFields, public_setup}
+use Rattle.clock_terms.specs.Limits.{SetupFields, public_setup}
 use Rattle.clock_house.specs.House.{standing_in}
 use Rattle.clock_views.specs.PublicPages.{status_value}
-use Rattle.clock_front.proofs.ReplyLaws.{written_page}
+use Rattle.clock_front.proofs.PageLaws.{written_page}
 use Rattle.clock_front.proofs.pages.status.Goals as goal
 
 pub returns : goal.returns

@@ -1,7 +1,7 @@
 use Rattle.std.proofs.Common.{◌≡◌, [], List, ℕ, sym, subst, ap, ◌∙◌, arith}
 use Rattle.std.proofs.lemmas.Result.{err_from_is_err_and}
 use Rattle.clock_device.specs.Streams.{HasRead}
-use Rattle.clock_front.specs.Framing.{framing}
+use Rattle.clock_http.specs.Framing.{needs_more}
 use Rattle.clock_front.proofs.ArrivalLaws.{arrived, no_room_at_first, nothing_needs_more, nothing_read, stopped}
 use Rattle.clock_front.proofs.reading.read_request.Goals as goal
 
@@ -19,7 +19,7 @@ loop-read-init g c =
     record {
       room = omega (arith, c.in_ok-piece.ensures);
       read = subst (λ (bytes : List ℕ). HasRead left left bytes) (sym none) (nothing_read left);
-      needed = ap framing none ∙ nothing_needs_more;
+      needed = ap needs_more none ∙ nothing_needs_more;
       counted = c.requires.uncounted;
       used = omega arith;
       interrupted = omega (arith, c.requires.uninterrupted);

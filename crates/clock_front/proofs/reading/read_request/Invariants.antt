@@ -1,6 +1,6 @@
-use Rattle.std.proofs.Common.{◌≡◌, ◌≤◌, ◌<◌, ◌+◌, false, length, vec_len}
+use Rattle.std.proofs.Common.{true, ◌≡◌, ◌≤◌, ◌<◌, ◌+◌, false, length, vec_len}
 use Rattle.clock_device.specs.Streams.{HasRead}
-use Rattle.clock_front.specs.Framing.{framing, needs_more}
+use Rattle.clock_http.specs.Framing.{needs_more}
 use Rattle.clock_front.proofs.reading.read_request.Given as goal
 
 -- the bytes so far were read and need more; each read took one of them or was interrupted, and none has failed
@@ -8,7 +8,7 @@ abbrev pub invariant-loop-read : goal.invariant-loop-read
 invariant-loop-read g l = record {
   room : 0 < vec_len l.piece;
   read : HasRead (g.R.Source.bytes_left l.initial.source) (g.R.Source.bytes_left l.source) l.request;
-  needed : framing l.request ≡ needs_more;
+  needed : needs_more l.request ≡ true;
   counted : g.R.Source.calls l.source ≡ l._read;
   used : l._read ≤ length l.request + g.R.Source.interruptions l.source;
   interrupted : g.R.Source.interruptions l.source ≤ l._read;

@@ -1,12 +1,12 @@
 use Rattle.std.proofs.Common.{◌≡◌, ◌+◌, ◌++◌, ◌<◌, ℕ, List, [], ◌∷◌, length, get_or, take, refl, sym, ◌∙◌, ap, subst, arith}
 use Rattle.std.proofs.lemmas.List.{take_all, take_more}
-use Rattle.clock_setup.specs.Limits.{SetupFields, IsSetup}
+use Rattle.clock_terms.specs.Limits.{SetupFields, IsSetup}
 use Rattle.clock_house.specs.History.{history}
 use Rattle.clock_house.specs.House.{HouseFields}
 use Rattle.clock_house.specs.Laws.{IsSound}
-use Rattle.clock_front.specs.Replies.{Answer}
+use Rattle.clock_http.specs.Replies.{Answer}
 use Rattle.clock_front.specs.Fronts.{commands_of}
-use Rattle.clock_front.specs.Runs.{Runs}
+use Rattle.clock_front.specs.Headline.{Runs}
 use Rattle.clock_front.proofs.RunLaws.{IsUnderWay, step}
 use Rattle.clock_front.proofs.runs.answer_each.Goals as goal
 
@@ -28,7 +28,7 @@ loop-text-preserved g c =
     let at : text ≡ get_or texts i text = rw c.as_slice.ensures c.text-item.is in
     let more : take (i + 1) texts ≡ take i texts ++ text ∷ [] = take_more texts i text below ∙ ap (λ (last : List ℕ). take i texts ++ last ∷ []) (sym at) in
     let limits : IsSetup c.args.front.now.setup = subst IsSetup (ap (λ (house : HouseFields). house.setup) c.house.ensures
-    ∙ c.loop-text.invariant.kept) c.keeps.ensures.limits in
+    ∙ c.loop-text.invariant.kept) c.law_of_house.ensures.limits in
     let next : IsUnderWay c.args.front.now.setup (take i texts ++ text ∷ []) (c.loop-text.replies ++ c.answer.result ∷ []) c.answer.new.self =
     step c.args.front.now.setup limits (take i texts) c.loop-text.replies front c.answer.new.self text c.answer.result c.loop-text.invariant
     c.answer.ensures.setup c.answer.ensures.answered in
@@ -45,5 +45,5 @@ returns g c =
       runs = subst (λ (texts : List (List ℕ)). Runs c.args.front.now.setup [] texts c.loop-text.replies before.end)
           (take_all c.loop-text.text-index c.args.texts.now (omega arith)) before.runs;
       sound = subst (λ (setup : SetupFields). IsSound setup (history setup (commands_of c.args.front.now.setup before.end))) same
-          (c.keeps-2.ensures.sound (commands_of c.args.front.now.setup before.end));
+          (c.law_of_house-2.ensures.sound (commands_of c.args.front.now.setup before.end));
     }

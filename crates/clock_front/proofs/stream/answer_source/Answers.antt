@@ -13,7 +13,7 @@ returns-in-Ok-clause-answered g c =
       has_failed = source.has_failed c.read_request.new.source;
     })
     c.in-Ok.request c.as_slice.result.now c.answer_known.result c.args.front.now c.answer_known.new.self
-    c.as_slice.ensures c.in-Ok.ensures.arrival c.answer_known.ensures.answered
+    c.as_slice.ensures c.in-Ok.ensures.arrival c.answer_known.ensures.answered c.answer_known.ensures.private
 
 pub returns-in-Ok-clause-stands : goal.returns-in-Ok-clause-stands
 returns-in-Ok-clause-stands g c =
@@ -21,7 +21,7 @@ returns-in-Ok-clause-stands g c =
 
 pub returns-in-Err-Memory-clause-answered : goal.returns-in-Err-Memory-clause-answered
 returns-in-Err-Memory-clause-answered g c =
-    inr (rw c.in-Err-Memory.field-0-is at c.in-Err-Memory.ensures.arrival, c.no_memory.ensures, refl)
+    inr (rw c.in-Err-Memory.field-0-is at c.in-Err-Memory.ensures.arrival, c.no_memory_reply.ensures, refl)
 
 pub returns-in-Err-Memory-clause-stands : goal.returns-in-Err-Memory-clause-stands
 returns-in-Err-Memory-clause-stands g c = served_none 1 c.args.front.now

@@ -1,6 +1,6 @@
 use Rattle.std.proofs.Common.{List, ℕ, cond, ap, ◌∙◌}
-use Rattle.clock_front.specs.Heads.{same_bytes}
-use Rattle.clock_front.specs.HeldTokens.{found}
+use Rattle.clock_http.specs.Heads.{same_bytes}
+use Rattle.clock_front.specs.inside.HeldTokens.{found}
 use Rattle.clock_front.proofs.TokenLaws.{Entries, found-insert}
 use Rattle.clock_front.proofs.tokens.add.Goals as goal
 

@@ -1,6 +1,6 @@
 use Rattle.std.proofs.Common.{◌≡◌, ◌≤◌, ℕ, List, length, drop}
 use Rattle.clock_front.specs.Askers.{holder, bidder_tokens}
-use Rattle.clock_front.specs.HeldTokens.{found}
+use Rattle.clock_front.specs.inside.HeldTokens.{found}
 use Rattle.clock_front.proofs.tokens.add_bidders.Given as goal
 
 -- the tokens of the bidders from this number on are there

@@ -1,8 +1,8 @@
 use Rattle.std.proofs.Common.{Option, ap, sym, ◌∙◌}
 use Rattle.std.specs.Prelude.{unwrap_or}
 use Rattle.clock_front.specs.Askers.{asker_by}
-use Rattle.clock_front.specs.HeldTokens.{found}
-use Rattle.clock_front.specs.Shown.{shown_bytes}
+use Rattle.clock_front.specs.inside.HeldTokens.{found}
+use Rattle.clock_http.specs.Shown.{shown_bytes}
 use Rattle.clock_front.specs.declared.tokens.Asker.{Asker}
 use Rattle.clock_front.specs.declared.tokens.Asker.TheVariants.{Nobody}
 use Rattle.clock_front.proofs.TokenLaws.{found-lookup}

@@ -1,7 +1,7 @@
 -- Two changes of different bidders are apart.
 use Rattle.std.proofs.Common.{◌≡◌, zero, suc, [], ◌∷◌, ◌++◌, arith, sym, subst, ap, ◌∙◌, AllPairs}
-use Rattle.clock_bids.specs.declared.change.Change.{Change}
-use Rattle.clock_bids.specs.Requests.{AreApart}
+use Rattle.clock_terms.specs.declared.change.Change.{Change}
+use Rattle.clock_terms.specs.Requests.{AreApart}
 use Rattle.clock_order.proofs.tests.both.Goals as goal
 
 two_apart : (a b : Change) → (a.bidder ≡ b.bidder → ⊥) → AllPairs AreApart (a ∷ b ∷ [])

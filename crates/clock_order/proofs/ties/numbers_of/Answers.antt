@@ -1,7 +1,7 @@
 -- Each entry is judged by the map of those before it.
 use Rattle.std.proofs.Common.{◌∙◌, ap, map, sym, take}
 use Rattle.indexmap.proofs.CallerLemmas.{insert_entry-new}
-use Rattle.clock_setup.proofs.FaultLaws.{turn_none}
+use Rattle.clock_terms.proofs.FaultLaws.{turn_none}
 use Rattle.clock_order.specs.Entries.{tie_of}
 use Rattle.clock_order.specs.Ties.{tie_checks}
 use Rattle.clock_order.proofs.Listed.{is_key}

@@ -1,5 +1,5 @@
 use Rattle.std.proofs.Common.{◌≡◌, ◌<◌, ℕ, length, get_or}
-use Rattle.clock_setup.specs.Prices.{prices_at}
+use Rattle.clock_terms.specs.Prices.{prices_at}
 use Rattle.clock_posting.proofs.posted_prices.start_prices.Given as goal
 
 -- the start prices so far

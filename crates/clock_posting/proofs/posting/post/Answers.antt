@@ -1,7 +1,7 @@
 use Rattle.std.proofs.Common.{◌≡◌, subst, rules}
 use Rattle.std.specs.Prelude.{All, Any, IfSome}
 use Rattle.std.proofs.lemmas.Result.{IfOk-weaker}
-use Rattle.clock_setup.specs.Limits.{SetupFields, IsProduct}
+use Rattle.clock_terms.specs.Limits.{SetupFields, IsProduct}
 use Rattle.clock_posting.specs.Posting.{IsPosting, IsAtClock}
 use Rattle.clock_posting.specs.PostedPrice.{posted_prices}
 use Rattle.clock_posting.proofs.Posted.{later_round_end, clock_posted}

@@ -1,6 +1,6 @@
 use Rattle.std.proofs.Common.{◌≡◌, subst, rules}
 use Rattle.std.specs.Prelude.{All}
-use Rattle.clock_setup.specs.Limits.{SetupFields, IsProduct}
+use Rattle.clock_terms.specs.Limits.{SetupFields, IsProduct}
 use Rattle.clock_posting.proofs.Laws.{first_round_end}
 use Rattle.clock_posting.proofs.posting.post_first.Goals as goal
 

@@ -4,7 +4,7 @@ use Rattle.std.specs.List.{range_with_len}
 use Rattle.std.proofs.lemmas.List.Elements.{All-push}
 use Rattle.std.proofs.lemmas.List.{get_or_read, map-append}
 use Rattle.std.proofs.lemmas.List.FromFn.{map-range_with_len_more}
-use Rattle.clock_setup.specs.declared.prices.PricePair.{PricePair}
+use Rattle.clock_terms.specs.declared.prices.PricePair.{PricePair}
 use Rattle.clock_posting.specs.Posting.{next_clock, next_price, post_fault, IsRising}
 use Rattle.clock_posting.proofs.Ranges.{first_is, first_is_later}
 use Rattle.clock_posting.proofs.round_end.next_prices.Goals as goal

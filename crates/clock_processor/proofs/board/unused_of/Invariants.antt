@@ -1,7 +1,7 @@
 use Rattle.std.proofs.Common.{◌≡◌, ℕ, ◌+◌, ◌<◌, length}
 use Rattle.std.specs.Prelude.{slice_index}
-use Rattle.clock_setup.specs.Demands.{row_of}
-use Rattle.clock_setup.specs.Eligibility.{activity}
+use Rattle.clock_terms.specs.Demands.{row_of}
+use Rattle.clock_terms.specs.Eligibility.{activity}
 use Rattle.clock_processor.proofs.board.unused_of.Given as goal
 
 -- the unused eligibility of each bidder so far

@@ -1,5 +1,5 @@
 use Rattle.std.proofs.Common.{◌≤◌, ◌^◌, take, All}
-use Rattle.clock_queue.specs.Lines.{HasLines}
+use Rattle.clock_queue.specs.inside.Lines.{HasLines}
 use Rattle.clock_queue.proofs.lines.lines_for.Given as goal
 
 -- there are enough lines for the requests so far

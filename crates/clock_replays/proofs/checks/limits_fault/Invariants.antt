@@ -1,5 +1,5 @@
 use Rattle.std.proofs.Common.{◌≡◌, drop, zip}
-use Rattle.clock_setup.specs.Faults.{first_fault, in_turn}
+use Rattle.clock_terms.specs.Faults.{first_fault, in_turn}
 use Rattle.clock_replays.specs.ReplayChecks.{limit_checks}
 use Rattle.clock_replays.proofs.checks.limits_fault.Given as goal
 

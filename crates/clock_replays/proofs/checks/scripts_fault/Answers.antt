@@ -1,6 +1,6 @@
 use Rattle.std.proofs.Common.{◌≡◌, None, sym, ◌∙◌, rules}
-use Rattle.clock_setup.specs.Faults.{first_fault}
-use Rattle.clock_setup.proofs.FaultLaws.{turn_passed, turn_failed}
+use Rattle.clock_terms.specs.Faults.{first_fault}
+use Rattle.clock_terms.proofs.FaultLaws.{turn_passed, turn_failed}
 use Rattle.clock_replays.specs.ReplayChecks.{script_checks}
 use Rattle.clock_replays.proofs.checks.scripts_fault.Goals as goal
 

@@ -1,5 +1,5 @@
 use Rattle.std.proofs.Common.{◌≡◌, drop}
-use Rattle.clock_setup.specs.Faults.{first_fault, in_turn}
+use Rattle.clock_terms.specs.Faults.{first_fault, in_turn}
 use Rattle.clock_replays.specs.ReplayChecks.{script_checks}
 use Rattle.clock_replays.proofs.checks.scripts_fault.Given as goal
 

@@ -1,7 +1,9 @@
 use Rattle.std.proofs.Common.{◌≡◌, ◌∷◌, ◌++◌, [], List, ℕ, length, map, sym, ap, ap₂, subst, ◌∙◌, arith}
-use Rattle.clock_scan.specs.Reading.{Token, numbers, rows, HasItems, Reads}
+use Rattle.clock_scan.specs.Reading.{Token, numbers, rows, Reads}
+use Rattle.clock_scan.specs.inside.Reading.{HasItems}
 use Rattle.clock_scan.proofs.Steps.{items_start, items_end, items_push_next}
-use Rattle.clock_replays.specs.EndedRows.{rows_from, AreEnds}
+use Rattle.clock_replays.specs.EndedRows.{rows_from}
+use Rattle.clock_replays.specs.inside.EndedRows.{AreEnds}
 use Rattle.clock_replays.proofs.EndedRowLaws.{no_rows, one_more}
 use Rattle.clock_replays.proofs.limit_lists.limit_lists.Goals as goal
 

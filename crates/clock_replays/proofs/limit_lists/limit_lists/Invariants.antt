@@ -1,6 +1,8 @@
 use Rattle.std.proofs.Common.{length, map, ◌≤◌}
-use Rattle.clock_scan.specs.Reading.{numbers, HasItems}
-use Rattle.clock_replays.specs.EndedRows.{rows_from, AreEnds}
+use Rattle.clock_scan.specs.Reading.{numbers}
+use Rattle.clock_scan.specs.inside.Reading.{HasItems}
+use Rattle.clock_replays.specs.EndedRows.{rows_from}
+use Rattle.clock_replays.specs.inside.EndedRows.{AreEnds}
 use Rattle.clock_replays.proofs.limit_lists.limit_lists.Given as goal
 
 abbrev pub invariant-items : goal.invariant-items

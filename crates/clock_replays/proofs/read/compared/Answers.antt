@@ -1,5 +1,5 @@
 use Rattle.std.proofs.Common.{◌≡◌, Some, None, sym, ap}
-use Rattle.clock_setup.specs.Faults.{first_fault, unless}
+use Rattle.clock_terms.specs.Faults.{first_fault, unless}
 use Rattle.clock_replays.specs.Replays.{ReplayFields}
 use Rattle.clock_replays.specs.ReplayChecks.{replay_checks}
 use Rattle.clock_replays.proofs.CheckLaws.{replay_within}

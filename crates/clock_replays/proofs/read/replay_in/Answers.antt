@@ -1,7 +1,7 @@
 use Rattle.std.proofs.Common.{◌≡◌, Ok, IfOk, IfErr, sym, subst}
 use Rattle.std.proofs.lemmas.Result.{err_from_is_err_and}
 use Rattle.serde_json.specs.View.{view}
-use Rattle.clock_setup.specs.Faults.{IsRefusal}
+use Rattle.clock_terms.specs.Faults.{IsRefusal}
 use Rattle.clock_replays.specs.declared.fault.ScriptFault.TheVariants.{NoMemory}
 use Rattle.clock_replays.proofs.DocumentLaws.{replay_setup, replay_at}
 use Rattle.clock_replays.proofs.read.replay_in.Goals as goal

@@ -1,5 +1,6 @@
 use Rattle.std.proofs.Common.{◌≡◌, ◌∷◌, length, sym, ap, subst, arith}
-use Rattle.clock_scan.specs.Reading.{Token, members_of, Reads, HasMembers}
+use Rattle.clock_scan.specs.Reading.{Token, members_of, Reads}
+use Rattle.clock_scan.specs.inside.Reading.{HasMembers}
 use Rattle.clock_scan.proofs.Steps.{members_start, members_end}
 use Rattle.clock_replays.specs.ReplayData.{closing_fields}
 use Rattle.clock_replays.proofs.scanned_closings.closing.Goals as goal

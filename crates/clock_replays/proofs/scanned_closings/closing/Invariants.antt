@@ -1,5 +1,6 @@
 use Rattle.std.proofs.Common.{length, ◌≤◌}
-use Rattle.clock_scan.specs.Reading.{members_of, HasMembers}
+use Rattle.clock_scan.specs.Reading.{members_of}
+use Rattle.clock_scan.specs.inside.Reading.{HasMembers}
 use Rattle.clock_replays.specs.ReplayData.{closing_fields}
 use Rattle.clock_replays.proofs.scanned_closings.closing.Given as goal
 

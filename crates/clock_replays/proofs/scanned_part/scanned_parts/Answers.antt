@@ -1,5 +1,6 @@
 use Rattle.std.proofs.Common.{◌≡◌, ◌∷◌, length, map, sym, ap, subst, arith}
-use Rattle.clock_scan.specs.Reading.{Token, HasItems, Reads}
+use Rattle.clock_scan.specs.Reading.{Token, Reads}
+use Rattle.clock_scan.specs.inside.Reading.{HasItems}
 use Rattle.clock_scan.proofs.Steps.{items_start, items_end, items_push_next}
 use Rattle.clock_replays.proofs.scanned_part.scanned_parts.Goals as goal
 

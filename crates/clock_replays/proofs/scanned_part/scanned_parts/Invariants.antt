@@ -1,5 +1,5 @@
 use Rattle.std.proofs.Common.{length, map, ◌≤◌}
-use Rattle.clock_scan.specs.Reading.{HasItems}
+use Rattle.clock_scan.specs.inside.Reading.{HasItems}
 use Rattle.clock_replays.proofs.scanned_part.scanned_parts.Given as goal
 
 abbrev pub invariant-items : goal.invariant-items

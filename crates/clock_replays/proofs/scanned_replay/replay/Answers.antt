@@ -1,7 +1,8 @@
 use Rattle.std.proofs.Common.{◌≡◌, ◌∷◌, length, sym, ap, subst, arith}
-use Rattle.clock_scan.specs.Reading.{Token, members_of, Reads, HasMembers}
+use Rattle.clock_scan.specs.Reading.{Token, members_of, Reads}
+use Rattle.clock_scan.specs.inside.Reading.{HasMembers}
 use Rattle.clock_scan.proofs.Steps.{members_start, members_end}
-use Rattle.clock_replays.specs.ReplayData.{found_replay}
+use Rattle.clock_replays.specs.inside.ReplayData.{found_replay}
 use Rattle.clock_replays.proofs.scanned_replay.replay.Goals as goal
 
 pub members-init : goal.members-init

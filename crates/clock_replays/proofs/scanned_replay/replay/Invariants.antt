@@ -1,6 +1,7 @@
 use Rattle.std.proofs.Common.{length, ◌≤◌}
-use Rattle.clock_scan.specs.Reading.{members_of, HasMembers}
-use Rattle.clock_replays.specs.ReplayData.{found_replay}
+use Rattle.clock_scan.specs.Reading.{members_of}
+use Rattle.clock_scan.specs.inside.Reading.{HasMembers}
+use Rattle.clock_replays.specs.inside.ReplayData.{found_replay}
 use Rattle.clock_replays.proofs.scanned_replay.replay.Given as goal
 
 abbrev pub invariant-members : goal.invariant-members

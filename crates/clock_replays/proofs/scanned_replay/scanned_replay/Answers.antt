@@ -1,7 +1,7 @@
 use Rattle.std.proofs.Common.{arith}
 use Rattle.clock_scan.proofs.Steps.{text_is}
 use Rattle.clock_setup.proofs.JsonLaws.{json_value}
-use Rattle.clock_replays.specs.ReplayData.{found_data}
+use Rattle.clock_replays.specs.inside.ReplayData.{found_data}
 use Rattle.clock_replays.proofs.scanned_replay.scanned_replay.Goals as goal
 
 pub returns : goal.returns

@@ -1,7 +1,7 @@
 use Rattle.std.proofs.Common.{◌∙◌, Ok, sym, ap}
 use Rattle.clock_setup.specs.SetupDocument.{setup_of}
 use Rattle.clock_setup.specs.SetupData.{setup_data}
-use Rattle.clock_setup.specs.Faults.{unless}
+use Rattle.clock_terms.specs.Faults.{unless}
 use Rattle.clock_setup.proofs.ScanLaws.{setup_judged}
 use Rattle.clock_setup.proofs.document.next_setup.Goals as goal
 

@@ -1,8 +1,8 @@
 use Rattle.std.proofs.Common.{◌≡◌, None, sym, ap, ◌∙◌}
 use Rattle.std.proofs.lemmas.Result.{err_from_is_err_and}
-use Rattle.clock_setup.specs.Faults.{first_fault}
-use Rattle.clock_setup.specs.Limits.{SetupFields, IsSetup}
-use Rattle.clock_setup.specs.SetupDocument.{products_checks, bidders_checks}
+use Rattle.clock_terms.specs.Faults.{first_fault}
+use Rattle.clock_terms.specs.Limits.{SetupFields, IsSetup}
+use Rattle.clock_setup.specs.inside.SetupDocument.{products_checks, bidders_checks}
 use Rattle.clock_setup.proofs.LimitLaws.{setup_within, head_first, products_first, bidders_first, distinct_decide}
 use Rattle.clock_setup.proofs.document.within_limits.Goals as goal
 

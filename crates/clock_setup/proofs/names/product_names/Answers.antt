@@ -1,5 +1,5 @@
 use Rattle.std.proofs.Common.{ap}
-use Rattle.clock_setup.specs.declared.setup.Product.{Product}
+use Rattle.clock_terms.specs.declared.setup.Product.{Product}
 use Rattle.clock_setup.proofs.NameLaws.{text_pushed, texts_end}
 use Rattle.clock_setup.proofs.names.product_names.Goals as goal
 

@@ -1,5 +1,5 @@
 use Rattle.std.proofs.Common.{ap}
-use Rattle.clock_setup.specs.declared.setup.Bidder.{Bidder}
+use Rattle.clock_terms.specs.declared.setup.Bidder.{Bidder}
 use Rattle.clock_setup.proofs.NameLaws.{text_pushed_behind, texts_end_behind}
 use Rattle.clock_setup.proofs.names.tokens.Goals as goal
 

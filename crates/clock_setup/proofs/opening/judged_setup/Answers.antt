@@ -1,6 +1,6 @@
 use Rattle.std.proofs.Common.{ap, ◌∙◌}
 use Rattle.clock_setup.specs.SetupDocument.{setup_of}
-use Rattle.clock_setup.specs.OpeningData.{held_data}
+use Rattle.clock_setup.specs.inside.OpeningData.{held_data}
 use Rattle.clock_setup.proofs.ScanLaws.{setup_judged, judged_ok, judged_err}
 use Rattle.clock_setup.proofs.opening.judged_setup.Goals as goal
 

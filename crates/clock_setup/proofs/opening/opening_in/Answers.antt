@@ -1,5 +1,5 @@
 use Rattle.std.proofs.lemmas.Result.{err_from_is_err_and}
-use Rattle.clock_setup.specs.OpeningData.{parts_data, source_data}
+use Rattle.clock_setup.specs.inside.OpeningData.{parts_data, source_data}
 use Rattle.clock_setup.proofs.OpeningLaws.{opening_shape, parts_ok, parts_err}
 use Rattle.clock_setup.proofs.opening.opening_in.Goals as goal
 

@@ -1,6 +1,6 @@
 use Rattle.std.proofs.Common.{Some, None}
 use Rattle.std.proofs.lemmas.Result.{err_from_is_err_and}
-use Rattle.clock_setup.specs.OpeningData.{held_data}
+use Rattle.clock_setup.specs.inside.OpeningData.{held_data}
 use Rattle.clock_setup.proofs.OpeningLaws.{opening_setup, opening_judged}
 use Rattle.clock_setup.proofs.opening.opening_of_parts.Goals as goal
 

@@ -1,4 +1,4 @@
-use Rattle.clock_setup.specs.OpeningData.{entries_data}
+use Rattle.clock_setup.specs.inside.OpeningData.{entries_data}
 use Rattle.clock_setup.proofs.ScannedOpeningLaws.{read_ok, read_err}
 use Rattle.clock_setup.proofs.opening.read_opening.Goals as goal
 

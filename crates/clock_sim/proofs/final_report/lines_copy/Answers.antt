@@ -2,7 +2,7 @@ use Rattle.std.proofs.Common.{All, sym, subst}
 use Rattle.std.proofs.lemmas.Grind.{common_steps}
 use Rattle.std.proofs.Common.{arith}
 use Rattle.std.proofs.lemmas.List.Elements.{All-push}
-use Rattle.clock_sim.specs.Reports.{IsPricedLine}
+use Rattle.clock_sim.specs.inside.Reports.{IsPricedLine}
 use Rattle.clock_sim.proofs.final_report.lines_copy.Goals as goal
 
 pub loop-line-preserved : goal.loop-line-preserved

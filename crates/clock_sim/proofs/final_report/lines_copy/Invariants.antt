@@ -1,5 +1,5 @@
 use Rattle.std.proofs.Common.{◌≡◌, take, All}
-use Rattle.clock_sim.specs.Reports.{IsPricedLine}
+use Rattle.clock_sim.specs.inside.Reports.{IsPricedLine}
 use Rattle.clock_sim.proofs.final_report.lines_copy.Given as goal
 
 -- the lines so far

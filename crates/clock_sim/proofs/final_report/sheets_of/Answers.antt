@@ -3,8 +3,8 @@ use Rattle.std.specs.Prelude.{reverse, Some, slice_get}
 use Rattle.std.proofs.lemmas.List.{length-map, length-reverse, take_all}
 use Rattle.std.proofs.lemmas.List.Elements.{All-push}
 use Rattle.clock_posting.specs.declared.sheet.RoundSheet.{RoundSheet}
-use Rattle.clock_house.specs.declared.closed_round.ClosedRound.{ClosedRound}
-use Rattle.clock_sim.specs.Reports.{IsPricedLine}
+use Rattle.clock_closing.specs.declared.closed_round.ClosedRound.{ClosedRound}
+use Rattle.clock_sim.specs.inside.Reports.{IsPricedLine}
 use Rattle.clock_sim.proofs.RoundLaws.{take_next}
 use Rattle.clock_sim.proofs.final_report.sheets_of.Goals as goal
 

@@ -1,6 +1,6 @@
 use Rattle.std.proofs.Common.{◌≡◌, take, map, All}
 use Rattle.std.specs.Prelude.{reverse}
-use Rattle.clock_sim.specs.Reports.{IsPricedLine}
+use Rattle.clock_sim.specs.inside.Reports.{IsPricedLine}
 use Rattle.clock_sim.proofs.final_report.sheets_of.Given as goal
 
 -- the sheets of the rounds so far

@@ -1,5 +1,5 @@
 use Rattle.std.proofs.Common.{◌≡◌}
-use Rattle.clock_sim.specs.Groups.{StandFrom}
+use Rattle.clock_sim.specs.inside.Groups.{StandFrom}
 use Rattle.clock_sim.proofs.GroupLaws.{heads_to}
 use Rattle.clock_sim.proofs.groups.feed_heads.Given as goal
 

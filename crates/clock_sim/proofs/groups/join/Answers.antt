@@ -1,8 +1,8 @@
 use Rattle.std.proofs.Common.{◌≡◌, ◌++◌, ℕ, true, List, sym, ◌∙◌, ap, subst}
-use Rattle.clock_front.specs.Pieces.{needs_more}
+use Rattle.clock_http.specs.Framing.{needs_more}
 use Rattle.clock_front.specs.declared.connections.Conn.{Conn}
 use Rattle.clock_sim.specs.declared.groups.Waiting.{Waiting}
-use Rattle.clock_sim.specs.Groups.{ClosesNoRound, IsGroup}
+use Rattle.clock_sim.specs.inside.Groups.{ClosesNoRound, IsGroup}
 use Rattle.clock_sim.proofs.GroupLaws.{joined_group}
 use Rattle.clock_sim.proofs.TurnLaws.{one_waits}
 use Rattle.clock_sim.proofs.groups.join.Goals as goal

@@ -1,8 +1,8 @@
 use Rattle.std.proofs.Common.{Ok, Err, List, ℕ, Some, ◌++◌, arith, subst}
 use Rattle.std.proofs.lemmas.Result.{err_from_is_err_and}
 use Rattle.clock_sim.specs.Rehearsal.{after_request}
-use Rattle.clock_sim.specs.Groups.{after_group}
-use Rattle.clock_sim.specs.Steps.{MakesStep}
+use Rattle.clock_sim.specs.inside.Groups.{after_group}
+use Rattle.clock_sim.specs.inside.Steps.{MakesStep}
 use Rattle.clock_sim.proofs.StepLaws.{begins}
 use Rattle.clock_sim.proofs.GroupLaws.{head_at, heads_kept, body_done, body_refused, bodies_done}
 use Rattle.clock_sim.proofs.groups.send_bodies.Goals as goal

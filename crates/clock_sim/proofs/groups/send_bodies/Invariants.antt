@@ -1,5 +1,5 @@
 use Rattle.std.proofs.Common.{drop}
-use Rattle.clock_sim.specs.Groups.{StandFrom, after_group}
+use Rattle.clock_sim.specs.inside.Groups.{StandFrom, after_group}
 use Rattle.clock_sim.proofs.StepLaws.{IsOnWay}
 use Rattle.clock_sim.proofs.groups.send_bodies.Given as goal
 

@@ -1,7 +1,7 @@
 use Rattle.std.proofs.Common.{ap}
 use Rattle.std.proofs.lemmas.Result.{err_from_is_err_and}
 use Rattle.clock_house.specs.House.{HouseFields}
-use Rattle.clock_sim.specs.Groups.{after_group}
+use Rattle.clock_sim.specs.inside.Groups.{after_group}
 use Rattle.clock_sim.proofs.StepLaws.{out_of_memory}
 use Rattle.clock_sim.proofs.groups.send_group.Goals as goal
 

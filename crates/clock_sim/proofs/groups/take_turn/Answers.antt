@@ -1,4 +1,4 @@
-use Rattle.clock_sim.specs.RequestTexts.{whole_text}
+use Rattle.clock_sim.specs.inside.RequestTexts.{whole_text}
 use Rattle.clock_sim.proofs.TurnLaws.{waits_after}
 use Rattle.clock_sim.proofs.groups.take_turn.Goals as goal
 

@@ -1,6 +1,6 @@
 use Rattle.std.proofs.Common.{◌≡◌, ◌+◌, All, true, false, drop, length, ap, sym, subst, ◌∙◌, arith}
 use Rattle.std.proofs.lemmas.Result.{err_from_is_err_and}
-use Rattle.clock_setup.specs.Limits.{SetupFields}
+use Rattle.clock_terms.specs.Limits.{SetupFields}
 use Rattle.clock_house.specs.House.{HouseFields, standing_in}
 use Rattle.clock_replays.specs.Replays.{IsScript}
 use Rattle.clock_sim.specs.Rehearsal.{rehearsed}

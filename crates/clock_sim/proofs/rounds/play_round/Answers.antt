@@ -1,8 +1,8 @@
 use Rattle.std.proofs.Common.{subst}
 use Rattle.std.proofs.lemmas.Result.{err_from_is_err_and}
-use Rattle.clock_setup.specs.Limits.{SetupFields}
+use Rattle.clock_terms.specs.Limits.{SetupFields}
 use Rattle.clock_sim.specs.Rehearsal.{after_puts, after_close}
-use Rattle.clock_sim.specs.Steps.{MakesStep}
+use Rattle.clock_sim.specs.inside.Steps.{MakesStep}
 use Rattle.clock_sim.proofs.StepLaws.{and_then, no_further}
 use Rattle.clock_sim.proofs.rounds.play_round.Goals as goal
 

@@ -1,5 +1,5 @@
 use Rattle.std.proofs.Common.{drop}
-use Rattle.clock_sim.specs.Groups.{IsGroup}
+use Rattle.clock_sim.specs.inside.Groups.{IsGroup}
 use Rattle.clock_sim.specs.Rehearsal.{after_puts}
 use Rattle.clock_sim.proofs.StepLaws.{IsOnWay}
 use Rattle.clock_sim.proofs.TurnLaws.{then_puts}

@@ -1,7 +1,7 @@
 use Rattle.std.proofs.Common.{refl, ap, ◌∙◌}
 use Rattle.std.proofs.lemmas.Result.{err_from_is_err_and}
-use Rattle.clock_sim.specs.Groups.{after_group, with_put}
-use Rattle.clock_sim.specs.RequestTexts.{whole_text}
+use Rattle.clock_sim.specs.inside.Groups.{after_group, with_put}
+use Rattle.clock_sim.specs.inside.RequestTexts.{whole_text}
 use Rattle.clock_sim.proofs.StepLaws.{puts_text, puts_none}
 use Rattle.clock_sim.proofs.PutLaws.{scripted_closes_none}
 use Rattle.clock_sim.proofs.TurnLaws.{no_memory_way, none_put, put_waits}

@@ -1,7 +1,7 @@
 use Rattle.std.proofs.Common.{◌≡◌, List, Ok, ap, subst, ◌∙◌}
 use Rattle.std.specs.Prelude.{IfOk, IfErr}
-use Rattle.clock_setup.specs.Limits.{SetupFields}
-use Rattle.clock_setup.specs.Faults.{IsRefusal}
+use Rattle.clock_terms.specs.Limits.{SetupFields}
+use Rattle.clock_terms.specs.Faults.{IsRefusal}
 use Rattle.clock_front.specs.Hubs.{HubFields}
 use Rattle.clock_replays.specs.declared.script.Script.{Script}
 use Rattle.clock_replays.specs.declared.closing.Closing.{Closing}

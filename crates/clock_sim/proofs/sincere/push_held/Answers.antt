@@ -1,7 +1,7 @@
 use Rattle.std.proofs.Common.{◌≡◌, ℕ, List, ◌++◌, length, reverse, ap, sym, ◌∙◌, None, arith}
 use Rattle.std.proofs.lemmas.List.{take_all}
 use Rattle.clock_bids.specs.declared.sheet.Bid.{Bid}
-use Rattle.clock_sim.specs.Blocks.{last_leaving}
+use Rattle.clock_sim.specs.inside.Blocks.{last_leaving}
 use Rattle.clock_sim.proofs.Leaving.{all_stay}
 use Rattle.clock_sim.proofs.sincere.push_held.Goals as goal
 

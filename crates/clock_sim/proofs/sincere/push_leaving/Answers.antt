@@ -1,7 +1,7 @@
 use Rattle.std.proofs.Common.{◌≡◌, ◌-◌, ℕ, List, ◌++◌, length, reverse, take, ap, sym, ◌∙◌, arith}
 use Rattle.std.proofs.lemmas.List.{append-nil}
 use Rattle.clock_bids.specs.declared.sheet.Bid.{Bid}
-use Rattle.clock_sim.specs.Blocks.{block_bids}
+use Rattle.clock_sim.specs.inside.Blocks.{block_bids}
 use Rattle.clock_sim.proofs.Leaving.{all_blocks}
 use Rattle.clock_sim.proofs.sincere.push_leaving.Goals as goal
 

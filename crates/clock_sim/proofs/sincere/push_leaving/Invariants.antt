@@ -1,5 +1,5 @@
 use Rattle.std.proofs.Common.{◌≡◌, ◌++◌, take, reverse}
-use Rattle.clock_sim.specs.Blocks.{block_bids}
+use Rattle.clock_sim.specs.inside.Blocks.{block_bids}
 use Rattle.clock_sim.proofs.sincere.push_leaving.Given as goal
 
 -- with the bids of the blocks before it is those of all

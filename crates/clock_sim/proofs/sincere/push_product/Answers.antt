@@ -1,5 +1,5 @@
 use Rattle.std.proofs.Common.{ℕ, ◌++◌, List, slice_index, ap₂, ◌∙◌}
-use Rattle.clock_setup.specs.declared.prices.PricePair.{PricePair}
+use Rattle.clock_terms.specs.declared.prices.PricePair.{PricePair}
 use Rattle.clock_sim.specs.Sincere.{product_bids}
 use Rattle.clock_sim.proofs.sincere.push_product.Goals as goal
 

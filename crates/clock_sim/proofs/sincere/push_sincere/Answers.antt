@@ -1,12 +1,12 @@
 use Rattle.std.proofs.Common.{◌≡◌, ℕ, ◌+◌, ◌-◌, ◌<◌, ◌≤◌, ◌==◌, false, zero, suc, List, [], ◌++◌, length, flat_map, slice_index}
 use Rattle.std.proofs.Common.{option_copied, append_assoc, refl, sym, ap, ◌∙◌, arith}
 use Rattle.std.specs.List.{range_with_len}
-use Rattle.clock_setup.specs.declared.prices.PricePair.{PricePair}
-use Rattle.clock_setup.specs.Prices.{prices_at}
-use Rattle.clock_setup.specs.Demands.{row_of}
+use Rattle.clock_terms.specs.declared.prices.PricePair.{PricePair}
+use Rattle.clock_terms.specs.Prices.{prices_at}
+use Rattle.clock_terms.specs.Demands.{row_of}
 use Rattle.clock_bids.specs.declared.sheet.Bid.{Bid}
 use Rattle.clock_sim.specs.Sincere.{bids_for, product_bids}
-use Rattle.clock_sim.specs.RoundPrices.{prices_after}
+use Rattle.clock_sim.specs.inside.RoundPrices.{prices_after}
 use Rattle.clock_sim.proofs.sincere.push_sincere.Goals as goal
 
 -- behind the bids for a product come those for the products after it

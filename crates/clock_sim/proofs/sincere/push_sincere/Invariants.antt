@@ -1,7 +1,7 @@
 use Rattle.std.proofs.Common.{◌≡◌, ◌≤◌, ◌++◌, ◌-◌, length, flat_map, option_copied}
 use Rattle.std.specs.List.{range_with_len}
 use Rattle.clock_sim.specs.Sincere.{bids_for}
-use Rattle.clock_sim.specs.RoundPrices.{prices_after}
+use Rattle.clock_sim.specs.inside.RoundPrices.{prices_after}
 use Rattle.clock_sim.proofs.sincere.push_sincere.Given as goal
 
 -- with the bids for the other products it is the whole sheet

@@ -1,5 +1,5 @@
 use Rattle.std.proofs.Common.{◌≡◌, ◌++◌, drop, nat_lt, false}
-use Rattle.clock_house.specs.Blocks.{numbers_of}
+use Rattle.clock_closing.specs.Blocks.{numbers_of}
 use Rattle.clock_views.specs.Values.{whole}
 use Rattle.clock_views.proofs.Lists.{rest_text}
 use Rattle.clock_views.proofs.pieces.push_blocks.Given as goal

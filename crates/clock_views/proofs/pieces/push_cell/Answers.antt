@@ -1,5 +1,5 @@
 use Rattle.std.proofs.Common.{◌≡◌, ◌+◌, ◌-◌, ◌∙◌, suc, arith}
-use Rattle.clock_house.specs.Blocks.{zeros_in, blocks_in}
+use Rattle.clock_closing.specs.Blocks.{zeros_in, blocks_in}
 use Rattle.clock_views.proofs.Lists.{zero_more}
 use Rattle.clock_views.proofs.pieces.push_cell.Goals as goal
 

@@ -1,5 +1,5 @@
 use Rattle.std.proofs.Common.{◌≡◌, ℕ, List, ◌++◌, ◌∷◌, [], ◌-◌, replicate}
-use Rattle.clock_house.specs.Blocks.{zeros_in, blocks_in, numbers_in}
+use Rattle.clock_closing.specs.Blocks.{zeros_in, blocks_in, numbers_in}
 use Rattle.clock_views.specs.Values.{whole}
 use Rattle.clock_views.proofs.Lists.{rest_text}
 use Rattle.clock_views.proofs.pieces.push_cell.Given as goal

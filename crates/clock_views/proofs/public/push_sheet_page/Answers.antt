@@ -1,4 +1,4 @@
-use Rattle.clock_setup.specs.Limits.{public_setup}
+use Rattle.clock_terms.specs.Limits.{public_setup}
 use Rattle.clock_views.proofs.Pushes.{before_last, together_last}
 use Rattle.clock_views.proofs.Texts.{sheet_in_pieces}
 use Rattle.clock_views.proofs.public.push_sheet_page.Goals as goal

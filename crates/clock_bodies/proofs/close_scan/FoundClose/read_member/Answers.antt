@@ -2,7 +2,8 @@ use Rattle.std.proofs.Common.{◌≡◌, ◌∷◌, codes, refl, sym, ap, ◌∙
 use Rattle.json.specs.Token.{key as key_token}
 use Rattle.clock_scan.specs.Reading.{whole, numbers, Reads}
 use Rattle.clock_scan.proofs.Steps.{adds_member, reads_deeper}
-use Rattle.clock_bodies.specs.QuickBodies.{ties_data, close_fields}
+use Rattle.clock_bodies.specs.QuickBodies.{ties_data}
+use Rattle.clock_bodies.specs.inside.QuickBodies.{close_fields}
 use Rattle.clock_bodies.proofs.close_scan.FoundClose.read_member.Goals as goal
 
 pub returns-then-is_key-clause-value : goal.returns-then-is_key-clause-value

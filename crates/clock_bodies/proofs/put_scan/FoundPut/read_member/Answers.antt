@@ -2,7 +2,8 @@ use Rattle.std.proofs.Common.{◌≡◌, ◌∷◌, codes, refl, ap, ◌∙◌, 
 use Rattle.json.specs.Token.{key as key_token}
 use Rattle.clock_scan.specs.Reading.{whole}
 use Rattle.clock_scan.proofs.Steps.{adds_member, reads_deeper}
-use Rattle.clock_bodies.specs.QuickBodies.{bids_data, put_fields}
+use Rattle.clock_bodies.specs.QuickBodies.{bids_data}
+use Rattle.clock_bodies.specs.inside.QuickBodies.{put_fields}
 use Rattle.clock_bodies.proofs.put_scan.FoundPut.read_member.Goals as goal
 
 pub returns-then-is_key-clause-value : goal.returns-then-is_key-clause-value

@@ -1,11 +1,10 @@
 use Rattle.std.proofs.Common.{◌++◌, ◌∙◌, ap}
 use Rattle.clock_front.specs.Hubs.{Standing}
-use Rattle.clock_front.specs.Pieces.{needs_more}
-use Rattle.clock_front.proofs.ConnectionLaws.{tests_more}
+use Rattle.clock_http.specs.Framing.{needs_more}
 use Rattle.clock_front.proofs.connections.Partial.take.Goals as goal
 
 pub returns-clause-short : goal.returns-clause-short
 returns-clause-short c =
     let piece = c.args.piece.now in
-    tests_more c.in_ok-short.short c.take.new.self c.in_ok-short.ensures.short
+    c.in_ok-short.ensures.short
     ∙ ap needs_more (c.in_ok-short.ensures.ok ∙ ap (λ (standing : Standing). standing.text ++ piece) c.self.view_is)

@@ -1,6 +1,6 @@
 use Rattle.std.proofs.Common.{inl, ap, ◌∙◌}
 use Rattle.clock_front.specs.Askers.{asker}
-use Rattle.clock_front.specs.Replies.{Answer}
+use Rattle.clock_http.specs.Replies.{Answer}
 use Rattle.clock_front.specs.Requests.{request_of}
 use Rattle.clock_front.proofs.FrontLaws.{refused_code, answered_cut_short}
 use Rattle.clock_front.proofs.front.Front.answer_known.Goals as goal

@@ -1,24 +1,24 @@
 use Rattle.std.proofs.Common.{ap, sym, subst, ◌∙◌}
-use Rattle.clock_setup.specs.Limits.{IsSetup}
+use Rattle.clock_terms.specs.Limits.{IsSetup}
 use Rattle.clock_house.specs.Command.{Command, other}
 use Rattle.clock_house.specs.House.{HouseFields, IsFollowedBy}
 use Rattle.clock_views.specs.Refusals.{Shown}
-use Rattle.clock_views.specs.declared.code.Code.TheVariants.{CutShort}
+use Rattle.clock_http.specs.declared.code.Code.TheVariants.{CutShort}
 use Rattle.clock_front.specs.Askers.{asker}
-use Rattle.clock_front.specs.Framing.{needs_more, refusal}
+use Rattle.clock_http.specs.Framing.{incomplete, refusal}
 use Rattle.clock_front.specs.Outcomes.{answer_of, outcome, command_of, refused}
 use Rattle.clock_front.specs.Requests.{Ask, Request, ask_by_route, request_of}
-use Rattle.clock_front.specs.Routes.{page_of}
-use Rattle.clock_front.specs.Shown.{shown_head}
-use Rattle.clock_front.specs.TokenTable.{IsTableOf}
+use Rattle.clock_http.specs.Routes.{page_of}
+use Rattle.clock_http.specs.Shown.{shown_head}
+use Rattle.clock_front.specs.inside.TokenTable.{IsTableOf}
 use Rattle.clock_front.specs.declared.tokens.Asker.{Asker}
 use Rattle.clock_front.proofs.OutcomeLaws.{away_other}
 use Rattle.clock_front.proofs.PrivateLaws.{private_reply, if_private}
-use Rattle.clock_front.proofs.FrontLaws.{refused_constant, told_as, done_as, if_done, ask_by, whole_request, constant_answer}
+use Rattle.clock_front.proofs.FrontLaws.{refused_fixed, told_as, done_as, if_done, ask_by, whole_request, constant_answer}
 use Rattle.clock_front.proofs.front.Front.answer_text.Goals as goal
 
-pub constant-requires : goal.constant-requires
-constant-requires g c = refused_constant c.args.text.now c.in-Refused.code (sym c.in-Refused.ensures)
+pub fixed_reply-requires : goal.fixed_reply-requires
+fixed_reply-requires g c = refused_fixed c.args.text.now c.in-Refused.code (sym c.in-Refused.ensures)
 
 pub returns-in-NeedMore-clause-reply : goal.returns-in-NeedMore-clause-reply
 returns-in-NeedMore-clause-reply g c =
@@ -26,7 +26,7 @@ returns-in-NeedMore-clause-reply g c =
     let text = c.args.text.now in
     told_as c.refusal.result _ _
     (ap (λ (shown : Shown). answer_of (refused shown)) c.alone.ensures
-    ∙ ap (λ (ask : Ask). answer_of (outcome house (asker house.setup (request_of text).token) ask)) (ask_by text needs_more c.in-NeedMore.ensures))
+    ∙ ap (λ (ask : Ask). answer_of (outcome house (asker house.setup (request_of text).token) ask)) (ask_by text incomplete c.in-NeedMore.ensures))
     c.refusal.ensures
 
 pub returns-in-NeedMore-clause-followed : goal.returns-in-NeedMore-clause-followed
@@ -34,8 +34,8 @@ returns-in-NeedMore-clause-followed g c =
     let house = c.args.self.now in
     let text = c.args.text.now in
     let who = asker house.setup (request_of text).token in
-    let others = subst (λ (h : HouseFields). IsFollowedBy other h h) c.self.view_is c.keeps.ensures.others in
-    let same = sym (away_other house.setup who CutShort) ∙ ap (command_of house.setup who) (ask_by text needs_more c.in-NeedMore.ensures) in
+    let others = subst (λ (h : HouseFields). IsFollowedBy other h h) c.self.view_is c.law_of_house.ensures.others in
+    let same = sym (away_other house.setup who CutShort) ∙ ap (command_of house.setup who) (ask_by text incomplete c.in-NeedMore.ensures) in
     if_done c.refusal.result (subst (λ (command : Command). IsFollowedBy command house house) same others)
 
 pub returns-in-Refused-clause-reply : goal.returns-in-Refused-clause-reply
@@ -43,7 +43,7 @@ returns-in-Refused-clause-reply g c =
     let house = c.args.self.now in
     let text = c.args.text.now in
     let code = c.in-Refused.code in
-    c.constant.ensures ∙ constant_answer code
+    c.fixed_reply.ensures ∙ constant_answer code
     ∙ ap (λ (ask : Ask). answer_of (outcome house (asker house.setup (request_of text).token) ask)) (ask_by text (refusal code) c.in-Refused.ensures)
 
 pub returns-in-Refused-clause-followed : goal.returns-in-Refused-clause-followed
@@ -51,7 +51,7 @@ returns-in-Refused-clause-followed g c =
     let house = c.args.self.now in
     let text = c.args.text.now in
     let who = asker house.setup (request_of text).token in
-    let others = subst (λ (h : HouseFields). IsFollowedBy other h h) c.self.view_is c.keeps.ensures.others in
+    let others = subst (λ (h : HouseFields). IsFollowedBy other h h) c.self.view_is c.law_of_house.ensures.others in
     let same = sym (away_other house.setup who c.in-Refused.code)
     ∙ ap (command_of house.setup who) (ask_by text (refusal c.in-Refused.code) c.in-Refused.ensures) in
     subst (λ (command : Command). IsFollowedBy command house house) same others
@@ -88,15 +88,15 @@ returns-in-Whole-clause-followed g c =
 
 pub returns-in-NeedMore-clause-private : goal.returns-in-NeedMore-clause-private
 returns-in-NeedMore-clause-private g c =
-    let limits = subst (λ (h : HouseFields). IsSetup h.setup) c.self.view_is c.keeps.ensures.limits in
+    let limits = subst (λ (h : HouseFields). IsSetup h.setup) c.self.view_is c.law_of_house.ensures.limits in
     if_private c.refusal.result c.args.self.now c.args.text.now limits (returns-in-NeedMore-clause-reply g c)
 
 pub returns-in-Refused-clause-private : goal.returns-in-Refused-clause-private
 returns-in-Refused-clause-private g c =
-    let limits = subst (λ (h : HouseFields). IsSetup h.setup) c.self.view_is c.keeps.ensures.limits in
-    private_reply c.args.self.now c.args.text.now c.constant.result limits (returns-in-Refused-clause-reply g c)
+    let limits = subst (λ (h : HouseFields). IsSetup h.setup) c.self.view_is c.law_of_house.ensures.limits in
+    private_reply c.args.self.now c.args.text.now c.fixed_reply.result limits (returns-in-Refused-clause-reply g c)
 
 pub returns-in-Whole-clause-private : goal.returns-in-Whole-clause-private
 returns-in-Whole-clause-private g c =
-    let limits = subst (λ (h : HouseFields). IsSetup h.setup) c.self.view_is c.keeps.ensures.limits in
+    let limits = subst (λ (h : HouseFields). IsSetup h.setup) c.self.view_is c.law_of_house.ensures.limits in
     if_private c.answer_head.result c.args.self.now c.args.text.now limits (returns-in-Whole-clause-reply g c)

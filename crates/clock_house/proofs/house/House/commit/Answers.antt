@@ -2,96 +2,89 @@ use Rattle.std.proofs.Common.{◌≡◌, ℕ, List, [], ◌∷◌, refl, ap, sym
 use Rattle.std.specs.Prelude.{Option, None, map, reverse}
 use Rattle.std.specs.List.{range_with_len}
 use Rattle.std.proofs.lemmas.List.{reverse-append}
+use Rattle.clock_terms.specs.Limits.{IsSetup}
 use Rattle.clock_bids.specs.declared.sheet.Bid.{Bid}
 use Rattle.clock_house.specs.Command.{close}
-use Rattle.clock_house.specs.Standing.{Holding}
+use Rattle.clock_closing.specs.Results.{demands_of}
+use Rattle.clock_house.specs.Standing.{Holding, standing_after}
 use Rattle.clock_house.specs.History.{ClosedRound, standing, holding, for_each_bidder}
-use Rattle.clock_house.specs.House.{HouseFields, standing_in}
-use Rattle.clock_house.specs.Prepared.{PreparedClosing, FitsClosing, closed_by}
-use Rattle.clock_house.proofs.Kept.{stands_sheets}
+use Rattle.clock_house.specs.House.{HouseFields, StandsFor, standing_in}
+use Rattle.clock_house.proofs.Kept.{stands_sheets, stands_sound}
 use Rattle.clock_house.proofs.Bounds.{round_bounded}
-use Rattle.clock_house.proofs.Closes.{close-accepted, close-kept, closed_number, closed_slips, taken_prices}
+use Rattle.clock_house.proofs.Closes.{close-accepted, fits_like, closed_number, closed_slips, taken_prices}
 use Rattle.clock_house.proofs.Rows.{next_demands}
 use Rattle.clock_house.proofs.house.House.commit.Goals as goal
 
 pub round_after-self-inside-requires : goal.round_after-self-inside-requires
 round_after-self-inside-requires g c =
-    let fits = subst (λ (p : PreparedClosing). FitsClosing p c.args.self.now) (sym c.prepared.view_is) c.requires.fits in
-    let number = closed_number c.args.self.now c.prepared.inside.round c.prepared.inside.increments c.prepared.inside.ties
-    (closed_by c.prepared.inside.results.posting c.prepared.inside.results.slips) fits in
+    let number = closed_number c.args.self.now c.args.prepared.round c.args.prepared.increments c.args.prepared.ties c.args.prepared.closed c.requires.fits in
+    let limits = subst (λ (house : HouseFields). IsSetup house.setup) c.self.view_is c.self.invariant.limits in
+    let stands = subst (StandsFor c.self.invariant.commands) c.self.view_is c.self.invariant.stands in
     omega (
       arith,
+      ap (λ (one : ClosedRound). one.sheet.round) c.into_results-closed.ensures.closed,
       number.1,
-      round_bounded c.args.self.now.setup.products (standing_in c.args.self.now) c.keeps.ensures.limits.product_count.1
-          (c.keeps.ensures.priced number.0),
+      round_bounded c.args.self.now.setup.products (standing_in c.args.self.now) limits.product_count.1
+          ((stands_sound c.args.self.now limits c.self.invariant.commands stands).priced number.0),
     )
 
 pub invariant_of-self : goal.invariant_of-self
 invariant_of-self g c =
-    let here = subst (λ (p : PreparedClosing). FitsClosing p c.args.self.now) (sym c.prepared.view_is) c.requires.fits in
-    let fits = close-kept _ c.args.self.now c.prepared.inside.round c.prepared.inside.increments c.prepared.inside.increments c.prepared.inside.ties
-    c.prepared.inside.ties
-    (closed_by c.prepared.inside.results.posting c.prepared.inside.results.slips) (sym c.self.view_is) refl refl here in
-    let limits = rw (← c.self.view_is) at c.keeps.ensures.limits in
-    let asked = c.prepared.inside in
-    let posting = c.prepared.inside.results.posting in
-    let done : ClosedRound = closed_by c.prepared.inside.results.posting c.prepared.inside.results.slips in
-    let added : reverse c.push_round.new.rounds.items ≡ closed_by c.prepared.inside.results.posting c.prepared.inside.results.slips
-    ∷ reverse c.self.inside.rounds.items =
-    ap reverse c.push_round.ensures ∙ reverse-append c.self.inside.rounds.items
-    (closed_by c.prepared.inside.results.posting c.prepared.inside.results.slips ∷ []) in
+    let house : HouseFields = record { setup = c.self.inside.setup; closed = reverse c.self.inside.rounds.items; sheets = c.self.inside.sheets; spare = 0 } in
+    let asked = c.args.prepared in
+    let results = c.into_results-closed.result in
+    let fits = fits_like _ c.args.self.now c.args.prepared (sym c.self.view_is) c.requires.fits in
+    let done = c.into_results-closed.ensures.closed in
+    let added : reverse c.push_round.new.rounds.items ≡ c.args.prepared.closed ∷ reverse c.self.inside.rounds.items =
+    ap reverse c.push_round.ensures ∙ reverse-append c.self.inside.rounds.items (c.into_results-closed.result.closed ∷ [])
+    ∙ ap (λ (one : ClosedRound). one ∷ reverse c.self.inside.rounds.items) done in
     let none = c.clear.ensures ∙ ap (λ (n : ℕ). map (λ (bidder : ℕ). let sheet : Option (List Bid) = None in sheet) (range_with_len 0 n))
     (stands_sheets _ c.self.invariant.commands c.self.invariant.stands) in
-    let house : HouseFields = record { setup = c.self.inside.setup; closed = reverse c.self.inside.rounds.items; sheets = c.self.inside.sheets; spare = 0 } in
+    let at = λ (closed : List ClosedRound). standing c.self.inside.setup.products closed in
     record {
+      limits = c.self.invariant.limits;
       commands = close asked.round asked.increments asked.ties ∷ c.self.invariant.commands;
-      stands = close-accepted _ limits asked.round asked.increments asked.ties c.self.invariant.commands c.self.invariant.stands done _ _ _ fits added none;
-      ended_is = sym (ap (λ (closed : List ClosedRound). (standing c.self.inside.setup.products closed).ended) added);
-      round_is = c.round_after-self-inside.ensures ∙ sym (ap (λ (closed : List ClosedRound). (standing c.self.inside.setup.products closed).round) added);
+      stands = close-accepted _ asked.round asked.increments asked.ties c.self.invariant.commands c.self.invariant.stands asked.closed _ _ _ fits added none;
+      ended_is = ap (λ (one : ClosedRound). one.sheet.ended) done
+          ∙ sym (ap (λ (closed : List ClosedRound). (standing c.self.inside.setup.products closed).ended) added);
+      round_is = c.round_after-self-inside.ensures
+          ∙ ap (λ (one : ClosedRound). (standing_after one.sheet).round) done
+          ∙ sym (ap (λ (closed : List ClosedRound). (standing c.self.inside.setup.products closed).round) added);
       prices_are = λ going.
           c.take_prices.ensures
-          ∙ taken_prices posting.next c.self.inside.prices posting.sheet.lines posting.sheet.ended going c.prepared.invariant.0.end c.prepared.invariant.0.shown
+          ∙ taken_prices results.next c.self.inside.prices results.closed.sheet.lines results.closed.sheet.ended going
+          c.into_results-closed.ensures.consistent.end c.into_results-closed.ensures.consistent.shown
+          ∙ ap (λ (one : ClosedRound). (standing_after one.sheet).prices) done
           ∙ sym (ap (λ (closed : List ClosedRound). (standing c.self.inside.setup.products closed).prices) added);
       demands_are =
-          c.prepared.invariant.1
-          ∙ next_demands c.self.inside.setup done (reverse c.self.inside.rounds.items)
-          (closed_slips house asked.round asked.increments asked.ties done fits)
+          c.into_results-closed.ensures.consistent.demands
+          ∙ ap (λ (one : ClosedRound). demands_of one.slips) done
+          ∙ next_demands c.self.inside.setup asked.closed (reverse c.self.inside.rounds.items)
+          (closed_slips house asked.round asked.increments asked.ties asked.closed fits)
           ∙ sym (ap (λ (closed : List ClosedRound). map (λ (held : Holding). held.demands)
           (for_each_bidder c.self.inside.setup (holding c.self.inside.setup closed))) added);
     }
 
-pub returns-clause-followed : goal.returns-clause-followed
-returns-clause-followed g c =
-    let here = subst (λ (p : PreparedClosing). FitsClosing p c.args.self.now) (sym c.prepared.view_is) c.requires.fits in
-    let fits = close-kept _ c.args.self.now c.prepared.inside.round c.prepared.inside.increments c.prepared.inside.increments c.prepared.inside.ties
-    c.prepared.inside.ties
-    (closed_by c.prepared.inside.results.posting c.prepared.inside.results.slips) (sym c.self.view_is) refl refl here in
-    let limits = rw (← c.self.view_is) at c.keeps.ensures.limits in
-    let asked = c.prepared.inside in
-    let done : ClosedRound = closed_by c.prepared.inside.results.posting c.prepared.inside.results.slips in
-    let added : reverse c.push_round.new.rounds.items ≡ closed_by c.prepared.inside.results.posting c.prepared.inside.results.slips
-    ∷ reverse c.self.inside.rounds.items =
-    ap reverse c.push_round.ensures ∙ reverse-append c.self.inside.rounds.items
-    (closed_by c.prepared.inside.results.posting c.prepared.inside.results.slips ∷ []) in
-    let none = c.clear.ensures ∙ ap (λ (n : ℕ). map (λ (bidder : ℕ). let sheet : Option (List Bid) = None in sheet) (range_with_len 0 n))
-    (stands_sheets _ c.self.invariant.commands c.self.invariant.stands) in
-    rw (← c.self.view_is, ← c.prepared.view_is)
-    (record {
-      setup = refl;
-      stands = λ commands stands. close-accepted _ limits asked.round asked.increments asked.ties commands stands done _ _ _ fits added none;
-    })
-
-pub push_round-requires : goal.push_round-requires
-push_round-requires g c =
-    let room = rw (← c.self.view_is) at c.requires.room in
-    omega (arith, room)
-
 pub returns-clause-closed : goal.returns-clause-closed
 returns-clause-closed g c =
-    let added : reverse c.push_round.new.rounds.items ≡ closed_by c.prepared.inside.results.posting c.prepared.inside.results.slips
-    ∷ reverse c.self.inside.rounds.items =
-    ap reverse c.push_round.ensures ∙ reverse-append c.self.inside.rounds.items
-    (closed_by c.prepared.inside.results.posting c.prepared.inside.results.slips ∷ []) in
+    let added : reverse c.push_round.new.rounds.items ≡ c.args.prepared.closed ∷ reverse c.self.inside.rounds.items =
+    ap reverse c.push_round.ensures ∙ reverse-append c.self.inside.rounds.items (c.into_results-closed.result.closed ∷ [])
+    ∙ ap (λ (one : ClosedRound). one ∷ reverse c.self.inside.rounds.items) c.into_results-closed.ensures.closed in
     let none = c.clear.ensures ∙ ap (λ (n : ℕ). map (λ (bidder : ℕ). let sheet : Option (List Bid) = None in sheet) (range_with_len 0 n))
     (stands_sheets _ c.self.invariant.commands c.self.invariant.stands) in
-    rw (← c.self.view_is, ← c.prepared.view_is) (record { setup = refl; closed = added; sheets = none })
+    rw (← c.self.view_is) (record { setup = refl; closed = added; sheets = none })
+
+pub returns-clause-followed : goal.returns-clause-followed
+returns-clause-followed g c =
+    let asked = c.args.prepared in
+    let fits = fits_like _ c.args.self.now c.args.prepared (sym c.self.view_is) c.requires.fits in
+    let added : reverse c.push_round.new.rounds.items ≡ c.args.prepared.closed ∷ reverse c.self.inside.rounds.items =
+    ap reverse c.push_round.ensures ∙ reverse-append c.self.inside.rounds.items (c.into_results-closed.result.closed ∷ [])
+    ∙ ap (λ (one : ClosedRound). one ∷ reverse c.self.inside.rounds.items) c.into_results-closed.ensures.closed in
+    let none = c.clear.ensures ∙ ap (λ (n : ℕ). map (λ (bidder : ℕ). let sheet : Option (List Bid) = None in sheet) (range_with_len 0 n))
+    (stands_sheets _ c.self.invariant.commands c.self.invariant.stands) in
+    rw (← c.self.view_is)
+    (record {
+      setup = refl;
+      stands = λ commands stands. close-accepted _ asked.round asked.increments asked.ties commands stands asked.closed _ _ _ fits added none;
+    })

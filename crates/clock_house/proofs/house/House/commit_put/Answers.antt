@@ -21,6 +21,7 @@ invariant_of-self g c =
     (record { bidder = c.prepared.inside.bidder; round = c.prepared.inside.round; bids = c.prepared.inside.sheet }) house)
     (sym c.self.view_is) here).good in
     record {
+      limits = c.self.invariant.limits;
       commands = put c.prepared.inside.bidder c.prepared.inside.round c.prepared.inside.sheet ∷ c.self.invariant.commands;
       stands = rw c.set.ensures
           (put-accepted _ c.prepared.inside.bidder c.prepared.inside.round c.prepared.inside.sheet c.self.invariant.commands c.self.invariant.stands known

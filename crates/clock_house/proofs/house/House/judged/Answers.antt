@@ -1,12 +1,12 @@
-use Rattle.std.proofs.Common.{sym, ◌∙◌}
+use Rattle.std.proofs.Common.{ap, sym, ◌∙◌, length}
+use Rattle.clock_house.proofs.Kept.{stands_sound}
 use Rattle.clock_house.proofs.house.House.judged.Goals as goal
-
-pub prices-requires : goal.prices-requires
-prices-requires g c = sym c.ended.ensures.is ∙ c.if-ended.false
 
 pub check_sheet-requires-clause-prices : goal.check_sheet-requires-clause-prices
 check_sheet-requires-clause-prices g c =
-    rw (c.setup.ensures, c.prices.ensures) (c.keeps.ensures.priced (sym c.ended.ensures.is ∙ c.if-ended.false)).pairs
+    ap length (c.self.invariant.prices_are c.if-self.false)
+    ∙ ((stands_sound _ c.self.invariant.limits c.self.invariant.commands c.self.invariant.stands).priced
+    (sym c.self.invariant.ended_is ∙ c.if-self.false)).pairs
 
 pub check_sheet-requires-clause-demands : goal.check_sheet-requires-clause-demands
-check_sheet-requires-clause-demands g c = rw (c.setup.ensures, c.own.ensures.demands) (c.keeps.ensures.within c.args.bidder c.requires).row
+check_sheet-requires-clause-demands g c = rw (← c.self.view_is) at c.own-own.ensures.limits.row

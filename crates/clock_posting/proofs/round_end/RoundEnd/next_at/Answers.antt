@@ -1,8 +1,8 @@
 use Rattle.std.proofs.Common.{◌≡◌, ◌<◌, ◌∙◌, sym, ap, length, get_or, List, Some, arith}
 use Rattle.std.proofs.lemmas.List.{get_or_read}
-use Rattle.clock_setup.specs.declared.prices.PricePair.{PricePair}
+use Rattle.clock_terms.specs.declared.prices.PricePair.{PricePair}
 use Rattle.clock_posting.specs.Posting.{has_ended, next_clock, next_prices}
-use Rattle.clock_posting.specs.RoundEnd.{HasClocks}
+use Rattle.clock_posting.specs.inside.RoundEnd.{HasClocks}
 use Rattle.clock_posting.proofs.Laws.{none_shown, some_shown, clock_of, clocks_each}
 use Rattle.clock_posting.proofs.round_end.RoundEnd.next_at.Goals as goal
 

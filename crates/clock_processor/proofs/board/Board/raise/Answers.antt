@@ -1,7 +1,7 @@
 -- The board stays one where a demand is raised, and so does the unused eligibility that it keeps.
 use Rattle.std.proofs.Common.{◌+◌, ◌<◌, ◌≤◌, length, get_or, sym, subst, ap}
-use Rattle.clock_setup.specs.Limits.{cap_of}
-use Rattle.clock_setup.specs.Demands.{demand_at}
+use Rattle.clock_terms.specs.Limits.{cap_of}
+use Rattle.clock_terms.specs.Demands.{demand_at}
 use Rattle.clock_processor.specs.Room.{affordable_blocks}
 use Rattle.clock_processor.specs.Board.{BoardFields}
 use Rattle.clock_processor.proofs.BoardKept.{kept_raised, units_read}

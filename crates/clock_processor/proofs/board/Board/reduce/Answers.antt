@@ -1,6 +1,6 @@
 -- The board stays one where a demand is reduced, and so does the unused eligibility that it keeps.
 use Rattle.std.proofs.Common.{◌<◌, ◌≤◌, length, get_or, arith, ◌*◌, sym, subst, ap}
-use Rattle.clock_setup.specs.Demands.{demand_at}
+use Rattle.clock_terms.specs.Demands.{demand_at}
 use Rattle.clock_processor.specs.Board.{BoardFields}
 use Rattle.clock_processor.proofs.BoardKept.{kept_reduced, unused_within, units_read}
 use Rattle.clock_processor.proofs.board.Board.reduce.Goals as goal

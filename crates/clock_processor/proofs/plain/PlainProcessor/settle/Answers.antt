@@ -1,7 +1,7 @@
 -- The end that the steps reach is the settlement.
 use Rattle.std.proofs.Common.{List, map, sym, subst, ap, ◌∙◌}
-use Rattle.clock_bids.specs.declared.change.Change.{Change}
-use Rattle.clock_processor.specs.UnderWay.{IsUnderWay, progress_of}
+use Rattle.clock_terms.specs.declared.change.Change.{Change}
+use Rattle.clock_processor.specs.inside.UnderWay.{IsUnderWay, progress_of}
 use Rattle.clock_processor.specs.Settling.{Settles}
 use Rattle.clock_processor.specs.Settlement.{IsSettlement, SettledFields}
 use Rattle.clock_processor.proofs.Apply.{under_way_start, settlement_reached}

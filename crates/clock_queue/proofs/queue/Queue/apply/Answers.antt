@@ -2,12 +2,12 @@
 use Rattle.std.proofs.Common.{◌≡◌, ℕ, ◌-◌, ◌<◌, ◌++◌, [], List, length, get_or, set, refl, ap, sym, subst, ◌∙◌}
 use Rattle.std.specs.List.Sorted.{IsPermutation}
 use Rattle.std.proofs.lemmas.List.{get_or_read}
-use Rattle.clock_bids.specs.declared.change.Change.{Change}
+use Rattle.clock_terms.specs.declared.change.Change.{Change}
 use Rattle.clock_processor.specs.Board.{MayApply, applied_to}
 use Rattle.clock_processor.specs.Settling.{no_change}
 use Rattle.clock_queue.specs.declared.queue.Queue.{Queue}
-use Rattle.clock_queue.specs.Lines.{woken_line}
-use Rattle.clock_queue.specs.Queue.{room_in}
+use Rattle.clock_queue.specs.inside.Lines.{woken_line}
+use Rattle.clock_queue.specs.inside.Queue.{room_in}
 use Rattle.clock_queue.proofs.Applies.{IsApplied, HoldsAfter, holds_after, in_changes, may_apply_first, woken_in}
 use Rattle.clock_queue.proofs.queue.Queue.apply.Goals as goal
 

@@ -1,6 +1,6 @@
 use Rattle.std.proofs.Common.{◌≡◌}
 use Rattle.clock_processor.specs.Settling.{Reaches}
-use Rattle.clock_queue.specs.Queue.{IsQueue, StaysWithinTests, SameTerms, progress, work}
+use Rattle.clock_queue.specs.inside.Queue.{IsQueue, StaysWithinTests, SameTerms, progress, work}
 use Rattle.clock_queue.proofs.queue.Queue.run.Given as goal
 
 -- the settling so far, on the way

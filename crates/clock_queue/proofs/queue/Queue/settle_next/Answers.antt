@@ -3,7 +3,7 @@ use Rattle.std.proofs.Common.{◌+◌, ◌∷◌, length, refl, ap, arith}
 use Rattle.std.proofs.lemmas.List.Sorted.{length_permutation}
 use Rattle.clock_processor.proofs.End.{step_reaches}
 use Rattle.clock_queue.specs.declared.queue.Queue.{Queue}
-use Rattle.clock_queue.specs.Queue.{progress}
+use Rattle.clock_queue.specs.inside.Queue.{progress}
 use Rattle.clock_queue.proofs.Waits.{admitted_next}
 use Rattle.clock_queue.proofs.Steps.{admission_is_next, reaches_on}
 use Rattle.clock_queue.proofs.queue.Queue.settle_next.Goals as goal

@@ -1,6 +1,6 @@
 -- An application of the first ready request is the next step.
 use Rattle.std.proofs.Common.{◌<◌, ℕ, ap, subst, arith}
-use Rattle.clock_queue.specs.Queue.{progress}
+use Rattle.clock_queue.specs.inside.Queue.{progress}
 use Rattle.clock_queue.proofs.Steps.{application_reaches}
 use Rattle.clock_queue.proofs.queue.Queue.test.Goals as goal
 

@@ -1,11 +1,11 @@
 -- The request waits in its line, or has nothing left.
 use Rattle.std.proofs.Common.{◌≡◌, ℕ, ◌<◌, ◌++◌, [], ◌∷◌, List, length, get_or, set, ap, sym, subst, ◌∙◌, arith}
 use Rattle.std.proofs.lemmas.List.{get_or_read}
-use Rattle.clock_bids.specs.declared.change.Change.{Change}
+use Rattle.clock_terms.specs.declared.change.Change.{Change}
 use Rattle.clock_processor.specs.Settling.{no_change}
 use Rattle.clock_queue.specs.declared.queue.Queue.{Queue}
-use Rattle.clock_queue.specs.Lines.{line_of, HasLines}
-use Rattle.clock_queue.specs.Queue.{IsQueue, room_in, line_at, with_first}
+use Rattle.clock_queue.specs.inside.Lines.{line_of, HasLines}
+use Rattle.clock_queue.specs.inside.Queue.{IsQueue, room_in, line_at, with_first}
 use Rattle.clock_queue.proofs.Waits.{nothing_waits, rest_waits}
 use Rattle.clock_queue.proofs.Applies.{line_within}
 use Rattle.clock_queue.proofs.queue.Queue.wait.Goals as goal

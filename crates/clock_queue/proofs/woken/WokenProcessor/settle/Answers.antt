@@ -1,6 +1,6 @@
 -- One more request is settled; at the end all are.
 use Rattle.std.proofs.Common.{List, ap, sym, subst, ◌∙◌, arith}
-use Rattle.clock_bids.specs.declared.change.Change.{Change}
+use Rattle.clock_terms.specs.declared.change.Change.{Change}
 use Rattle.clock_processor.specs.Board.{BoardFields}
 use Rattle.clock_processor.specs.Requests.{CanSettle}
 use Rattle.clock_processor.specs.Settlement.{IsSettlement, IsProperEnd}

@@ -1,6 +1,7 @@
 use Rattle.std.proofs.Common.{◌≡◌, get_or, ◌∷◌, ◌++◌, [], List, ℕ, length, take, sym, ap, subst, ◌∙◌}
 use Rattle.std.proofs.lemmas.List.{take_more}
-use Rattle.clock_replays.specs.EndedRows.{rows_from, AreEnds}
+use Rattle.clock_replays.specs.EndedRows.{rows_from}
+use Rattle.clock_replays.specs.inside.EndedRows.{AreEnds}
 use Rattle.clock_replays.proofs.EndedRowLaws.{no_rows, one_more}
 use Rattle.clock_replays.proofs.limit_lists.LimitLists.from_lists.Goals as goal
 

@@ -1,5 +1,6 @@
 use Rattle.std.proofs.Common.{◌≡◌, length, take}
-use Rattle.clock_replays.specs.EndedRows.{rows_from, AreEnds}
+use Rattle.clock_replays.specs.EndedRows.{rows_from}
+use Rattle.clock_replays.specs.inside.EndedRows.{AreEnds}
 use Rattle.clock_replays.proofs.limit_lists.LimitLists.from_lists.Given as goal
 
 -- the lists so far are the rows

@@ -1,6 +1,7 @@
 use Rattle.std.proofs.Common.{◌≡◌, ℕ, List, length, sym, ap, subst, ◌∙◌, arith}
-use Rattle.clock_setup.specs.Demands.{row_of}
-use Rattle.clock_replays.specs.EndedRows.{rows_from, AreEnds}
+use Rattle.clock_terms.specs.Demands.{row_of}
+use Rattle.clock_replays.specs.EndedRows.{rows_from}
+use Rattle.clock_replays.specs.inside.EndedRows.{AreEnds}
 use Rattle.clock_replays.proofs.EndedRowLaws.{length-rows}
 use Rattle.clock_replays.proofs.limit_lists.LimitLists.list.Goals as goal
 

@@ -2,7 +2,8 @@ use Rattle.std.proofs.Common.{codes, map, refl, sym, subst, arith}
 use Rattle.serde_json.specs.Data.{array}
 use Rattle.clock_setup.specs.SetupData.{setup_data}
 use Rattle.clock_scan.specs.Reading.{items_of, Reads}
-use Rattle.clock_replays.specs.ReplayData.{script_data, closing_data, found_replay}
+use Rattle.clock_replays.specs.ReplayData.{script_data, closing_data}
+use Rattle.clock_replays.specs.inside.ReplayData.{found_replay}
 use Rattle.clock_replays.proofs.ReplayDataLaws.{member_added}
 use Rattle.clock_replays.proofs.scanned_replay.FoundReplay.read_member.Goals as goal
 

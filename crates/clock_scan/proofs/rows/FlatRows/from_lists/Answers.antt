@@ -1,6 +1,7 @@
 use Rattle.std.proofs.Common.{◌≡◌, get_or, ◌∷◌, ◌++◌, [], List, ℕ, length, take, refl, sym, ap, ◌∙◌}
 use Rattle.std.proofs.lemmas.List.{take_more}
-use Rattle.clock_scan.specs.Rows.{cut, numbers_in}
+use Rattle.clock_scan.specs.Rows.{cut}
+use Rattle.clock_scan.specs.inside.Rows.{numbers_in}
 use Rattle.clock_scan.proofs.RowSteps.{no_rows, one_more}
 use Rattle.clock_scan.proofs.rows.FlatRows.from_lists.Goals as goal
 

@@ -1,5 +1,6 @@
 use Rattle.std.proofs.Common.{◌≡◌, length, take}
-use Rattle.clock_scan.specs.Rows.{cut, numbers_in}
+use Rattle.clock_scan.specs.Rows.{cut}
+use Rattle.clock_scan.specs.inside.Rows.{numbers_in}
 use Rattle.clock_scan.proofs.rows.FlatRows.from_lists.Given as goal
 
 -- the lists so far are the rows

@@ -1,8 +1,10 @@
 use Rattle.std.proofs.Common.{◌≡◌, ◌∷◌, ◌++◌, [], ◌+◌, ◌-◌, length, map, sym, ap, subst, ◌∙◌, arith}
 use Rattle.std.proofs.lemmas.List.{length-append}
 use Rattle.json.specs.Token.{Token}
-use Rattle.clock_scan.specs.Reading.{numbers, HasItems, Reads}
-use Rattle.clock_scan.specs.Rows.{cut, numbers_in}
+use Rattle.clock_scan.specs.Reading.{numbers, Reads}
+use Rattle.clock_scan.specs.inside.Reading.{HasItems}
+use Rattle.clock_scan.specs.Rows.{cut}
+use Rattle.clock_scan.specs.inside.Rows.{numbers_in}
 use Rattle.clock_scan.proofs.Steps.{items_start, items_end, items_push_next}
 use Rattle.clock_scan.proofs.RowSteps.{no_rows, one_more}
 use Rattle.clock_scan.proofs.scan.Scan.flat_rows.Goals as goal

@@ -1,6 +1,8 @@
 use Rattle.std.proofs.Common.{◌≡◌, length, map, ◌≤◌}
-use Rattle.clock_scan.specs.Reading.{numbers, HasItems}
-use Rattle.clock_scan.specs.Rows.{cut, numbers_in}
+use Rattle.clock_scan.specs.Reading.{numbers}
+use Rattle.clock_scan.specs.inside.Reading.{HasItems}
+use Rattle.clock_scan.specs.Rows.{cut}
+use Rattle.clock_scan.specs.inside.Rows.{numbers_in}
 use Rattle.clock_scan.proofs.scan.Scan.flat_rows.Given as goal
 
 abbrev pub invariant-items : goal.invariant-items

@@ -15,12 +15,12 @@ items-preserved c =
     let l = c.items in
     let row = l.invariant.0 in
     let same : c.closes_array.new.self ≡ l.self = grind arith in
-    let reads : Reads 0 l.self (whole c.in-Some.next) c.number.new.self = subst (λ ts. Reads 0 ts (whole c.in-Some.next) c.number.new.self)
+    let reads : Reads 0 l.self (whole c.in-Some.next) c.short_number.new.self = subst (λ ts. Reads 0 ts (whole c.in-Some.next) c.short_number.new.self)
     same c.in-Some.ensures.value in (
       row ++ c.in-Some.next ∷ [],
       c.in_ok-push.ensures.items ∙ ap (λ known. known ++ c.in-Some.next ∷ []) l.invariant.1
           ∙ append_assoc c.args.list.now.items row (c.in-Some.next ∷ []),
-      items_push_next 0 whole c.opens_array.new.self l.self c.number.new.self row c.in-Some.next l.invariant.2 reads,
+      items_push_next 0 whole c.opens_array.new.self l.self c.short_number.new.self row c.in-Some.next l.invariant.2 reads,
       omega (arith, l.invariant.3, c.in-Some.ensures.shorter, ap length same),
     )
 

@@ -1,5 +1,6 @@
 use Rattle.std.proofs.Common.{◌≡◌, ◌++◌, ℕ, List, length, map, ◌≤◌}
-use Rattle.clock_scan.specs.Reading.{whole, HasItems}
+use Rattle.clock_scan.specs.Reading.{whole}
+use Rattle.clock_scan.specs.inside.Reading.{HasItems}
 use Rattle.clock_scan.proofs.scan.Scan.numbers_behind.Given as goal
 
 abbrev pub invariant-items : goal.invariant-items

@@ -1,6 +1,7 @@
 use Rattle.std.proofs.Common.{◌≡◌, ◌∷◌, ◌++◌, [], length, map, sym, ap, ◌∙◌, subst, arith}
 use Rattle.json.specs.Token.{Token}
-use Rattle.clock_scan.specs.Reading.{numbers, HasItems, Reads}
+use Rattle.clock_scan.specs.Reading.{numbers, Reads}
+use Rattle.clock_scan.specs.inside.Reading.{HasItems}
 use Rattle.clock_scan.proofs.Steps.{items_start, items_end, items_push_next}
 use Rattle.clock_scan.proofs.scan.Scan.rows.Goals as goal
 

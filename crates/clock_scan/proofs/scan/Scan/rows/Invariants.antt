@@ -1,5 +1,6 @@
 use Rattle.std.proofs.Common.{length, map, ◌≤◌}
-use Rattle.clock_scan.specs.Reading.{numbers, HasItems}
+use Rattle.clock_scan.specs.Reading.{numbers}
+use Rattle.clock_scan.specs.inside.Reading.{HasItems}
 use Rattle.clock_scan.proofs.scan.Scan.rows.Given as goal
 
 abbrev pub invariant-items : goal.invariant-items

@@ -1,0 +1,59 @@
+-- What an accepted closing tells.
+use Rattle.std.proofs.Common.{◌≡◌, ℕ, List, ◌∷◌, ◌++◌, Bool, true, false, not, ◌==◌, refl}
+use Rattle.std.specs.Prelude.{Option, Some, None, Ok, Err, length}
+use Rattle.clock_terms.specs.declared.increments.Increments.{Increments}
+use Rattle.clock_terms.specs.Limits.{PublicSetup}
+use Rattle.clock_terms.specs.Increments.{are_increments}
+use Rattle.clock_terms.specs.Faults.{first_fault, unless}
+use Rattle.clock_order.specs.declared.ties.Tie.{Tie}
+use Rattle.clock_order.specs.declared.ties.TieFault.{TieFault}
+use Rattle.clock_order.specs.Ties.{tie_fault}
+use Rattle.clock_posting.specs.Posting.{price_limit_fault}
+use Rattle.clock_closing.specs.declared.fault.CloseFault.{CloseFault}
+use Rattle.clock_closing.specs.declared.fault.CloseFault.TheVariants as close_faults
+use Rattle.clock_closing.specs.Faults.{fault_check}
+use Rattle.clock_closing.specs.OpenRound.{OpenRound}
+use Rattle.clock_closing.specs.Closing.{ClosedRound, outcome, closed_round, closing}
+
+-- the auction goes on, the round is the current one, increment and tie numbers have no fault, no next clock price is too high, and the round is that
+-- of the outcome
+pub record IsClosing (setup : PublicSetup) (now : OpenRound) (round : ℕ) (increments : Increments) (ties : List Tie) (closed : ClosedRound) : Type 0 where
+  pub going : now.standing.ended ≡ false
+  pub current : (round == now.standing.round) ≡ true
+  pub within : are_increments (length setup.products) increments ≡ true
+  pub fair : tie_fault (length now.holdings) (length setup.products) ties ≡ None
+  pub possible : price_limit_fault setup.products (outcome setup.products now ties).grid (outcome setup.products now ties).posted increments ≡ None
+  pub made : closed ≡ closed_round setup now increments (outcome setup.products now ties)
+
+-- the checks of a closing
+abbrev pub checks : Bool → Bool → Bool → ℕ → Option TieFault → Option ℕ → List (CloseFault × Bool)
+checks ended current within round tied limit =
+    (close_faults.Ended, not ended) ∷ (close_faults.WrongRound round, current) ∷ (close_faults.Increment, within)
+    ∷ fault_check close_faults.Tie tied ++ fault_check close_faults.PriceLimit limit
+
+abbrev Passed : Bool → Bool → Bool → Option TieFault → Option ℕ → ClosedRound → ClosedRound → Type 0
+Passed ended current within tied limit made closed =
+    (ended ≡ false) × (current ≡ true) × (within ≡ true) × (tied ≡ None) × (limit ≡ None) × (closed ≡ made)
+
+passed : (ended current within : Bool) (round : ℕ) (tied : Option TieFault) (limit : Option ℕ) (made closed : ClosedRound) →
+    unless (first_fault (checks ended current within round tied limit)) made ≡ Ok closed → Passed ended current within tied limit made closed
+passed true current within round tied limit made closed e = let bad : Err close_faults.Ended ≡ Ok closed = e in cc
+passed false false within round tied limit made closed e = let bad : Err (close_faults.WrongRound round) ≡ Ok closed = e in cc
+passed false true false round tied limit made closed e = let bad : Err close_faults.Increment ≡ Ok closed = e in cc
+passed false true true round (Some fault) limit made closed e = let bad : Err (close_faults.Tie fault) ≡ Ok closed = e in cc
+passed false true true round None (Some product) made closed e = let bad : Err (close_faults.PriceLimit product) ≡ Ok closed = e in cc
+passed false true true round None None made closed e = (refl, refl, refl, refl, refl, cc)
+
+-- an accepted closing passes all checks
+pub closing_passed : (setup : PublicSetup) (now : OpenRound) (round : ℕ) (increments : Increments) (ties : List Tie) (closed : ClosedRound) →
+    closing setup now round increments ties ≡ Ok closed → IsClosing setup now round increments ties closed
+closing_passed setup now round increments ties closed e =
+    let tests : Passed now.standing.ended (round == now.standing.round) (are_increments (length setup.products) increments)
+    (tie_fault (length now.holdings) (length setup.products) ties)
+    (price_limit_fault setup.products (outcome setup.products now ties).grid (outcome setup.products now ties).posted increments)
+    (closed_round setup now increments (outcome setup.products now ties)) closed
+    = passed now.standing.ended (round == now.standing.round) (are_increments (length setup.products) increments) now.standing.round
+    (tie_fault (length now.holdings) (length setup.products) ties)
+    (price_limit_fault setup.products (outcome setup.products now ties).grid (outcome setup.products now ties).posted increments)
+    (closed_round setup now increments (outcome setup.products now ties)) closed e in
+    record { going = tests.0; current = tests.1; within = tests.2; fair = tests.3; possible = tests.4; made = tests.5 }

@@ -1,0 +1,11 @@
+pub mod Closings
+pub mod Joined
+pub mod OpenRounds
+pub mod Sums
+pub mod Eligible
+pub mod Outcomes
+pub mod Filled
+pub mod Posts
+mod Cells
+mod SlipDemands
+mod Steps

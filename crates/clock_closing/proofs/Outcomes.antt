@@ -1,0 +1,239 @@
+-- What the closing of an open round leaves is in order.
+use Rattle.std.proofs.Common.{◌≡◌, ℕ, zero, suc, ◌+◌, ◌<◌, ◌≤◌, ◌⊎◌, inl, inr, List, Bool, true, false, cond}
+use Rattle.std.proofs.Common.{refl, ap, sym, subst, ◌∙◌, arith, get_or, length, All, eq-eqb, ne_eqb}
+use Rattle.std.specs.Prelude.{None, Any, map, sum_by, IsPermutation}
+use Rattle.std.specs.List.{range_with_len}
+use Rattle.std.proofs.lemmas.List.{length-map}
+use Rattle.std.proofs.lemmas.List.FromFn.{length-map-range_with_len}
+use Rattle.std.proofs.lemmas.List.Elements.{All-weaker}
+use Rattle.clock_money.specs.Price.{highest_price}
+use Rattle.clock_terms.specs.declared.setup.Product.{Product}
+use Rattle.clock_terms.specs.declared.prices.PricePair.{PricePair}
+use Rattle.clock_terms.specs.declared.increments.Increments.{Increments}
+use Rattle.clock_terms.specs.Limits.{PublicSetup, IsProduct, supply_of}
+use Rattle.clock_terms.specs.Increments.{AreIncrements}
+use Rattle.clock_terms.specs.Prices.{prices_at, opening_prices}
+use Rattle.clock_terms.specs.Demands.{total_of}
+use Rattle.clock_order.specs.declared.ties.Tie.{Tie}
+use Rattle.clock_processor.specs.Board.{IsWithinEligibility}
+use Rattle.clock_processor.proofs.Supply.{settled_supplied}
+use Rattle.clock_posting.specs.declared.sheet.Line.{Line}
+use Rattle.clock_posting.specs.Posting.{has_ended, opening_posted, first_at_limit, next_price, next_prices, price_limit_fault}
+use Rattle.clock_posting.specs.Posting.{sheet_line, lines_of_round, next_pair, IsBetween, IsRising, IsAtClock}
+use Rattle.clock_posting.specs.PostedPrice.{posted_prices, IsPriceRange, IsWithinPrices}
+use Rattle.clock_posting.proofs.Ranges.{all_in_range}
+use Rattle.clock_posting.proofs.Laws.{lines_between, lines_show, opening_between, opening_dollars}
+use Rattle.clock_posting.proofs.Posted.{length-posted_prices, posted_between, posted_dollars, some_at_clock}
+use Rattle.clock_closing.specs.Standing.{Standing}
+use Rattle.clock_closing.specs.OpenRound.{OpenRound, HasSoundPrices, IsOpen}
+use Rattle.clock_closing.specs.inside.OpenRound.{eligibilities_of, grid_of}
+use Rattle.clock_closing.specs.Closing.{Outcome, requests, first_outcome, later_outcome, outcome, settlement}
+use Rattle.clock_closing.proofs.OpenRounds.{all_requests, asked_within, settled_within, priced_requests}
+use Rattle.clock_order.proofs.InOrder.{processing_permutes}
+use Rattle.clock_posting.proofs.NextPrices.{next_rising, next_within}
+use Rattle.clock_closing.proofs.Sums.{sum_by-lt_sum_by, length-le-sum_by, sum_by-map, map-get_or}
+use Rattle.std.proofs.lemmas.List.Sorted.{All-permutation}
+
+-- the outcome of the first round, and of a later one
+pub outcome-first : (products : List Product) (now : OpenRound) (ties : List Tie) → now.standing.round ≡ 1 →
+    outcome products now ties ≡ first_outcome products now
+outcome-first products now ties e =
+    ap (λ first. cond first (first_outcome products now) (later_outcome products now (requests now ties))) (eq-eqb now.standing.round 1 e)
+
+pub outcome-later : (products : List Product) (now : OpenRound) (ties : List Tie) → 2 ≤ now.standing.round →
+    outcome products now ties ≡ later_outcome products now (requests now ties)
+outcome-later products now ties later =
+    ap (λ first. cond first (first_outcome products now) (later_outcome products now (requests now ties)))
+    (ne_eqb now.standing.round 1 (λ e. omega (arith, e, later)))
+
+-- the first round or a later one
+pub first_or_later : (round : ℕ) → 1 ≤ round → (round ≡ 1) ⊎ (2 ≤ round)
+first_or_later zero some = absurd (omega (arith, some))
+first_or_later (suc zero) some = inl refl
+first_or_later (suc (suc n)) some = inr (omega arith)
+
+-- posted prices of a round: one for each product, from 1 on, between start and clock price
+pub record ArePosted (products : List Product) (prices : List PricePair) (grid : List (List ℕ)) (posted : List ℕ) (increments : Increments) : Type 0 where
+  pub lengths : length posted ≡ length products
+  pub positive : All (λ price. 1 ≤ price) posted
+  pub between : All IsBetween (lines_of_round products prices grid posted increments)
+
+module _ (setup : PublicSetup) (now : OpenRound) (sound : IsOpen setup now) (ties : List Tie) (first : 1 ≤ now.standing.round) where
+  later_list : IsPermutation (all_requests setup now sound) (requests now ties)
+  later_list = processing_permutes ties (all_requests setup now sound)
+
+  -- every bidder's demands are within its eligibility
+  pub outcome_within : IsWithinEligibility setup.products (eligibilities_of now) (outcome setup.products now ties).grid
+  outcome_within = elim (first_or_later now.standing.round first)
+      as (λ _. IsWithinEligibility setup.products (eligibilities_of now) (outcome setup.products now ties).grid) [
+        | inl one ↦ subst (λ (result : Outcome). IsWithinEligibility setup.products (eligibilities_of now) result.grid)
+            (sym (outcome-first setup.products now ties one)) (asked_within setup now sound one)
+        | inr later ↦ subst (λ (result : Outcome). IsWithinEligibility setup.products (eligibilities_of now) result.grid)
+            (sym (outcome-later setup.products now ties later)) (settled_within setup now sound later (requests now ties) later_list)
+      ]
+
+  priced_list : 2 ≤ now.standing.round → All (IsWithinPrices now.standing.prices) (requests now ties)
+  priced_list later = All-permutation (IsWithinPrices now.standing.prices) (all_requests setup now sound) (requests now ties) later_list
+      (priced_requests setup now sound later)
+
+  first_posted : (increments : Increments) → now.standing.prices ≡ opening_prices setup.products →
+      ArePosted setup.products now.standing.prices (first_outcome setup.products now).grid (first_outcome setup.products now).posted increments
+  first_posted increments opening = record {
+    lengths = length-map setup.products _;
+    positive = opening_dollars setup.products sound.limits;
+    between =
+        subst (λ (prices : List PricePair). All IsBetween (lines_of_round setup.products prices (first_outcome setup.products now).grid
+        (opening_posted setup.products) increments)) (sym opening)
+        (lines_between setup.products (opening_prices setup.products) (first_outcome setup.products now).grid (opening_posted setup.products) increments
+        (opening_between setup.products (first_outcome setup.products now).grid increments));
+  }
+
+  later_posted : (increments : Increments) → 2 ≤ now.standing.round →
+      ArePosted setup.products now.standing.prices (later_outcome setup.products now (requests now ties)).grid
+      (later_outcome setup.products now (requests now ties)).posted increments
+  later_posted increments later =
+      let end = settlement setup.products now (requests now ties) in
+      let prices = now.standing.prices in
+      record {
+        lengths = length-posted_prices setup.products prices (requests now ties) end.left end.grid;
+        positive = posted_dollars setup.products prices (requests now ties) end.left end.grid sound.priced.pairs sound.priced.ordered
+            (priced_list later) sound.priced.positive;
+        between = lines_between setup.products prices end.grid (posted_prices setup.products prices (requests now ties) end.left end.grid) increments
+            (λ k lt. posted_between setup.products prices (requests now ties) end.left end.grid increments k sound.priced.pairs sound.priced.ordered
+            (priced_list later) lt);
+      }
+
+  -- the prices posted
+  pub outcome_posted : (increments : Increments) → (now.standing.round ≡ 1 → now.standing.prices ≡ opening_prices setup.products) →
+      ArePosted setup.products now.standing.prices (outcome setup.products now ties).grid (outcome setup.products now ties).posted increments
+  outcome_posted increments opening = elim (first_or_later now.standing.round first)
+      as (λ _. ArePosted setup.products now.standing.prices (outcome setup.products now ties).grid (outcome setup.products now ties).posted increments) [
+        | inl one ↦ subst (λ (result : Outcome). ArePosted setup.products now.standing.prices result.grid result.posted increments)
+            (sym (outcome-first setup.products now ties one)) (first_posted increments (opening one))
+        | inr later ↦ subst (λ (result : Outcome). ArePosted setup.products now.standing.prices result.grid result.posted increments)
+            (sym (outcome-later setup.products now ties later)) (later_posted increments later)
+      ]
+
+  -- in a later round that goes on, some price has risen to the clock price
+  pub outcome_risen : (increments : Increments) → 2 ≤ now.standing.round → has_ended setup.products (outcome setup.products now ties).grid ≡ false →
+      Any IsAtClock (lines_of_round setup.products now.standing.prices (outcome setup.products now ties).grid
+      (outcome setup.products now ties).posted increments)
+  outcome_risen increments later going =
+      let end = settlement setup.products now (requests now ties) in
+      let same = outcome-later setup.products now ties later in
+      subst (λ (result : Outcome). Any IsAtClock (lines_of_round setup.products now.standing.prices result.grid result.posted increments)) (sym same)
+      (some_at_clock setup.products now.standing.prices (requests now ties) end.left end.grid increments
+      (ap (λ (result : Outcome). has_ended setup.products result.grid) (sym same) ∙ going))
+
+  -- a product that was sold out stays so
+  pub outcome_supplied : 2 ≤ now.standing.round → (product : ℕ) → supply_of setup.products product ≤ total_of (grid_of now) product →
+      supply_of setup.products product ≤ total_of (outcome setup.products now ties).grid product
+  outcome_supplied later product sold =
+      omega (
+        arith,
+        sold,
+        settled_supplied setup.products (eligibilities_of now) (requests now ties) (grid_of now) product,
+        ap (λ (result : Outcome). total_of result.grid product) (outcome-later setup.products now ties later),
+      )
+
+-- the next prices of a round that goes on
+module _ (products : List Product) (now : Standing) (priced : HasSoundPrices products now) (grid : List (List ℕ)) (posted : List ℕ)
+    (increments : Increments) (are : ArePosted products now.prices grid posted increments)
+    (limits : All IsProduct products) (rise : AreIncrements (length products) increments) (going : has_ended products grid ≡ false)
+    (possible : price_limit_fault products grid posted increments ≡ None)
+    (risen : 2 ≤ now.round → Any IsAtClock (lines_of_round products now.prices grid posted increments)) where
+  lines : List Line
+  lines = lines_of_round products now.prices grid posted increments
+
+  no_limit : (ended : Bool) → ended ≡ false → cond ended None (first_at_limit products increments posted) ≡ None →
+      first_at_limit products increments posted ≡ None
+  no_limit true e h = cc
+  no_limit false e h = h
+
+  limit : first_at_limit products increments posted ≡ None
+  limit = no_limit (has_ended products grid) going possible
+
+  shown : next_prices products increments posted ≡ map next_pair (lines_of_round products now.prices grid posted increments)
+  shown = lines_show products now.prices grid posted increments going
+
+  rising : All IsRising (map next_pair (lines_of_round products now.prices grid posted increments))
+  rising = subst (All IsRising) shown (next_rising products increments posted limit rise limits are.lengths are.positive)
+
+  -- the sum of start prices, taken from the lines
+  starts : sum_by (λ (line : Line). line.start) (lines_of_round products now.prices grid posted increments)
+      ≡ sum_by (λ (pair : PricePair). pair.start) now.prices
+  starts =
+      sum_by-map (λ (line : Line). line.start) (sheet_line products now.prices grid posted increments) (range_with_len 0 (length products))
+      ∙ sym (sum_by-map (λ (pair : PricePair). pair.start) (prices_at now.prices) (range_with_len 0 (length products)))
+      ∙ ap (sum_by (λ (pair : PricePair). pair.start)) (map-get_or now.prices (length products) (record { start = 0; clock = 0 }) priced.pairs)
+
+  above_start : 2 ≤ now.round → All (λ (line : Line). line.start < line.clock) (lines_of_round products now.prices grid posted increments)
+  above_start later =
+      all_in_range (λ (line : Line). line.start < line.clock) (sheet_line products now.prices grid posted increments) (length products)
+      (λ k lt. priced.rising later k (record { start = 0; clock = 0 }) (omega (arith, lt, priced.pairs)))
+
+  sum_rises : 2 ≤ now.round → sum_by (λ (pair : PricePair). pair.start) now.prices < sum_by (λ (line : Line). line.posted)
+      (lines_of_round products now.prices grid posted increments)
+  sum_rises later =
+      let here = risen later in
+      let long : here.0 < length (lines_of_round products now.prices grid posted increments) = here.2 in
+      let line : Line = get_or (lines_of_round products now.prices grid posted increments) here.0 here.1 in
+      let at : line.posted ≡ line.clock = subst (λ (one : Line). one.posted ≡ one.clock) (sym here.3) here.4 in
+      let above : line.start < line.clock = above_start later here.0 here.1 long in
+      let less = sum_by-lt_sum_by (λ (line : Line). line.start) (λ (line : Line). line.posted)
+      (lines_of_round products now.prices grid posted increments) here.0 here.1 long
+      (All-weaker IsBetween (λ (line : Line). line.start ≤ line.posted) (λ line is. is.from_start)
+      (lines_of_round products now.prices grid posted increments) are.between)
+      (omega (arith, at, above)) in
+      omega (arith, less, starts)
+
+  long_lines : length (map next_pair (lines_of_round products now.prices grid posted increments)) ≡ length products
+  long_lines = length-map (lines_of_round products now.prices grid posted increments) next_pair
+      ∙ length-map-range_with_len (sheet_line products now.prices grid posted increments) 0 (length products)
+
+  next_starts : sum_by (λ (pair : PricePair). pair.start) (map next_pair (lines_of_round products now.prices grid posted increments))
+      ≡ sum_by (λ (line : Line). line.posted) (lines_of_round products now.prices grid posted increments)
+  next_starts = sum_by-map (λ (pair : PricePair). pair.start) next_pair (lines_of_round products now.prices grid posted increments)
+
+  next_some : All (λ (pair : PricePair). 1 ≤ pair.start) (map next_pair (lines_of_round products now.prices grid posted increments))
+  next_some = subst (All (λ (pair : PricePair). 1 ≤ pair.start)) shown
+      (all_in_range (λ (pair : PricePair). 1 ≤ pair.start) (next_price products increments posted) (length products)
+      (λ k lt. are.positive k 0 (omega (arith, lt, are.lengths))))
+
+  next_highest : All (λ (pair : PricePair). pair.start ≤ highest_price) (map next_pair (lines_of_round products now.prices grid posted increments))
+  next_highest =
+      let clocks : All (λ (pair : PricePair). pair.clock ≤ highest_price) (map next_pair (lines_of_round products now.prices grid posted increments)) =
+      subst (All (λ (pair : PricePair). pair.clock ≤ highest_price)) shown (next_within products increments posted limit) in
+      λ k d lt. omega (arith, rising k d lt, clocks k d lt)
+
+  bounded_next : (next : ℕ) → next ≡ now.round + 1 → 1 ≤ now.round →
+      next + length products ≤ 2 + sum_by (λ (pair : PricePair). pair.start) (map next_pair (lines_of_round products now.prices grid posted increments))
+  bounded_next next is some = elim (first_or_later now.round some) as (λ _. next + length products
+      ≤ 2 + sum_by (λ (pair : PricePair). pair.start) (map next_pair (lines_of_round products now.prices grid posted increments))) [
+        | inl one ↦ omega (
+          arith,
+          is,
+          one,
+          long_lines,
+          length-le-sum_by (λ (pair : PricePair). pair.start)
+              (map next_pair (lines_of_round products now.prices grid posted increments)) next_some,
+        )
+        | inr later ↦ omega (arith, is, priced.bounded later, next_starts, sum_rises later)
+      ]
+
+  -- they are in order again
+  pub priced_next : (standing : Standing) → standing.round ≡ now.round + 1 →
+      standing.prices ≡ map next_pair (lines_of_round products now.prices grid posted increments) → 1 ≤ now.round → HasSoundPrices products standing
+  priced_next standing number prices some =
+      let P = λ (list : List PricePair). HasSoundPrices products (record { ended = standing.ended; round = standing.round; prices = list }) in
+      subst P (sym prices)
+      (record {
+        numbered = omega (arith, number);
+        pairs = long_lines;
+        ordered = All-weaker IsRising IsPriceRange (λ pair is. omega (arith, is))
+            (map next_pair (lines_of_round products now.prices grid posted increments)) rising;
+        positive = next_some;
+        highest = next_highest;
+        rising = λ _. rising;
+        bounded = λ _. bounded_next standing.round number some;
+      })

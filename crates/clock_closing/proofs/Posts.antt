@@ -1,0 +1,109 @@
+-- What is posted is the round of the closing.
+use Rattle.std.proofs.Common.{◌≡◌, ℕ, List, Bool, true, false, ◌==◌, refl, ap, sym, subst, ◌∙◌, eq-eqb}
+use Rattle.std.specs.Prelude.{◌↔◌, Option, Some, None, Result, Ok, length, map, IsNone, IsTrue, IfSome}
+use Rattle.std.proofs.lemmas.Option.{none-some}
+use Rattle.clock_terms.specs.declared.prices.PricePair.{PricePair}
+use Rattle.clock_terms.specs.declared.increments.Increments.{Increments}
+use Rattle.clock_terms.specs.Limits.{PublicSetup}
+use Rattle.clock_terms.specs.Increments.{are_increments}
+use Rattle.clock_terms.specs.Faults.{first_fault, unless, IsFirstFault, IsRefusal}
+use Rattle.clock_order.specs.declared.ties.Tie.{Tie}
+use Rattle.clock_order.specs.declared.ties.TieFault.{TieFault}
+use Rattle.clock_order.specs.declared.ties.TieFault.TheVariants as tie_faults
+use Rattle.clock_order.specs.Ties.{tie_fault}
+use Rattle.clock_posting.specs.declared.sheet.RoundSheet.{RoundSheet}
+use Rattle.clock_posting.specs.declared.posting.Posting.{Posting}
+use Rattle.clock_posting.specs.declared.fault.PostFault.{PostFault}
+use Rattle.clock_posting.specs.declared.fault.PostFault.TheVariants as post_faults
+use Rattle.clock_posting.specs.Posting.{IsPosting, IsConsistent, next_pair, post_fault, price_limit_fault}
+use Rattle.clock_closing.specs.declared.slip.Slip.{Slip}
+use Rattle.clock_closing.specs.declared.fault.CloseFault.{CloseFault}
+use Rattle.clock_closing.specs.declared.fault.CloseFault.TheVariants as close_faults
+use Rattle.clock_closing.specs.declared.results.Results.{Results}
+use Rattle.clock_closing.specs.Faults.{fault_check}
+use Rattle.clock_closing.specs.ToldFaults.{told_of_post, told_of_tie}
+use Rattle.clock_closing.specs.OpenRound.{OpenRound}
+use Rattle.clock_closing.specs.Closing.{ClosedRound, Outcome, outcome, closed_round, closing, slips_after}
+use Rattle.clock_closing.specs.Results.{AreConsistent, demands_of}
+use Rattle.clock_closing.specs.inside.Postings.{AreResults}
+use Rattle.clock_closing.proofs.Closings.{checks}
+
+module _ (setup : PublicSetup) (now : OpenRound) (increments : Increments) (result : Outcome) where
+  -- the closing by what is found of the next clock prices
+  abbrev by_limit : Option ℕ → Result ClosedRound CloseFault
+  by_limit limit = unless (first_fault (fault_check close_faults.PriceLimit limit)) (closed_round setup now increments result)
+
+  -- the results of a posting and its slips
+  module _ (posting : Posting) (results : Results)
+      (is : IsPosting now.standing.round setup.products now.standing.prices result.grid result.posted increments posting)
+      (laws : IsConsistent posting) (sheet : results.closed.sheet ≡ posting.sheet) (next : results.next ≡ posting.next)
+      (slips : results.closed.slips ≡ slips_after setup now result.grid) (demands : results.demands ≡ demands_of results.closed.slips) where
+    consistent : AreConsistent results
+    consistent =
+        let end : IsNone results.next ↔ IsTrue posting.sheet.ended =
+        subst (λ (prices : Option (List PricePair)). IsNone prices ↔ IsTrue posting.sheet.ended) (sym next) laws.end in
+        let shown : IfSome results.next (λ list. list ≡ map next_pair posting.sheet.lines) =
+        subst (λ (prices : Option (List PricePair)). IfSome prices (λ list. list ≡ map next_pair posting.sheet.lines)) (sym next) laws.shown in
+        record {
+          end = subst (λ (one : RoundSheet). IsNone results.next ↔ IsTrue one.ended) (sym sheet) end;
+          shown = subst (λ (one : RoundSheet). IfSome results.next (λ list. list ≡ map next_pair one.lines)) (sym sheet) shown;
+          demands = demands;
+        }
+
+    pub posts : AreResults (by_limit (price_limit_fault setup.products result.grid result.posted increments)) results
+    posts = record {
+      closes =
+          ap by_limit is.possible
+          ∙ ap (λ (one : RoundSheet). let round : ClosedRound = record { sheet = one; slips = slips_after setup now result.grid } in
+          let done : Result ClosedRound CloseFault = Ok round in done) (sym (sheet ∙ is.sheet))
+          ∙ ap (λ (list : List Slip). let round : ClosedRound = record { sheet = results.closed.sheet; slips = list } in
+          let done : Result ClosedRound CloseFault = Ok round in done) (sym slips);
+      consistent = consistent;
+    }
+
+  -- a refusal of the posting
+  posts_told : (limit : Option ℕ) (fault : PostFault) → IsFirstFault post_faults.NoMemory (post_fault limit) fault →
+      IsRefusal close_faults.NoMemory (by_limit limit) (told_of_post fault)
+  posts_told None (post_faults.PriceLimit product) is = λ other. absurd (none-some _ (is (λ same. cc)))
+  posts_told (Some limit) (post_faults.PriceLimit product) is = λ other. let same : Some (post_faults.PriceLimit limit)
+      ≡ Some (post_faults.PriceLimit product) = is (λ same. cc) in cc
+  posts_told limit post_faults.NoMemory is = λ other. absurd (other refl)
+
+  pub posts-refused : (fault : PostFault) → IsFirstFault post_faults.NoMemory
+      (post_fault (price_limit_fault setup.products result.grid result.posted increments)) fault →
+      IsRefusal close_faults.NoMemory (by_limit (price_limit_fault setup.products result.grid result.posted increments)) (told_of_post fault)
+  posts-refused fault is = posts_told (price_limit_fault setup.products result.grid result.posted increments) fault is
+
+module _ (setup : PublicSetup) (now : OpenRound) (round : ℕ) (increments : Increments) (ties : List Tie) where
+  abbrev by_tests : Bool → Bool → Bool → Option TieFault → Result ClosedRound CloseFault
+  by_tests ended current within tied =
+      unless (first_fault (checks ended current within now.standing.round tied
+      (price_limit_fault setup.products (outcome setup.products now ties).grid (outcome setup.products now ties).posted increments)))
+      (closed_round setup now increments (outcome setup.products now ties))
+
+  -- a closing that passes the checks before the tie numbers
+  closes-tied : now.standing.ended ≡ false → round ≡ now.standing.round → are_increments (length setup.products) increments ≡ true → (tied : Option TieFault) →
+      tie_fault (length now.holdings) (length setup.products) ties ≡ tied → closing setup now round increments ties ≡ by_tests false true true tied
+  closes-tied going current within tied found =
+      ap (λ ended. by_tests ended (round == now.standing.round) (are_increments (length setup.products) increments)
+      (tie_fault (length now.holdings) (length setup.products) ties)) going
+      ∙ ap (λ same. by_tests false same (are_increments (length setup.products) increments) (tie_fault (length now.holdings) (length setup.products) ties))
+      (eq-eqb round now.standing.round current)
+      ∙ ap (λ good. by_tests false true good (tie_fault (length now.holdings) (length setup.products) ties)) within
+      ∙ ap (by_tests false true true) found
+
+  -- with good tie numbers
+  pub closes-fair : now.standing.ended ≡ false → round ≡ now.standing.round → are_increments (length setup.products) increments ≡ true →
+      tie_fault (length now.holdings) (length setup.products) ties ≡ None →
+      closing setup now round increments ties ≡ by_tests false true true None
+  closes-fair going current within fair = closes-tied going current within None fair
+
+  -- with a fault of the tie numbers
+  pub closes-tie_fault : (fault : TieFault) → now.standing.ended ≡ false → round ≡ now.standing.round →
+      are_increments (length setup.products) increments ≡ true →
+      IsFirstFault tie_faults.NoMemory (tie_fault (length now.holdings) (length setup.products) ties) fault →
+      IsRefusal close_faults.NoMemory (closing setup now round increments ties) (told_of_tie fault)
+  closes-tie_fault (tie_faults.Range i) going current within is = λ other. closes-tied going current within (Some (tie_faults.Range i)) (is (λ same. cc))
+  closes-tie_fault (tie_faults.Repeated i) going current within is = λ other. closes-tied going current within (Some (tie_faults.Repeated i)) (is (λ same. cc))
+  closes-tie_fault tie_faults.TooMany going current within is = λ other. closes-tied going current within (Some tie_faults.TooMany) (is (λ same. cc))
+  closes-tie_fault tie_faults.NoMemory going current within is = λ other. absurd (other refl)

@@ -1,0 +1,54 @@
+-- What the steps of a closing ask for, of a round as its type keeps it.
+use Rattle.std.proofs.Common.{◌≡◌, ℕ, ◌<◌, List, true, refl, ap, subst, ◌∙◌, arith, length, All}
+use Rattle.std.specs.Prelude.{None}
+use Rattle.std.proofs.lemmas.List.{length-map}
+use Rattle.clock_terms.specs.declared.increments.Increments.{Increments}
+use Rattle.clock_terms.specs.Limits.{IsRow, public_setup}
+use Rattle.clock_terms.specs.Increments.{are_increments}
+use Rattle.clock_terms.specs.Demands.{IsGrid}
+use Rattle.clock_bids.specs.Sheet.{asked_demands}
+use Rattle.clock_bids.proofs.Good.{good_sheet_chains, good_sheet_row}
+use Rattle.clock_order.specs.declared.ties.Tie.{Tie}
+use Rattle.clock_order.specs.Ties.{tie_fault}
+use Rattle.clock_processor.specs.Board.{IsWithinEligibility}
+use Rattle.clock_closing.specs.Holdings.{Holding}
+use Rattle.clock_closing.specs.OpenRound.{OpenRoundFields, IsOpenRound, holding_at, bids_at}
+use Rattle.clock_closing.specs.inside.OpenRound.{eligibilities_of}
+use Rattle.clock_closing.specs.Closing.{closing}
+use Rattle.clock_closing.specs.inside.Postings.{posted_now}
+use Rattle.clock_closing.proofs.Posts.{closes-fair}
+
+-- what the type keeps, of the value that contracts see
+pub is_open : {inside round : OpenRoundFields} → inside ≡ round → IsOpenRound inside → IsOpenRound round
+is_open same is = subst IsOpenRound same is
+
+module _ (round : OpenRoundFields) (is : IsOpenRound round) where
+  module _ (bidder : ℕ) (lt : bidder < length round.setup.bidders) where
+    in_range : bidder < length round.before.holdings
+    in_range = omega (arith, lt, is.holdings)
+
+    -- each bid in force is for a product
+    pub known_bids : All (λ bid. bid.product < length round.setup.products) (bids_at round.before.sheets bidder)
+    known_bids =
+        (good_sheet_chains (public_setup round.setup) round.before.standing.round round.before.standing.prices
+        (holding_at round.before.holdings bidder) (bids_at round.before.sheets bidder) (is.sound.good bidder in_range)).known
+
+    -- they ask for a row of demands
+    pub asked_row : IsRow round.setup.products (asked_demands (length round.setup.products) (bids_at round.before.sheets bidder))
+    asked_row = good_sheet_row (public_setup round.setup) round.before.standing.round round.before.standing.prices
+        (holding_at round.before.holdings bidder) (bids_at round.before.sheets bidder) (is.sound.good bidder in_range)
+
+  -- demands within the eligibilities are a grid
+  pub within_grid : (grid : List (List ℕ)) → IsWithinEligibility round.setup.products (eligibilities_of round.before) grid →
+      IsGrid (length round.setup.bidders) (length round.setup.products) grid
+  within_grid grid within =
+      (within.bidders ∙ length-map round.before.holdings (λ (held : Holding). held.eligibility) ∙ is.holdings, λ k d lt. (within.rows k d lt).each)
+
+  -- with good increments and tie numbers the closing comes to what is posted
+  pub closes-good : (increments : Increments) (ties : List Tie) → are_increments (length round.setup.products) increments ≡ true →
+      tie_fault (length round.setup.bidders) (length round.setup.products) ties ≡ None →
+      closing (public_setup round.setup) round.before round.before.standing.round increments ties
+      ≡ posted_now (public_setup round.setup) round.before increments ties
+  closes-good increments ties within fair =
+      closes-fair (public_setup round.setup) round.before round.before.standing.round increments ties is.going refl within
+      (ap (λ (n : ℕ). tie_fault n (length round.setup.products) ties) is.holdings ∙ fair)

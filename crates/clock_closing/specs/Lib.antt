@@ -1,0 +1,10 @@
+pub mod Standing
+pub mod Holdings
+pub mod Faults
+pub mod Blocks
+pub mod OpenRound
+pub mod Closing
+pub mod Prepared
+pub mod Results
+pub mod ToldFaults
+pub mod inside

@@ -1,0 +1,88 @@
+-- A round that is not closed yet, as it stands before its closing.
+--     OpenRound      where the auction stands, what each bidder holds, and the sheets in force
+--     holding_at holdings bidder, bids_at sheets bidder      what is held, and the bids in force
+--     IsWithinLimits products holding      a bidder's demands are within the caps and its eligibility
+--     HasSoundPrices products now      the prices of a round that goes on
+--     IsOpen setup now      an open round is in order
+--     OpenRoundFields, IsOpenRound      what contracts see of an open round, and what its type keeps
+use Rattle.std.specs.Prelude.{◌≡◌, ℕ, ◌+◌, ◌<◌, ◌≤◌, List, [], false, Option, None, unwrap_or, length, sum_by, slice_index_or, All}
+use Rattle.std.specs.List.{range_with_len}
+use Rattle.clock_money.specs.Price.{highest_price}
+use Rattle.clock_terms.specs.declared.setup.Product.{Product}
+use Rattle.clock_terms.specs.declared.prices.PricePair.{PricePair}
+use Rattle.clock_terms.specs.Limits.{SetupFields, PublicSetup, public_setup, IsProduct, IsRow, most_products, most_bidders, most_eligibility}
+use Rattle.clock_terms.specs.Prices.{opening_prices}
+use Rattle.clock_terms.specs.Eligibility.{activity}
+use Rattle.clock_bids.specs.declared.sheet.Bid.{Bid}
+use Rattle.clock_bids.specs.Sheet.{IsGoodSheet}
+use Rattle.clock_posting.specs.Posting.{IsRising}
+use Rattle.clock_posting.specs.PostedPrice.{IsPriceRange}
+use Rattle.clock_closing.specs.Standing.{Standing}
+use Rattle.clock_closing.specs.Holdings.{Holding}
+
+-- what a closing goes by: where the auction stands, what each bidder holds, and each bidder's sheet in force
+pub record OpenRound : Type 0 where
+  pub standing : Standing
+  pub holdings : List Holding
+  pub sheets : List (Option (List Bid))
+
+-- the number of a bidder, for each bidder
+abbrev pub bidder_numbers : OpenRound → List ℕ
+bidder_numbers now = range_with_len 0 (length now.holdings)
+
+-- what a bidder holds
+abbrev pub holding_at : List Holding → ℕ → Holding
+holding_at holdings bidder = slice_index_or holdings bidder (record { eligibility = 0; demands = [] })
+
+-- a bidder's bids in force; no sheet is the same as an empty one
+abbrev pub bids_at : List (Option (List Bid)) → ℕ → List Bid
+bids_at sheets bidder = unwrap_or (slice_index_or sheets bidder None) []
+
+-- a demand for each product, none above its cap, and the activity within the eligibility, which is at most 10^12
+pub record IsWithinLimits (products : List Product) (holding : Holding) : Type 0 where
+  pub row : IsRow products holding.demands
+  pub within : activity products holding.demands ≤ holding.eligibility
+  pub most : holding.eligibility ≤ most_eligibility
+
+-- a round from 1 on, a pair of prices for each product, in order, at start prices from 1 to 10^12, and from round 2 on the clock price above the
+-- start price; from then on some start price has risen in each round, so that the rounds are bounded
+pub record HasSoundPrices (products : List Product) (now : Standing) : Type 0 where
+  pub numbered : 1 ≤ now.round
+  pub pairs : length now.prices ≡ length products
+  pub ordered : All IsPriceRange now.prices
+  pub positive : All (λ pair. 1 ≤ pair.start) now.prices
+  pub highest : All (λ pair. pair.start ≤ highest_price) now.prices
+  pub rising : 2 ≤ now.round → All IsRising now.prices
+  pub bounded : 2 ≤ now.round → now.round + length products ≤ 2 + sum_by (λ pair. pair.start) now.prices
+
+-- an open round of a set-up: bidders within their limits, prices in order, and a good sheet of each bidder, as an empty one is
+pub record IsOpen (setup : PublicSetup) (now : OpenRound) : Type 0 where
+  pub limits : All IsProduct setup.products
+  pub few_products : length setup.products ≤ most_products
+  pub few_bidders : length now.holdings ≤ most_bidders
+  pub within : (bidder : ℕ) → bidder < length now.holdings → IsWithinLimits setup.products (holding_at now.holdings bidder)
+  pub priced : HasSoundPrices setup.products now.standing
+  pub good : (bidder : ℕ) → bidder < length now.holdings →
+      IsGoodSheet setup now.standing.round now.standing.prices (holding_at now.holdings bidder) (bids_at now.sheets bidder)
+
+-- a set-up, and a round of its auction before its closing
+pub record OpenRoundFields : Type 0 where
+  pub setup : SetupFields
+  pub before : OpenRound
+
+-- a round that goes on, at these prices, with these holdings and sheets in force
+abbrev pub open_at : ℕ → List PricePair → List Holding → List (Option (List Bid)) → OpenRound
+open_at round prices holdings sheets = record {
+  standing = record { ended = false; round = round; prices = prices };
+  holdings = holdings;
+  sheets = sheets;
+}
+
+-- the auction goes on, its round is in order, there are a holding and a sheet or none for each bidder of the set-up, and the first round is at the
+-- opening prices
+pub record IsOpenRound (round : OpenRoundFields) : Type 0 where
+  pub going : round.before.standing.ended ≡ false
+  pub holdings : length round.before.holdings ≡ length round.setup.bidders
+  pub sheets : length round.before.sheets ≡ length round.setup.bidders
+  pub sound : IsOpen (public_setup round.setup) round.before
+  pub opening : round.before.standing.round ≡ 1 → round.before.standing.prices ≡ opening_prices round.setup.products

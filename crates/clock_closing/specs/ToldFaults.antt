@@ -1,0 +1,18 @@
+-- Which refusal of a closing a fault of a lower part becomes. Want of memory stays want of memory.
+--     told_of_tie fault, told_of_post fault      the refusal that is told
+use Rattle.clock_order.specs.declared.ties.TieFault.{TieFault}
+use Rattle.clock_order.specs.declared.ties.TieFault.TheVariants as tie_faults
+use Rattle.clock_posting.specs.declared.fault.PostFault.{PostFault}
+use Rattle.clock_posting.specs.declared.fault.PostFault.TheVariants as post_faults
+use Rattle.clock_closing.specs.declared.fault.CloseFault.{CloseFault}
+use Rattle.clock_closing.specs.declared.fault.CloseFault.TheVariants as close_faults
+
+-- a fault of the tie numbers
+abbrev pub told_of_tie : TieFault → CloseFault
+told_of_tie tie_faults.NoMemory = close_faults.NoMemory
+told_of_tie fault = close_faults.Tie fault
+
+-- a fault of the posting
+abbrev pub told_of_post : PostFault → CloseFault
+told_of_post post_faults.NoMemory = close_faults.NoMemory
+told_of_post (post_faults.PriceLimit product) = close_faults.PriceLimit product

@@ -1,0 +1,23 @@
+//! The closing of a round: from what stands before it to its sheet, its slips and the prices of the next round.
+//!
+//! An [`OpenRound`] has all that the closing of a round goes by, and [`OpenRound::close`] settles it. What came before is
+//! no matter here: neither earlier rounds, nor who put which sheet when.
+#![tactic(auto)]
+
+mod blocks;
+mod closed_round;
+mod fault;
+mod holdings;
+mod open_round;
+mod prepared;
+mod results;
+mod slip;
+
+pub use blocks::{Blocks, blocks_in, zeros_in};
+pub use closed_round::ClosedRound;
+pub use fault::CloseFault;
+pub use holdings::Holdings;
+pub use open_round::OpenRound;
+pub use prepared::Prepared;
+pub use results::Results;
+pub use slip::{Slip, Slips};

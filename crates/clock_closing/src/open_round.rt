@@ -1,0 +1,159 @@
+ghost use Rattle.std.specs.Prelude.{◌≡◌, ◌≢◌, ◌<◌, None, length, slice_index_or, option_copied, IfOk, IfErr};
+ghost use Rattle.clock_terms.specs.Limits.{public_setup, most_bidders};
+ghost use Rattle.clock_terms.specs.Faults.{IsRefusal};
+ghost use Rattle.clock_terms.specs.Increments.{AreIncrements};
+ghost use Rattle.clock_bids.specs.Holding.{holding_of};
+ghost use Rattle.clock_order.specs.declared.ties.TieFault.TheVariants as tie_faults;
+ghost use Rattle.clock_processor.specs.Board.{IsWithinEligibility};
+ghost use Rattle.clock_closing.specs.declared.fault.CloseFault.TheVariants as close_faults;
+ghost use Rattle.clock_closing.specs.OpenRound.{IsOpenRound, open_at, holding_at, bids_at};
+ghost use Rattle.clock_closing.specs.inside.OpenRound.{eligibilities_of};
+ghost use Rattle.clock_closing.specs.Closing.{closing_now};
+ghost use Rattle.clock_closing.specs.Prepared.{Answers};
+ghost use Rattle.clock_closing.specs.Results.{demands_of};
+ghost use Rattle.clock_closing.specs.inside.Postings.{AreResults, posted_now};
+
+mod first_round;
+mod later_round;
+mod slips;
+
+use crate::fault::CloseFault;
+use crate::holdings::Holdings;
+use crate::prepared::{Prepared, copy_of};
+use crate::results::Results;
+use clock_bids::{Own, Sheet};
+use clock_order::{Tie, Ties};
+use clock_processor::Processor;
+use clock_terms::{Increments, Prices, Setup};
+use std::alloc::Global;
+use std::marker::Model;
+
+/// A round of an auction that goes on, with all that its closing goes by: the set-up, the number of the round and its
+/// prices, what each bidder holds, and the sheets in force (ascending clock auction, the FCC's procedures for Auction 105).
+///
+/// Contracts see the set-up, and where the auction stands, what is held and the sheets.
+#[derive(Drop)]
+pub struct OpenRound<'a> {
+    setup: &'a Setup,
+    round: u64,
+    prices: &'a Prices,
+    holdings: Holdings<'a>,
+    sheets: &'a [Option<Sheet>],
+}
+
+impl<'a> Model for OpenRound<'a> {
+    ghost use Rattle.clock_closing.specs.OpenRound.{OpenRoundFields, IsOpenRound, open_at};
+
+    ghost Value = { OpenRoundFields };
+
+    ghost view = { λ r. record { setup = r.setup.now; before = open_at r.round r.prices.now r.holdings r.sheets.now } };
+
+    ghost invariant = { λ r. IsOpenRound
+        (record { setup = r.setup.now; before = open_at r.round r.prices.now r.holdings r.sheets.now }) };
+}
+
+impl<'a> OpenRound<'a> {
+    /// A round that goes on. There are a pair of prices for each product, and a holding and a sheet or none for each bidder;
+    /// all of them are in order.
+    pub fn new(
+        setup: &'a Setup,
+        round: u64,
+        prices: &'a Prices,
+        holdings: Holdings<'a>,
+        sheets: &'a [Option<Sheet>],
+    ) -> OpenRound<'a>
+        requires { IsOpenRound (record { setup = setup.now; before = open_at round prices.now holdings sheets.now }) }
+        ensures { result ≡ record { setup = setup.now; before = open_at round prices.now holdings.entry sheets.now } }
+    {
+        OpenRound {
+            setup,
+            round,
+            prices,
+            holdings,
+            sheets,
+        }
+    }
+
+    /// Closes the round: settles it by a processor, and makes its sheet, its slips and the next prices. An increment is a
+    /// percentage from 1 to 50; there is one for all products, or one for each.
+    ///
+    /// The refusals, in this order: an increment is not 1 to 50, or the list has not one for each product; the tie numbers
+    /// have a fault; the auction would go on, and a product can have no next clock price. Want of memory may come in place
+    /// of any answer.
+    pub fn close<P: Processor>(
+        &self,
+        alloc: Global,
+        processor: &P,
+        increments: &Increments,
+        ties: &[Tie],
+    ) -> Result<Prepared, CloseFault>
+        ensures asked { IfOk result (λ prepared. (prepared.round ≡ self.now.before.standing.round)
+            × (prepared.increments ≡ increments.now) × (prepared.ties ≡ ties.now)) }
+        ensures answer { Answers (closing_now self.now increments.now ties.now) result }
+        ensures memory { result ≢ Err (CloseFault.Tie tie_faults.NoMemory) }
+    {
+        let setup = self.setup;
+        if !increments.are_within(setup.products.as_slice().len()) {
+            return Err(CloseFault::Increment);
+        }
+        let copy = copy_of(alloc, increments)?;
+        let ties = Ties::new(alloc, setup, ties)?;
+        let results = self.results(alloc, processor, increments, &ties)?;
+        Ok(Prepared {
+            round: self.round,
+            increments: copy,
+            ties,
+            results,
+        })
+    }
+
+    /// What the round comes to.
+    fn results<P: Processor>(
+        &self,
+        alloc: Global,
+        processor: &P,
+        increments: &Increments,
+        ties: &Ties,
+    ) -> Result<Results, CloseFault>
+        requires { AreIncrements (length self.now.setup.products) increments.now }
+        ensures ok { IfOk result (AreResults
+            (posted_now (public_setup self.now.setup) self.now.before increments.now ties.now)) }
+        ensures err { IfErr result (IsRefusal close_faults.NoMemory
+            (posted_now (public_setup self.now.setup) self.now.before increments.now ties.now)) }
+    {
+        if self.round == 1 {
+            self.first_results(alloc, increments)
+        } else {
+            self.later_results(alloc, processor, increments, ties)
+        }
+    }
+
+    /// What a bidder holds.
+    fn own(&self, bidder: u32) -> Own<'_>
+        requires { bidder < length self.now.setup.bidders }
+        ensures round { result.round ≡ self.now.before.standing.round }
+        ensures held { holding_of result ≡ holding_at self.now.before.holdings bidder }
+    {
+        Own {
+            round: self.round,
+            eligibility: self.holdings.eligibility(bidder),
+            demands: self.holdings.demands(bidder),
+        }
+    }
+
+    /// A bidder's sheet in force, if any.
+    fn sheet(&self, bidder: u32) -> Option<&'a Sheet>
+        requires { bidder < length self.now.setup.bidders }
+        ensures { option_copied result ≡ slice_index_or self.now.before.sheets bidder None }
+    {
+        self.sheets[bidder as usize].as_ref()
+    }
+
+    /// How many bidders there are.
+    fn bidders(&self) -> u32
+        ensures each { result ≡ length self.now.setup.bidders }
+        ensures held { result ≡ length self.now.before.holdings }
+    {
+        self.holdings.count()
+    }
+}

@@ -1,0 +1,63 @@
+//! The closing of the first round: the sheets' quantities stand as demands.
+
+ghost use Rattle.std.specs.Prelude.{◌≡◌, ◌<◌, length, IfOk, IfErr};
+ghost use Rattle.clock_terms.specs.Limits.{IsRow, public_setup};
+ghost use Rattle.clock_terms.specs.Faults.{IsRefusal};
+ghost use Rattle.clock_terms.specs.Increments.{AreIncrements};
+ghost use Rattle.clock_bids.specs.Sheet as sheets;
+ghost use Rattle.clock_closing.specs.declared.fault.CloseFault.TheVariants as close_faults;
+ghost use Rattle.clock_closing.specs.OpenRound.{bids_at};
+ghost use Rattle.clock_closing.specs.Closing as rules;
+ghost use Rattle.clock_closing.specs.inside.Postings.{AreResults, posted};
+
+use crate::fault::CloseFault;
+use crate::open_round::OpenRound;
+use crate::results::Results;
+use clock_bids::{asked_demands, bids_of};
+use clock_device::NoMemory;
+use clock_posting::post_first;
+use clock_terms::{Amounts, Grid, Increments};
+use std::alloc::Global;
+
+impl OpenRound<'_> {
+    /// What the first round comes to.
+    pub(super) fn first_results(
+        &self,
+        alloc: Global,
+        increments: &Increments,
+    ) -> Result<Results, CloseFault>
+        requires first { self.now.before.standing.round ≡ 1 }
+        requires increments { AreIncrements (length self.now.setup.products) increments.now }
+        ensures ok { IfOk result (AreResults (posted (public_setup self.now.setup) self.now.before increments.now
+            (rules.first_outcome self.now.setup.products self.now.before))) }
+        ensures err { IfErr result (IsRefusal close_faults.NoMemory
+            (posted (public_setup self.now.setup) self.now.before increments.now
+            (rules.first_outcome self.now.setup.products self.now.before))) }
+    {
+        let grid = self.asked_grid(alloc)?;
+        let posting = post_first(alloc, self.setup, &grid, increments)?;
+        Ok(self.with_slips(alloc, posting, grid)?)
+    }
+
+    /// The demands that the sheets in force ask for.
+    fn asked_grid(&self, alloc: Global) -> Result<Grid, NoMemory>
+        ensures { IfOk result (λ grid. grid ≡ rules.asked_grid self.now.setup.products self.now.before) }
+    {
+        let mut grid = Grid::zero(alloc, self.setup)?;
+        for bidder in 0..self.bidders() {
+            let row = self.asked(alloc, bidder)?;
+            grid.set_row(bidder as usize, row.as_slice());
+        }
+        Ok(grid)
+    }
+
+    /// The demands that a bidder's sheet in force asks for. No sheet is the same as an empty one.
+    pub(super) fn asked(&self, alloc: Global, bidder: u32) -> Result<Amounts, NoMemory>
+        requires { bidder < length self.now.setup.bidders }
+        ensures asked { IfOk result (λ row. row ≡ sheets.asked_demands
+            (length self.now.setup.products) (bids_at self.now.before.sheets bidder)) }
+        ensures row { IfOk result (IsRow self.now.setup.products) }
+    {
+        asked_demands(alloc, self.setup, bids_of(self.sheet(bidder)))
+    }
+}

@@ -1,0 +1,113 @@
+//! The closing of a later round: all bidders' requests are settled in their order.
+
+ghost use Rattle.std.specs.Prelude.{◌≡◌, ◌≤◌, length, flat_map, AllPairs, IfOk, IfErr};
+ghost use Rattle.clock_terms.specs.Limits.{public_setup};
+ghost use Rattle.clock_terms.specs.Faults.{IsRefusal};
+ghost use Rattle.clock_terms.specs.Increments.{AreIncrements};
+ghost use Rattle.clock_terms.specs.Requests.{AreApart};
+ghost use Rattle.clock_processor.specs.Board.{IsWithinEligibility};
+ghost use Rattle.clock_closing.specs.declared.fault.CloseFault.TheVariants as close_faults;
+ghost use Rattle.clock_closing.specs.OpenRound.{bidder_numbers};
+ghost use Rattle.clock_closing.specs.inside.OpenRound.{eligibilities_of};
+ghost use Rattle.clock_closing.specs.Closing as rules;
+ghost use Rattle.clock_closing.specs.inside.Postings.{AreRequests, AreResults, posted};
+
+use crate::fault::CloseFault;
+use crate::open_round::OpenRound;
+use crate::results::Results;
+use clock_bids::{Changes, changes_of};
+use clock_device::NoMemory;
+use clock_order::{Ties, ordered};
+use clock_posting::post;
+use clock_processor::{Board, Processor, Settled};
+use clock_terms::Increments;
+use std::alloc::Global;
+
+impl OpenRound<'_> {
+    /// What a later round comes to.
+    pub(super) fn later_results<P: Processor>(
+        &self,
+        alloc: Global,
+        processor: &P,
+        increments: &Increments,
+        ties: &Ties,
+    ) -> Result<Results, CloseFault>
+        requires later { 2 ≤ self.now.before.standing.round }
+        requires increments { AreIncrements (length self.now.setup.products) increments.now }
+        ensures ok { IfOk result (AreResults (posted (public_setup self.now.setup) self.now.before increments.now
+            (rules.later_outcome self.now.setup.products self.now.before
+            (rules.requests self.now.before ties.now)))) }
+        ensures err { IfErr result (IsRefusal close_faults.NoMemory
+            (posted (public_setup self.now.setup) self.now.before increments.now
+            (rules.later_outcome self.now.setup.products self.now.before
+            (rules.requests self.now.before ties.now)))) }
+    {
+        let requests = self.requests(alloc, ties)?;
+        let settled = self.settled(alloc, processor, &requests)?;
+        let posting = post(
+            alloc,
+            self.setup,
+            self.round,
+            self.prices,
+            &requests,
+            &settled,
+            increments,
+        )?;
+        let grid = settled.into_grid();
+        Ok(self.with_slips(alloc, posting, grid)?)
+    }
+
+    /// All bidders' requests in the order of processing.
+    fn requests(&self, alloc: Global, ties: &Ties) -> Result<Changes, NoMemory>
+        requires { 2 ≤ self.now.before.standing.round }
+        ensures ordered { IfOk result (λ list. list ≡ rules.requests self.now.before ties.now) }
+        ensures all { IfOk result (AreRequests self.now.before) }
+    {
+        let changes = self.changes(alloc)?;
+        ordered(alloc, &changes, ties)
+    }
+
+    /// All bidders' requests, one bidder's after another's.
+    fn changes(&self, alloc: Global) -> Result<Changes, NoMemory>
+        requires { 2 ≤ self.now.before.standing.round }
+        ensures all { IfOk result (λ changes. changes ≡ flat_map
+            (rules.requests_of self.now.before) (bidder_numbers self.now.before)) }
+        ensures apart { IfOk result (AllPairs AreApart) }
+    {
+        let mut changes = Changes::new(alloc);
+        for bidder in 0..self.bidders() {
+            let own = changes_of(
+                alloc,
+                self.setup,
+                self.prices,
+                self.own(bidder),
+                bidder,
+                self.sheet(bidder),
+            )?;
+            changes.extend_from_slice(own.as_slice())?;
+        }
+        Ok(changes)
+    }
+
+    /// The demands that the settling of these requests leaves, and what is left of each.
+    fn settled<P: Processor>(
+        &self,
+        alloc: Global,
+        processor: &P,
+        requests: &Changes,
+    ) -> Result<Settled, NoMemory>
+        requires later { 2 ≤ self.now.before.standing.round }
+        requires requests { AreRequests self.now.before requests.now }
+        ensures grid { IfOk result (λ settled. settled.grid ≡
+            (rules.settlement self.now.setup.products self.now.before requests.now).grid) }
+        ensures left { IfOk result (λ settled. settled.left ≡
+            (rules.settlement self.now.setup.products self.now.before requests.now).left) }
+        ensures within { IfOk result (λ settled. IsWithinEligibility self.now.setup.products
+            (eligibilities_of self.now.before) settled.grid) }
+        ensures each { IfOk result (λ settled. length settled.left ≡ length requests.now) }
+    {
+        let eligibilities = self.holdings.eligibilities(alloc)?;
+        let board = Board::new(alloc, self.setup, &eligibilities, self.holdings.grid())?;
+        processor.settle(alloc, board, requests)
+    }
+}

@@ -1,0 +1,86 @@
+//! The slips of a round.
+
+ghost use Rattle.std.specs.Prelude.{◌≡◌, ◌≤◌, ◌<◌, length, IfOk};
+ghost use Rattle.clock_terms.specs.Limits.{IsRow, public_setup};
+ghost use Rattle.clock_terms.specs.Eligibility as eligibilities;
+ghost use Rattle.clock_processor.specs.Board.{IsWithinEligibility};
+ghost use Rattle.clock_closing.specs.OpenRound.{holding_at};
+ghost use Rattle.clock_closing.specs.inside.OpenRound.{eligibilities_of};
+ghost use Rattle.clock_closing.specs.Closing as rules;
+ghost use Rattle.clock_closing.specs.Results.{demands_of};
+
+use crate::blocks::Blocks;
+use crate::closed_round::ClosedRound;
+use crate::open_round::OpenRound;
+use crate::results::Results;
+use crate::slip::{Slip, Slips};
+use clock_device::NoMemory;
+use clock_posting::Posting;
+use clock_terms::{Grid, activity, next_eligibility};
+use std::alloc::Global;
+
+impl OpenRound<'_> {
+    /// What a posting and these demands make of the round.
+    pub(super) fn with_slips(
+        &self,
+        alloc: Global,
+        posting: Posting,
+        demands: Grid,
+    ) -> Result<Results, NoMemory>
+        requires { IsWithinEligibility self.now.setup.products (eligibilities_of self.now.before) demands }
+        ensures sheet { IfOk result (λ results. results.closed.sheet ≡ posting.sheet) }
+        ensures next { IfOk result (λ results. results.next ≡ posting.next) }
+        ensures slips { IfOk result (λ results. results.closed.slips ≡
+            rules.slips_after (public_setup self.now.setup) self.now.before demands) }
+        ensures demands { IfOk result (λ results. results.demands ≡ demands_of results.closed.slips) }
+    {
+        let slips = self.slips(alloc, &demands)?;
+        let Posting { sheet, next } = posting;
+        Ok(Results {
+            closed: ClosedRound { sheet, slips },
+            next,
+            demands,
+        })
+    }
+
+    /// Each bidder's slip after a round with these demands.
+    fn slips(&self, alloc: Global, demands: &Grid) -> Result<Slips, NoMemory>
+        requires { IsWithinEligibility self.now.setup.products (eligibilities_of self.now.before) demands.now }
+        ensures slips { IfOk result (λ slips. slips ≡
+            rules.slips_after (public_setup self.now.setup) self.now.before demands.now) }
+        ensures demands { IfOk result (λ slips. demands.now ≡ demands_of slips) }
+    {
+        let mut cells = Vec::new(alloc);
+        let mut slips = Slips::new(alloc);
+        for bidder in 0..self.bidders() {
+            slips.push(self.slip_after(alloc, &mut cells, bidder, demands.row(bidder as usize))?)?;
+        }
+        Ok(slips)
+    }
+
+    /// A bidder's slip after a round that leaves it these demands. The list is lent for their cells.
+    fn slip_after(
+        &self,
+        alloc: Global,
+        cells: &mut Vec<u16>,
+        bidder: u32,
+        demands: &[u64],
+    ) -> Result<Slip, NoMemory>
+        requires bidder { bidder < length self.now.setup.bidders }
+        requires row { IsRow self.now.setup.products demands.now }
+        requires within { eligibilities.activity self.now.setup.products demands.now ≤
+            (holding_at self.now.before.holdings bidder).eligibility }
+        ensures { IfOk result (λ slip. slip ≡ rules.slip_after (public_setup self.now.setup)
+            self.now.before.standing.round (holding_at self.now.before.holdings bidder).eligibility demands.now) }
+    {
+        let setup = self.setup;
+        let used = activity(setup, demands);
+        let held = self.holdings.eligibility(bidder);
+        Ok(Slip {
+            round: self.round,
+            activity: used,
+            eligibility: next_eligibility(held, used, setup.requirement),
+            demands: Blocks::of(alloc, cells, demands)?,
+        })
+    }
+}

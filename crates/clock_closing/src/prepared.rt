@@ -1,0 +1,59 @@
+ghost use Rattle.std.specs.Prelude.{◌≡◌, IfOk};
+ghost use Rattle.clock_closing.specs.Results.{AreConsistent};
+
+use crate::results::Results;
+use clock_device::NoMemory;
+use clock_order::Ties;
+use clock_terms::Increments;
+use std::alloc::Global;
+use std::marker::Model;
+
+/// A closing that is accepted and not made yet.
+///
+/// Contracts see the round, the increments and the tie numbers that were asked for, and the round
+/// that the closing adds.
+#[derive(Drop)]
+pub struct Prepared {
+    pub(crate) round: u64,
+    pub(crate) increments: Increments,
+    pub(crate) ties: Ties,
+    pub(crate) results: Results,
+}
+
+impl Model for Prepared {
+    ghost use Rattle.clock_closing.specs.Results.{AreConsistent};
+    ghost use Rattle.clock_closing.specs.Prepared.{PreparedClosing};
+
+    ghost Value = { PreparedClosing };
+
+    ghost view = { λ p. record { round = p.round; increments = p.increments; ties = p.ties; closed = p.results.closed } };
+
+    ghost invariant = { λ p. AreConsistent p.results };
+}
+
+impl Prepared {
+    /// Whether the auction ends with this closing.
+    pub fn ended(&self) -> bool
+        ensures { result ≡ self.now.closed.sheet.ended }
+    {
+        self.results.closed.sheet.ended
+    }
+
+    /// What the closing leaves. It takes no memory.
+    pub fn into_results(self) -> Results
+        ensures closed { result.closed ≡ self.closed }
+        ensures consistent { AreConsistent result }
+    {
+        self.results
+    }
+}
+
+/// Equal increments.
+pub(crate) fn copy_of(alloc: Global, increments: &Increments) -> Result<Increments, NoMemory>
+    ensures { IfOk result (λ copy. copy ≡ increments.now) }
+{
+    match increments {
+        Increments::Single(increment) => Ok(Increments::Single(*increment)),
+        Increments::PerProduct(list) => Ok(Increments::PerProduct(list.copy(alloc)?)),
+    }
+}

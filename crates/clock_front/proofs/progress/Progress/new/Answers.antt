@@ -1,7 +1,0 @@
-use Rattle.std.proofs.Common.{refl}
-use Rattle.clock_front.specs.Framing.{known}
-use Rattle.clock_front.proofs.progress.Progress.new.Goals as goal
-
-pub returns : goal.returns
-unfolding known
-returns c = record { is = refl; within = tt }

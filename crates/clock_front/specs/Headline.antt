@@ -1,0 +1,79 @@
+-- The headline: what is proved of a whole run of request texts, and of a run of pieces over connections.
+-- In plain words: in a run each reply is the right one after the texts before it. And it is private: the reply to a bidder's own
+-- request is the answer to what this bidder sees, and every other run, of another set-up and with other rivals, in which a
+-- bidder with an equal row sees the same gives the same bytes. At the end the auction is sound.
+-- This is not vacuous: `reply` is a function that is computed, so exactly one reply is right, and `answer` has the public set-up,
+-- the bidder's row, its view and its text as its only arguments; no rival occurs among them. What a view holds is to be read with
+-- care: own requests, and of what others do only accepted closings, each as the round's sheet and the bidder's own slip (Views).
+-- It does not speak of time, of tokens on the wire, of what rivals tell each other, nor of requests that found no memory.
+--     SeesTheSame one two ..      a bidder sees the same in two runs
+--     IsPrivate setup bidder past text one      a reply depends on what the bidder sees alone
+--     IsRight setup past text one      a reply is the right one, and private to each bidder whose own request it answers
+--     Runs setup past texts answers end      each reply is the right one, or there was no memory and the text is struck out
+--     IsRun setup texts answers      what a run from the beginning answers, and what it has made of the auction
+--     IsEventRun setup events replies      the requests of the events are run, and each reply has the number of its request
+use Rattle.std.specs.Prelude.{◌≡◌, ◌<◌, ◌⊎◌, ℕ, true, List, [], ◌∷◌, length, map}
+use Rattle.clock_terms.specs.Limits.{SetupFields, IsSetup, public_setup}
+use Rattle.clock_house.specs.History.{history, bidder_at}
+use Rattle.clock_house.specs.Laws.{IsSound}
+use Rattle.clock_http.specs.Replies.{Answer}
+use Rattle.clock_front.specs.declared.events.Event.{Event}
+use Rattle.clock_front.specs.declared.events.EventReply.{EventReply}
+use Rattle.clock_front.specs.Fronts.{reply, commands_of, IsStruckOut}
+use Rattle.clock_front.specs.Views.{is_own, text_view, answer}
+use Rattle.clock_front.specs.Pieces.{requests_of}
+
+-- a bidder sees the same in two runs, of which the set-ups may differ in all but the public part and its row
+pub record SeesTheSame (one two : SetupFields) (bidder other_number : ℕ) (past other_past : List (List ℕ)) : Type 0 where
+  pub public : public_setup one ≡ public_setup two
+  pub row : bidder_at one bidder ≡ bidder_at two other_number
+  pub view : text_view one bidder past ≡ text_view two other_number other_past
+
+-- the reply to an own request is the answer to the bidder's view, and every other run in which a bidder sees the same gives it too
+pub record IsPrivate (setup : SetupFields) (bidder : ℕ) (past : List (List ℕ)) (text : List ℕ) (one : Answer) : Type 0 where
+  pub from_view : one ≡ answer (public_setup setup) (bidder_at setup bidder) (text_view setup bidder past) text
+  pub elsewhere : (other : SetupFields) (other_number : ℕ) (other_past : List (List ℕ)) → IsSetup other → other_number < length other.bidders
+      → SeesTheSame setup other bidder other_number past other_past → one ≡ reply other other_past text
+
+-- the right reply after the texts of the past, private to each bidder whose own request it answers
+pub record IsRight (setup : SetupFields) (past : List (List ℕ)) (text : List ℕ) (one : Answer) : Type 0 where
+  pub is : one ≡ reply setup past text
+  pub private : (bidder : ℕ) → bidder < length setup.bidders → is_own (bidder_at setup bidder) text ≡ true → IsPrivate setup bidder past text one
+
+-- one reply for each text, in order: that of want of memory, and then the text is struck out, and was not refused at its head
+-- or length; or the right one after the texts that were replied to before it. At the end the texts that were replied to stand, the newest first
+abbrev pub Runs : SetupFields → List (List ℕ) → List (List ℕ) → List Answer → List (List ℕ) → Type 0
+Runs setup past [] [] end = end ≡ past
+Runs setup past [] (one ∷ answers) end = ⊥
+Runs setup past (text ∷ texts) [] end = ⊥
+Runs setup past (text ∷ texts) (one ∷ answers) end =
+    (IsStruckOut text one × Runs setup past texts answers end)
+    ⊎ (IsRight setup past text one × Runs setup (text ∷ past) texts answers end)
+
+-- the texts that were replied to, the replies, and the auction that these texts have made: bidders within their limits,
+-- prices in order, and no product that was sold out comes free again
+pub record IsRun (setup : SetupFields) (texts : List (List ℕ)) (answers : List Answer) : Type 0 where
+  pub end : List (List ℕ)
+  pub runs : Runs setup [] texts answers end
+  pub sound : IsSound setup (history setup (commands_of setup end))
+
+-- the number of each request's connection
+abbrev pub numbers_of_requests : List (ℕ × List ℕ) → List ℕ
+numbers_of_requests requests = map (λ request. request.0) requests
+
+-- the text of each request
+abbrev pub texts_of : List (ℕ × List ℕ) → List (List ℕ)
+texts_of requests = map (λ request. request.1) requests
+
+-- the number of the connection that each reply is for
+abbrev pub numbers_of : List EventReply → List ℕ
+numbers_of replies = map (λ one. one.number) replies
+
+-- the replies without these numbers
+abbrev pub answers_of : List EventReply → List Answer
+answers_of replies = map (λ one. one.reply) replies
+
+-- the replies are a run over the texts of the requests that the events are, in the order in which these are complete
+pub record IsEventRun (setup : SetupFields) (events : List Event) (replies : List EventReply) : Type 0 where
+  pub numbers : numbers_of replies ≡ numbers_of_requests (requests_of events)
+  pub run : IsRun setup (texts_of (requests_of events)) (answers_of replies)

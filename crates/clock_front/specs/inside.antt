@@ -1,0 +1,12 @@
+-- What only proofs and private functions use: no clause of a public call cites it.
+pub mod Arrivals
+pub mod Askers
+pub mod EventRuns
+pub mod FixedReplies
+pub mod Hubs
+pub mod Private
+pub mod HeldTokens
+pub mod NumberedHubs
+pub mod ShownAsked
+pub mod TokenTable
+pub mod Isolation

@@ -1,0 +1,59 @@
+-- Methods, rounds and replies, computed on small ones.
+use Rattle.std.specs.Prelude.{◌≡◌, List, [], ◌∷◌, ◌++◌, Some, None, true, false, map, codes, refl}
+use Rattle.std.specs.Fmt.{digits}
+use Rattle.clock_http.specs.declared.code.Code.TheVariants.{Done, Method, Token}
+use Rattle.clock_http.specs.declared.routes.Page.{Page}
+use Rattle.clock_http.specs.declared.routes.Page.TheVariants.{Status, Products, Sheet, Account, Bids, Slip, Close, Results}
+use Rattle.clock_http.specs.Replies.{reply_bytes}
+use Rattle.clock_http.specs.Decimals.{plain_number}
+use Rattle.clock_http.specs.Routes.{has_method, last_segment}
+
+pages : List Page
+pages = Status ∷ Products ∷ Sheet ∷ Account ∷ Bids ∷ Slip ∷ Close ∷ Results ∷ []
+
+all_pages_but_one_are_got : map (λ page. has_method page (codes "GET")) pages ≡ true ∷ true ∷ true ∷ true ∷ true ∷ true ∷ false ∷ true ∷ []
+unfolding pages
+all_pages_but_one_are_got = refl
+
+bids_are_put : map (λ page. has_method page (codes "PUT")) pages ≡ false ∷ false ∷ false ∷ false ∷ true ∷ false ∷ false ∷ false ∷ []
+unfolding pages
+bids_are_put = refl
+
+a_closing_is_posted : map (λ page. has_method page (codes "POST")) pages ≡ false ∷ false ∷ false ∷ false ∷ false ∷ false ∷ true ∷ false ∷ []
+unfolding pages
+a_closing_is_posted = refl
+
+methods_are_told_apart_by_case : map (λ page. has_method page (codes "put")) pages ≡ map (λ _. false) pages
+unfolding pages
+methods_are_told_apart_by_case = refl
+
+no_page_has_another_method : map (λ page. has_method page (codes "HEAD")) pages ≡ map (λ _. false) pages
+unfolding pages
+no_page_has_another_method = refl
+
+rounds_are_named_by_plain_digits :
+    map plain_number (last_segment (codes "/v1/rounds/12") ∷ last_segment (codes "/v1/rounds/0") ∷ last_segment (codes "/v1/me/rounds/18446744073709551615")
+    ∷ codes "18446744073709551616" ∷ codes "01" ∷ codes "+1" ∷ codes "1a" ∷ [])
+    ≡ Some 12 ∷ Some 0 ∷ Some 18446744073709551615 ∷ None ∷ None ∷ None ∷ None ∷ []
+rounds_are_named_by_plain_digits = refl
+
+a_reply_is_its_head_and_page :
+    reply_bytes Done None (codes "{\"accepted\":true,\"bids\":1,\"round\":1}")
+    ≡ codes "HTTP/1.1 200 OK\r\nconnection: close\r\ncontent-length: 36\r\ncontent-type: application/json\r\n"
+    ++ codes "\r\n{\"accepted\":true,\"bids\":1,\"round\":1}"
+unfolding reply_bytes digits
+a_reply_is_its_head_and_page = refl
+
+the_methods_of_a_page_are_told :
+    reply_bytes Method (Some Bids) (codes "{\"code\":\"method\",\"status\":405}")
+    ≡ codes "HTTP/1.1 405 Method Not Allowed\r\nallow: GET, PUT\r\nconnection: close\r\ncontent-length: 30\r\ncontent-type: application/json\r\n"
+    ++ codes "\r\n{\"code\":\"method\",\"status\":405}"
+unfolding reply_bytes digits
+the_methods_of_a_page_are_told = refl
+
+a_token_is_asked_for :
+    reply_bytes Token None (codes "{\"code\":\"token\",\"status\":401}")
+    ≡ codes "HTTP/1.1 401 Unauthorized\r\nconnection: close\r\ncontent-length: 29\r\ncontent-type: application/json\r\n"
+    ++ codes "www-authenticate: Bearer\r\n\r\n{\"code\":\"token\",\"status\":401}"
+unfolding reply_bytes digits
+a_token_is_asked_for = refl

@@ -1,0 +1,11 @@
+pub mod Prefixes
+mod HeadLaws
+mod ScanLaws
+mod DecimalLaws
+mod HeaderLaws
+mod TextLaws
+pub mod ProgressLaws
+pub mod FramedLaws
+mod RouteLaws
+mod ReplyLaws
+mod Examples

@@ -1,0 +1,146 @@
+-- What a text of bytes is when it has come so far: less than a request, a request, or refused.
+--     ended_head bytes      the head that these bytes are, or why they are refused
+--     known text      what is known of a text: nothing but its length, its head while its body still comes, all, or a refusal
+--     advanced known text      what is known of a longer text, by what was known of its beginning
+--     framing text      the request that a text is, a refusal, or that it is incomplete
+--     needs_more text      it is incomplete
+--     IsDecided text      the text is a request or refused, whatever follows
+--     head_in text      the head of a text, also where its body is refused or still to come
+-- The order of the refusals is this server's own. They are looked at only once a head has ended, or where it is too long.
+use Rattle.std.specs.Prelude.{◌≡◌, ℕ, ◌+◌, ◌-◌, Bool, true, false, List, length, take, drop, if◌then◌else◌, ◌==◌, nat_lt, Option, Some, None, Result}
+use Rattle.std.specs.Prelude.{Ok, Err}
+use Rattle.std.specs.List.{before_first}
+use Rattle.httparse.specs.Grammar.{RequestHead}
+use Rattle.clock_http.specs.Scans.{head_length, line_ends, is_loose}
+use Rattle.clock_http.specs.Heads.{head_of}
+use Rattle.clock_http.specs.HeaderLines.{pairs_of, body_length, token_of}
+use Rattle.clock_http.specs.declared.code.Code.{Code}
+use Rattle.clock_http.specs.declared.code.Code.TheVariants.{LongHead, BadHead}
+
+-- the most bytes of a head, its last line end included, and the most header lines of one (own limits)
+abbrev pub head_limit : ℕ
+head_limit = 16384
+
+abbrev pub line_limit : ℕ
+line_limit = 64
+
+abbrev pub or_bad_head : Option RequestHead → Result RequestHead Code
+or_bad_head None = Err BadHead
+or_bad_head (Some head) = Ok head
+
+-- what an ended head is: its line ends are those of the header lines, of the request line and of the empty one
+abbrev pub ended_head : List ℕ → Result RequestHead Code
+ended_head bytes =
+    if nat_lt line_limit (line_ends bytes - 2) then Err LongHead
+    else (if is_loose bytes then Err BadHead else or_bad_head (head_of bytes))
+
+-- what is kept of a head
+pub record Head : Type 0 where
+  pub method : List ℕ
+  pub path : List ℕ
+  pub token : Option (List ℕ)
+
+-- b'?'
+abbrev pub question_mark : ℕ
+question_mark = 63
+
+-- the path is the target up to the first question mark
+abbrev pub path_of_target : List ℕ → List ℕ
+path_of_target target = before_first (λ b. b == question_mark) target
+
+abbrev pub kept : RequestHead → Head
+kept head = record {
+  method = head.method;
+  path = path_of_target head.target;
+  token = token_of (pairs_of head);
+}
+
+-- a head with the length of its body
+abbrev pub and_length : RequestHead → Result ℕ Code → Result (Head × ℕ) Code
+and_length head (Err fault) = Err fault
+and_length head (Ok n) = Ok (kept head, n)
+
+abbrev pub length_read : Result RequestHead Code → Result (Head × ℕ) Code
+length_read (Err fault) = Err fault
+length_read (Ok head) = and_length head (body_length (pairs_of head))
+
+-- what an ended head says of itself and of its body
+abbrev pub head_with_length : List ℕ → Result (Head × ℕ) Code
+head_with_length bytes = length_read (ended_head bytes)
+
+-- ---- what is known of a text so far
+
+-- no head has ended among so many bytes, which are all; a head, its length and its body's, part of which is still to come;
+-- the same with a body that has come; a refusal
+pub data Known : Type 0 where
+  unended : ℕ → Known
+  waiting : Head → ℕ → ℕ → Known
+  complete : Head → ℕ → ℕ → Known
+  refused : Code → Known
+
+-- a head of so many bytes, with its body's length, in a text of so many bytes
+abbrev pub known_with_body : ℕ → Head → ℕ → ℕ → Known
+known_with_body count head n body = if nat_lt count (n + body) then waiting head n body else complete head n body
+
+abbrev pub known_with_head : ℕ → ℕ → Result (Head × ℕ) Code → Known
+known_with_head count n (Err fault) = refused fault
+known_with_head count n (Ok read) = known_with_body count read.0 n read.1
+
+abbrev pub known_with_end : Option ℕ → List ℕ → Known
+known_with_end None text = if nat_lt (length text) head_limit then unended (length text) else refused LongHead
+known_with_end (Some n) text = known_with_head (length text) n (head_with_length (take n text))
+
+-- what is known of a text
+unfoldable pub known : List ℕ → Known
+known text = known_with_end (head_length (take head_limit text)) text
+
+-- what is known of a longer text: a head that has ended is not looked at again, and what is decided stays
+abbrev pub advanced : Known → List ℕ → Known
+advanced (unended n) text = known text
+advanced (waiting head n body) text = known_with_body (length text) head n body
+advanced (complete head n body) text = complete head n body
+advanced (refused fault) text = refused fault
+
+-- ---- what the text is
+
+pub data Framing : Type 0 where
+  incomplete : Framing
+  refusal : Code → Framing
+  whole : Head → List ℕ → Framing
+
+-- what a text is of which this is known; bytes after the body are no part of the request
+abbrev pub framed : Known → List ℕ → Framing
+framed (unended n) text = incomplete
+framed (waiting head n body) text = incomplete
+framed (complete head n body) text = whole head (take body (drop n text))
+framed (refused fault) text = refusal fault
+
+unfoldable pub framing : List ℕ → Framing
+framing text = framed (known text) text
+
+abbrev pub is_incomplete : Framing → Bool
+is_incomplete incomplete = true
+is_incomplete (refusal code) = false
+is_incomplete (whole head body) = false
+
+-- the text is less than a request, and not refused
+abbrev pub needs_more : List ℕ → Bool
+needs_more text = is_incomplete (framing text)
+
+-- the text is decided, whatever follows
+abbrev pub IsDecided : List ℕ → Type 0
+IsDecided text = needs_more text ≡ false
+
+-- ---- whose request a text is, also where its body is refused or cut short
+
+abbrev pub ok_head : Result RequestHead Code → Option Head
+ok_head (Err fault) = None
+ok_head (Ok head) = Some (kept head)
+
+abbrev pub ended_at : Option ℕ → List ℕ → Option Head
+ended_at None text = None
+ended_at (Some n) text = ok_head (ended_head (take n text))
+
+-- the whole head that a text has
+unfoldable pub head_in : List ℕ → Option Head
+head_in text = ended_at (head_length (take head_limit text)) text

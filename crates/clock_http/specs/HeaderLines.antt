@@ -1,0 +1,72 @@
+-- What the header lines of a head say of its body's length and of its sender. Names are compared without regard to case;
+-- a value stands without the spaces and tabs at its ends.
+--     values_of name pairs      the values of the lines of one name, in their order
+--     body_length pairs      how long the body is, or why that can't be told
+--     token_of pairs      what stands behind the word Bearer, in the one line that may have a token
+use Rattle.std.specs.Prelude.{ℕ, Bool, List, [], ◌∷◌, take, drop, map, filter, if◌then◌else◌, ◌==◌, nat_lt, Option, Some, None, Result, Ok, Err, codes}
+use Rattle.std.specs.Char.{to_ascii_lowercase}
+use Rattle.std.specs.Str.Parse.{digits_value}
+use Rattle.httparse.specs.Ascii.{space}
+use Rattle.httparse.specs.Grammar.{RequestHead}
+use Rattle.httparse.specs.Spans.{name_and_value}
+use Rattle.clock_http.specs.Heads.{same_bytes}
+use Rattle.clock_http.specs.Decimals.{is_number}
+use Rattle.clock_http.specs.declared.code.Code.{Code}
+use Rattle.clock_http.specs.declared.code.Code.TheVariants.{Coding, BadLength, LongBody}
+
+-- the most bytes of a body (own limit)
+abbrev pub body_limit : ℕ
+body_limit = 1048576
+
+-- a name and a value for each header line
+abbrev pub Pairs : Type 0
+Pairs = List (List ℕ × List ℕ)
+
+abbrev pub pairs_of : RequestHead → Pairs
+pairs_of head = map name_and_value head.fields
+
+-- the names are the same but for the case of their letters
+abbrev pub is_named : List ℕ → List ℕ × List ℕ → Bool
+is_named name pair = same_bytes (map to_ascii_lowercase pair.0) (map to_ascii_lowercase name)
+
+-- the values of the lines of one name, in their order
+abbrev pub values_of : List ℕ → Pairs → List (List ℕ)
+values_of name pairs = map (λ pair. pair.1) (filter (is_named name) pairs)
+
+-- the number that one or more digits write; without a line it is 0, and two lines are refused also where they are equal
+abbrev pub length_from : List (List ℕ) → Result ℕ Code
+length_from [] = Ok 0
+length_from (value ∷ []) = if is_number value then Ok (digits_value 10 value) else Err BadLength
+length_from (value ∷ (other ∷ more)) = Err BadLength
+
+abbrev pub within_limit : Result ℕ Code → Result ℕ Code
+within_limit (Err code) = Err code
+within_limit (Ok n) = if nat_lt body_limit n then Err LongBody else Ok n
+
+-- no transfer coding is understood, so a line that names one, or none, is refused first
+abbrev pub unless_coded : List (List ℕ) → Result ℕ Code → Result ℕ Code
+unless_coded [] n = n
+unless_coded (value ∷ more) n = Err Coding
+
+-- how long the body is
+abbrev pub body_length : Pairs → Result ℕ Code
+body_length pairs =
+    unless_coded (values_of (codes "transfer-encoding") pairs) (within_limit (length_from (values_of (codes "content-length") pairs)))
+
+abbrev pub skip_spaces : List ℕ → List ℕ
+skip_spaces [] = []
+skip_spaces (b ∷ rest) = if b == space then skip_spaces rest else b ∷ rest
+
+-- what stands behind the word Bearer, in letters of any case, and one or more spaces (RFC 6750, section 2.1)
+abbrev pub bearer : List ℕ → Option (List ℕ)
+bearer value =
+    if same_bytes (map to_ascii_lowercase (take 7 value)) (codes "bearer ") then Some (skip_spaces (drop 7 value)) else None
+
+-- a head has a token only by exactly one line
+abbrev pub token_from : List (List ℕ) → Option (List ℕ)
+token_from [] = None
+token_from (value ∷ []) = bearer value
+token_from (value ∷ (other ∷ more)) = None
+
+abbrev pub token_of : Pairs → Option (List ℕ)
+token_of pairs = token_from (values_of (codes "authorization") pairs)

@@ -1,0 +1,12 @@
+pub mod Codes
+pub mod Scans
+pub mod Heads
+pub mod Decimals
+pub mod HeaderLines
+pub mod Framing
+pub mod FramingLaws
+pub mod Shown
+pub mod Routes
+pub mod Replies
+pub mod HeldReply
+pub mod inside

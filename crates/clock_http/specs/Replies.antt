@@ -1,0 +1,46 @@
+-- The bytes of a reply (RFC 9112, sections 4 and 5; RFC 9110 for the header lines). Every line ends with CR LF, and nothing
+-- stands behind the page.
+--     reply_bytes code allowed page      a reply: its status, the methods of the page that was asked for, and its text
+--     Answer      a code and the bytes of its reply
+use Rattle.std.specs.Prelude.{ℕ, List, [], ◌++◌, length, Option, Some, None, codes, decimal}
+use Rattle.std.specs.Option.{unwrap_or}
+use Rattle.http.specs.StatusCode.{reason_phrase}
+use Rattle.clock_http.specs.declared.code.Code.{Code}
+use Rattle.clock_http.specs.declared.code.Code.TheVariants.{Token}
+use Rattle.clock_http.specs.Codes.{status_of}
+use Rattle.clock_http.specs.declared.routes.Page.{Page}
+use Rattle.clock_http.specs.Routes.{methods, methods_line}
+
+-- what is answered
+pub record Answer : Type 0 where
+  pub code : Code
+  pub bytes : List ℕ
+
+-- the words behind the status
+abbrev pub reason_of : Code → List ℕ
+reason_of code = unwrap_or (reason_phrase (status_of code)) []
+
+-- the methods that a page has, where another was asked for
+abbrev pub allow_line : Option Page → List ℕ
+allow_line None = []
+allow_line (Some page) = codes "allow: " ++ (methods_line (methods page) ++ codes "\r\n")
+
+-- a token is asked for
+abbrev pub challenge_line : Code → List ℕ
+challenge_line Token = codes "www-authenticate: Bearer\r\n"
+challenge_line _ = []
+
+-- the status line, with what follows it
+abbrev pub status_line : Code → List ℕ → List ℕ
+status_line code rest =
+    codes "HTTP/1.1 " ++ (decimal (status_of code) ++ (codes " " ++ (reason_of code ++ (codes "\r\n" ++ rest))))
+
+-- the header lines, an empty line and the page
+abbrev pub lines_and_page : Code → Option Page → List ℕ → List ℕ
+lines_and_page code allowed page =
+    allow_line allowed ++ (codes "connection: close\r\ncontent-length: " ++ (decimal (length page)
+    ++ (codes "\r\ncontent-type: application/json\r\n" ++ (challenge_line code ++ codes "\r\n" ++ page))))
+
+-- a whole reply
+unfoldable pub reply_bytes : Code → Option Page → List ℕ → List ℕ
+reply_bytes code allowed page = status_line code (lines_and_page code allowed page)

@@ -1,0 +1,29 @@
+-- What the parts of a head show of its text while they are looked for.
+--     AreLinesOf text name pairs lines      so many lines have a name, and the value of the last one stands there
+--     AreFieldsOf text pairs fields      each name's lines are those among all
+--     shown_read text result      an ended head with its body's length, or why it is refused
+use Rattle.std.specs.Prelude.{◌≡◌, ℕ, List, [], ◌∷◌, codes, length, Result, Ok, Err}
+use Rattle.httparse.specs.Spans.{span_bytes, IsWithin}
+use Rattle.clock_http.specs.declared.code.Code.{Code}
+use Rattle.clock_http.specs.declared.head.EndedHead.{EndedHead}
+use Rattle.clock_http.specs.declared.headers.Lines.{Lines}
+use Rattle.clock_http.specs.declared.headers.Fields.{Fields}
+use Rattle.clock_http.specs.HeaderLines.{Pairs, values_of}
+use Rattle.clock_http.specs.Framing.{Head}
+use Rattle.clock_http.specs.Shown.{shown_ended}
+
+-- so many lines have a name, and the value of the last one stands there
+pub record AreLinesOf (text name : List ℕ) (pairs : Pairs) (lines : Lines) : Type 0 where
+  pub count : lines.count ≡ length (values_of name pairs)
+  pub only : (value : List ℕ) → values_of name pairs ≡ value ∷ [] → span_bytes text lines.value ≡ value
+  pub within : IsWithin (length text) lines.value
+
+-- each name's lines are those among all
+pub record AreFieldsOf (text : List ℕ) (pairs : Pairs) (fields : Fields) : Type 0 where
+  pub coding : AreLinesOf text (codes "transfer-encoding") pairs fields.coding
+  pub length : AreLinesOf text (codes "content-length") pairs fields.length
+  pub authorization : AreLinesOf text (codes "authorization") pairs fields.authorization
+
+abbrev pub shown_read : List ℕ → Result EndedHead Code → Result (Head × ℕ) Code
+shown_read text (Err fault) = Err fault
+shown_read text (Ok head) = Ok (shown_ended text head, head.body)

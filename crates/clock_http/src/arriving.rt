@@ -1,0 +1,164 @@
+ghost use Rattle.std.specs.Prelude.{◌≡◌, ◌+◌, ◌≤◌, ◌++◌, ℕ, List, [], length, take, IfOk, OnOk, OnErr};
+ghost use Rattle.clock_http.specs.Framing.{needs_more};
+ghost use Rattle.clock_http.specs.Shown.{Knows, KnowsOfStart};
+ghost use Rattle.clock_http.specs.inside.Followed.{IsFollowed};
+
+use crate::progress::Progress;
+use clock_device::NoMemory;
+use std::alloc::Global;
+use std::marker::Model;
+
+/// The bytes of a request that have come so far, and what is known of them, so that what came in earlier pieces is not searched
+/// again.
+///
+/// Contracts see the bytes.
+#[derive(Drop)]
+pub struct Arriving {
+    /// The bytes, and behind them zeros, in whose places further ones are written.
+    room: Vec<u8>,
+    count: usize,
+    progress: Progress,
+    /// While the bytes are fewer than this they have a place, more of the body comes, and nothing else is to be known of them.
+    quiet: usize,
+}
+
+impl Model for Arriving {
+    ghost use Rattle.std.specs.Prelude.{ℕ, List, take};
+    ghost use Rattle.clock_http.specs.inside.Followed.{IsFollowed};
+
+    ghost Value = { List ℕ };
+
+    ghost view = { λ a. take a.count a.room.items };
+
+    ghost invariant = { λ a. IsFollowed a.room.items a.count a.progress a.quiet };
+}
+
+/// Makes zeros behind some bytes, up to one byte less than are awaited, as far as there is room for them: no memory is asked
+/// for. Below the length that it answers each byte has a place, and is not the last that is awaited.
+fn make_places(room: &mut Vec<u8>, awaited: usize) -> usize
+    ensures kept { (zeros : List ℕ) × (room.new.items ≡ room.old.items ++ zeros) }
+    ensures placed { result ≤ length room.new.items + 1 }
+    ensures below { result ≤ awaited }
+{
+    let places = room.capacity().min(awaited.saturating_sub(1));
+    if places <= room.len() || room.resize(places, 0).is_err() {
+        return 0;
+    }
+    places + 1
+}
+
+/// What is known of the beginning of a text becomes what is known of the text, which fills its room. It tells whether the text
+/// needs more.
+fn look_on(room: &mut Vec<u8>, progress: &mut Progress, quiet: &mut usize) -> bool
+    requires { KnowsOfStart room.old.items progress.old }
+    ensures kept { take (length room.old.items) room.new.items ≡ room.old.items }
+    ensures followed { IsFollowed room.new.items (length room.old.items) progress.new quiet.new }
+    ensures short { result ≡ needs_more room.old.items }
+{
+    *progress = progress.advance(room.as_slice());
+    *quiet = make_places(room, progress.awaited());
+    progress.needs_more()
+}
+
+/// Makes room for three times as many bytes again, but for none beyond those awaited, where that is more than are to be added.
+fn make_room(room: &mut Vec<u8>, added: usize, awaited: usize) -> Result<(), NoMemory>
+    ensures { room.new.items ≡ room.old.items }
+{
+    let further = awaited
+        .saturating_sub(room.len())
+        .min(room.len().saturating_mul(3));
+    if added < further {
+        room.reserve_exact(further)?;
+    }
+    Ok(())
+}
+
+/// Adds bytes at the end, all of them or none. One byte by itself is no list to be copied.
+fn append(room: &mut Vec<u8>, piece: &[u8]) -> Result<(), NoMemory>
+    ensures ok { OnOk result (room.new.items ≡ room.old.items ++ piece.now) }
+    ensures err { OnErr result (room.new.items ≡ room.old.items) }
+{
+    match piece {
+        [byte] => room.push(*byte)?,
+        _ => room.extend_from_slice(piece)?,
+    }
+    Ok(())
+}
+
+/// Writes bytes in the places of others.
+fn write_at(room: &mut Vec<u8>, place: usize, piece: &[u8])
+    requires { place + length piece.now ≤ length room.old.items }
+    ensures written { take (place + length piece.now) room.new.items ≡ take place room.old.items ++ piece.now }
+    ensures size { length room.new.items ≡ length room.old.items }
+{
+    room[place..place + piece.len()].copy_from_slice(piece);
+}
+
+impl Arriving {
+    /// No bytes. It takes no memory yet.
+    pub fn new(alloc: Global) -> Arriving
+        ensures { result ≡ [] }
+    {
+        Arriving {
+            room: Vec::new(alloc),
+            count: 0,
+            progress: Progress::new(),
+            quiet: 0,
+        }
+    }
+
+    /// Adds bytes at the end, all of them or none, and tells whether they are neither a whole request nor refused. Where more of
+    /// a body comes that is awaited only the number of the bytes is looked at.
+    #[inline(always)]
+    pub fn take(&mut self, piece: &[u8]) -> Result<bool, NoMemory>
+        ensures ok { OnOk result (self.new ≡ self.old ++ piece.now) }
+        ensures short { IfOk result (λ short. short ≡ needs_more self.new) }
+        ensures err { OnErr result (self.new ≡ self.old) }
+    {
+        let place = self.count;
+        match piece {
+            [byte] if place + 1 < self.quiet => {
+                self.room[place] = *byte;
+                self.count = place + 1;
+                Ok(true)
+            }
+            _ => self.take_piece(piece),
+        }
+    }
+
+    /// The same, of more than one byte or where they have no place yet. It stands apart, so that what a single byte costs stays
+    /// small.
+    #[inline(never)]
+    fn take_piece(&mut self, piece: &[u8]) -> Result<bool, NoMemory>
+        ensures ok { OnOk result (self.new ≡ self.old ++ piece.now) }
+        ensures short { IfOk result (λ short. short ≡ needs_more self.new) }
+        ensures err { OnErr result (self.new ≡ self.old) }
+    {
+        if piece.len() < self.quiet.saturating_sub(self.count) {
+            write_at(&mut self.room, self.count, piece);
+            self.count += piece.len();
+            return Ok(true);
+        }
+        self.quiet = 0;
+        self.room.truncate(self.count);
+        make_room(&mut self.room, piece.len(), self.progress.awaited())?;
+        append(&mut self.room, piece)?;
+        self.count = self.room.len();
+        let short = look_on(&mut self.room, &mut self.progress, &mut self.quiet);
+        Ok(short)
+    }
+
+    /// The bytes.
+    pub fn as_slice(&self) -> &[u8]
+        ensures { result.now ≡ self.now }
+    {
+        &self.room[..self.count]
+    }
+
+    /// What is known of the bytes.
+    pub fn progress(&self) -> Progress
+        ensures { Knows self.now result }
+    {
+        self.progress
+    }
+}

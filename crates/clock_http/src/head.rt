@@ -1,0 +1,104 @@
+ghost use Rattle.std.specs.Prelude.{◌≡◌, ◌==◌, position, ◌≤◌, ◌-◌, length, false, Some, None, IfSome, IfNone, IfOk};
+ghost use Rattle.httparse.specs.Grammar.{RequestHead};
+ghost use Rattle.httparse.specs.Spans.{IsRequestWithin, IsRequestAt, IsWithin, span_bytes};
+ghost use Rattle.clock_http.specs.Heads.{head_of};
+ghost use Rattle.clock_http.specs.Scans.{line_ends as count_of_line_ends, is_loose as is_loose_text};
+ghost use Rattle.clock_http.specs.Framing.{path_of_target, question_mark, head_with_length};
+ghost use Rattle.clock_http.specs.Shown.{IsHeadWithin};
+ghost use Rattle.clock_http.specs.inside.HeadFields.{shown_read};
+
+use crate::code::Code;
+use crate::headers::fields_of;
+use crate::scan::line_ends;
+use httparse::Status;
+use httparse::spans::{EMPTY_HEADER_SPAN, HeaderSpan, RequestSpans, Span, parse_request};
+
+/// The most header lines of a head.
+const LINE_LIMIT: usize = 64;
+
+/// Where the parts of an ended head stand in its text, and how long it and its body are.
+#[derive(Clone, Copy, Debug)]
+pub struct EndedHead {
+    /// The method.
+    pub method: Span,
+    /// The target up to the first `?`.
+    pub path: Span,
+    /// What stands behind `Bearer` in the one `authorization` line.
+    pub token: Option<Span>,
+    /// How many bytes the head has, with its last line end.
+    pub length: usize,
+    /// How many bytes the body has: its `content-length`, or 0 without such a line.
+    pub body: usize,
+}
+
+/// The parts of an ended head.
+fn parse_head(bytes: &[u8], headers: &mut [HeaderSpan]) -> Option<RequestSpans>
+    requires room { length headers.old ≡ LINE_LIMIT }
+    requires few { count_of_line_ends bytes.now - 2 ≤ LINE_LIMIT }
+    requires tight { is_loose_text bytes.now ≡ false }
+    ensures none { IfNone result (head_of bytes.now ≡ None) }
+    ensures within { IfSome result (λ r. IsRequestWithin bytes.now headers.new r) }
+    ensures found { IfSome result (λ r. (h : RequestHead) × (head_of bytes.now ≡ Some h) × IsRequestAt bytes.now headers.new r h) }
+{
+    match parse_request(bytes, headers) {
+        Ok(Status::Complete(found)) => {
+            if found.len == bytes.len() {
+                Some(found)
+            } else {
+                None
+            }
+        }
+        Ok(Status::Partial) => None,
+        Err(_) => None,
+    }
+}
+
+/// Where the first question mark of a target stands.
+fn first_question_mark(target: &[u8]) -> Option<usize>
+    ensures { result ≡ position (λ b. b == question_mark) target.now }
+{
+    target.iter().position(|b| *b == b'?')
+}
+
+/// Where the path of a target stands.
+fn path_of(text: &[u8], target: Span) -> Span
+    requires { IsWithin (length text.now) target }
+    ensures shown { span_bytes text.now result ≡ path_of_target (span_bytes text.now target) }
+    ensures within { IsWithin (length text.now) result }
+{
+    match first_question_mark(target.of(text)) {
+        Some(length) => Span {
+            start: target.start,
+            end: target.start + length,
+        },
+        None => target,
+    }
+}
+
+/// What an ended head says, or why it is refused. httparse is asked once, of exactly these bytes.
+pub(crate) fn read_head(bytes: &[u8]) -> Result<EndedHead, Code>
+    ensures shown { shown_read bytes.now result ≡ head_with_length bytes.now }
+    ensures within { IfOk result (IsHeadWithin (length bytes.now)) }
+    ensures all { IfOk result (λ head. head.length ≡ length bytes.now) }
+{
+    let ends = line_ends(bytes);
+    if ends.count > LINE_LIMIT + 2 {
+        return Err(Code::LongHead);
+    }
+    if ends.loose {
+        return Err(Code::BadHead);
+    }
+    let mut spans = [EMPTY_HEADER_SPAN; LINE_LIMIT];
+    let Some(found) = parse_head(bytes, &mut spans) else {
+        return Err(Code::BadHead);
+    };
+    let fields = fields_of(bytes, &spans[..found.headers]);
+    let body = fields.body_length(bytes)?;
+    Ok(EndedHead {
+        method: found.method,
+        path: path_of(bytes, found.path),
+        token: fields.token(bytes),
+        length: bytes.len(),
+        body,
+    })
+}

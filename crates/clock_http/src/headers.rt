@@ -1,0 +1,161 @@
+//! What the header lines of a head say of its body's length and of its sender.
+//!
+//! ```text
+//! field-line     = field-name ":" OWS field-value OWS    (RFC 9112, section 5; names of any case)
+//! Content-Length = 1*DIGIT                               (RFC 9110, section 8.6)
+//! credentials    = "Bearer" 1*SP b64token                (RFC 6750, section 2.1; here any bytes)
+//! ```
+
+ghost use Rattle.std.specs.Prelude.{◌≡◌, ◌+◌, ◌≤◌, ◌<◌, ◌++◌, ℕ, List, [], ◌∷◌, length, map, drop, All, IfSome, option_map};
+ghost use Rattle.httparse.specs.Spans.{IsHeaderWithin, IsWithin, header_bytes, span_bytes};
+ghost use Rattle.clock_http.specs.HeaderLines as lines;
+ghost use Rattle.clock_http.specs.HeaderLines.{Pairs, length_from, within_limit, skip_spaces};
+ghost use Rattle.clock_http.specs.Shown.{IsSomeWithin};
+ghost use Rattle.clock_http.specs.inside.HeadFields.{AreLinesOf, AreFieldsOf};
+
+use crate::code::Code;
+use crate::decimal::{is_number, number};
+use httparse::spans::{HeaderSpan, Span};
+
+/// The most bytes of a body.
+const BODY_LIMIT: u64 = 1_048_576;
+
+/// The word before a token, and the first of the spaces after it. Its letters may be of any case.
+const BEARER: &[u8] = b"bearer ";
+
+/// The header lines of one name: how many there are, and where the value of the last one stands.
+#[derive(Clone, Copy, Debug)]
+pub(crate) struct Lines {
+    count: usize,
+    value: Span,
+}
+
+/// The header lines that are looked at, each name's by themselves.
+#[derive(Clone, Copy, Debug)]
+pub(crate) struct Fields {
+    coding: Lines,
+    length: Lines,
+    authorization: Lines,
+}
+
+/// No line of a name.
+const NO_LINES: Lines = Lines {
+    count: 0,
+    value: Span { start: 0, end: 0 },
+};
+
+impl Lines {
+    /// These, and the line of another name or of this one, which is told in letters of any case.
+    fn and(self, wanted: &[u8], name: &[u8], value: Span) -> Lines
+        requires { self.count < usize.MAX }
+        ensures lines { (text : List ℕ) (pairs : Pairs) → AreLinesOf text wanted.now pairs self → IsWithin (length text) value
+            → AreLinesOf text wanted.now (pairs ++ (name.now, span_bytes text value) ∷ []) result }
+        ensures few { result.count ≤ self.count + 1 }
+    {
+        if name.eq_ignore_ascii_case(wanted) {
+            Lines {
+                count: self.count + 1,
+                value,
+            }
+        } else {
+            self
+        }
+    }
+}
+
+/// The header lines that are looked at, by one pass over all.
+pub(crate) fn fields_of(text: &[u8], headers: &[HeaderSpan]) -> Fields
+    requires { All (IsHeaderWithin (length text.now)) headers.now }
+    ensures { AreFieldsOf text.now (map (header_bytes text.now) headers.now) result }
+{
+    let mut coding = NO_LINES;
+    let mut length = NO_LINES;
+    let mut authorization = NO_LINES;
+    for header in headers {
+        let name = header.name.of(text);
+        coding = coding.and(b"transfer-encoding", name, header.value);
+        length = length.and(b"content-length", name, header.value);
+        authorization = authorization.and(b"authorization", name, header.value);
+    }
+    Fields {
+        coding,
+        length,
+        authorization,
+    }
+}
+
+/// The number that one or more digits write, if a body may be so long.
+fn parse_length(value: &[u8]) -> Result<usize, Code>
+    ensures { result ≡ within_limit (length_from (value.now ∷ [])) }
+{
+    if !is_number(value) {
+        return Err(Code::BadLength);
+    }
+    match number(value) {
+        Some(length) if length <= BODY_LIMIT => Ok(length as usize),
+        _ => Err(Code::LongBody),
+    }
+}
+
+/// How many spaces the bytes begin with.
+fn leading_spaces(text: &[u8]) -> usize
+    ensures within { result ≤ length text.now }
+    ensures rest { drop result text.now ≡ skip_spaces text.now }
+{
+    for i in 0..text.len() {
+        if text[i] != b' ' {
+            return i;
+        }
+    }
+    text.len()
+}
+
+/// How many bytes of a value stand before the token behind the word `Bearer`.
+fn token_start(value: &[u8]) -> Option<usize>
+    ensures within { IfSome result (λ start. start ≤ length value.now) }
+    ensures shown { option_map (λ start. drop start value.now) result ≡ lines.bearer value.now }
+{
+    if value.len() < BEARER.len() {
+        return None;
+    }
+    let (word, rest) = value.split_at(BEARER.len());
+    if word.eq_ignore_ascii_case(BEARER) {
+        Some(BEARER.len() + leading_spaces(rest))
+    } else {
+        None
+    }
+}
+
+impl Fields {
+    /// How long the body is.
+    pub(crate) fn body_length(&self, text: &[u8]) -> Result<usize, Code>
+        requires { (pairs : Pairs) × AreFieldsOf text.now pairs self.now }
+        ensures { (pairs : Pairs) → AreFieldsOf text.now pairs self.now → result ≡ lines.body_length pairs }
+    {
+        if self.coding.count > 0 {
+            return Err(Code::Coding);
+        }
+        match self.length.count {
+            0 => Ok(0),
+            1 => parse_length(self.length.value.of(text)),
+            _ => Err(Code::BadLength),
+        }
+    }
+
+    /// Where the token stands.
+    pub(crate) fn token(&self, text: &[u8]) -> Option<Span>
+        requires { (pairs : Pairs) × AreFieldsOf text.now pairs self.now }
+        ensures shown { (pairs : Pairs) → AreFieldsOf text.now pairs self.now → option_map (span_bytes text.now) result ≡ lines.token_of pairs }
+        ensures within { IsSomeWithin (length text.now) result }
+    {
+        if self.authorization.count != 1 {
+            return None;
+        }
+        let value = self.authorization.value;
+        let start = token_start(value.of(text))?;
+        Some(Span {
+            start: value.start + start,
+            end: value.end,
+        })
+    }
+}

@@ -1,0 +1,103 @@
+ghost use Rattle.std.specs.Prelude.{◌≡◌, ◌+◌, ◌≤◌, ◌<◌, ℕ, List, [], length, take, Some, None, nat_lt};
+ghost use Rattle.clock_http.specs.Scans.{head_length as length_of_head};
+ghost use Rattle.clock_http.specs.Framing as spec;
+ghost use Rattle.clock_http.specs.Shown.{Knows, KnowsOfStart, IsHeadWithin, shown_ended, shown_progress, IsProgressWithin};
+ghost use Rattle.clock_http.specs.inside.Followed.{Waits};
+
+use crate::code::Code;
+use crate::head::{EndedHead, read_head};
+use crate::scan::head_length;
+
+/// The most bytes of a head, its last line end included.
+const HEAD_LIMIT: usize = 16_384;
+
+/// What is known of a text that may still grow. It borrows nothing, so it can be kept beside the bytes that have come.
+#[derive(Clone, Copy, Debug)]
+pub enum Progress {
+    /// No head ends among so many bytes, all that have come.
+    Unended(usize),
+    /// The head has ended, and its body has not come whole.
+    Waiting(EndedHead),
+    /// The request has come whole.
+    Complete(EndedHead),
+    /// The text is refused.
+    Refused(Code),
+}
+
+/// Whether the body of an ended head has not come whole in a text of so many bytes.
+fn awaits_body(head: &EndedHead, count: usize) -> bool
+    requires { head.now.length ≤ count }
+    ensures { result ≡ nat_lt count (head.now.length + head.now.body) }
+{
+    count - head.length < head.body
+}
+
+/// What is known where a head has ended in a text of so many bytes.
+fn with_body(head: EndedHead, count: usize) -> Progress
+    requires { IsHeadWithin count head }
+    ensures shown { (text : List ℕ) → shown_progress text result
+        ≡ spec.known_with_body count (shown_ended text head) head.length head.body }
+    ensures within { IsProgressWithin count result }
+{
+    if awaits_body(&head, count) {
+        Progress::Waiting(head)
+    } else {
+        Progress::Complete(head)
+    }
+}
+
+/// What is known of a text in whose first bytes no head ends.
+fn read_on(text: &[u8], looked_at: usize) -> Progress
+    requires within { looked_at ≤ length text.now }
+    requires short { looked_at < spec.head_limit }
+    requires unended { length_of_head (take looked_at text.now) ≡ None }
+    ensures { Knows text.now result }
+{
+    let limit = text.len().min(HEAD_LIMIT);
+    // an empty line of four bytes may have begun among the last three
+    let Some(length) = head_length(&text[..limit], looked_at.saturating_sub(3)) else {
+        return if text.len() < HEAD_LIMIT {
+            Progress::Unended(text.len())
+        } else {
+            Progress::Refused(Code::LongHead)
+        };
+    };
+    match read_head(&text[..length]) {
+        Ok(head) => with_body(head, text.len()),
+        Err(fault) => Progress::Refused(fault),
+    }
+}
+
+impl Progress {
+    /// What is known of no bytes.
+    pub fn new() -> Progress
+        ensures { Knows [] result }
+    {
+        Progress::Unended(0)
+    }
+
+    /// What is known of a text, by what was known of its beginning. What came before is not searched again: while no head
+    /// has ended, its end is looked for in what came since and three bytes before it, and afterwards only the length of the
+    /// text is asked for. A head is read when it has ended.
+    pub fn advance(self, text: &[u8]) -> Progress
+        requires { KnowsOfStart text.now self }
+        ensures { Knows text.now result }
+    {
+        match self {
+            Progress::Unended(looked_at) => read_on(text, looked_at),
+            Progress::Waiting(head) => with_body(head, text.len()),
+            Progress::Complete(head) => Progress::Complete(head),
+            Progress::Refused(fault) => Progress::Refused(fault),
+        }
+    }
+
+    /// How many bytes a text waits for of which this is known, with its head. With fewer it waits as before.
+    pub(crate) fn awaited(&self) -> usize
+        ensures { (text : List ℕ) → KnowsOfStart text self.now → length text < result → Waits text self.now }
+    {
+        match self {
+            Progress::Waiting(head) => head.length.saturating_add(head.body),
+            _ => 0,
+        }
+    }
+}

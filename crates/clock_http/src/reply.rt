@@ -1,0 +1,160 @@
+ghost use Rattle.std.specs.Prelude.{◌≡◌, ◌≤◌, ◌++◌, drop, length, codes};
+ghost use Rattle.clock_http.specs.Replies.{allow_line, challenge_line, reason_of, status_line, lines_and_page, reply_bytes};
+
+use crate::code::Code;
+use crate::head_room::{HEAD_ROOM, put_before};
+use crate::routes::Page;
+use clock_device::Text;
+use itoa::Buffer;
+use std::marker::Model;
+
+/// A text from a place on.
+#[derive(Drop)]
+struct Written {
+    text: Text,
+    start: usize,
+    ghost within: { start ≤ length text },
+}
+
+/// Bytes that are always the same, or that were written.
+#[derive(Drop)]
+enum Held {
+    Constant(&'static [u8]),
+    Written(Written),
+}
+
+impl Written {
+    /// The bytes from that place on.
+    fn bytes(&self) -> &[u8]
+        ensures { result.now ≡ drop self.now.start self.now.text }
+    {
+        &self.text.as_slice()[self.start..]
+    }
+}
+
+/// What a request is answered with.
+#[derive(Drop)]
+pub struct Reply {
+    code: Code,
+    held: Held,
+}
+
+impl Model for Reply {
+    ghost use Rattle.clock_http.specs.Replies.{Answer};
+    ghost use Rattle.clock_http.specs.HeldReply.{shown_held};
+
+    ghost Value = { Answer };
+
+    ghost view = { λ r. record { code = r.code; bytes = shown_held r.held } };
+}
+
+/// The line that tells a page's methods, where another was asked for.
+fn allow_bytes(allowed: Option<Page>) -> &'static [u8]
+    ensures bytes { result.now ≡ allow_line allowed }
+    ensures short { length result.now ≤ 20 }
+{
+    match allowed {
+        None => b"",
+        Some(Page::Bids) => b"allow: GET, PUT\r\n",
+        Some(Page::Close) => b"allow: POST\r\n",
+        Some(Page::Status) => b"allow: GET\r\n",
+        Some(Page::Products) => b"allow: GET\r\n",
+        Some(Page::Sheet) => b"allow: GET\r\n",
+        Some(Page::Account) => b"allow: GET\r\n",
+        Some(Page::Slip) => b"allow: GET\r\n",
+        Some(Page::Results) => b"allow: GET\r\n",
+    }
+}
+
+/// The line that asks for a token, where one is missing, and the empty line.
+fn last_lines(code: Code) -> &'static [u8]
+    ensures bytes { result.now ≡ challenge_line code ++ codes "\r\n" }
+    ensures short { length result.now ≤ 30 }
+{
+    if code == Code::Token {
+        b"www-authenticate: Bearer\r\n\r\n"
+    } else {
+        b"\r\n"
+    }
+}
+
+/// The words behind a status.
+fn reason(code: Code) -> &'static [u8]
+    ensures bytes { result.now ≡ reason_of code }
+    ensures short { length result.now ≤ 31 }
+{
+    code.reason().as_bytes()
+}
+
+/// Writes the header lines of a reply before its page, and tells where they begin.
+fn put_lines(text: &mut Text, code: Code, allowed: Option<Page>) -> usize
+    requires { HEAD_ROOM ≤ length text.old }
+    ensures bytes { drop result text.new ≡ lines_and_page code allowed (drop HEAD_ROOM text.old) }
+    ensures room { 100 ≤ result }
+    ensures within { result ≤ length text.new }
+{
+    let page = text.as_slice().len() - HEAD_ROOM;
+    let mut number = Buffer::new();
+    let last = put_before(text, HEAD_ROOM, last_lines(code));
+    let kind = put_before(text, last, b"\r\ncontent-type: application/json\r\n");
+    let length = put_before(text, kind, number.format(page).as_bytes());
+    let connection = put_before(text, length, b"connection: close\r\ncontent-length: ");
+    put_before(text, connection, allow_bytes(allowed))
+}
+
+/// Writes the status line before the other lines, and tells where it begins.
+fn put_status(text: &mut Text, lines: usize, code: Code) -> usize
+    requires room { 100 ≤ lines }
+    requires within { lines ≤ length text.old }
+    ensures bytes { drop result text.new ≡ status_line code (drop lines text.old) }
+    ensures within { result ≤ length text.new }
+{
+    let mut number = Buffer::new();
+    let end = put_before(text, lines, b"\r\n");
+    let words = put_before(text, end, reason(code));
+    let space = put_before(text, words, b" ");
+    let status = put_before(text, space, number.format(code.status()).as_bytes());
+    put_before(text, status, b"HTTP/1.1 ")
+}
+
+impl Reply {
+    /// A reply of bytes that are always the same. It takes no memory.
+    pub fn constant(code: Code, bytes: &'static [u8]) -> Reply
+        ensures { result ≡ record { code = code; bytes = bytes.now } }
+    {
+        Reply {
+            code,
+            held: Held::Constant(bytes),
+        }
+    }
+
+    /// The reply whose page stands behind the room for its head.
+    pub fn written(code: Code, allowed: Option<Page>, mut text: Text) -> Reply
+        requires { HEAD_ROOM ≤ length text }
+        ensures { result ≡ record { code = code; bytes = reply_bytes code allowed (drop HEAD_ROOM text) } }
+    {
+        let lines = put_lines(&mut text, code, allowed);
+        let start = put_status(&mut text, lines, code);
+        Reply {
+            code,
+            held: Held::Written(Written { text, start }),
+        }
+    }
+
+    /// What the reply says of its request.
+    pub fn code(&self) -> Code
+        ensures { result ≡ self.now.code }
+    {
+        self.code
+    }
+
+    /// The bytes of the reply, from the status line to the end of the page.
+    pub fn bytes(&self) -> &[u8]
+        ensures { result.now ≡ self.now.bytes }
+    {
+        match &self.held {
+            Held::Constant(bytes) => bytes,
+            Held::Written(written) => written.bytes(),
+        }
+    }
+}

@@ -1,0 +1,130 @@
+ghost use Rattle.std.specs.Prelude.{◌≡◌, ◌≤◌, ◌+◌, ◌-◌, ◌*◌, ◌^◌, [], IfOk, OnOk, MatchOption, Some, None, codes};
+ghost use Rattle.clock_http.specs.Heads.{same_bytes};
+ghost use Rattle.clock_http.specs.Routes as spec;
+
+use clock_device::NoMemory;
+use http::Method;
+use matchit::{InsertError, Router};
+use std::alloc::Global;
+
+/// What a path names.
+#[derive(Clone, Copy, Debug, PartialEq, Eq)]
+pub enum Page {
+    /// Whether the auction has ended, and its round.
+    Status,
+    /// What is sold, and by which rules.
+    Products,
+    /// The sheet of a closed round.
+    Sheet,
+    /// What a bidder holds.
+    Account,
+    /// A bidder's sheet of bids in force, and where it puts one.
+    Bids,
+    /// A bidder's results of a closed round.
+    Slip,
+    /// Where the operator closes a round.
+    Close,
+    /// What all bidders hold.
+    Results,
+}
+
+/// Adds the routes of all pages to a router with none.
+fn add_routes(router: &mut Router<Page>) -> Result<(), InsertError>
+    requires { router.old ≡ [] }
+    ensures { OnOk result (router.new ≡ spec.table) }
+{
+    router.insert("/v1/status", Page::Status)?;
+    router.insert("/v1/products", Page::Products)?;
+    router.insert("/v1/rounds/{n}", Page::Sheet)?;
+    router.insert("/v1/me", Page::Account)?;
+    router.insert("/v1/me/bids", Page::Bids)?;
+    router.insert("/v1/me/rounds/{n}", Page::Slip)?;
+    router.insert("/v1/close", Page::Close)?;
+    router.insert("/v1/results", Page::Results)?;
+    Ok(())
+}
+
+/// The routes of all pages.
+fn router(alloc: Global) -> Result<Router<Page>, InsertError>
+    ensures { IfOk result (λ router. router ≡ spec.table) }
+{
+    let mut router = Router::new(alloc);
+    add_routes(&mut router)?;
+    Ok(router)
+}
+
+/// Whether a method is this one, its letters compared with regard to case.
+fn is_method(method: &[u8], wanted: Method) -> bool
+    ensures { result ≡ same_bytes wanted method.now }
+{
+    method == wanted.as_str().as_bytes()
+}
+
+impl Page {
+    /// Whether the page is for a method, whose letters are compared with regard to case.
+    pub fn has_method(self, method: &[u8]) -> bool
+        ensures { result ≡ spec.has_method self method.now }
+    {
+        match self {
+            Page::Bids => is_method(method, Method::GET) || is_method(method, Method::PUT),
+            Page::Close => is_method(method, Method::POST),
+            Page::Status => is_method(method, Method::GET),
+            Page::Products => is_method(method, Method::GET),
+            Page::Sheet => is_method(method, Method::GET),
+            Page::Account => is_method(method, Method::GET),
+            Page::Slip => is_method(method, Method::GET),
+            Page::Results => is_method(method, Method::GET),
+        }
+    }
+}
+
+/// The page that a path names by the routes of all pages.
+fn page_at(router: &Router<Page>, path: &[u8]) -> Option<Page>
+    requires { router.now ≡ spec.table }
+    ensures { result ≡ spec.page_of path.now }
+{
+    let Ok(text) = std::str::from_utf8(path) else {
+        return None;
+    };
+    match router.at(text) {
+        Ok(found) => Some(*found.value),
+        Err(_) => None,
+    }
+}
+
+/// The routes of all pages, which are made once.
+#[derive(Drop)]
+pub struct Routes {
+    router: Router<Page>,
+    ghost routed: { router ≡ spec.table },
+}
+
+impl Routes {
+    /// The routes of all pages.
+    pub fn new(alloc: Global) -> Result<Routes, NoMemory> {
+        match router(alloc) {
+            Ok(router) => Ok(Routes { router }),
+            Err(_) => Err(NoMemory),
+        }
+    }
+
+    /// The page that a path names. It takes no memory.
+    pub fn page_of(&self, path: &[u8]) -> Option<Page>
+        ensures { result ≡ spec.page_of path.now }
+    {
+        page_at(&self.router, path)
+    }
+}
+
+/// What stands for `{n}` in a path that names a page by a route with it.
+pub fn last_segment(path: &[u8]) -> &[u8]
+    ensures { result.now ≡ spec.last_segment path.now }
+{
+    let mut start = 0;
+    for (i, byte) in path.iter().enumerate() {
+        if *byte == b'/' {
+            start = i + 1;
+        }
+    }
+    &path[start..]
+}

@@ -1,0 +1,27 @@
+-- What a round has come to, as its posting takes it.
+--     HasClocks products increments posted prices      the clock prices are the products' next ones
+--     IsRoundEnd products prices grid posted increments      the values that a posting is made of fit together
+use Rattle.std.specs.Prelude.{◌≡◌, ℕ, ◌<◌, List, Some, length, map, All}
+use Rattle.std.specs.List.{range_with_len}
+use Rattle.clock_terms.specs.declared.increments.Increments.{Increments}
+use Rattle.clock_terms.specs.declared.setup.Product.{Product}
+use Rattle.clock_terms.specs.declared.prices.PricePair.{PricePair}
+use Rattle.clock_terms.specs.Limits.{IsProduct}
+use Rattle.clock_terms.specs.Increments.{AreIncrements}
+use Rattle.clock_posting.specs.Posting.{next_clock, sheet_line, IsBetween}
+
+-- the products are those of a set-up; for each there are prices, a demand of each bidder, a posted price and an increment, and
+-- each posted price stands from the start price to the clock price
+pub record IsRoundEnd (products : List Product) (prices : List PricePair) (grid : List (List ℕ)) (posted : List ℕ)
+    (increments : Increments) : Type 0 where
+  pub limits : All IsProduct products
+  pub prices_each : length prices ≡ length products
+  pub rows : All (λ row. length row ≡ length products) grid
+  pub posted_each : length posted ≡ length products
+  pub increments_each : AreIncrements (length products) increments
+  pub between : (product : ℕ) → product < length products → IsBetween (sheet_line products prices grid posted increments product)
+
+-- the clock prices of these pairs are the next ones of the products
+abbrev pub HasClocks : List Product → Increments → List ℕ → List PricePair → Type 0
+HasClocks products increments posted prices =
+    map (next_clock products increments posted) (range_with_len 0 (length products)) ≡ map (λ pair. Some pair.clock) prices

@@ -1,0 +1,30 @@
+-- The values of JSON that whole replay documents are, as the quick reader finds them.
+use Rattle.std.specs.Prelude.{List, [], ◌∷◌, map, Option, Some, option_map, codes}
+use Rattle.serde_json.specs.Data.{Data, object, array}
+use Rattle.clock_scan.specs.Reading.{items_of, Fields, members_of}
+use Rattle.clock_setup.specs.SetupData.{setup_data}
+use Rattle.clock_replays.specs.declared.script.Script.{Script}
+use Rattle.clock_replays.specs.declared.closing.Closing.{Closing}
+use Rattle.clock_replays.specs.declared.scanned_replay.FoundReplay.{FoundReplay}
+use Rattle.clock_replays.specs.declared.scanned_replay.ScannedReplay.{ScannedReplay}
+use Rattle.clock_replays.specs.ReplayData.{script_data, closing_data}
+
+-- a replay's keys, each with its value where one was found
+abbrev pub replay_fields : Option (List Closing) → Option (List Script) → Option Data → Fields
+replay_fields closings scripts setup =
+    (codes "closings", option_map (λ list. array (items_of (map closing_data list))) closings)
+    ∷ (codes "scripts", option_map (λ list. array (items_of (map script_data list))) scripts)
+    ∷ (codes "setup", setup)
+    ∷ []
+
+-- what was found of a replay
+abbrev pub found_replay : FoundReplay → Fields
+found_replay found = replay_fields found.closings found.scripts (option_map (λ held. setup_data held.setup) found.held)
+
+-- a replay document as a value, over the value of its set-up
+abbrev pub replay_data : Data → List Script → List Closing → Data
+replay_data setup scripts closings = object (members_of (replay_fields (Some closings) (Some scripts) (Some setup)))
+
+-- what was read of a replay document, as a value
+abbrev pub found_data : ScannedReplay → Data
+found_data found = replay_data (setup_data found.held.setup) found.scripts found.closings

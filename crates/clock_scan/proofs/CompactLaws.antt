@@ -1,0 +1,144 @@
+-- Laws of bids that are written without white space.
+use Rattle.std.proofs.Common.{◌≡◌, ℕ, ◌+◌, ◌<◌, ◌≤◌, ◌^◌, true, List, ◌∷◌, ◌++◌, length, take, drop, get_or, decimal, codes, suc, ◌*◌, refl, sym, ap, ap₂, ◌∙◌, arith}
+use Rattle.std.proofs.Math.Nat.{pow-suc, pow-le-pow_right}
+use Rattle.std.proofs.lemmas.Bool.{false≢true}
+use Rattle.std.proofs.lemmas.List.{take-append-drop, drop-drop}
+use Rattle.json.specs.Token.{Token, key, begin_object, end_object, number, string}
+use Rattle.json.specs.Text.{content}
+use Rattle.json.specs.Word.{ends_word}
+use Rattle.json.specs.Lex as lexer
+use Rattle.json.specs.Lex.{Lexeme, Place, may_begin, token, comma, colon, lex, between, punctuate}
+use Rattle.serde_json.specs.Data.{no_members, put}
+use Rattle.clock_scan.specs.Reading.{whole, Reads}
+use Rattle.clock_scan.specs.inside.Reading.{HasMembers}
+use Rattle.clock_scan.specs.Compact.{compact_bid}
+use Rattle.clock_scan.specs.declared.compact.CompactBid.{CompactBid}
+use Rattle.clock_scan.proofs.LexLaws.{at_byte}
+use Rattle.clock_scan.proofs.Steps.{number_reads, members_start, members_next, members_end}
+
+-- eight known bytes, and those behind them
+eight_then : (bytes word : List ℕ) (at : ℕ) → take 8 (drop at bytes) ≡ word → drop at bytes ≡ word ++ drop (at + 8) bytes
+eight_then bytes word at is = sym (take-append-drop 8 (drop at bytes)) ∙ ap₂ (λ front rest. front ++ rest) is (drop-drop 8 at bytes)
+
+-- one known byte, and those behind it
+pub one_then : (bytes : List ℕ) (at next x : ℕ) → at < length bytes → get_or bytes at 0 ≡ x → next ≡ at + 1 → drop at bytes ≡ x ∷ drop next bytes
+one_then bytes at next x lt is there = at_byte bytes at x lt is ∙ ap (λ n. x ∷ drop n bytes) (sym there)
+
+module _ (bytes : List ℕ) (at : ℕ) where
+  pub price_at : at + 9 ≤ length bytes → take 8 (drop at bytes) ≡ codes "{\"price\"" → get_or bytes (at + 8) 0 ≡ 58
+      → lex between (drop at bytes) ≡ token begin_object ∷ token (string (codes "price")) ∷ colon ∷ lex between (drop (at + 9) bytes)
+  unfolding lex content
+  price_at room is mark =
+      ap (lex between)
+      (eight_then bytes _ at is ∙ ap (λ rest. codes "{\"price\"" ++ rest) (one_then bytes (at + 8) (at + 9) 58 (omega (arith, room)) mark (omega arith)))
+
+  pub product_bytes : at + 11 ≤ length bytes → take 8 (drop at bytes) ≡ codes ",\"produc" → get_or bytes (at + 8) 0 ≡ 116 → get_or bytes (at + 9) 0 ≡ 34
+      → get_or bytes (at + 10) 0 ≡ 58 → drop at bytes ≡ codes ",\"product\":" ++ drop (at + 11) bytes
+  product_bytes room is t quote mark =
+      eight_then bytes _ at is ∙ ap (λ rest. codes ",\"produc" ++ rest)
+      (one_then bytes (at + 8) (at + 9) 116 (omega (arith, room)) t (omega arith)
+      ∙ ap (λ rest. 116 ∷ rest) (one_then bytes (at + 9) (at + 10) 34 (omega (arith, room)) quote (omega arith)
+      ∙ ap (λ rest. 34 ∷ rest) (one_then bytes (at + 10) (at + 11) 58 (omega (arith, room)) mark (omega arith))))
+
+  pub quantity_bytes : at + 12 ≤ length bytes → take 8 (drop at bytes) ≡ codes ",\"quanti" → get_or bytes (at + 8) 0 ≡ 116 → get_or bytes (at + 9) 0 ≡ 121
+      → get_or bytes (at + 10) 0 ≡ 34 → get_or bytes (at + 11) 0 ≡ 58 → drop at bytes ≡ codes ",\"quantity\":" ++ drop (at + 12) bytes
+  quantity_bytes room is t y quote mark =
+      eight_then bytes _ at is ∙ ap (λ rest. codes ",\"quanti" ++ rest)
+      (one_then bytes (at + 8) (at + 9) 116 (omega (arith, room)) t (omega arith)
+      ∙ ap (λ rest. 116 ∷ rest) (one_then bytes (at + 9) (at + 10) 121 (omega (arith, room)) y (omega arith)
+      ∙ ap (λ rest. 121 ∷ rest) (one_then bytes (at + 10) (at + 11) 34 (omega (arith, room)) quote (omega arith)
+      ∙ ap (λ rest. 34 ∷ rest) (one_then bytes (at + 11) (at + 12) 58 (omega (arith, room)) mark (omega arith)))))
+
+  pub end_bytes : at + 2 ≤ length bytes → get_or bytes at 0 ≡ 125 → get_or bytes (at + 1) 0 ≡ 44 → drop at bytes ≡ 125 ∷ 44 ∷ drop (at + 2) bytes
+  end_bytes room brace mark =
+      one_then bytes at (at + 1) 125 (omega (arith, room)) brace (omega arith)
+      ∙ ap (λ rest. 125 ∷ rest) (one_then bytes (at + 1) (at + 2) 44 (omega (arith, room)) mark (omega arith))
+
+-- bytes that begin with the second key
+pub product_follows : (bytes rest : List ℕ) → bytes ≡ codes ",\"product\":" ++ rest
+    → (ends_word bytes ≡ true) × (lex between bytes ≡ comma ∷ token (string (codes "product")) ∷ colon ∷ lex between rest)
+unfolding lex content
+product_follows bytes rest is = (ap ends_word is, ap (lex between) is)
+
+-- bytes that begin with the third key
+pub quantity_follows : (bytes rest : List ℕ) → bytes ≡ codes ",\"quantity\":" ++ rest
+    → (ends_word bytes ≡ true) × (lex between bytes ≡ comma ∷ token (string (codes "quantity")) ∷ colon ∷ lex between rest)
+unfolding lex content
+quantity_follows bytes rest is = (ap ends_word is, ap (lex between) is)
+
+-- bytes that begin with the end of a bid
+pub end_follows : (bytes rest : List ℕ) → bytes ≡ 125 ∷ 44 ∷ rest → (ends_word bytes ≡ true) × (lex between bytes ≡ token end_object ∷ comma ∷ lex between rest)
+unfolding lex
+end_follows bytes rest is = (ap ends_word is, ap (lex between) is)
+
+-- one digit more of a number of at most sixteen
+pub digit_more : (value count digit : ℕ) → value < 10 ^ count → count < 16 → digit ≤ 9
+    → (value * 10 + digit < 10 ^ (count + 1)) × (value * 10 + digit < 10000000000000000)
+digit_more value count digit small few one =
+    let next : 10 ^ suc count ≡ 10 ^ count * 10 = pow-suc 10 count in
+    let same : 10 ^ (count + 1) ≡ 10 ^ suc count = ap (λ n. 10 ^ n) (omega arith) in
+    let below : count ≤ 15 = omega (arith, few) in
+    let most : 10 ^ count ≤ 1000000000000000 = pow-le-pow_right {n = 10} (omega arith) {i = count} {j = 15} below in
+    (omega (arith, next, same, small, one), omega (arith, most, small, one))
+
+-- the lexemes of a bid and its comma
+abbrev pub lexemes_of : CompactBid → List Lexeme → List Lexeme
+lexemes_of bid rest =
+    token begin_object ∷ token (string (codes "price")) ∷ colon ∷ token (number (decimal bid.price))
+    ∷ comma ∷ token (string (codes "product")) ∷ colon ∷ token (number (decimal bid.product))
+    ∷ comma ∷ token (string (codes "quantity")) ∷ colon ∷ token (number (decimal bid.quantity))
+    ∷ token end_object ∷ comma ∷ rest
+
+-- the tokens of a bid
+abbrev pub tokens_of : CompactBid → List Token → List Token
+tokens_of bid rest =
+    begin_object ∷ key (codes "price") ∷ number (decimal bid.price) ∷ key (codes "product") ∷ number (decimal bid.product)
+    ∷ key (codes "quantity") ∷ number (decimal bid.quantity) ∷ end_object ∷ rest
+
+-- where a value may begin, the lexemes are the tokens
+pub punctuated : (p : Place) (bid : CompactBid) (ls rest : List Lexeme) → may_begin p ≡ true → ls ≡ lexemes_of bid rest
+    → punctuate p ls ≡ tokens_of bid (punctuate lexer.after_comma rest)
+unfolding punctuate
+punctuated lexer.fresh bid ls rest h is = ap (punctuate lexer.fresh) is
+punctuated lexer.after_value bid ls rest h is = absurd (false≢true h)
+punctuated lexer.after_comma bid ls rest h is = ap (punctuate lexer.after_comma) is
+punctuated lexer.after_key bid ls rest h is = absurd (false≢true h)
+
+-- the tokens are read as the bid
+pub bid_reads : (bid : CompactBid) (old new : List Token) → (bid.price < 2 ^ 64) × (bid.product < 2 ^ 64) × (bid.quantity < 2 ^ 64)
+    → old ≡ tokens_of bid new → Reads 1 old (compact_bid bid) new
+bid_reads bid old new small is =
+    let last = end_object ∷ new in
+    let third = number (decimal bid.quantity) ∷ last in
+    let third_key = key (codes "quantity") ∷ third in
+    let second = number (decimal bid.product) ∷ third_key in
+    let second_key = key (codes "product") ∷ second in
+    let first = number (decimal bid.price) ∷ second_key in
+    let start = key (codes "price") ∷ first in
+    let found_1 = put (codes "price") (whole bid.price) no_members in
+    let found_2 = put (codes "product") (whole bid.product) found_1 in
+    let found_3 = put (codes "quantity") (whole bid.quantity) found_2 in
+    let has_1 : HasMembers 0 start found_1 second_key =
+    members_next 0 start start first second_key no_members (codes "price") (whole bid.price) (members_start 0 start) refl
+    (number_reads bid.price first second_key small.0 refl) in
+    let has_2 : HasMembers 0 start found_2 third_key =
+    members_next 0 start second_key second third_key found_1 (codes "product") (whole bid.product) has_1 refl
+    (number_reads bid.product second third_key small.1 refl) in
+    let has_3 : HasMembers 0 start found_3 last =
+    members_next 0 start third_key third last found_2 (codes "quantity") (whole bid.quantity) has_2 refl
+    (number_reads bid.quantity third last small.2 refl) in
+    members_end 0 old start last new found_3 is has_3 refl
+
+-- a number and the comma behind it
+pub number_and_comma : (p : Place) (ls rest : List Lexeme) (s : List ℕ) → may_begin p ≡ true → ls ≡ token (number s) ∷ comma ∷ rest
+    → punctuate p ls ≡ number s ∷ punctuate lexer.after_comma rest
+unfolding punctuate
+number_and_comma lexer.fresh ls rest s h is = ap (punctuate lexer.fresh) is
+number_and_comma lexer.after_value ls rest s h is = absurd (false≢true h)
+number_and_comma lexer.after_comma ls rest s h is = ap (punctuate lexer.after_comma) is
+number_and_comma lexer.after_key ls rest s h is = absurd (false≢true h)
+
+-- a comma
+pub comma_first : (rest : List ℕ) → lex between (44 ∷ rest) ≡ comma ∷ lex between rest
+unfolding lex
+comma_first rest = refl

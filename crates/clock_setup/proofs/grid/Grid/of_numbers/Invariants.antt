@@ -1,9 +1,0 @@
-use Rattle.std.proofs.Common.{length, take}
-use Rattle.clock_setup.specs.Demands.{rows_of}
-use Rattle.clock_setup.proofs.RowTotals.{IsTotals}
-use Rattle.clock_setup.proofs.grid.Grid.of_numbers.Given as goal
-
--- the totals are those of the rows so far
-abbrev pub invariant-loop-bidder : goal.invariant-loop-bidder
-invariant-loop-bidder l =
-    IsTotals (take l.bidder (rows_of (length l.setup.bidders) (length l.setup.products) l.demands)) (length l.setup.products) l.totals

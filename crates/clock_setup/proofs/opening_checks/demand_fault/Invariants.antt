@@ -1,0 +1,13 @@
+use Rattle.std.proofs.Common.{◌≡◌, ℕ, ◌<◌, ◌≤◌, drop, zip, slice_index}
+use Rattle.clock_terms.specs.Faults.{first_fault, in_turn}
+use Rattle.clock_terms.specs.Limits.{cap_of}
+use Rattle.clock_setup.specs.OpeningDocument.{demand_checks}
+use Rattle.clock_setup.proofs.opening_checks.demand_fault.Given as goal
+
+-- the demands so far are within their caps, and those that are left decide the first fault
+abbrev pub invariant-loop-product : goal.invariant-loop-product
+invariant-loop-product l = record {
+  rest : first_fault (in_turn (demand_checks l.number) l.product (drop l.product (zip l.products l.row)))
+      ≡ first_fault (in_turn (demand_checks l.number) 0 (zip l.products l.row));
+  capped : (k : ℕ) → k < l.product → slice_index l.row k ≤ cap_of l.products k;
+}

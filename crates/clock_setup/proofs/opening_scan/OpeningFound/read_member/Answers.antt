@@ -1,0 +1,23 @@
+use Rattle.std.proofs.Common.{◌∷◌, codes, refl, ap, ◌∙◌, arith}
+use Rattle.clock_scan.specs.Reading.{Token, whole, rows}
+use Rattle.clock_scan.proofs.Steps.{adds_member, reads_deeper}
+use Rattle.clock_setup.specs.SetupData.{setup_data}
+use Rattle.clock_setup.specs.inside.OpeningData.{found_opening}
+use Rattle.clock_setup.proofs.opening_scan.OpeningFound.read_member.Goals as goal
+
+pub returns-then-is_key-clause-value : goal.returns-then-is_key-clause-value
+returns-then-is_key-clause-value c =
+    adds_member 3 c.args.scan.now c.key.new.self c.flat_rows.new.self (found_opening c.args.self.now) (codes "demands") (rows c.in_ok-flat_rows.field-0)
+    (c.in-Some.ensures ∙ ap (λ k. Token.key k ∷ c.key.new.self) (c.is_key.ensures c.if-is_key.true))
+    (reads_deeper 2 3 c.key.new.self (rows c.in_ok-flat_rows.field-0) c.flat_rows.new.self (omega arith) c.in_ok-flat_rows.ensures.value) refl
+
+pub returns-then-is_key-2-clause-value : goal.returns-then-is_key-2-clause-value
+returns-then-is_key-2-clause-value c =
+    adds_member 3 c.args.scan.now c.key.new.self c.scanned_setup.new.scan (found_opening c.args.self.now) (codes "setup") (setup_data c.in_ok-entries.entries)
+    (c.in-Some.ensures ∙ ap (λ k. Token.key k ∷ c.key.new.self) (c.is_key-2.ensures c.if-is_key-2.true)) c.in_ok-entries.ensures.value refl
+
+pub returns-then-is_key-3-clause-value : goal.returns-then-is_key-3-clause-value
+returns-then-is_key-3-clause-value c =
+    adds_member 3 c.args.scan.now c.key.new.self c.number.new.self (found_opening c.args.self.now) (codes "increment") (whole c.in-Some-number.number)
+    (c.in-Some.ensures ∙ ap (λ k. Token.key k ∷ c.key.new.self) (c.is_key-3.ensures c.if-is_key-3.true))
+    (reads_deeper 0 3 c.key.new.self (whole c.in-Some-number.number) c.number.new.self (omega arith) c.in-Some-number.ensures.value) refl

@@ -1,0 +1,14 @@
+use Rattle.std.proofs.Common.{length, ◌≤◌}
+use Rattle.clock_scan.specs.Reading.{members_of}
+use Rattle.clock_scan.specs.inside.Reading.{HasMembers}
+use Rattle.clock_setup.specs.inside.FoundEntries.{found_bidder}
+use Rattle.clock_setup.proofs.setup_scan.bidder.Given as goal
+
+abbrev pub invariant-members : goal.invariant-members
+invariant-members l =
+    HasMembers 0 l.initial.scan
+    (members_of (found_bidder l.parts)) l.scan
+    × (length l.scan ≤ length l.initial.scan)
+
+abbrev pub decreases-members : goal.decreases-members
+decreases-members l = length l.scan

@@ -1,0 +1,52 @@
+use Rattle.std.proofs.Common.{◌≡◌, ◌∷◌, ◌⊎◌, length, map, All, sym, ap, ◌∙◌, subst, arith}
+use Rattle.std.proofs.lemmas.List.Elements.{All-nil, All-push}
+use Rattle.clock_scan.specs.Reading.{Token, Reads}
+use Rattle.clock_scan.specs.inside.Reading.{HasItems}
+use Rattle.clock_scan.proofs.Steps.{items_start, items_end, items_push_next}
+use Rattle.clock_terms.specs.declared.setup.Product.{Product}
+use Rattle.clock_terms.specs.Limits.{first_granule}
+use Rattle.clock_setup.specs.SetupData.{product_data}
+use Rattle.clock_setup.proofs.ScanLaws.{of_common_version, of_first_version}
+use Rattle.clock_setup.proofs.setup_scan.products.Goals as goal
+
+pub items-init : goal.items-init
+items-init c =
+    let start = c.opens_array.new.self in (
+      subst (λ list. HasItems 1 start (map (product_data 0) list) start) (sym c.new-entries.ensures.items) (items_start 1 start),
+      omega arith,
+      λ _. c.new-entries.ensures.items,
+      λ _. subst (All (λ (product : Product). product.granule ≡ first_granule)) (sym c.new-entries.ensures.items)
+          (All-nil (λ (product : Product). product.granule ≡ first_granule)),
+    )
+
+pub items-preserved : goal.items-preserved
+items-preserved c =
+    let l = c.items in
+    let start = c.opens_array.new.self in
+    let after = c.product.new.scan in
+    let known = c.in-Some.next in
+    let version = c.in-Some-common_version.common in
+    let entry = c.in-Some.entry in
+    let is : version ≡ known = c.in-Some-common_version.ensures.0 in
+    let agrees : (l.version ≡ 0) ⊎ (l.version ≡ version) = subst (λ v. (l.version ≡ 0) ⊎ (l.version ≡ v)) (sym is) c.in-Some-common_version.ensures.1 in
+    let P = λ (product : Product). product.granule ≡ first_granule in
+    let same : c.closes_array.new.self ≡ l.scan = grind arith in
+    let reads : Reads 1 l.scan (product_data version entry) after =
+    subst (λ v. Reads 1 l.scan (product_data v entry) after) (sym is) (subst (λ ts. Reads 1 ts (product_data known entry) after) same c.in-Some.ensures.value)
+    in
+    let kept = of_common_version l.version version l.entries.items l.invariant.2 agrees in (
+      subst (λ list. HasItems 1 start (map (product_data version) list) after) (sym c.in_ok-push.ensures.items)
+          (items_push_next 1 (product_data version) start l.scan after l.entries.items entry
+          (subst (λ values. HasItems 1 start values l.scan) kept l.invariant.0) reads),
+      omega (arith, l.invariant.1, c.in-Some.ensures.shorter, ap length same),
+      λ zero. absurd (omega (arith, zero, is, c.in-Some.ensures.version.0)),
+      λ one. subst (All P) (sym c.in_ok-push.ensures.items) (All-push P l.entries.items entry
+          (of_first_version l.version version l.entries.items l.invariant.2 l.invariant.3 agrees one) (c.in-Some.ensures.first_version (sym is ∙ one))),
+    )
+
+pub returns-clause-value : goal.returns-clause-value
+returns-clause-value c =
+    let l = c.items in
+    let closed : l.scan ≡ Token.end_array ∷ c.closes_array.new.self = grind arith in
+    items_end 1 c.args.scan.now c.opens_array.new.self l.scan c.closes_array.new.self (map (product_data l.version) l.entries.items)
+    (c.opens_array.ensures (grind arith)) l.invariant.0 closed

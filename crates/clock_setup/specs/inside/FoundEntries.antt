@@ -1,0 +1,15 @@
+-- What was found so far of a product and of a bidder that are being read.
+--     found_product, found_bidder      the keys of an object, each with its value where one was found
+use Rattle.std.specs.Prelude.{option_map}
+use Rattle.clock_scan.specs.Reading.{Fields}
+use Rattle.clock_setup.specs.declared.setup_scan.ProductParts.{ProductParts}
+use Rattle.clock_setup.specs.declared.setup_scan.BidderParts.{BidderParts}
+use Rattle.clock_setup.specs.SetupData.{product_fields, bidder_fields}
+
+-- the keys of a product
+abbrev pub found_product : ProductParts → Fields
+found_product parts = product_fields parts.cap parts.granule (option_map (λ text. text.now) parts.name) parts.opening parts.supply parts.units
+
+-- the keys of a bidder
+abbrev pub found_bidder : BidderParts → Fields
+found_bidder parts = bidder_fields parts.eligibility (option_map (λ text. text.now) parts.name) (option_map (λ text. text.now) parts.token)

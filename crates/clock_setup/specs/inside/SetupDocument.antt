@@ -1,0 +1,31 @@
+-- The checks of a set-up, in the four parts in which they are made.
+use Rattle.std.specs.Prelude.{Bool, List, [], ◌∷◌, length}
+use Rattle.clock_terms.specs.declared.setup.Product.{Product}
+use Rattle.clock_terms.specs.declared.setup.Bidder.{Bidder}
+use Rattle.clock_setup.specs.declared.fault.Place.TheVariants.{Requirement, Limit, Operator, Products, Bidders}
+use Rattle.clock_setup.specs.declared.fault.SetupFault.{SetupFault}
+use Rattle.clock_setup.specs.declared.fault.SetupFault.TheVariants.{Range, DuplicateName, DuplicateToken}
+use Rattle.clock_terms.specs.Limits.{SetupFields, is_within, is_token}
+use Rattle.clock_terms.specs.Limits.{least_requirement, most_requirement, least_limit, most_limit, most_products, most_bidders}
+use Rattle.clock_terms.specs.Faults.{in_turn}
+use Rattle.clock_setup.specs.SetupDocument.{product_checks, bidder_checks, has_distinct_names, has_distinct_tokens}
+
+-- its parts that stand before the products
+unfoldable pub head_checks : SetupFields → List (SetupFault × Bool)
+head_checks setup =
+    (Range Requirement, is_within least_requirement most_requirement setup.requirement)
+    ∷ (Range Limit, is_within least_limit most_limit setup.limit)
+    ∷ (Range Operator, is_token setup.operator)
+    ∷ []
+
+-- how many products there are, then each of them
+unfoldable pub products_checks : List Product → List (SetupFault × Bool)
+products_checks products = (Range Products, is_within 1 most_products (length products)) ∷ in_turn product_checks 0 products
+
+-- how many bidders there are, then each of them
+unfoldable pub bidders_checks : List Bidder → List (SetupFault × Bool)
+bidders_checks bidders = (Range Bidders, is_within 1 most_bidders (length bidders)) ∷ in_turn bidder_checks 0 bidders
+
+-- its names, then its tokens
+unfoldable pub distinct_checks : SetupFields → List (SetupFault × Bool)
+distinct_checks setup = (DuplicateName, has_distinct_names setup) ∷ (DuplicateToken, has_distinct_tokens setup) ∷ []

@@ -1,0 +1,122 @@
+ghost use Rattle.std.specs.Prelude.{◌≡◌, ◌≢◌, ◌*◌, ◌≤◌, ◌++◌, ◌∷◌, [], None, Some, length, zip, All, IfOk, IfErr, IfNone};
+ghost use Rattle.serde_json.specs.Data.{Data};
+ghost use Rattle.clock_terms.specs.Demands.{rows_of, IsGrid};
+ghost use Rattle.clock_terms.specs.Faults.{first_fault, in_turn};
+ghost use Rattle.clock_terms.specs.Limits.{IsRow, IsWithin, is_within, least_increment, most_increment, most_supply};
+ghost use Rattle.clock_setup.specs.OpeningDocument as document;
+ghost use Rattle.clock_setup.specs.OpeningDocument.{demand_checks, row_checks, opening_checks};
+
+use crate::fault::SetupFault;
+use crate::opening::OpeningFault;
+use clock_money::{LEAST_INCREMENT, MOST_INCREMENT};
+use clock_scan::FlatRows;
+use clock_terms::{Amounts, Bidder, Grid, Product, Setup, activity, is_within, row_at};
+use std::alloc::Global;
+
+/// Whether there is a row for each bidder, and in each row a number for each product.
+fn has_counts(setup: &Setup, demands: &FlatRows) -> bool
+    ensures { result ≡ document.has_counts setup.now demands.now }
+{
+    demands.count() == setup.bidders.as_slice().len()
+        && demands.has_lengths(setup.products.as_slice().len())
+}
+
+/// The least product of which a bidder demands more than its cap.
+#[tactic(auto, using(clock_terms::proofs::FaultLaws::fault_steps), unfolding(crate::specs::OpeningDocument::demand_checks))]
+fn demand_fault(number: u64, products: &[Product], row: &[u64]) -> Option<OpeningFault>
+    requires { length row.now ≡ length products.now }
+    ensures fault { result ≡ first_fault (in_turn (demand_checks number) 0 (zip products.now row.now)) }
+    ensures capped { IfNone result (IsRow products.now row.now) }
+    ensures held { result ≢ Some (OpeningFault.Setup SetupFault.NoMemory) }
+{
+    for (product, demand) in row.iter().enumerate() {
+        if *demand > products[product].cap {
+            return Some(OpeningFault::Demand(number, product as u64));
+        }
+    }
+    None
+}
+
+/// The first fault of a bidder's row.
+#[tactic(auto, using(clock_terms::proofs::FaultLaws::fault_lists), unfolding(crate::specs::OpeningDocument::row_checks))]
+fn row_fault(number: u64, setup: &Setup, bidder: &Bidder, row: &[u64]) -> Option<OpeningFault>
+    requires { length row.now ≡ length setup.now.products }
+    ensures fault { result ≡ first_fault (row_checks setup.now.products number (bidder.now, row.now)) }
+    ensures small { IfNone result (All (λ demand. demand ≤ most_supply) row.now) }
+    ensures held { result ≢ Some (OpeningFault.Setup SetupFault.NoMemory) }
+{
+    if let Some(fault) = demand_fault(number, setup.products.as_slice(), row) {
+        return Some(fault);
+    }
+    if activity(setup, row) > bidder.eligibility {
+        return Some(OpeningFault::Activity(number));
+    }
+    None
+}
+
+/// The first fault of the rows that stand in one list.
+fn rows_fault(setup: &Setup, demands: &[u64]) -> Option<OpeningFault>
+    requires { length setup.now.bidders * length setup.now.products ≤ length demands.now }
+    ensures fault { result ≡ first_fault (in_turn (row_checks setup.now.products) 0
+        (zip setup.now.bidders (rows_of (length setup.now.bidders) (length setup.now.products) demands.now))) }
+    ensures small { IfNone result (All (λ row. All (λ demand. demand ≤ most_supply) row)
+        (rows_of (length setup.now.bidders) (length setup.now.products) demands.now)) }
+    ensures held { result ≢ Some (OpeningFault.Setup SetupFault.NoMemory) }
+{
+    let bidders = setup.bidders.as_slice();
+    let products = setup.products.as_slice().len();
+    for (number, bidder) in bidders.iter().enumerate() {
+        let row = row_at(demands, number, products);
+        if let Some(fault) = row_fault(number as u64, setup, bidder, row) {
+            return Some(fault);
+        }
+    }
+    None
+}
+
+/// The first fault of the rows that stand in one list, or else of the increment.
+fn fault_of(setup: &Setup, demands: &[u64], increment: u64) -> Option<OpeningFault>
+    requires { length setup.now.bidders * length setup.now.products ≤ length demands.now }
+    ensures fault { result ≡ first_fault (in_turn (row_checks setup.now.products) 0
+        (zip setup.now.bidders (rows_of (length setup.now.bidders) (length setup.now.products) demands.now))
+        ++ ((OpeningFault.Increment, is_within least_increment most_increment increment) ∷ [])) }
+    ensures small { IfNone result (All (λ row. All (λ demand. demand ≤ most_supply) row)
+        (rows_of (length setup.now.bidders) (length setup.now.products) demands.now)) }
+    ensures increment { IfNone result (IsWithin least_increment most_increment increment) }
+    ensures held { result ≢ Some (OpeningFault.Setup SetupFault.NoMemory) }
+{
+    if let Some(fault) = rows_fault(setup, demands) {
+        return Some(fault);
+    }
+    if !is_within(LEAST_INCREMENT, MOST_INCREMENT, increment) {
+        return Some(OpeningFault::Increment);
+    }
+    None
+}
+
+/// The grid of a set-up's demands, or the first fault that these or the increment have.
+pub(crate) fn grid_within(
+    alloc: Global,
+    setup: &Setup,
+    demands: FlatRows,
+    increment: u64,
+) -> Result<Grid, OpeningFault>
+    ensures same { IfOk result (λ grid. grid ≡ demands) }
+    ensures grid { IfOk result (λ grid. IsGrid (length setup.now.bidders) (length setup.now.products) grid) }
+    ensures increment { IfOk result (λ _. IsWithin least_increment most_increment increment) }
+    ensures ok { IfOk result (λ _. (held : Data)
+        → first_fault (opening_checks setup.now (record { setup = held; demands = demands; increment = increment })) ≡ None) }
+    ensures err { IfErr result (λ fault. fault ≢ OpeningFault.NoMemory → (held : Data)
+        → first_fault (opening_checks setup.now (record { setup = held; demands = demands; increment = increment })) ≡ Some fault) }
+    ensures held { IfErr result (λ fault. fault ≢ OpeningFault.Setup SetupFault.NoMemory) }
+{
+    if !has_counts(setup, &demands) {
+        return Err(OpeningFault::Shape);
+    }
+    let numbers = Amounts::from_vec(demands.into_numbers());
+    if let Some(fault) = fault_of(setup, numbers.as_slice(), increment) {
+        return Err(fault);
+    }
+    let grid = Grid::of_numbers(alloc, setup, numbers)?;
+    Ok(grid)
+}

@@ -1,0 +1,103 @@
+//! An opening document read without a tree, where no text has an escape and each number is written in digits alone.
+ghost use Rattle.std.specs.Prelude.{◌≡◌, ◌<◌, length, Some, IfSome, IfOk, OnOk};
+ghost use Rattle.serde_json.specs.Data.{object};
+ghost use Rattle.clock_scan.specs.Reading.{members_of, Reads};
+ghost use Rattle.clock_scan.specs.inside.Reading.{AddsMember};
+ghost use Rattle.clock_setup.specs.inside.OpeningData.{entries_data, found_opening};
+ghost use Rattle.clock_setup.specs.SetupDocument.{json};
+
+use crate::opening_entries::{InnerSetup, OpeningEntries, ScannedSetup};
+use crate::setup_scan::scanned_setup;
+use clock_scan::{FlatRows, Scan, Stop, is_key, is_text};
+use std::alloc::Global;
+
+/// What was found of an opening.
+#[derive(Drop)]
+struct OpeningFound<'v> {
+    demands: Option<FlatRows>,
+    increment: Option<u64>,
+    setup: Option<ScannedSetup<'v>>,
+}
+
+impl<'v> OpeningFound<'v> {
+    /// Reads the next member.
+    fn read_member(&mut self, alloc: Global, scan: &mut Scan<'v>) -> Result<(), Stop>
+        ensures value { OnOk result (AddsMember 3 scan.old (found_opening self.old) scan.new (found_opening self.new)) }
+        ensures shorter { OnOk result (length scan.new < length scan.old) }
+    {
+        let Some(key) = scan.key() else {
+            return Err(Stop::Unusual);
+        };
+        if is_key(key, "demands") {
+            self.demands = Some(scan.flat_rows(alloc)?);
+            return Ok(());
+        }
+        if is_key(key, "setup") {
+            let entries = scanned_setup(alloc, scan)?;
+            self.setup = Some(ScannedSetup { entries });
+            return Ok(());
+        }
+        let Some(number) = scan.number() else {
+            return Err(Stop::Unusual);
+        };
+        if is_key(key, "increment") {
+            self.increment = Some(number);
+            return Ok(());
+        }
+        Err(Stop::Unusual)
+    }
+
+    /// The parts of an opening, where each was found.
+    fn entries(self) -> Option<OpeningEntries<'v>>
+        ensures { IfSome result (λ entries. object (members_of (found_opening self.entry)) ≡ entries_data entries) }
+    {
+        let (Some(demands), Some(increment), Some(setup)) = (
+            self.demands,
+            self.increment,
+            self.setup,
+        ) else {
+            return None;
+        };
+        Some(OpeningEntries {
+            setup: InnerSetup::Scanned(setup),
+            demands,
+            increment,
+        })
+    }
+}
+
+/// The opening that is next.
+fn opening_entries<'v>(alloc: Global, scan: &mut Scan<'v>) -> Result<OpeningEntries<'v>, Stop>
+    ensures { IfOk result (λ entries. Reads 4 scan.old (entries_data entries) scan.new) }
+{
+    if !scan.opens_object() {
+        return Err(Stop::Unusual);
+    }
+    let mut parts = OpeningFound {
+        demands: None,
+        increment: None,
+        setup: None,
+    };
+    'members: while !scan.closes_object() {
+        parts.read_member(alloc, scan)?;
+    }
+    match parts.entries() {
+        Some(entries) => Ok(entries),
+        None => Err(Stop::Unusual),
+    }
+}
+
+/// The parts of the opening that a document is.
+pub(crate) fn scanned_opening(alloc: Global, bytes: &[u8]) -> Result<OpeningEntries<'_>, Stop>
+    ensures { IfOk result (λ entries. json bytes.now ≡ Some (entries_data entries)) }
+{
+    if !is_text(bytes) {
+        return Err(Stop::Unusual);
+    }
+    let mut scan = Scan::new(bytes);
+    let entries = opening_entries(alloc, &mut scan)?;
+    if !scan.ends() {
+        return Err(Stop::Unusual);
+    }
+    Ok(entries)
+}

@@ -1,0 +1,97 @@
+ghost use Rattle.std.specs.Prelude.{◌≡◌, ◌≢◌, Some, Ok, Err, option_map, IfOk, IfErr};
+ghost use Rattle.serde_json.specs.View.{view, items_view};
+ghost use Rattle.clock_terms.specs.Faults.{IsRefusal, or_fault};
+ghost use Rattle.clock_setup.specs.Members.{each};
+ghost use Rattle.clock_setup.specs.inside.OpeningData.{held_data, parts_data, source_data};
+ghost use Rattle.clock_setup.specs.OpeningShape as shape;
+
+use crate::fault::SetupFault;
+use crate::members::{has_members, items_at, number_at, numbers_of};
+use crate::opening::OpeningFault;
+use crate::opening_entries::{InnerSetup, OpeningEntries, OpeningInput};
+use clock_device::NoMemory;
+use clock_scan::FlatRows;
+use clock_terms::Amounts;
+use serde_json::Value;
+use std::alloc::Global;
+
+/// One bidder's demands, or none.
+#[tactic(auto, unfolding(crate::specs::OpeningShape::row_of))]
+fn row_entry(alloc: Global, value: &Value) -> Result<Option<Amounts>, NoMemory>
+    ensures { IfOk result (λ row. row ≡ shape.row_of (view value.now)) }
+{
+    match value.as_array() {
+        Some(items) => numbers_of(alloc, items.as_slice()),
+        None => Ok(None),
+    }
+}
+
+/// The rows of demands, or none.
+fn row_entries(alloc: Global, items: &[Value]) -> Result<Option<Vec<Amounts>>, NoMemory>
+    ensures { IfOk result (λ rows. option_map (λ list. list.items) rows ≡ each shape.row_of (items_view items.now)) }
+{
+    let mut rows = Vec::new(alloc);
+    for item in items {
+        let Some(row) = row_entry(alloc, item)? else {
+            return Ok(None);
+        };
+        rows.push(row)?;
+    }
+    Ok(Some(rows))
+}
+
+/// An opening document of the right shape, or none.
+fn parts_in(alloc: Global, value: &Value) -> Result<Option<OpeningEntries<'_>>, NoMemory>
+    ensures { IfOk result (λ parts. option_map parts_data parts ≡ shape.parts_of (view value.now)) }
+{
+    let Some(setup) = value.get("setup") else {
+        return Ok(None);
+    };
+    let Some(items) = items_at(value, "demands") else {
+        return Ok(None);
+    };
+    let Some(increment) = number_at(value, "increment") else {
+        return Ok(None);
+    };
+    if !has_members(value, 3) {
+        return Ok(None);
+    }
+    let Some(rows) = row_entries(alloc, items)? else {
+        return Ok(None);
+    };
+    let demands = FlatRows::from_lists(alloc, rows.as_slice())?;
+    Ok(Some(OpeningEntries {
+        setup: InnerSetup::Tree(setup),
+        demands,
+        increment,
+    }))
+}
+
+/// An opening document of the right shape.
+fn opening_parts(alloc: Global, value: &Value) -> Result<OpeningEntries<'_>, OpeningFault>
+    ensures ok { IfOk result (λ parts. shape.parts_of (view value.now)
+        ≡ Some (record { setup = held_data parts.setup; demands = parts.demands; increment = parts.increment })) }
+    ensures err { IfErr result (IsRefusal OpeningFault.NoMemory (or_fault OpeningFault.Shape (shape.parts_of (view value.now)))) }
+    ensures held { IfErr result (λ fault. fault ≢ OpeningFault.Setup SetupFault.NoMemory) }
+{
+    match parts_in(alloc, value)? {
+        Some(parts) => Ok(parts),
+        None => Err(OpeningFault::Shape),
+    }
+}
+
+/// The parts of an opening.
+pub(crate) fn source_parts<'v>(
+    alloc: Global,
+    source: OpeningInput<'v>,
+) -> Result<OpeningEntries<'v>, OpeningFault>
+    ensures ok { IfOk result (λ parts. shape.parts_of (source_data source.entry)
+        ≡ Some (record { setup = held_data parts.setup; demands = parts.demands; increment = parts.increment })) }
+    ensures err { IfErr result (IsRefusal OpeningFault.NoMemory (or_fault OpeningFault.Shape (shape.parts_of (source_data source.entry)))) }
+    ensures held { IfErr result (λ fault. fault ≢ OpeningFault.Setup SetupFault.NoMemory) }
+{
+    match source {
+        OpeningInput::Document(value) => opening_parts(alloc, value),
+        OpeningInput::Entries(entries) => Ok(entries),
+    }
+}

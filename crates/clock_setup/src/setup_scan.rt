@@ -1,0 +1,375 @@
+//! A set-up read without a tree, where no text has an escape and each number is written in digits alone.
+ghost use Rattle.std.specs.Prelude.{◌≡◌, ◌⊎◌, ◌<◌, length, IfSome, IfOk, OnOk};
+ghost use Rattle.serde_json.specs.Data.{object};
+ghost use Rattle.clock_scan.specs.Reading.{members_of, Reads};
+ghost use Rattle.clock_scan.specs.inside.Reading.{AddsMember};
+ghost use Rattle.clock_terms.specs.Limits.{IsWithin, IsOfFirstVersion, latest_version, first_granule, first_limit};
+ghost use Rattle.clock_setup.specs.SetupData.{added, product_data, products_data, bidder_data, bidders_data, setup_data};
+ghost use Rattle.clock_setup.specs.inside.FoundEntries.{found_product, found_bidder};
+ghost use Rattle.clock_setup.specs.inside.FoundSetup.{found_setup};
+
+use crate::entries::{BidderEntry, ProductEntry, SetupEntries, VersionedProducts};
+use clock_scan::{Scan, Stop, is_key};
+use clock_terms::{FIRST_GRANULE, FIRST_LIMIT};
+use std::alloc::Global;
+
+/// What was found of a product.
+#[derive(Clone, Copy)]
+struct ProductParts<'v> {
+    cap: Option<u64>,
+    granule: Option<u64>,
+    name: Option<&'v str>,
+    opening: Option<u64>,
+    supply: Option<u64>,
+    units: Option<u64>,
+}
+
+impl<'v> ProductParts<'v> {
+    /// Reads the next member.
+    fn read_member(&mut self, scan: &mut Scan<'v>) -> Option<()>
+        ensures value { IfSome result (λ _. AddsMember 0 scan.old (found_product self.old) scan.new (found_product self.new)) }
+        ensures shorter { IfSome result (λ _. length scan.new < length scan.old) }
+    {
+        let key = scan.key()?;
+        if is_key(key, "name") {
+            let text = scan.text()?;
+            self.name = Some(text);
+            return Some(());
+        }
+        let number = scan.number()?;
+        if is_key(key, "cap") {
+            self.cap = Some(number);
+            return Some(());
+        }
+        if is_key(key, "opening") {
+            self.opening = Some(number);
+            return Some(());
+        }
+        if is_key(key, "supply") {
+            self.supply = Some(number);
+            return Some(());
+        }
+        if is_key(key, "units") {
+            self.units = Some(number);
+            return Some(());
+        }
+        if is_key(key, "granule") {
+            self.granule = Some(number);
+            return Some(());
+        }
+        None
+    }
+
+    /// The product, and the first version of documents in which one has these keys.
+    fn entry(self) -> Option<(u64, ProductEntry<'v>)>
+        ensures value { IfSome result (λ r. object (members_of (found_product self.entry)) ≡ product_data r.0 r.1) }
+        ensures version { IfSome result (λ r. IsWithin 1 latest_version r.0) }
+        ensures first_version { IfSome result (λ r. r.0 ≡ 1 → r.1.granule ≡ first_granule) }
+    {
+        let (Some(name), Some(units), Some(supply), Some(cap), Some(opening)) = (
+            self.name,
+            self.units,
+            self.supply,
+            self.cap,
+            self.opening,
+        ) else {
+            return None;
+        };
+        match self.granule {
+            None => Some((
+                1,
+                ProductEntry {
+                    name,
+                    units,
+                    supply,
+                    cap,
+                    opening,
+                    granule: FIRST_GRANULE,
+                },
+            )),
+            Some(granule) => Some((
+                2,
+                ProductEntry {
+                    name,
+                    units,
+                    supply,
+                    cap,
+                    opening,
+                    granule,
+                },
+            )),
+        }
+    }
+}
+
+/// A product, and the first version of documents in which one has its keys.
+fn product<'v>(scan: &mut Scan<'v>) -> Option<(u64, ProductEntry<'v>)>
+    ensures value { IfSome result (λ r. Reads 1 scan.old (product_data r.0 r.1) scan.new) }
+    ensures version { IfSome result (λ r. IsWithin 1 latest_version r.0) }
+    ensures first_version { IfSome result (λ r. r.0 ≡ 1 → r.1.granule ≡ first_granule) }
+    ensures shorter { IfSome result (λ _. length scan.new < length scan.old) }
+{
+    if !scan.opens_object() {
+        return None;
+    }
+    let mut parts = ProductParts {
+        cap: None,
+        granule: None,
+        name: None,
+        opening: None,
+        supply: None,
+        units: None,
+    };
+    'members: while !scan.closes_object() {
+        parts.read_member(scan)?;
+    }
+    let (version, entry) = parts.entry()?;
+    Some((version, entry))
+}
+
+/// The version that a list of products and one more have their keys from, where it is the same. It is 0 for no products.
+fn common_version(so_far: u64, next: u64) -> Option<u64>
+    ensures { IfSome result (λ version. (version ≡ next) × ((so_far ≡ 0) ⊎ (so_far ≡ next))) }
+{
+    if so_far == 0 || so_far == next {
+        Some(next)
+    } else {
+        None
+    }
+}
+
+/// Products whose keys are those of one version.
+fn products<'v>(alloc: Global, scan: &mut Scan<'v>) -> Result<VersionedProducts<'v>, Stop>
+    ensures value { IfOk result (λ list. Reads 2 scan.old (products_data list.version list.entries.items) scan.new) }
+    ensures shorter { OnOk result (length scan.new < length scan.old) }
+{
+    if !scan.opens_array() {
+        return Err(Stop::Unusual);
+    }
+    let mut version = 0;
+    let mut entries = Vec::new(alloc);
+    'items: while !scan.closes_array() {
+        let Some((next, entry)) = product(scan) else {
+            return Err(Stop::Unusual);
+        };
+        let Some(common) = common_version(version, next) else {
+            return Err(Stop::Unusual);
+        };
+        version = common;
+        entries.push(entry)?;
+    }
+    Ok(VersionedProducts { version, entries })
+}
+
+/// What was found of a bidder.
+#[derive(Clone, Copy)]
+struct BidderParts<'v> {
+    eligibility: Option<u64>,
+    name: Option<&'v str>,
+    token: Option<&'v str>,
+}
+
+impl<'v> BidderParts<'v> {
+    /// Reads the next member.
+    fn read_member(&mut self, scan: &mut Scan<'v>) -> Option<()>
+        ensures value { IfSome result (λ _. AddsMember 0 scan.old (found_bidder self.old) scan.new (found_bidder self.new)) }
+        ensures shorter { IfSome result (λ _. length scan.new < length scan.old) }
+    {
+        let key = scan.key()?;
+        if is_key(key, "eligibility") {
+            let number = scan.number()?;
+            self.eligibility = Some(number);
+            return Some(());
+        }
+        let text = scan.text()?;
+        if is_key(key, "name") {
+            self.name = Some(text);
+            return Some(());
+        }
+        if is_key(key, "token") {
+            self.token = Some(text);
+            return Some(());
+        }
+        None
+    }
+
+    /// The bidder.
+    fn entry(self) -> Option<BidderEntry<'v>>
+        ensures { IfSome result (λ entry. object (members_of (found_bidder self.entry)) ≡ bidder_data entry) }
+    {
+        let (Some(name), Some(token), Some(eligibility)) = (self.name, self.token, self.eligibility)
+        else {
+            return None;
+        };
+        Some(BidderEntry {
+            name,
+            token,
+            eligibility,
+        })
+    }
+}
+
+/// A bidder.
+fn bidder<'v>(scan: &mut Scan<'v>) -> Option<BidderEntry<'v>>
+    ensures value { IfSome result (λ entry. Reads 1 scan.old (bidder_data entry) scan.new) }
+    ensures shorter { IfSome result (λ _. length scan.new < length scan.old) }
+{
+    if !scan.opens_object() {
+        return None;
+    }
+    let mut parts = BidderParts {
+        eligibility: None,
+        name: None,
+        token: None,
+    };
+    'members: while !scan.closes_object() {
+        parts.read_member(scan)?;
+    }
+    let entry = parts.entry()?;
+    Some(entry)
+}
+
+/// Bidders.
+fn bidders<'v>(alloc: Global, scan: &mut Scan<'v>) -> Result<Vec<BidderEntry<'v>>, Stop>
+    ensures value { IfOk result (λ list. Reads 2 scan.old (bidders_data list.items) scan.new) }
+    ensures shorter { OnOk result (length scan.new < length scan.old) }
+{
+    if !scan.opens_array() {
+        return Err(Stop::Unusual);
+    }
+    let mut entries = Vec::new(alloc);
+    'items: while !scan.closes_array() {
+        let Some(entry) = bidder(scan) else {
+            return Err(Stop::Unusual);
+        };
+        entries.push(entry)?;
+    }
+    Ok(entries)
+}
+
+/// What was found of a set-up.
+#[derive(Drop)]
+struct SetupParts<'v> {
+    bidders: Option<Vec<BidderEntry<'v>>>,
+    limit: Option<u64>,
+    operator: Option<&'v str>,
+    products: Option<VersionedProducts<'v>>,
+    requirement: Option<u64>,
+    version: Option<u64>,
+}
+
+/// The limit of a set-up of a version, where a document of this version may have such a member or none.
+fn limit_of(version: u64, limit: Option<u64>) -> Option<u64>
+    ensures found { IfSome result (λ known. limit ≡ added version known) }
+    ensures version { IfSome result (λ _. IsWithin 1 latest_version version) }
+    ensures first_version { IfSome result (λ known. version ≡ 1 → known ≡ first_limit) }
+{
+    match (version, limit) {
+        (1, None) => Some(FIRST_LIMIT),
+        (2, Some(limit)) => Some(limit),
+        _ => None,
+    }
+}
+
+impl<'v> SetupParts<'v> {
+    /// Reads the next member.
+    fn read_member(&mut self, alloc: Global, scan: &mut Scan<'v>) -> Result<(), Stop>
+        ensures value { OnOk result (AddsMember 2 scan.old (found_setup self.old) scan.new (found_setup self.new)) }
+        ensures shorter { OnOk result (length scan.new < length scan.old) }
+    {
+        let Some(key) = scan.key() else {
+            return Err(Stop::Unusual);
+        };
+        if is_key(key, "products") {
+            self.products = Some(products(alloc, scan)?);
+            return Ok(());
+        }
+        if is_key(key, "bidders") {
+            self.bidders = Some(bidders(alloc, scan)?);
+            return Ok(());
+        }
+        if is_key(key, "operator") {
+            let Some(text) = scan.text() else {
+                return Err(Stop::Unusual);
+            };
+            self.operator = Some(text);
+            return Ok(());
+        }
+        let Some(number) = scan.number() else {
+            return Err(Stop::Unusual);
+        };
+        if is_key(key, "version") {
+            self.version = Some(number);
+            return Ok(());
+        }
+        if is_key(key, "requirement") {
+            self.requirement = Some(number);
+            return Ok(());
+        }
+        if is_key(key, "limit") {
+            self.limit = Some(number);
+            return Ok(());
+        }
+        Err(Stop::Unusual)
+    }
+
+    /// The entries of a known version, with the keys of this version.
+    fn entries(self) -> Option<SetupEntries<'v>>
+        ensures value { IfSome result (λ entries. object (members_of (found_setup self.entry)) ≡ setup_data entries) }
+        ensures version { IfSome result (λ entries. IsWithin 1 latest_version entries.version) }
+        ensures first_version { IfSome result (λ entries. entries.version ≡ 1 → IsOfFirstVersion entries) }
+    {
+        let (Some(version), Some(requirement), Some(operator)) = (
+            self.version,
+            self.requirement,
+            self.operator,
+        ) else {
+            return None;
+        };
+        let (Some(products), Some(bidders)) = (self.products, self.bidders) else {
+            return None;
+        };
+        let limit = limit_of(version, self.limit)?;
+        if products.version != version {
+            return None;
+        }
+        Some(SetupEntries {
+            version,
+            limit,
+            requirement,
+            operator,
+            products: products.entries,
+            bidders,
+        })
+    }
+}
+
+/// The set-up that is next.
+pub(crate) fn scanned_setup<'v>(
+    alloc: Global,
+    scan: &mut Scan<'v>,
+) -> Result<SetupEntries<'v>, Stop>
+    ensures value { IfOk result (λ entries. Reads 3 scan.old (setup_data entries) scan.new) }
+    ensures version { IfOk result (λ entries. IsWithin 1 latest_version entries.version) }
+    ensures first_version { IfOk result (λ entries. entries.version ≡ 1 → IsOfFirstVersion entries) }
+    ensures shorter { OnOk result (length scan.new < length scan.old) }
+{
+    if !scan.opens_object() {
+        return Err(Stop::Unusual);
+    }
+    let mut parts = SetupParts {
+        bidders: None,
+        limit: None,
+        operator: None,
+        products: None,
+        requirement: None,
+        version: None,
+    };
+    'members: while !scan.closes_object() {
+        parts.read_member(alloc, scan)?;
+    }
+    match parts.entries() {
+        Some(entries) => Ok(entries),
+        None => Err(Stop::Unusual),
+    }
+}

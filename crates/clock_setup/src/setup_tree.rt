@@ -1,0 +1,172 @@
+ghost use Rattle.std.specs.Prelude.{◌≡◌, ◌≤◌, codes, Some, option_map, IfOk, IfErr};
+ghost use Rattle.serde_json.specs.View.{view, items_view};
+ghost use Rattle.clock_terms.specs.Faults.{IsRefusal, or_fault};
+ghost use Rattle.clock_terms.specs.Limits.{IsOfFirstVersion};
+ghost use Rattle.clock_setup.specs.Members as members;
+ghost use Rattle.clock_setup.specs.Members.{each};
+ghost use Rattle.clock_setup.specs.SetupShape as shape;
+ghost use Rattle.clock_setup.specs.SetupShape.{product_of, bidder_of, fields_of};
+
+use crate::entries::{BidderEntry, ProductEntry, SetupEntries};
+use crate::fault::SetupFault;
+use crate::members::{each_of, has_members, items_at, number_at, text_at};
+use clock_device::NoMemory;
+use clock_terms::{FIRST_GRANULE, FIRST_LIMIT};
+use serde_json::Value;
+use std::alloc::Global;
+
+/// A number that documents have from version 2 on.
+fn added_number(value: &Value, version: u64, in_first: u64, key: &str) -> Option<u64>
+    ensures { result ≡ shape.added_number version in_first key.now (view value.now) }
+{
+    if version == 1 {
+        Some(in_first)
+    } else {
+        number_at(value, key)
+    }
+}
+
+/// Whether an object to which version 2 adds a key has its number of members.
+fn has_keys(value: &Value, version: u64, in_first: usize) -> bool
+    requires { in_first ≤ 5 }
+    ensures { result ≡ members.has_members (shape.key_count version in_first) (view value.now) }
+{
+    if version == 1 {
+        has_members(value, in_first)
+    } else {
+        has_members(value, in_first + 1)
+    }
+}
+
+/// A product of the right shape.
+#[tactic(auto, unfolding(crate::specs::SetupShape::product_of))]
+fn product_entry(value: &Value, version: u64) -> Option<ProductEntry<'_>>
+    ensures { result ≡ product_of version (view value.now) }
+{
+    let (Some(name), Some(units), Some(supply), Some(cap), Some(opening), Some(granule)) = (
+        text_at(value, "name"),
+        number_at(value, "units"),
+        number_at(value, "supply"),
+        number_at(value, "cap"),
+        number_at(value, "opening"),
+        added_number(value, version, FIRST_GRANULE, "granule"),
+    ) else {
+        return None;
+    };
+    if has_keys(value, version, 5) {
+        Some(ProductEntry {
+            name,
+            units,
+            supply,
+            cap,
+            opening,
+            granule,
+        })
+    } else {
+        None
+    }
+}
+
+/// A bidder of the right shape.
+#[tactic(auto, unfolding(crate::specs::SetupShape::bidder_of))]
+fn bidder_entry(value: &Value) -> Option<BidderEntry<'_>>
+    ensures { result ≡ bidder_of (view value.now) }
+{
+    let (Some(name), Some(token), Some(eligibility)) = (
+        text_at(value, "name"),
+        text_at(value, "token"),
+        number_at(value, "eligibility"),
+    ) else {
+        return None;
+    };
+    if has_members(value, 3) {
+        Some(BidderEntry {
+            name,
+            token,
+            eligibility,
+        })
+    } else {
+        None
+    }
+}
+
+/// Products of the right shape, or none.
+fn product_entries(
+    alloc: Global,
+    items: &[Value],
+    version: u64,
+) -> Result<Option<Vec<ProductEntry<'_>>>, NoMemory>
+    ensures { IfOk result (λ entries. option_map (λ list. list.items) entries ≡ each (product_of version) (items_view items.now)) }
+{
+    let mut entries = Vec::new(alloc);
+    for item in items {
+        let Some(entry) = product_entry(item, version) else {
+            return Ok(None);
+        };
+        entries.push(entry)?;
+    }
+    Ok(Some(entries))
+}
+
+/// Bidders of the right shape, or none.
+fn bidder_entries(alloc: Global, items: &[Value]) -> Result<Option<Vec<BidderEntry<'_>>>, NoMemory>
+    ensures { IfOk result (λ entries. option_map (λ list. list.items) entries ≡ each bidder_of (items_view items.now)) }
+{
+    each_of(alloc, items, bidder_entry)
+}
+
+/// A set-up document of the right shape, or none.
+#[tactic(auto, unfolding(crate::specs::SetupShape::fields_of))]
+fn entries_of(alloc: Global, value: &Value) -> Result<Option<SetupEntries<'_>>, NoMemory>
+    ensures { IfOk result (λ entries. entries ≡ fields_of (view value.now)) }
+{
+    let Some(version) = number_at(value, "version") else {
+        return Ok(None);
+    };
+    let Some(limit) = added_number(value, version, FIRST_LIMIT, "limit") else {
+        return Ok(None);
+    };
+    let Some(requirement) = number_at(value, "requirement") else {
+        return Ok(None);
+    };
+    let Some(operator) = text_at(value, "operator") else {
+        return Ok(None);
+    };
+    let Some(items) = items_at(value, "products") else {
+        return Ok(None);
+    };
+    let Some(products) = product_entries(alloc, items, version)? else {
+        return Ok(None);
+    };
+    let Some(items) = items_at(value, "bidders") else {
+        return Ok(None);
+    };
+    let Some(bidders) = bidder_entries(alloc, items)? else {
+        return Ok(None);
+    };
+    if !has_keys(value, version, 5) {
+        return Ok(None);
+    }
+    Ok(Some(SetupEntries {
+        version,
+        limit,
+        requirement,
+        operator,
+        products,
+        bidders,
+    }))
+}
+
+/// A set-up document of the right shape.
+pub(crate) fn setup_entries(alloc: Global, value: &Value) -> Result<SetupEntries<'_>, SetupFault>
+    ensures ok { IfOk result (λ entries. fields_of (view value.now) ≡ Some entries) }
+    ensures first_version { IfOk result (λ entries. entries.version ≡ 1 → IsOfFirstVersion entries) }
+    ensures version { IfOk result
+        (λ entries. members.number_at (codes "version") (view value.now) ≡ Some entries.version) }
+    ensures err { IfErr result (IsRefusal SetupFault.NoMemory (or_fault SetupFault.Shape (fields_of (view value.now)))) }
+{
+    match entries_of(alloc, value)? {
+        Some(entries) => Ok(entries),
+        None => Err(SetupFault::Shape),
+    }
+}

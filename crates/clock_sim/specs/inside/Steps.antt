@@ -1,0 +1,51 @@
+-- What a step of a rehearsal has come to, for the calls that make it.
+--     IsTold code fault result      what the code of a reply is told as
+--     ComesTo answer house      the step has an end, and the house stands for its texts
+--     MakesStep step old new result      whatever the house stood for, the step was made, or its fault is told
+--     IsLeft rest answer house      the rest of the steps, made from what the house stands for, has this end
+--     MakesWay whole rest old new result      a part of some steps was made, and the rest is left
+use Rattle.std.specs.Prelude.{◌≡◌, ◌≢◌, ℕ, List, Result, Ok, Err, MatchResult}
+use Rattle.clock_terms.specs.Faults.{IsRefusal}
+use Rattle.clock_house.specs.House.{HouseFields}
+use Rattle.clock_http.specs.declared.code.Code.{Code}
+use Rattle.clock_http.specs.declared.code.Code.TheVariants.{Done, Memory}
+use Rattle.clock_front.specs.Fronts.{StandsForTexts}
+use Rattle.clock_sim.specs.declared.sim_fault.SimFault.{SimFault}
+use Rattle.clock_sim.specs.declared.sim_fault.SimFault.TheVariants.{NoMemory}
+
+-- a fault is told where a reply is neither done nor that of want of memory
+pub record IsRefusedWith (code : Code) (fault told : SimFault) : Type 0 where
+  pub told_is : told ≡ fault
+  pub not_done : code ≢ Done
+  pub not_memory : code ≢ Memory
+
+abbrev pub IsTold : {T : Type 0} → Code → SimFault → Result T SimFault → Type 0
+IsTold code fault (Ok done) = code ≡ Done
+IsTold code fault (Err told) = told ≢ NoMemory → IsRefusedWith code fault told
+
+-- the step leaves texts, and the house stands for them
+pub record ComesTo (answer : Result (List (List ℕ)) SimFault) (house : HouseFields) : Type 0 where
+  pub texts : List (List ℕ)
+  pub is : answer ≡ Ok texts
+  pub stands : StandsForTexts texts house
+
+-- whatever texts the house stood for, it stands for those that the step leaves; or the step's fault is told, or there was no memory
+pub record MakesStep {T : Type 0} (step : List (List ℕ) → Result (List (List ℕ)) SimFault) (old new : HouseFields)
+    (result : Result T SimFault) : Type 0 where
+  pub setup : new.setup ≡ old.setup
+  pub comes : (texts : List (List ℕ)) → StandsForTexts texts old
+      → MatchResult result (λ done. ComesTo (step texts) new) (IsRefusal NoMemory (step texts))
+
+-- the rest of the steps give this from what the house stands for
+pub record IsLeft (rest : List (List ℕ) → Result (List (List ℕ)) SimFault) (answer : Result (List (List ℕ)) SimFault)
+    (house : HouseFields) : Type 0 where
+  pub texts : List (List ℕ)
+  pub stands : StandsForTexts texts house
+  pub same : rest texts ≡ answer
+
+-- whatever texts the house stood for, the rest is left of the steps; or their fault is told, or there was no memory
+pub record MakesWay {T : Type 0} (whole rest : List (List ℕ) → Result (List (List ℕ)) SimFault) (old new : HouseFields)
+    (result : Result T SimFault) : Type 0 where
+  pub setup : new.setup ≡ old.setup
+  pub comes : (texts : List (List ℕ)) → StandsForTexts texts old
+      → MatchResult result (λ done. IsLeft rest (whole texts) new) (IsRefusal NoMemory (whole texts))

@@ -1,0 +1,96 @@
+-- Small set-ups and requests, on which the rules are computed as examples, and the rules on eligibility, grids and prices computed on them.
+--     one_product, two_products, granules_and_increments, activity_limit      the set-ups
+--     two_blocks name, four_blocks name, bidder_named letter eligibility      their products and bidders
+--     request kind bidder product place amount price      a change of a round whose prices are from 100 to 110
+use Rattle.std.specs.Prelude.{◌≡◌, ℕ, ◌-◌, List, [], ◌∷◌, codes, replicate, refl}
+use Rattle.clock_terms.specs.declared.setup.Product.{Product}
+use Rattle.clock_terms.specs.declared.setup.Bidder.{Bidder}
+use Rattle.clock_terms.specs.declared.change.Change.{Change}
+use Rattle.clock_terms.specs.declared.change.Kind.{Kind}
+use Rattle.clock_terms.specs.Limits.{SetupFields}
+use Rattle.clock_terms.specs.Eligibility.{activity, next_eligibility}
+use Rattle.clock_terms.specs.Demands.{no_demands, with_demand, total_of}
+use Rattle.clock_terms.specs.Prices.{opening_prices}
+
+-- a product of two blocks of one unit each, opening at 100
+abbrev pub two_blocks : List ℕ → Product
+two_blocks name = record { name = name; units = 1; supply = 2; cap = 2; opening = 100; granule = 1 }
+
+-- a bidder whose token is sixteen times one letter
+abbrev pub bidder_named : ℕ → ℕ → Bidder
+bidder_named letter eligibility = record { name = letter ∷ []; token = replicate 16 letter; eligibility = eligibility }
+
+-- one product A, and the bidders X and Y of eligibility 10
+abbrev pub one_product : SetupFields
+one_product = record {
+  version = 1;
+  limit = 100;
+  requirement = 95;
+  operator = codes "OPERATOROPERATOR";
+  products = two_blocks (codes "A") ∷ [];
+  bidders = bidder_named 88 10 ∷ bidder_named 89 10 ∷ [];
+}
+
+-- two products A and B, and the bidders X, Y and Z of eligibility 2, 2 and 1
+abbrev pub two_products : SetupFields
+two_products = record {
+  version = 1;
+  limit = 100;
+  requirement = 100;
+  operator = codes "OPERATOROPERATOR";
+  products = two_blocks (codes "A") ∷ two_blocks (codes "B") ∷ [];
+  bidders = bidder_named 88 2 ∷ bidder_named 89 2 ∷ bidder_named 90 1 ∷ [];
+}
+
+-- the same in version 2, where the clock prices of A are multiples of 25
+abbrev pub granules_and_increments : SetupFields
+granules_and_increments = record two_products {
+  version = 2;
+  products = record (two_blocks (codes "A")) { granule = 25 } ∷ two_blocks (codes "B") ∷ [];
+}
+
+-- four blocks of two units each
+abbrev pub four_blocks : List ℕ → Product
+four_blocks name = record { name = name; units = 2; supply = 4; cap = 4; opening = 100; granule = 1 }
+
+-- two products A and B, and the bidders X and Z of eligibility 8, who may ask for 10 from round 2 on
+abbrev pub activity_limit : SetupFields
+activity_limit = record {
+  version = 2;
+  limit = 125;
+  requirement = 100;
+  operator = codes "OPERATOROPERATOR";
+  products = four_blocks (codes "A") ∷ four_blocks (codes "B") ∷ [];
+  bidders = bidder_named 88 8 ∷ bidder_named 90 8 ∷ [];
+}
+
+-- a change of a round from 100 to 110
+abbrev pub request : Kind → ℕ → ℕ → ℕ → ℕ → ℕ → Change
+request kind bidder product place amount price = record {
+  bidder = bidder;
+  product = product;
+  place = place;
+  kind = kind;
+  amount = amount;
+  price = price;
+  point = record { above = price - 100; span = 10 };
+}
+
+-- 95 percent of 95 is 90.25, and of 94 is 89.3
+eligibility_is_rounded_up : next_eligibility 100 90 95 ≡ 95
+eligibility_is_rounded_up = refl
+
+eligibility_never_grows : next_eligibility 100 95 95 ≡ 100
+eligibility_never_grows = refl
+
+no_activity_keeps_no_eligibility : next_eligibility 100 0 95 ≡ 0
+no_activity_keeps_no_eligibility = refl
+
+activity_adds_up_units : activity two_products.products (2 ∷ 1 ∷ []) ≡ 3
+activity_adds_up_units = refl
+
+total_over_two_bidders : total_of (with_demand (with_demand (no_demands 2 1) 0 0 2) 1 0 1) 0 ≡ 3
+total_over_two_bidders = refl
+
+opening_prices_are_start_and_clock : opening_prices one_product.products ≡ record { start = 100; clock = 100 } ∷ []
+opening_prices_are_start_and_clock = refl

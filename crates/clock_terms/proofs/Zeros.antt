@@ -1,0 +1,84 @@
+-- Demands that are 0: read together, and passed over.
+use Rattle.std.proofs.Common.{◌≡◌, ℕ, zero, suc, ◌+◌, ◌*◌, ◌<◌, ◌≤◌, ◌-◌, ◌↔◌, List, [], ◌∷◌, length, drop, get_or, refl, ap, sym, ◌∙◌, arith, All}
+use Rattle.std.specs.Prelude.{zip}
+use Rattle.std.specs.Int.RustNames.{bit_or}
+use Rattle.std.specs.List.{AllWithin}
+use Rattle.std.proofs.lemmas.List.{get_or_default, get_or-drop, drop-drop, drop_more}
+use Rattle.std.proofs.lemmas.List.Elements.{AllWithin-more, AllWithin-upto}
+use Rattle.std.proofs.lemmas.List.Sums.{sum_by-cons}
+use Rattle.std.proofs.lemmas.Nat.{le_or_l, le_or_r, mul-le}
+use Rattle.clock_terms.specs.declared.setup.Product.{Product}
+use Rattle.clock_terms.specs.Limits.{no_product, IsProduct, IsRow}
+use Rattle.clock_terms.specs.Eligibility.{activity}
+
+-- no bit is set where the demands so far are 0, and the next one is 0 as well
+pub zeros_more : (row : List ℕ) (from step bits : ℕ) → (bits ≡ 0 ↔ AllWithin (λ demand. demand ≡ 0) row from (from + step))
+    → from + step < length row → bit_or bits (get_or row (from + step) 0) ≡ 0 ↔ AllWithin (λ demand. demand ≡ 0) row from (from + (step + 1))
+zeros_more row from step bits before inside =
+    let place = from + step in (
+      λ none k d low high.
+          AllWithin-more (λ demand. demand ≡ 0) row from place (before.0 (omega (arith, none, le_or_l bits (get_or row place 0))))
+          (λ d. get_or_default row place d 0 inside ∙ omega (arith, none, le_or_r bits (get_or row place 0))) k d low (omega (arith, high)),
+      λ all. ap (λ n. bit_or n (get_or row place 0))
+          (before.1 (AllWithin-upto (λ demand. demand ≡ 0) row from (from + (step + 1)) place (omega arith) all))
+          ∙ ap (λ n. bit_or 0 n) (all place 0 (omega arith) (omega arith)),
+    )
+
+-- no demands take no units
+no_numbers : (products : List Product) → activity products [] ≡ 0
+no_numbers [] = refl
+no_numbers (product ∷ products) = refl
+
+-- the activity of the demands behind some that are 0 is the activity of all
+activity-behind : (n : ℕ) (products : List Product) (row : List ℕ) → ((k : ℕ) → k < n → get_or row k 0 ≡ 0)
+    → activity (drop n products) (drop n row) ≡ activity products row
+activity-behind zero products row none = refl
+activity-behind (suc n) [] row none = refl
+activity-behind (suc n) (product ∷ products) [] none = no_numbers (drop n products)
+activity-behind (suc n) (product ∷ products) (demand ∷ row) none =
+    activity-behind n products row (λ k below. none (suc k) (omega (arith, below)))
+    ∙ omega (
+      arith,
+      sum_by-cons (λ (line : Product × ℕ). line.0.units * line.1) (product, demand) (zip products row),
+      ap (λ n. product.units * n) (none 0 (omega arith)),
+    )
+
+-- the same from one place of the row to a later one
+pub activity-passed : (products : List Product) (row : List ℕ) (from to : ℕ) → from ≤ to → AllWithin (λ demand. demand ≡ 0) row from to
+    → activity (drop to products) (drop to row) ≡ activity (drop from products) (drop from row)
+activity-passed products row from to order none =
+    let count = to - from in
+    let is : from + count ≡ to = omega (arith, order) in
+    ap (λ n. activity (drop n products) (drop n row)) (sym is)
+    ∙ ap (λ list. activity list (drop (from + count) row)) (sym (drop-drop count from products))
+    ∙ ap (λ list. activity (drop count (drop from products)) list) (sym (drop-drop count from row))
+    ∙ activity-behind count (drop from products) (drop from row)
+    (λ k below. get_or-drop from row k 0 ∙ none (from + k) 0 (omega arith) (omega (arith, below, is)))
+
+-- a product that is held, and those behind it up to the next one that is
+module _ (products : List Product) (row : List ℕ) (place : ℕ) (one : Product) (held : place < length row) (each : length row ≡ length products) where
+  activity-at : activity (drop place products) (drop place row)
+      ≡ (get_or products place one).units * get_or row place 0 + activity (drop (place + 1) products) (drop (place + 1) row)
+  activity-at =
+      ap (λ list. activity list (drop place row)) (drop_more products place one (omega (arith, held, each)))
+      ∙ ap (λ list. activity (get_or products place one ∷ drop (place + 1) products) list) (drop_more row place 0 held)
+      ∙ sum_by-cons (λ (line : Product × ℕ). line.0.units * line.1) (get_or products place one, get_or row place 0)
+      (zip (drop (place + 1) products) (drop (place + 1) row))
+
+  pub so_far_more : (total whole next : ℕ) → total + activity (drop place products) (drop place row) ≡ whole
+      → place + 1 ≤ next → AllWithin (λ demand. demand ≡ 0) row (place + 1) next
+      → total + (get_or products place one).units * get_or row place 0 + activity (drop next products) (drop next row) ≡ whole
+  so_far_more total whole next before order none =
+      let passed = activity-passed products row (place + 1) next order none in
+      omega (arith, before, passed, activity-at)
+
+  pub small_more : (total next : ℕ) → All IsProduct products → IsRow products row → total ≤ 1000000000 * place → place + 1 ≤ next
+      → total + (get_or products place one).units * get_or row place 0 ≤ 1000000000 * next
+  small_more total next limits is before order =
+      let within : place < length products = omega (arith, held, each) in
+      let good : IsProduct (get_or products place no_product) = limits place no_product within in
+      let units : (get_or products place one).units ≤ 1000000 =
+      omega (arith, good.units.1, ap (λ (product : Product). product.units) (get_or_default products place one no_product within)) in
+      let demand : get_or row place 0 ≤ 1000 = omega (arith, is.capped place held, good.cap.1, good.supply.1) in
+      let taken : (get_or products place one).units * get_or row place 0 ≤ 1000000000 = mul-le _ _ 1000000 1000 units demand in
+      omega (arith, before, order, taken)

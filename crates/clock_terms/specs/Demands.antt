@@ -1,0 +1,39 @@
+-- Grids of demands: a row for each bidder, and in it a number for each product.
+--     row_of grid bidder, demand_at grid bidder product      a row, and one demand
+--     total_of grid product      the demand for a product over all bidders
+--     with_demand grid bidder product demand      the grid with that one demand changed
+--     no_demands bidders products      all demands 0
+--     IsGrid bidders products grid      the grid has these numbers of rows and columns
+--     rows_of bidders products demands      one list of all demands, bidder by bidder, cut into its rows
+use Rattle.std.specs.Prelude.{◌≡◌, ℕ, zero, suc, List, [], ◌∷◌, length, take}
+use Rattle.std.specs.Prelude.{drop, replicate, slice_index, slice_index_or, slice_set, sum_by, All}
+
+-- a bidder's demands
+abbrev pub row_of : List (List ℕ) → ℕ → List ℕ
+row_of grid bidder = slice_index_or grid bidder []
+
+-- a bidder's demand for a product
+abbrev pub demand_at : List (List ℕ) → ℕ → ℕ → ℕ
+demand_at grid bidder product = slice_index (row_of grid bidder) product
+
+-- what all bidders together demand of a product
+abbrev pub total_of : List (List ℕ) → ℕ → ℕ
+total_of grid product = sum_by (λ row. slice_index row product) grid
+
+-- the grid with one demand changed
+abbrev pub with_demand : List (List ℕ) → ℕ → ℕ → ℕ → List (List ℕ)
+with_demand grid bidder product demand =
+    slice_set grid bidder (slice_set (row_of grid bidder) product demand)
+
+-- nobody demands anything
+abbrev pub no_demands : ℕ → ℕ → List (List ℕ)
+no_demands bidders products = replicate bidders (replicate products 0)
+
+-- a row for each bidder, and in each row a number for each product
+abbrev pub IsGrid : ℕ → ℕ → List (List ℕ) → Type 0
+IsGrid bidders products grid = (length grid ≡ bidders) × All (λ row. length row ≡ products) grid
+
+-- one list of all demands, bidder by bidder, cut into so many rows
+unfoldable pub rows_of : ℕ → ℕ → List ℕ → List (List ℕ)
+rows_of zero products demands = []
+rows_of (suc bidders) products demands = take products demands ∷ rows_of bidders products (drop products demands)

@@ -1,0 +1,58 @@
+ghost use Rattle.std.specs.Prelude.{◌≡◌, ◌≤◌, ◌*◌, length, All};
+ghost use Rattle.clock_terms.specs.Eligibility as eligibility;
+ghost use Rattle.clock_terms.specs.Limits.{
+  IsProduct,
+  IsRow,
+  least_requirement,
+  most_eligibility,
+  most_products,
+  most_requirement,
+  most_supply,
+  most_units,
+};
+
+use crate::grid::first_held;
+use crate::setup::{Product, Setup};
+
+/// The eligibility after a round, in bidding units: the smaller of the eligibility held and the least whole number of
+/// which the required percentage is at least the activity. Held is at most 10^12, the activity at most held, the
+/// requirement 50 to 100 percent (the FCC's procedures for Auction 105; rounding up is an own rule).
+pub fn next_eligibility(held: u64, activity: u64, requirement: u64) -> u64
+    requires activity { activity ≤ held }
+    requires held { held ≤ most_eligibility }
+    requires low { least_requirement ≤ requirement }
+    requires high { requirement ≤ most_requirement }
+    ensures exact { result ≡ eligibility.next_eligibility held activity requirement }
+    ensures supported { eligibility.IsSupported activity requirement
+        (eligibility.supported_eligibility activity requirement) }
+{
+    held.min((100 * activity + (requirement - 1)) / requirement)
+}
+
+/// What [`activity`] is of a set-up with these products, where the set-up itself is not at hand. Products that are not held are
+/// passed over.
+pub fn units_taken(products: &[Product], demands: &[u64]) -> u64
+    requires limits { All IsProduct products.now }
+    requires product_count { length products.now ≤ most_products }
+    requires row { IsRow products.now demands.now }
+    ensures exact { result ≡ eligibility.activity products.now demands.now }
+    ensures most { result ≤ most_products * (most_units * most_supply) }
+{
+    let count = demands.len();
+    let mut total: u64 = 0;
+    let mut place = first_held(demands, 0, count);
+    'held: while place < count {
+        total += products[place].units * demands[place];
+        place = first_held(demands, place + 1, count);
+    }
+    total
+}
+
+/// The bidding units that a row of demands takes: the sum of units times demand. There is one demand for each product,
+/// at most its cap. It takes no memory.
+pub fn activity(setup: &Setup, demands: &[u64]) -> u64
+    requires { IsRow setup.now.products demands.now }
+    ensures { result ≡ eligibility.activity setup.now.products demands.now }
+{
+    units_taken(setup.products.as_slice(), demands)
+}

@@ -1,0 +1,63 @@
+ghost use Rattle.std.specs.Prelude.{◌≡◌};
+ghost use Rattle.std.specs.List.{list_all};
+ghost use Rattle.clock_terms.specs.Increments.{
+  HasIncrement,
+  are_increments,
+  increment_at,
+  is_increment,
+};
+
+use crate::grid::Amounts;
+use crate::limits::is_within;
+use clock_money::{LEAST_INCREMENT, MOST_INCREMENT};
+
+/// By how many percent a closing raises prices. It takes both forms, whatever the version of the set-up.
+#[derive(Drop)]
+pub enum Increments {
+    /// The same for all products.
+    Single(u64),
+    /// One for each product, in the order of the products' numbers.
+    PerProduct(Amounts),
+}
+
+/// Whether a number of percent is 1 to 50.
+fn is_percentage(increment: u64) -> bool
+    ensures { result ≡ is_increment increment }
+{
+    is_within(LEAST_INCREMENT, MOST_INCREMENT, increment)
+}
+
+/// Whether each number of percent is 1 to 50.
+fn are_percentages(increments: &[u64]) -> bool
+    ensures { result ≡ list_all is_increment increments.now }
+{
+    increments.iter().all(|increment| is_percentage(*increment))
+}
+
+impl Increments {
+    /// The increment of a product, in percent. Where there is one for each product, the product is one of them. It
+    /// takes no memory.
+    pub fn at(&self, product: usize) -> u64
+        requires { HasIncrement self.now product }
+        ensures { result ≡ increment_at self.now product }
+    {
+        match self {
+            Increments::Single(increment) => *increment,
+            Increments::PerProduct(increments) => increments.as_slice()[product],
+        }
+    }
+
+    /// Whether these are increments for so many products: each is 1 to 50 percent, and in a list there is one for each
+    /// product.
+    pub fn are_within(&self, products: usize) -> bool
+        ensures { result ≡ are_increments products self.now }
+    {
+        match self {
+            Increments::Single(increment) => is_percentage(*increment),
+            Increments::PerProduct(increments) => {
+                let increments = increments.as_slice();
+                increments.len() == products && are_percentages(increments)
+            }
+        }
+    }
+}

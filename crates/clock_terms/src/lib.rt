@@ -1,0 +1,23 @@
+//! What an auction is set up with, as values: its limits, products and bidders, prices, increments, demands and
+//! eligibility, and the changes of demand that are asked for.
+#![tactic(auto)]
+
+mod change;
+mod eligibility;
+mod grid;
+mod increments;
+mod limits;
+mod prices;
+mod setup;
+
+pub use change::{Change, Changes, Kind};
+pub use eligibility::{activity, next_eligibility, units_taken};
+pub use grid::{Amounts, Grid, first_held, row_at};
+pub use increments::Increments;
+pub use limits::{
+    FIRST_GRANULE, FIRST_LIMIT, LATEST_VERSION, LEAST_LIMIT, LEAST_REQUIREMENT, LONGEST_NAME,
+    LONGEST_TOKEN, MOST_BIDDERS, MOST_ELIGIBILITY, MOST_LIMIT, MOST_PRODUCTS, MOST_REQUIREMENT,
+    MOST_SUPPLY, MOST_UNITS, SHORTEST_TOKEN, is_within,
+};
+pub use prices::{OpeningPrices, PricePair, Prices};
+pub use setup::{Bidder, Bidders, Product, Products, Setup, products_copy};
