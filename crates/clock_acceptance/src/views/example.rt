@@ -1,8 +1,8 @@
 //! A page, as a library's caller writes it.
 
-use clock_views::status_page;
 use clock_setup::fixtures::ONE_PRODUCT;
 use clock_setup::read_setup;
+use clock_views::status_page;
 use std::test::Fail;
 
 #[test]

@@ -1,9 +1,9 @@
 //! Pages of a set-up and of single values.
 
 use super::reads;
-use clock_views::{accepted_page, closed_page, products_page, status_page};
 use clock_setup::fixtures::{GRANULES_AND_INCREMENTS, ONE_PRODUCT};
 use clock_setup::read_setup;
+use clock_views::{accepted_page, closed_page, products_page, status_page};
 use std::alloc::Global;
 use std::process::Abort;
 use std::test::Fail;

@@ -1,11 +1,11 @@
 //! Pages of refusals, with a place, with a round and with neither.
 
 use super::reads;
-use clock_views::{Code, Refusal, push_refusal_page, refusal_page};
 use clock_bids::BidFault;
 use clock_device::Text;
 use clock_house::{CloseFault, PutFault};
 use clock_order::TieFault;
+use clock_views::{Code, Refusal, push_refusal_page, refusal_page};
 use std::alloc::Global;
 use std::process::Abort;
 use std::test::Fail;

@@ -2,13 +2,13 @@
 //! and Y keeps one, so that X's drop is applied in part.
 
 use super::reads;
-use clock_views::{account_page, bids_page, results_page, sheet_page, slip_page};
 use clock_bids::Bid;
 use clock_device::{NoMemory, Text};
 use clock_house::House;
 use clock_processor::Plain;
 use clock_setup::fixtures::ONE_PRODUCT;
 use clock_setup::{Increments, read_setup};
+use clock_views::{account_page, bids_page, results_page, sheet_page, slip_page};
 use std::alloc::Global;
 use std::process::Abort;
 use std::test::Fail;
