@@ -4,8 +4,8 @@ use Rattle.clock_device.specs.Streams.{HasRead}
 use Rattle.clock_device.proofs.Streams.{read_nothing, read_twice, same_bytes}
 use Rattle.clock_http.specs.Framing.{framing, known, needs_more}
 use Rattle.clock_device.specs.Readings.{Reading}
-use Rattle.clock_front.specs.Arrivals.{IsReadByNeed, HasArrived, HasNoRoom}
-use Rattle.clock_front.specs.inside.Arrivals.{EndsArrival, IsStepOf, is_read_fault}
+use Rattle.clock_front.specs.Arrivals.{IsReadByNeed, HasArrived, HasNoRoom, EndsArrival}
+use Rattle.clock_front.specs.inside.Arrivals.{IsStepOf, is_read_fault}
 use Rattle.clock_front.specs.declared.reading.Unread.{Unread}
 use Rattle.clock_front.specs.declared.reading.Unread.TheVariants as unread
 

@@ -3,10 +3,13 @@
 --     HasArrived reading text      the text was read: it is decided, or the input ended behind it
 --     HasFailedRead, RunsOutOfReads      the two ways in which a request is not read
 --     HasNoRoom      bytes were read, and there was no memory for them
-use Rattle.std.specs.Prelude.{◌≡◌, ◌≤◌, ◌⊎◌, ◌+◌, ◌++◌, ℕ, List, [], length, Option, true, false}
+--     EndsArrival reading result      how reading a request ends
+use Rattle.std.specs.Prelude.{◌≡◌, ◌≤◌, ◌⊎◌, ◌+◌, ◌++◌, ℕ, List, [], length, Option, true, false, Result, Ok, Err}
 use Rattle.clock_device.specs.Streams.{HasRead, IsReadOut}
 use Rattle.clock_device.specs.Readings.{Reading}
 use Rattle.clock_http.specs.Framing.{needs_more, IsDecided}
+use Rattle.clock_front.specs.declared.reading.Unread.{Unread}
+use Rattle.clock_front.specs.declared.reading.Unread.TheVariants as unread
 
 -- how many reads are made at most
 abbrev pub most_reads : ℕ
@@ -52,3 +55,10 @@ RunsOutOfReads reading = (text : List ℕ) × UsesAllReads reading text
 -- there was no memory for the bytes, or for those that the last read brought
 abbrev pub HasNoRoom : Reading → Type 0
 HasNoRoom reading = (front : List ℕ) × (last : List ℕ) × IsReadByNeed reading front last × (reading.has_failed ≡ false)
+
+-- how reading a request ends: with its text; where a read failed or all reads were made; or for want of memory. An interrupted
+-- read is none of these, so it is tried again
+abbrev pub EndsArrival : Reading → Result (List ℕ) Unread → Type 0
+EndsArrival reading (Ok text) = HasArrived reading text
+EndsArrival reading (Err unread.Read) = HasFailedRead reading ⊎ RunsOutOfReads reading
+EndsArrival reading (Err unread.Memory) = HasNoRoom reading

@@ -51,7 +51,7 @@ pub(crate) fn fixed_reply(code: Code) -> Reply
 }
 
 /// The reply where there was no memory. It takes none.
-pub(crate) fn no_memory_reply() -> Reply
+pub fn no_memory_reply() -> Reply
     ensures { result ≡ no_memory }
 {
     fixed_reply(Code::Memory)

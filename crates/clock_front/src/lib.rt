@@ -26,13 +26,15 @@ mod telling;
 mod tokens;
 
 pub use clock_bodies::{BodyFault, CloseBody, PutBody, read_close, read_put};
-pub use clock_http::{EndedHead, Framing, Head, Page, Progress, Reply, frame};
+pub use clock_http::{Arriving, EndedHead, Framing, Head, Page, Progress, Reply, frame};
 pub use connections::Conn;
 pub use events::{Event, EventReplies, EventReply, run_events};
 pub use fed::Fed;
+pub use fixed_replies::no_memory_reply;
 pub use front::Front;
 pub use hub::Hub;
 pub use hub_fault::HubFault;
+pub use reading::{Unread, read_request};
 pub use runs::{Replies, run};
 pub use stream::serve_stream;
 pub use stream_fault::StreamFault;

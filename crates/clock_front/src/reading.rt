@@ -2,8 +2,8 @@ ghost use Rattle.std.specs.Prelude.{◌≡◌, ◌≤◌, ◌<◌, ◌+◌, ◌|
 ghost use Rattle.clock_device.specs.Calls.{IsUnread, count_after};
 ghost use Rattle.clock_http.specs.Framing.{needs_more};
 ghost use Rattle.clock_device.specs.inside.Readings.{GrowsByOneAtMost};
-ghost use Rattle.clock_front.specs.Arrivals.{most_reads};
-ghost use Rattle.clock_front.specs.inside.Arrivals.{EndsArrival, IsStepOf, is_read_fault};
+ghost use Rattle.clock_front.specs.Arrivals.{most_reads, EndsArrival};
+ghost use Rattle.clock_front.specs.inside.Arrivals.{IsStepOf, is_read_fault};
 
 use clock_device::{NoMemory, Source, Stop, room_for_read};
 use clock_http::Arriving;
@@ -16,8 +16,8 @@ const MOST_READS: u64 = 2_000_000;
 const PIECE: usize = 16_384;
 
 /// Why no request was read.
-#[derive(Clone, Copy, Debug)]
-pub(crate) enum Unread {
+#[derive(Clone, Copy, Debug, PartialEq, Eq)]
+pub enum Unread {
     /// A read failed, or all reads were made.
     Read,
     /// There was no memory for the bytes.
@@ -70,8 +70,9 @@ fn read_once<R: Source>(
     Ok(count == 0 || !short)
 }
 
-/// Reads until the bytes decide what the request is, or the input ends. An interrupted read is tried again.
-pub(crate) fn read_request<R: Source>(alloc: Global, source: &mut R) -> Result<Arriving, Unread>
+/// Reads until the bytes decide what the request is, or the input ends. An interrupted read is tried again, and 2,000,000 reads
+/// are made at most.
+pub fn read_request<R: Source>(alloc: Global, source: &mut R) -> Result<Arriving, Unread>
     requires { IsUnread (R.calls source.old) (R.interruptions source.old) (R.has_failed source.old) }
     ensures arrival { EndsArrival
         (record {

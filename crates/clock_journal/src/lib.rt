@@ -28,7 +28,7 @@ pub use journal::Journal;
 pub use laws::{
     law_chain_binds, law_cut_leaves, law_every_front, law_read_back, law_whatever_follows,
 };
-pub use link::{Link, link_of};
+pub use link::{Link, digest_of, link_of};
 pub use machine::{Machine, Untaken};
 pub use memory_disk::MemoryDisk;
 pub use next::Next;

@@ -1,20 +1,11 @@
 -- How one read of a request ends, inside the loop that reads.
---     EndsArrival reading result      how reading a request ends
 --     IsStepOf left left_after old new result      what one read comes to
-use Rattle.std.specs.Prelude.{◌≡◌, ◌⊎◌, ◌+◌, ◌++◌, ℕ, List, [], Option, Bool, true, false, Result, Ok, Err}
+use Rattle.std.specs.Prelude.{◌≡◌, ◌++◌, ℕ, List, [], Option, Bool, true, false, Result, Ok, Err}
 use Rattle.clock_device.specs.Streams.{HasRead}
-use Rattle.clock_device.specs.Readings.{Reading}
 use Rattle.clock_http.specs.Framing.{needs_more}
 use Rattle.clock_front.specs.declared.reading.Unread.{Unread}
 use Rattle.clock_front.specs.declared.reading.Unread.TheVariants as unread
-use Rattle.clock_front.specs.Arrivals.{IsLast, HasArrived, HasFailedRead, RunsOutOfReads, HasNoRoom}
-
--- how reading a request ends: with its text; where a read failed or all reads were made; or for want of memory. An interrupted
--- read is none of these, so it is tried again
-abbrev pub EndsArrival : Reading → Result (List ℕ) Unread → Type 0
-EndsArrival reading (Ok text) = HasArrived reading text
-EndsArrival reading (Err unread.Read) = HasFailedRead reading ⊎ RunsOutOfReads reading
-EndsArrival reading (Err unread.Memory) = HasNoRoom reading
+use Rattle.clock_front.specs.Arrivals.{IsLast}
 
 -- whether a read was the last, by what it brought
 abbrev pub IsLastIf : Bool → Option (List ℕ) → List ℕ → List ℕ → Type 0
