@@ -1,4 +1,4 @@
-ghost use Rattle.std.specs.Prelude.{List, ℕ, MatchResult};
+ghost use Rattle.std.specs.Prelude.{◌≡◌, List, ℕ, MatchResult};
 ghost use Rattle.clock_journal.specs.Crash.{LeavesTexts};
 ghost use Rattle.clock_journal.specs.Recovering.{HasTaken, IsRecovered, IsRefusal, IsUntaken};
 
@@ -21,6 +21,7 @@ pub fn recover<M: Machine>(
         (IsRefusal digest.now bytes.now) }
     ensures crash { (texts : List (List ℕ)) (least : ℕ) → LeavesTexts digest.now bytes.now texts least
         → MatchResult result (λ _. HasTaken (M.stands_for machine.old) (M.stands_for machine.new) texts least) IsUntaken }
+    ensures rules { M.rules machine.new ≡ M.rules machine.old }
 {
     match heading_of(digest, bytes) {
         Heading::Begun => Ok(Recovered {

@@ -1,4 +1,4 @@
-ghost use Rattle.std.specs.Prelude.{◌≤◌, length, MatchResult};
+ghost use Rattle.std.specs.Prelude.{◌≡◌, ◌≤◌, length, MatchResult};
 ghost use Rattle.clock_journal.specs.inside.Replays.{IsReplayed, IsStopped};
 
 use crate::fault::JournalFault;
@@ -16,9 +16,10 @@ pub fn replay<M: Machine>(
     size: usize,
 ) -> Result<Recovered, JournalFault>
     requires { length bytes.now ≤ size }
-    ensures { MatchResult result
+    ensures replayed { MatchResult result
         (IsReplayed (M.stands_for machine.old) (M.stands_for machine.new) first.now bytes.now size)
         (IsStopped first.now bytes.now size) }
+    ensures rules { M.rules machine.new ≡ M.rules machine.old }
 {
     let mut chain = *first;
     let mut rest = bytes;

@@ -13,6 +13,8 @@ struct Count {
 }
 
 impl Machine for Count {
+    ghost rules = { λ count. tt };
+
     ghost stands_for = { λ count texts. Unit {0} };
 
     fn take(&mut self, _text: &[u8]) -> Result<(), Untaken> {

@@ -5,6 +5,7 @@ use Rattle.clock_journal.proofs.recovering.recover.Goals as goal
 
 pub returns-in-Begun : goal.returns-in-Begun
 returns-in-Begun g c = record {
+  rules = refl;
   read = let front = begun_is c.args.digest.now c.args.bytes.now (sym c.in-Begun.ensures) in record {
     texts = [];
     placed = inr (record { none = refl; short = front.0; front = front.1; chain_is = refl; end_is = refl });
@@ -18,6 +19,7 @@ returns-in-Begun g c = record {
 pub returns-in-OfAnother : goal.returns-in-OfAnother
 returns-in-OfAnother g c = record {
   read = sym c.in-OfAnother.ensures;
+  rules = refl;
   crash = λ texts least leaves.
       let size : length c.args.digest.now ≡ 32 = search rules in
       let e : of_another ≡ headed (drop 56 c.args.bytes.now) = c.in-OfAnother.ensures ∙ heading_of_left c.args.digest.now c.args.bytes.now texts least size leaves in cc;
@@ -26,6 +28,7 @@ returns-in-OfAnother g c = record {
 pub returns-in-Unknown : goal.returns-in-Unknown
 returns-in-Unknown g c = record {
   read = sym c.in-Unknown.ensures;
+  rules = refl;
   crash = λ texts least leaves.
       let size : length c.args.digest.now ≡ 32 = search rules in
       let e : unknown ≡ headed (drop 56 c.args.bytes.now) = c.in-Unknown.ensures ∙ heading_of_left c.args.digest.now c.args.bytes.now texts least size leaves in cc;
@@ -33,12 +36,13 @@ returns-in-Unknown g c = record {
 
 pub returns-in-Headed : goal.returns-in-Headed
 returns-in-Headed g c = record {
-  read = of_replay _ _ c.args.digest.now c.args.bytes.now c.in-Headed.rest.now c.replay.result (λ place. search rules) (sym c.in-Headed.ensures) c.replay.ensures;
+  rules = c.replay.ensures.rules;
+  read = of_replay _ _ c.args.digest.now c.args.bytes.now c.in-Headed.rest.now c.replay.result (λ place. search rules) (sym c.in-Headed.ensures) c.replay.ensures.replayed;
   crash = λ texts least leaves.
       let size : length c.args.digest.now ≡ 32 = search rules in
       let e : headed c.in-Headed.rest.now ≡ headed (drop 56 c.args.bytes.now) = c.in-Headed.ensures ∙ heading_of_left c.args.digest.now c.args.bytes.now texts least size leaves in
       let same : c.in-Headed.rest.now ≡ drop 56 c.args.bytes.now = cc in
-      after_stop _ _ c.args.digest.now c.args.bytes.now c.in-Headed.rest.now texts least (length c.args.bytes.now) c.replay.result size leaves same c.replay.ensures;
+      after_stop _ _ c.args.digest.now c.args.bytes.now c.in-Headed.rest.now texts least (length c.args.bytes.now) c.replay.result size leaves same c.replay.ensures.replayed;
 }
 
 pub replay-requires : goal.replay-requires

@@ -1,4 +1,4 @@
-use Rattle.std.proofs.Common.{length}
+use Rattle.std.proofs.Common.{◌≡◌, length}
 use Rattle.clock_journal.specs.inside.Replays.{IsOnWay}
 use Rattle.clock_journal.proofs.replaying.replay.Given as goal
 
@@ -6,6 +6,7 @@ use Rattle.clock_journal.proofs.replaying.replay.Given as goal
 abbrev pub invariant-loop-chain : goal.invariant-loop-chain
 invariant-loop-chain g l =
     IsOnWay (g.M.Machine.stands_for l.initial.machine) (g.M.Machine.stands_for l.machine) l.first l.bytes l.chain l.rest
+    × (g.M.Machine.rules l.machine ≡ g.M.Machine.rules l.initial.machine)
 
 abbrev pub decreases-loop-chain : goal.decreases-loop-chain
 decreases-loop-chain g l = length l.rest
