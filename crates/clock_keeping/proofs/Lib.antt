@@ -1,0 +1,5 @@
+mod Still
+mod Unread
+mod Untouched
+mod KeptLaws
+mod TakenUp

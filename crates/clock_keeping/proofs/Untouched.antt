@@ -1,0 +1,49 @@
+-- What a stop leaves of a journal to which nothing was added.
+use Rattle.std.proofs.Common.{◌≡◌, ◌≤◌, ◌++◌, ℕ, List, [], ◌∷◌, Option, Some, length, take, refl, sym, ap, ◌∙◌, subst, arith, length-append}
+use Rattle.std.proofs.lemmas.List.{take-append-le}
+use Rattle.clock_journal.specs.Format.{last_link}
+use Rattle.clock_journal.specs.Reading.{Reads, Ends}
+use Rattle.clock_journal.specs.Crash.{LeavesTexts, ReadsSome}
+use Rattle.clock_journal.specs.Disks.{MayBeLeft}
+use Rattle.clock_journal.specs.Kept.{JournalState, HasTexts, file_of}
+use Rattle.clock_journal.proofs.Moments.{every_front}
+
+take_all : {A : Type 0} (xs : List A) → take (length xs) xs ≡ xs
+take_all [] = refl
+take_all (x ∷ xs) = ap (λ ys. x ∷ ys) (take_all xs)
+
+-- the first of some texts are the first of these and of more
+take_more : {A : Type 0} (count : ℕ) (xs more : List A) → count ≤ length xs → take count (xs ++ more) ≡ take count xs
+take_more count xs more few = take-append-le count xs more few
+
+-- with one text more in view
+wider : (chain bytes : List ℕ) (texts more : List (List ℕ)) (least : ℕ) → ReadsSome chain bytes texts least → ReadsSome chain bytes (texts ++ more) least
+wider chain bytes texts more least some =
+    let same = sym (take_more some.count texts more some.most) in
+    record {
+      count = some.count;
+      rest = some.rest;
+      enough = some.enough;
+      most = omega (arith, some.most, length-append texts more);
+      reads = subst (λ (read : List (List ℕ)). Reads chain bytes read some.rest) same some.reads;
+      ends = subst (λ (read : List (List ℕ)). Ends (last_link chain read) some.rest) same some.ends;
+    }
+
+left_of_known : (digest : List ℕ) (texts : List (List ℕ)) (text left : List ℕ) (written synced : Option (List ℕ)) → LeavesTexts digest left texts (length texts)
+    → LeavesTexts digest left (texts ++ text ∷ []) (length texts)
+left_of_known digest texts text left written synced leaves = record { headed = leaves.headed; reads = wider digest _ texts (text ∷ []) (length texts) leaves.reads }
+
+left_all : (digest : List ℕ) (texts : List (List ℕ)) (journal : JournalState) (left : List ℕ) → HasTexts digest texts journal
+    → MayBeLeft (Some (file_of digest texts)) (Some (file_of digest texts)) left → LeavesTexts digest left texts (length texts)
+left_all digest texts journal left has (count, enough, is) =
+    subst (λ (bytes : List ℕ). LeavesTexts digest bytes texts (length texts)) (sym is)
+    (every_front digest texts (length texts) count has.fit (omega arith)
+    (subst (λ (all : List (List ℕ)). length (file_of digest all) ≤ count) (sym (take_all texts)) enough))
+
+pub untouched : (digest : List ℕ) (texts : List (List ℕ)) (text : List ℕ) (journal : JournalState) (left : List ℕ) → HasTexts digest texts journal
+    → MayBeLeft journal.synced journal.written left → LeavesTexts digest left (texts ++ text ∷ []) (length texts)
+untouched digest texts text journal left has may =
+    left_of_known digest texts text left journal.written journal.synced
+    (left_all digest texts journal left has
+    (subst (λ (bytes : Option (List ℕ)). MayBeLeft bytes (Some (file_of digest texts)) left) (has.synced_is ∙ has.file)
+    (subst (λ (bytes : Option (List ℕ)). MayBeLeft journal.synced bytes left) has.file may)))

@@ -1,0 +1,10 @@
+use Rattle.clock_keeping.proofs.TakenUp.{has_taken_up, is_taken_up}
+use Rattle.clock_keeping.proofs.taking.take_up.Goals as goal
+
+pub returns : goal.returns
+returns g c = record {
+  read = is_taken_up c.args.auction.now.front c.recover.new.machine.front c.args.digest.now c.args.bytes.now c.recover.result c.requires c.recover.ensures.read;
+  crash = λ texts least leaves.
+      has_taken_up c.args.auction.now.front c.recover.new.machine.front texts least c.recover.result c.requires (c.recover.ensures.crash texts least leaves);
+  setup = c.recover.ensures.rules;
+}

@@ -1,0 +1,12 @@
+//! An auction whose accepted texts are kept in a journal, and which is taken up from there.
+//!
+//! [`answer_and_keep`] answers one text, and [`take_up`] all texts of a file.
+#![tactic(auto)]
+
+mod keeping;
+mod laws;
+mod taking;
+
+pub use keeping::answer_and_keep;
+pub use laws::law_gets_change_nothing;
+pub use taking::{Auction, take_up};
