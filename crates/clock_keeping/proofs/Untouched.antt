@@ -29,21 +29,24 @@ wider chain bytes texts more least some =
       ends = subst (λ (read : List (List ℕ)). Ends (last_link chain read) some.rest) same some.ends;
     }
 
-left_of_known : (digest : List ℕ) (texts : List (List ℕ)) (text left : List ℕ) (written synced : Option (List ℕ)) → LeavesTexts digest left texts (length texts)
-    → LeavesTexts digest left (texts ++ text ∷ []) (length texts)
-left_of_known digest texts text left written synced leaves = record { headed = leaves.headed; reads = wider digest _ texts (text ∷ []) (length texts) leaves.reads }
-
-left_all : (digest : List ℕ) (texts : List (List ℕ)) (journal : JournalState) (left : List ℕ) → HasTexts digest texts journal
+left_of_file : (digest : List ℕ) (texts : List (List ℕ)) (journal : JournalState) (left : List ℕ) → HasTexts digest texts journal
     → MayBeLeft (Some (file_of digest texts)) (Some (file_of digest texts)) left → LeavesTexts digest left texts (length texts)
-left_all digest texts journal left has (count, enough, is) =
+left_of_file digest texts journal left has (count, enough, is) =
     subst (λ (bytes : List ℕ). LeavesTexts digest bytes texts (length texts)) (sym is)
     (every_front digest texts (length texts) count has.fit (omega arith)
     (subst (λ (all : List (List ℕ)). length (file_of digest all) ≤ count) (sym (take_all texts)) enough))
 
+-- all of its texts
+pub left_all : (digest : List ℕ) (texts : List (List ℕ)) (journal : JournalState) (left : List ℕ) → HasTexts digest texts journal
+    → MayBeLeft journal.synced journal.written left → LeavesTexts digest left texts (length texts)
+left_all digest texts journal left has may =
+    left_of_file digest texts journal left has
+    (subst (λ (bytes : Option (List ℕ)). MayBeLeft bytes (Some (file_of digest texts)) left) (has.synced_is ∙ has.file)
+    (subst (λ (bytes : Option (List ℕ)). MayBeLeft journal.synced bytes left) has.file may))
+
+-- which is no more than these and one text further
 pub untouched : (digest : List ℕ) (texts : List (List ℕ)) (text : List ℕ) (journal : JournalState) (left : List ℕ) → HasTexts digest texts journal
     → MayBeLeft journal.synced journal.written left → LeavesTexts digest left (texts ++ text ∷ []) (length texts)
 untouched digest texts text journal left has may =
-    left_of_known digest texts text left journal.written journal.synced
-    (left_all digest texts journal left has
-    (subst (λ (bytes : Option (List ℕ)). MayBeLeft bytes (Some (file_of digest texts)) left) (has.synced_is ∙ has.file)
-    (subst (λ (bytes : Option (List ℕ)). MayBeLeft journal.synced bytes left) has.file may)))
+    let leaves = left_all digest texts journal left has may in
+    record { headed = leaves.headed; reads = wider digest _ texts (text ∷ []) (length texts) leaves.reads }

@@ -1,4 +1,4 @@
-use Rattle.std.proofs.Common.{◌≡◌, ◌⊎◌, true, sym, refl, ◌∙◌, subst}
+use Rattle.std.proofs.Common.{◌≡◌, ◌⊎◌, true, sym, ◌∙◌, subst}
 use Rattle.clock_http.specs.declared.code.Code.{Code}
 use Rattle.clock_http.specs.declared.code.Code.TheVariants.{Done}
 use Rattle.clock_keeping.specs.Keeping.{is_get}
