@@ -2,3 +2,4 @@ mod Reading
 mod Outcomes
 mod Limited
 mod ServingLaws
+mod AuditLaws

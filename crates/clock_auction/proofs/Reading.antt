@@ -38,6 +38,12 @@ module _ (before mid : Option (List ℕ)) (document : List ℕ) (calls interrupt
   stopped (fault.Simulation inner) fails document_after step = absurd step
   stopped (fault.PriceLimit product) fails document_after step = absurd step
   stopped fault.File fails document_after step = absurd step
+  stopped fault.Journal fails document_after step = absurd step
+  stopped fault.JournalBusy fails document_after step = absurd step
+  stopped fault.JournalUnknown fails document_after step = absurd step
+  stopped fault.JournalSetup fails document_after step = absurd step
+  stopped (fault.JournalDamaged place) fails document_after step = absurd step
+  stopped (fault.JournalRefused place) fails document_after step = absurd step
   stopped fault.Bind fails document_after step = absurd step
   stopped fault.Output fails document_after step = absurd step
   stopped fault.Accept fails document_after step = absurd step

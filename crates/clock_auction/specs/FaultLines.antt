@@ -1,5 +1,6 @@
 -- The one line that a run shows of its fault. (Own format.)
 --     fault_line fault     `fault: WORDS` and a line feed
+--     of_journal fault      the fault of a journal that is not taken over
 use Rattle.std.specs.Prelude.{ℕ, List, ◌++◌, codes, decimal}
 use Rattle.clock_setup.specs.declared.fault.Place.{Place}
 use Rattle.clock_setup.specs.declared.fault.Place.TheVariants as place
@@ -11,6 +12,8 @@ use Rattle.clock_replays.specs.declared.fault.ScriptFault.{ScriptFault}
 use Rattle.clock_replays.specs.declared.fault.ScriptFault.TheVariants as in_script
 use Rattle.clock_sim.specs.declared.sim_fault.SimFault.{SimFault}
 use Rattle.clock_sim.specs.declared.sim_fault.SimFault.TheVariants as in_simulation
+use Rattle.clock_journal.specs.declared.fault.JournalFault.{JournalFault}
+use Rattle.clock_journal.specs.declared.fault.JournalFault.TheVariants as in_journal
 use Rattle.clock_http.specs.Codes.{text_of}
 use Rattle.clock_auction.specs.declared.fault.Fault.{Fault}
 use Rattle.clock_auction.specs.declared.fault.Fault.TheVariants as fault
@@ -69,6 +72,14 @@ simulation_words (in_simulation.Closing round code) = codes "closing " ++ decima
 simulation_words in_simulation.ClosingsSpent = codes "closings_spent"
 simulation_words in_simulation.NoMemory = codes "memory"
 
+-- the fault of a journal that is not taken over
+abbrev pub of_journal : JournalFault → Fault
+of_journal in_journal.Unknown = fault.JournalUnknown
+of_journal in_journal.Setup = fault.JournalSetup
+of_journal (in_journal.Damaged place) = fault.JournalDamaged place
+of_journal (in_journal.Refused place) = fault.JournalRefused place
+of_journal in_journal.NoMemory = fault.Memory
+
 -- a fault of a document has the document's words
 abbrev pub fault_words : Fault → List ℕ
 fault_words fault.File = codes "file"
@@ -79,6 +90,12 @@ fault_words (fault.Opening inner) = opening_words inner
 fault_words (fault.Script inner) = script_words inner
 fault_words (fault.PriceLimit product) = codes "price_limit " ++ decimal product
 fault_words (fault.Simulation inner) = simulation_words inner
+fault_words fault.Journal = codes "journal"
+fault_words fault.JournalBusy = codes "journal_busy"
+fault_words fault.JournalUnknown = codes "journal_unknown"
+fault_words fault.JournalSetup = codes "journal_setup"
+fault_words (fault.JournalDamaged place) = codes "journal_damaged " ++ decimal place
+fault_words (fault.JournalRefused place) = codes "journal_refused " ++ decimal place
 fault_words fault.Bind = codes "bind"
 fault_words fault.Output = codes "output"
 fault_words fault.Accept = codes "accept"

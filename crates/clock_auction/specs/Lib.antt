@@ -4,4 +4,5 @@ pub mod PriceLines
 pub mod FaultLines
 pub mod Answers
 pub mod Run
+pub mod Audits
 pub mod inside

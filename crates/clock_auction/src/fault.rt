@@ -1,13 +1,16 @@
 ghost use Rattle.std.specs.Prelude.{◌≡◌};
+ghost use Rattle.clock_auction.specs.FaultLines.{of_journal};
 ghost use Rattle.clock_auction.specs.declared.fault.Fault.TheVariants.{Memory};
 
 use clock_device::NoMemory;
+use clock_journal::JournalFault;
 use clock_setup::{OpeningFault, SetupFault};
 use clock_sim::{ScriptFault, SimFault};
 use std::alloc::AllocError;
 
 /// Why a run ended before its end. The cases stand in the order in which they are looked at, want of
-/// memory aside, which stands in place of any other. `File`, `Bind` and `Accept` come in `serve` alone.
+/// memory aside, which stands in place of any other. `Bind` and `Accept` come in `serve` alone, `File`
+/// and those of a journal where files are named.
 #[derive(Clone, Copy, Debug, PartialEq, Eq)]
 pub enum Fault {
     /// The file of the set-up could not be opened.
@@ -26,6 +29,18 @@ pub enum Fault {
     PriceLimit(u64),
     /// The replay did not come to its end.
     Simulation(SimFault),
+    /// The journal could not be opened, made, read or added to.
+    Journal,
+    /// Another server has the journal.
+    JournalBusy,
+    /// The file does not begin as a journal does.
+    JournalUnknown,
+    /// It is the journal of another set-up document.
+    JournalSetup,
+    /// At this byte the journal has what no stop of the machine leaves.
+    JournalDamaged(u64),
+    /// The auction does not accept the text of the journal's record at this byte.
+    JournalRefused(u64),
     /// The port could not be listened on.
     Bind,
     /// A write failed.
@@ -49,5 +64,19 @@ impl From<AllocError> for Fault {
 
     fn from(_refused: AllocError) -> Fault {
         Fault::Memory
+    }
+}
+
+impl From<JournalFault> for Fault {
+    ghost from_gives = { λ fault given. given ≡ of_journal fault };
+
+    fn from(fault: JournalFault) -> Fault {
+        match fault {
+            JournalFault::Unknown => Fault::JournalUnknown,
+            JournalFault::Setup => Fault::JournalSetup,
+            JournalFault::Damaged(place) => Fault::JournalDamaged(place as u64),
+            JournalFault::Refused(place) => Fault::JournalRefused(place as u64),
+            JournalFault::NoMemory => Fault::Memory,
+        }
     }
 }

@@ -4,28 +4,36 @@
 ghost use Rattle.std.specs.Prelude.{◌≡◌, map, string_bytes, IfOk};
 
 mod answer;
+mod audit;
 mod command;
+mod digests;
 mod fault;
 mod fault_lines;
 mod input;
+mod journal_text;
+mod kept;
 #[cfg(test)]
 mod loopback;
 mod prices;
 mod serve;
 mod serving;
+mod serving_kept;
+mod telling;
 #[cfg(test)]
 mod tests;
 
 use clap::error::ErrorKind;
 use clock_device::{FromReader, ToWriter};
-use clock_words::{number_helps, serving_asked};
+use clock_words::{FileTask, file_task_asked, number_helps};
 use command::{command, show_fault};
 use fault::Fault;
+use kept::serve_kept;
 use serve::serve;
 use std::alloc::{AllocError, Global};
 use std::process::ExitCode;
 use std::rt::Env;
 use std::{env, io};
+use telling::{tell_audit, tell_texts};
 
 /// Standard input is the document's, standard output the text's, and standard error the fault's.
 fn main(rt: HostRuntime) -> io::Result<ExitCode> {
@@ -45,14 +53,14 @@ fn main(rt: HostRuntime) -> io::Result<ExitCode> {
     Ok(ExitCode::from(status))
 }
 
-/// Does what the words ask for, and answers the exit status. `serve` is done here, and all else by
-/// `command`.
+/// Does what the words ask for, and answers the exit status. What is to be done with files is done here, and
+/// all else by `command`.
 fn run(rt: &HostRuntime, words: &[&str]) -> u8 {
     let Ok(helps) = number_helps(rt.alloc()) else {
         return fault_status(rt, Fault::Memory);
     };
-    match serving_asked(rt.alloc(), &helps, words) {
-        Ok(Some(serving)) => match serve(rt, &serving) {
+    match file_task_asked(rt.alloc(), &helps, words) {
+        Ok(Some(task)) => match run_task(rt, &task) {
             Ok(()) => 0,
             Err(fault) => fault_status(rt, fault),
         },
@@ -64,6 +72,18 @@ fn run(rt: &HostRuntime, words: &[&str]) -> u8 {
             &mut ToWriter::new(rt.stdout()),
             &mut ToWriter::new(rt.stderr()),
         ),
+    }
+}
+
+/// Does what is to be done with files.
+fn run_task(rt: &HostRuntime, task: &FileTask) -> Result<(), Fault> {
+    match task {
+        FileTask::Serve(serving) => match serving.journal {
+            Some(path) => serve_kept(rt, serving, path),
+            None => serve(rt, serving),
+        },
+        FileTask::Journal(files) => tell_texts(rt, &mut ToWriter::new(rt.stdout()), files),
+        FileTask::Audit(files) => tell_audit(rt, &mut ToWriter::new(rt.stdout()), files),
     }
 }
 

@@ -1,4 +1,7 @@
 //! `serve`: an auction on a port of this machine.
+ghost use Rattle.std.specs.Prelude.{[], IfOk};
+ghost use Rattle.clock_front.specs.Fronts.{StandsForTexts};
+
 use crate::answer::setup_in;
 use crate::fault::Fault;
 use crate::input::read_all;
@@ -19,19 +22,21 @@ pub fn serve<R>(rt: &R, serving: &Serving) -> Result<(), Fault>
 where
     R: Files + Print + Net<Listener = TcpListener, Stream = TcpStream> + Alloc<A = Global>,
 {
-    let mut front = front_of(rt, serving.setup)?;
+    let document = file_bytes(rt, serving.setup)?;
+    let mut front = front_in(rt.alloc(), document)?;
     let served = listen(rt, &mut front, serving);
     // let go by a call: at the end of the scope it would be proved part by part
     drop(front);
     served
 }
 
-/// The front of the set-up in a file.
-fn front_of<R: Files + Alloc<A = Global>>(rt: &R, path: &str) -> Result<Front<Woken>, Fault> {
-    let document = file_bytes(rt, path)?;
-    let setup = setup_in(rt.alloc(), document.as_slice());
+/// The front of a set-up document, before its first text.
+pub fn front_in(alloc: Global, document: Text) -> Result<Front<Woken>, Fault>
+    ensures { IfOk result (StandsForTexts []) }
+{
+    let setup = setup_in(alloc, document.as_slice());
     drop(document);
-    Ok(Front::new(rt.alloc(), setup?, Woken)?)
+    Ok(Front::new(alloc, setup?, Woken)?)
 }
 
 /// Listens on a port, tells it, and serves connections by a front.
@@ -39,18 +44,27 @@ fn listen<R>(rt: &R, front: &mut Front<Woken>, serving: &Serving) -> Result<(), 
 where
     R: Print + Net<Listener = TcpListener, Stream = TcpStream> + Alloc<A = Global>,
 {
-    let Ok(listener) = TcpListener::bind(rt, (Ipv4Addr::LOCALHOST, serving.port)) else {
-        return Err(Fault::Bind);
-    };
-    announce(rt, serving.port)?;
+    let listener = bound(rt, serving.port)?;
+    tell_ready(rt, serving.port)?;
     match serve_on(rt.alloc(), front, &listener, serving.connections) {
         Ok(()) => Ok(()),
         Err(ServeFault::Accept) => Err(Fault::Accept),
     }
 }
 
+/// The port of this machine, listened on.
+pub fn bound<R>(rt: &R, port: u16) -> Result<TcpListener, Fault>
+where
+    R: Net<Listener = TcpListener, Stream = TcpStream>,
+{
+    match TcpListener::bind(rt, (Ipv4Addr::LOCALHOST, port)) {
+        Ok(listener) => Ok(listener),
+        Err(_) => Err(Fault::Bind),
+    }
+}
+
 /// All bytes of a file.
-fn file_bytes<R: Files + Alloc<A = Global>>(rt: &R, path: &str) -> Result<Text, Fault> {
+pub fn file_bytes<R: Files + Alloc<A = Global>>(rt: &R, path: &str) -> Result<Text, Fault> {
     match File::open(rt, path) {
         Ok(file) => read_all(rt.alloc(), &mut FromReader::new(file)),
         Err(error) if error.kind() == io::ErrorKind::OutOfMemory => Err(Fault::Memory),
@@ -59,7 +73,7 @@ fn file_bytes<R: Files + Alloc<A = Global>>(rt: &R, path: &str) -> Result<Text, 
 }
 
 /// Tells on standard output that connections are taken.
-fn announce<R: Print>(rt: &R, port: u16) -> Result<(), Fault> {
+pub fn tell_ready<R: Print>(rt: &R, port: u16) -> Result<(), Fault> {
     match println!(rt; "ready {port}") {
         Ok(()) => Ok(()),
         Err(_) => Err(Fault::Output),

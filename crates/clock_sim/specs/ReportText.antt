@@ -2,9 +2,11 @@
 --     payment lines demands      what demands cost at the posted prices
 --     won_text lines won      the line of a bidder
 --     report_text report      the whole text
-use Rattle.std.specs.Prelude.{ℕ, ◌*◌, ◌-◌, List, [], ◌++◌, codes, decimal, false, length, slice_index_or, sum_by, zip}
+--     audited_round products round, audit_text report digests      the same with the digest of each closing behind its round
+use Rattle.std.specs.Prelude.{ℕ, Bool, ◌*◌, ◌-◌, if◌then◌else◌, List, [], ◌++◌, codes, decimal, false, length, slice_index_or, sum_by, zip}
 use Rattle.std.specs.List.{flat_map}
 use Rattle.clock_terms.specs.declared.setup.Bidder.{Bidder}
+use Rattle.clock_terms.specs.declared.setup.Product.{Product}
 use Rattle.clock_posting.specs.declared.sheet.Line.{Line}
 use Rattle.clock_posting.specs.declared.sheet.RoundSheet.{RoundSheet}
 use Rattle.clock_posting.specs.SheetText.{sheet_text}
@@ -35,3 +37,17 @@ wins_text report = flat_map (won_text (last_lines report.sheets)) (zip report.se
 -- the rounds, then the bidders
 abbrev pub report_text : ReportFields → List ℕ
 report_text report = rounds_text report ++ wins_text report
+
+-- a round's lines, and the digest of its closing
+abbrev pub audited_round : List Product → RoundSheet × List ℕ → List ℕ
+audited_round products round =
+    sheet_text products round.0 ++ codes "closed " ++ decimal round.0.round ++ codes " " ++ round.1 ++ codes "\n"
+
+-- the auction ended with the last of these rounds
+abbrev pub has_ended : List RoundSheet → Bool
+has_ended sheets = (slice_index_or sheets (length sheets - 1) (record { round = 0; ended = false; lines = [] })).ended
+
+-- the rounds, each with the digest of its closing; then the bidders, if the auction has ended
+abbrev pub audit_text : ReportFields → List (List ℕ) → List ℕ
+audit_text report digests =
+    flat_map (audited_round report.setup.products) (zip report.sheets digests) ++ (if has_ended report.sheets then wins_text report else [])

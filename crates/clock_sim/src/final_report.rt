@@ -1,6 +1,6 @@
-//! The report of an auction that has ended.
+//! The report of an auction that has ended, or of its rounds so far.
 
-ghost use Rattle.std.specs.Prelude.{◌≡◌, ◌<◌, Some, true, length, map, reverse, slice_get, All, IfOk};
+ghost use Rattle.std.specs.Prelude.{◌≡◌, ◌<◌, ◌≤◌, Some, true, length, map, reverse, slice_get, All, IfOk};
 ghost use Rattle.clock_house.specs.House.{standing_in};
 ghost use Rattle.clock_sim.specs.inside.Reports.{IsPricedLine};
 ghost use Rattle.clock_sim.specs.FinalReport as rules;
@@ -72,9 +72,9 @@ fn sheets_of<P>(alloc: Global, house: &House<P>) -> Result<RoundSheets, NoMemory
     Ok(sheets)
 }
 
-/// The report of an auction that has ended.
-pub(crate) fn final_report<P>(alloc: Global, house: &House<P>) -> Result<Report, NoMemory>
-    requires { (standing_in house.now).ended ≡ true }
+/// The report of an auction of which a round is closed at least: its rounds so far, and what each bidder holds.
+pub fn report_so_far<P>(alloc: Global, house: &House<P>) -> Result<Report, NoMemory>
+    requires { 1 ≤ length house.now.closed }
     ensures { IfOk result (λ report. report ≡ rules.report_of house.now.setup house.now.closed) }
 {
     house.law_of_house();
@@ -87,4 +87,12 @@ pub(crate) fn final_report<P>(alloc: Global, house: &House<P>) -> Result<Report,
         grid,
     };
     Ok(report)
+}
+
+/// The report of an auction that has ended.
+pub(crate) fn final_report<P>(alloc: Global, house: &House<P>) -> Result<Report, NoMemory>
+    requires { (standing_in house.now).ended ≡ true }
+    ensures { IfOk result (λ report. report ≡ rules.report_of house.now.setup house.now.closed) }
+{
+    report_so_far(alloc, house)
 }

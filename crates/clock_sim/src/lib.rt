@@ -4,6 +4,7 @@
 //! scripted bidder takes the path of a live one.
 #![tactic(auto)]
 
+mod audit_lines;
 mod final_report;
 mod groups;
 mod report;
@@ -17,10 +18,12 @@ mod sim_fault;
 mod simulation;
 mod sincere;
 
+pub use audit_lines::{Digits, audit_text};
 pub use clock_replays::{
     BidList, Closing, Closings, LimitLists, Replay, Script, ScriptFault, Scripts, SheetList,
     TieList, read_replay,
 };
+pub use final_report::report_so_far;
 pub use report::{Report, RoundSheets};
 pub use report_lines::report_text;
 pub use sim_fault::SimFault;

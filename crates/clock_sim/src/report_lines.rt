@@ -101,7 +101,7 @@ fn push_won(
 }
 
 /// Adds the lines of the bidders.
-fn push_wins(
+pub(crate) fn push_wins(
     text: &mut Text,
     lines: &[Line],
     bidders: &[Bidder],

@@ -3,7 +3,7 @@
 --     grammar      the program's commands and options
 --     given words      the words, or those that stand for none
 --     job_of words      the job that the words ask for, where they are not refused
---     serving_of words      what `serve` is told, where the words ask for it and are not refused
+--     task_of words      what the words ask to be done with files, where they do and are not refused
 use Rattle.std.specs.Prelude.{ℕ, true, List, [], ◌∷◌, Option, Some, None, codes, if◌then◌else◌, option_and_then, option_map}
 use Rattle.std.specs.Str.{bytes_eq}
 use Rattle.std.specs.Str.Parse.{digits_value, without_leading_plus}
@@ -15,6 +15,9 @@ use Rattle.clock_terms.specs.Increments.{IsIncrement}
 use Rattle.clock_terms.specs.Limits.{least_increment, most_increment}
 use Rattle.clock_words.specs.declared.words.Job.{Job}
 use Rattle.clock_words.specs.declared.words.Serving.{Serving}
+use Rattle.clock_words.specs.declared.words.Files.{Files}
+use Rattle.clock_words.specs.declared.words.FileTask.{FileTask}
+use Rattle.clock_words.specs.declared.words.FileTask.TheVariants as task
 use Rattle.clock_words.specs.declared.words.Job.TheVariants.{Prices, Opening, Replay}
 
 -- `--increment N`, within its limits, and 10 where it is not given
@@ -46,11 +49,23 @@ needed_rule name = record (new_rule name) { long = Some name; value_names = 1; r
 abbrev pub number_rule : Text → ℕ → Rule
 number_rule name most = record (needed_rule name) { parser = Some (parser.Unsigned 1 most) }
 
+-- an option of a text that may be left out, as `--journal FILE`
+abbrev pub journal_rule : Rule
+journal_rule = record (new_rule (codes "journal")) { long = Some (codes "journal"); value_names = 1 }
+
 -- `serve --setup FILE --port N --connections K`
-abbrev pub serve_grammar : App
-serve_grammar =
+abbrev pub serve_needing : App
+serve_needing =
     with_rule (with_rule (with_rule (new_app (codes "serve")) (needed_rule (codes "setup")))
     (number_rule (codes "port") most_port)) (number_rule (codes "connections") most_connections)
+
+-- `serve --setup FILE --port N --connections K [--journal FILE]`
+abbrev pub serve_grammar : App
+serve_grammar = with_rule serve_needing journal_rule
+
+-- a command of two files, as `audit --setup FILE --journal FILE`
+abbrev pub files_grammar : Text → App
+files_grammar name = with_rule (with_rule (new_app name) (needed_rule (codes "setup"))) (needed_rule (codes "journal"))
 
 -- the words begin with a command, and not with the program's own name, or ask for help or the version
 abbrev pub asks_for_a_command : Shape → Shape
@@ -59,8 +74,10 @@ asks_for_a_command shape = record shape { no_binary_name = true; subcommand_requ
 -- the commands, one of which must be named
 abbrev pub grammar : App
 grammar =
-    with_subcommand (with_subcommand (with_subcommand (with_subcommand (on_top asks_for_a_command (new_app (codes "clock_auction"))) prices_grammar.top)
-    (new_app (codes "opening")).top) (new_app (codes "replay")).top) serve_grammar.top
+    with_subcommand (with_subcommand (with_subcommand (with_subcommand (with_subcommand (with_subcommand
+    (on_top asks_for_a_command (new_app (codes "clock_auction"))) prices_grammar.top)
+    (new_app (codes "opening")).top) (new_app (codes "replay")).top) serve_grammar.top)
+    (files_grammar (codes "journal")).top) (files_grammar (codes "audit")).top
 
 -- no word stands for `prices --increment 10`
 abbrev pub given : List Text → List Text
@@ -88,26 +105,65 @@ abbrev pub job_met : Option (Text × List Row) → Option Job
 job_met None = None
 job_met (Some met) = job_named met.0 met.1
 
--- what `serve` is told: the file of the set-up, the port, and how many connections
+-- what `serve` is told: the file of the set-up, the port, how many connections, and the file of the journal if there is to be one
 pub record ServingTold : Type 0 where
   pub setup : Text
   pub port : ℕ
   pub connections : ℕ
+  pub journal : Option Text
 
--- what its options tell
+-- what `journal` and `audit` are told: the file of the set-up and that of the journal
+pub record FilesTold : Type 0 where
+  pub setup : Text
+  pub journal : Text
+
+-- what is to be done with files
+pub data TaskTold : Type 0 where
+  serve : ServingTold → TaskTold
+  journal : FilesTold → TaskTold
+  audit : FilesTold → TaskTold
+
+-- what the options of `serve` tell
 abbrev pub serving_from : List Row → Option ServingTold
 serving_from options =
-    option_and_then (λ setup. option_and_then (λ port. option_map (λ connections. record { setup = setup; port = port; connections = connections })
+    option_and_then (λ setup. option_and_then (λ port. option_map (λ connections.
+    record { setup = setup; port = port; connections = connections; journal = first_of (codes "journal") options })
     (number_of (codes "connections") 1 most_connections options)) (number_of (codes "port") 1 most_port options)) (first_of (codes "setup") options)
 
--- what the command that was met tells, where it is `serve`
-abbrev pub serving_met : Option (Text × List Row) → Option ServingTold
-serving_met None = None
-serving_met (Some met) = if bytes_eq met.0 (codes "serve") then serving_from met.1 else None
+-- what the options of the other two tell
+abbrev pub files_from : List Row → Option FilesTold
+files_from options =
+    option_and_then (λ setup. option_map (λ file. record { setup = setup; journal = file }) (first_of (codes "journal") options))
+    (first_of (codes "setup") options)
+
+-- what a command asks to be done with files, with what its options have
+abbrev pub task_named : Text → List Row → Option TaskTold
+task_named name options =
+    if bytes_eq name (codes "serve") then option_map serve (serving_from options)
+    else (if bytes_eq name (codes "journal") then option_map journal (files_from options)
+    else (if bytes_eq name (codes "audit") then option_map audit (files_from options) else None))
+
+-- what the command that was met asks to be done with files
+abbrev pub task_met : Option (Text × List Row) → Option TaskTold
+task_met None = None
+task_met (Some met) = task_named met.0 met.1
 
 -- the same as the code has it
-abbrev pub told : Serving → ServingTold
-told serving = record { setup = serving.setup.now; port = serving.port; connections = serving.connections }
+abbrev pub serving_told : Serving → ServingTold
+serving_told serving = record {
+  setup = serving.setup.now;
+  port = serving.port;
+  connections = serving.connections;
+  journal = option_map (λ text. text.now) serving.journal;
+}
+
+abbrev pub files_told : Files → FilesTold
+files_told files = record { setup = files.setup.now; journal = files.journal.now }
+
+abbrev pub task_told : FileTask → TaskTold
+task_told (task.Serve serving) = serve (serving_told serving)
+task_told (task.Journal files) = journal (files_told files)
+task_told (task.Audit files) = audit (files_told files)
 
 -- what is meant, and nothing where the words may be refused
 abbrev pub unless_refused : {A : Type 0} → Kinds → Option A → Option A
@@ -118,9 +174,9 @@ unless_refused (kind ∷ kinds) meant = None
 abbrev pub job_meant : List Text → Option Job
 job_meant words = unless_refused (fault_of grammar words) (job_met (subcommand_of grammar words))
 
--- what the words tell `serve`, and nothing where clap refuses them or they ask for another command
-abbrev pub serving_of : List Text → Option ServingTold
-serving_of words = unless_refused (fault_of grammar words) (serving_met (subcommand_of grammar words))
+-- what the words ask to be done with files, and nothing where clap refuses them or they ask for another command
+abbrev pub task_of : List Text → Option TaskTold
+task_of words = unless_refused (fault_of grammar words) (task_met (subcommand_of grammar words))
 
 -- the job that the words after the program's name ask for
 abbrev pub job_of : List Text → Option Job

@@ -3,9 +3,12 @@ ghost use Rattle.std.specs.Prelude.{◌≡◌, codes, false, IfOk, IfErr};
 ghost use Rattle.clap.specs.Words.{app_of, kind_of, new_app, rule_of, with_subcommand};
 ghost use Rattle.clap.specs.Simple.{on_top};
 ghost use Rattle.clap.specs.declared.builder.Command.TheViews.{out-Command};
-ghost use Rattle.clock_words.specs.Words.{asks_for_a_command, grammar, needed_rule, number_rule, prices_grammar, serve_grammar};
+ghost use Rattle.clock_words.specs.Words.{asks_for_a_command, grammar, files_grammar, journal_rule, needed_rule, number_rule, prices_grammar, serve_grammar, serve_needing};
 
-use crate::help::{OPENING_HELP, PRICES_HELP, PROGRAM_HELP, REPLAY_HELP, SERVE_HELP, number_help};
+use crate::help::{
+    AUDIT_HELP, JOURNAL_HELP, OPENING_HELP, PRICES_HELP, PROGRAM_HELP, REPLAY_HELP, SERVE_HELP,
+    number_help,
+};
 use clap::builder::ValueParser;
 use clap::error::ErrorKind;
 use clap::{Arg, Command, Error};
@@ -75,6 +78,29 @@ fn setup_option<'a>(alloc: Global) -> Arg<'a>
         .help("The file of the set-up document")
 }
 
+/// `--journal FILE`, which may be left out.
+fn journal_option<'a>(alloc: Global) -> Arg<'a>
+    ensures rule { rule_of result ≡ journal_rule }
+    ensures local { result.global ≡ false }
+{
+    Arg::new(alloc, "journal")
+        .long("journal")
+        .value_name("FILE")
+        .help("The file in which accepted sheets and closings are kept")
+}
+
+/// `--journal FILE`.
+fn needed_journal_option<'a>(alloc: Global) -> Arg<'a>
+    ensures rule { rule_of result ≡ needed_rule (codes "journal") }
+    ensures local { result.global ≡ false }
+{
+    Arg::new(alloc, "journal")
+        .long("journal")
+        .value_name("FILE")
+        .required(true)
+        .help("The file in which accepted sheets and closings were kept")
+}
+
 /// An option of a number from 1 on.
 fn number_option<'a>(alloc: Global, name: &'a str, most: u64, help: &'a str) -> Arg<'a>
     ensures rule { rule_of result ≡ number_rule name.now most }
@@ -88,9 +114,9 @@ fn number_option<'a>(alloc: Global, name: &'a str, most: u64, help: &'a str) -> 
         .help(help)
 }
 
-/// `serve` and its options.
-fn serve_command<'a>(alloc: Global, helps: &'a NumberHelps) -> Result<Command<'a>, Error>
-    ensures shape { IfOk result (λ command. app_of command ≡ serve_grammar) }
+/// `serve` and the options that it needs.
+fn serve_needed<'a>(alloc: Global, helps: &'a NumberHelps) -> Result<Command<'a>, Error>
+    ensures shape { IfOk result (λ command. app_of command ≡ serve_needing) }
     ensures local { IfOk result (λ command. (out-Command command).has_globals ≡ false) }
     ensures err { IfErr result (λ error. kind_of error ≡ ErrorKind.OutOfMemory) }
 {
@@ -107,6 +133,32 @@ fn serve_command<'a>(alloc: Global, helps: &'a NumberHelps) -> Result<Command<'a
     let with_setup = serve.arg(setup_option(alloc))?;
     let with_port = with_setup.arg(port)?;
     Ok(with_port.arg(connections)?)
+}
+
+/// `serve` and its options.
+fn serve_command<'a>(alloc: Global, helps: &'a NumberHelps) -> Result<Command<'a>, Error>
+    ensures shape { IfOk result (λ command. app_of command ≡ serve_grammar) }
+    ensures local { IfOk result (λ command. (out-Command command).has_globals ≡ false) }
+    ensures err { IfErr result (λ error. kind_of error ≡ ErrorKind.OutOfMemory) }
+{
+    let serve = serve_needed(alloc, helps)?;
+    Ok(serve.arg(journal_option(alloc))?)
+}
+
+/// A command of a set-up document and a journal.
+fn files_command<'a>(
+    alloc: Global,
+    name: &'a str,
+    about: &'a str,
+    help: &'a str,
+) -> Result<Command<'a>, Error>
+    ensures shape { IfOk result (λ command. app_of command ≡ files_grammar name.now) }
+    ensures local { IfOk result (λ command. (out-Command command).has_globals ≡ false) }
+    ensures err { IfErr result (λ error. kind_of error ≡ ErrorKind.OutOfMemory) }
+{
+    let command = Command::new(alloc, name).about(about).after_help(help);
+    let with_setup = command.arg(setup_option(alloc))?;
+    Ok(with_setup.arg(needed_journal_option(alloc))?)
 }
 
 /// The program without its commands.
@@ -176,6 +228,26 @@ fn with_serve<'a>(
     }
 }
 
+/// A program with a command of a set-up document and a journal.
+fn with_files<'a>(
+    alloc: Global,
+    program: Command<'a>,
+    name: &'a str,
+    about: &'a str,
+    help: &'a str,
+) -> Result<Command<'a>, Error>
+    ensures shape { IfOk result (λ command. app_of command ≡ with_subcommand (app_of program.entry) (files_grammar name.now).top) }
+    ensures err { IfErr result (λ error. kind_of error ≡ ErrorKind.OutOfMemory) }
+{
+    match files_command(alloc, name, about, help) {
+        Ok(command) => Ok(program.subcommand(command)?),
+        Err(error) => {
+            drop(program);
+            Err(error)
+        }
+    }
+}
+
 /// The program's commands.
 pub fn program<'a>(alloc: Global, helps: &'a NumberHelps) -> Result<Command<'a>, Error>
     ensures shape { IfOk result (λ command. app_of command ≡ grammar) }
@@ -197,5 +269,19 @@ pub fn program<'a>(alloc: Global, helps: &'a NumberHelps) -> Result<Command<'a>,
         REPLAY_HELP,
     )?;
     let served = with_serve(alloc, replayed, helps)?;
-    Ok(served)
+    let told = with_files(
+        alloc,
+        served,
+        "journal",
+        "Prints what a journal holds, text by text",
+        JOURNAL_HELP,
+    )?;
+    let audited = with_files(
+        alloc,
+        told,
+        "audit",
+        "Recounts an auction from its journal and prints its rounds and what each bidder won",
+        AUDIT_HELP,
+    )?;
+    Ok(audited)
 }

@@ -3,12 +3,12 @@ use std::alloc::{AllocError, Global};
 
 /// Of the whole program.
 pub static PROGRAM_HELP: &str = "\
-A document is read from standard input, by `serve` from a file. Without any word the program does
+A document is read from standard input, by `serve`, `journal` and `audit` from a file. Without any word the program does
 `prices --increment 10`.
 
 Status 0: all was done, and the answer is on standard output.
 Status 1: there was a fault, with one line `fault: WORDS` on standard error. Nothing is on standard output,
-but for what a failing write let through, and `ready N` where `serve` had begun.
+but for what a failing write let through, and what `serve` told once it had begun.
 Status 2: help, or words that are refused.";
 
 /// Of `prices`.
@@ -53,12 +53,48 @@ Example:
 pub static SERVE_HELP: &str = "\
 Reads a set-up document of version 1 or 2 from the file, and listens on 127.0.0.1 at the port.
 Prints `ready N` with the port, once it listens. Then it serves connections one after the other, with one
-request each, and ends after the last. A connection that fails ends alone. Nothing is kept on disk.
-Answers with 0, or with 1 and a line as `fault: file`, `fault: setup_shape`, `fault: bind`, `fault: accept`.
+request each, and ends after the last. A connection that fails ends alone.
+With `--journal` each accepted sheet and closing is on the disk before its reply is given out, and a server
+that is started again with both files goes on where the last one ended, however that was. Then `journal N HEX`
+stands before `ready N`: how many texts were found, and the digest of the last; and `closed ROUND HEX` follows
+at each closing. Without `--journal` nothing is kept.
+Answers with 0, or with 1 and a line as `fault: file`, `fault: setup_shape`, `fault: bind`, `fault: accept`,
+and with a journal `fault: journal`, `fault: journal_busy`, `fault: journal_unknown`, `fault: journal_setup`,
+`fault: journal_damaged 56`, `fault: journal_refused 56`.
 
 Example:
   clock_auction serve --setup examples/one_product.json --port 8105 --connections 100
   ready 8105";
+
+/// Of `journal`.
+pub static JOURNAL_HELP: &str = "\
+Reads both files, and changes neither. Prints `setup HEX`, the digest of the set-up document, then for each
+text a line `text NUMBER PLACE LENGTH HEX` and the text as it came, and at the end `journal N HEX`, as `serve` does.
+Answers with 0, or with 1 and a line as `fault: file`, `fault: journal`, `fault: journal_setup`,
+`fault: journal_damaged 56`.
+
+Example:
+  clock_auction journal --setup examples/one_product.json --journal auction.journal
+  setup 44ddc6f1..
+  text 1 56 123 5be1a2c4..
+  ..
+  journal 1 5be1a2c4..";
+
+/// Of `audit`.
+pub static AUDIT_HELP: &str = "\
+Reads both files, and changes neither. Recounts the auction from them alone: prints the rounds that are closed
+as `replay` does, behind each `closed ROUND HEX` with the digest of its closing, and at the end of the
+auction what each bidder won and pays. Then `journal N HEX`, as `serve` does.
+Answers with 0, or with 1 and a line as `fault: file`, `fault: journal`, `fault: journal_setup`,
+`fault: journal_damaged 56`, `fault: journal_refused 56`.
+
+Example:
+  clock_auction audit --setup examples/one_product.json --journal auction.journal
+  round 1
+  A 100 110 110 3 121
+  closed 1 5be1a2c4..
+  ..
+  journal 12 90fe18c0..";
 
 /// What is said of a number that an option takes, with its limits.
 pub fn number_help(

@@ -6,4 +6,4 @@ mod help;
 mod words;
 
 pub use commands::{NumberHelps, number_helps};
-pub use words::{Job, Serving, job_asked, serving_asked};
+pub use words::{FileTask, Files, Job, Serving, file_task_asked, job_asked};

@@ -2,7 +2,7 @@
 ghost use Rattle.std.specs.Prelude.{◌≡◌, ◌≢◌, ◌&&◌, if◌then◌else◌, nat_le, Some, None, map, option_map, IfSome, IfOk, IfErr};
 ghost use Rattle.clock_terms.specs.Limits.{IsWithin};
 ghost use Rattle.clap.specs.Words.{first_of, found_of, kind_of, rows_of, subcommand_rows_of};
-ghost use Rattle.clock_words.specs.Words.{IsJob, job_meant, job_met, job_of, number_of, serving_from, serving_met, serving_of, told};
+ghost use Rattle.clock_words.specs.Words.{IsJob, files_from, files_told, job_meant, job_met, job_of, number_of, serving_from, serving_told, task_met, task_of, task_told};
 
 use crate::commands::{MOST_CONNECTIONS, MOST_PORT, NumberHelps, number_helps, program};
 use clap::error::ErrorKind;
@@ -30,6 +30,28 @@ pub struct Serving<'a> {
     pub port: u16,
     /// How many connections are served.
     pub connections: u64,
+    /// The file of the journal, where there is to be one.
+    pub journal: Option<&'a str>,
+}
+
+/// The files that tell of an auction.
+#[derive(Clone, Copy, Debug)]
+pub struct Files<'a> {
+    /// The file of the set-up document.
+    pub setup: &'a str,
+    /// The file of the journal.
+    pub journal: &'a str,
+}
+
+/// What is to be done with files.
+#[derive(Clone, Copy, Debug)]
+pub enum FileTask<'a> {
+    /// An auction is served.
+    Serve(Serving<'a>),
+    /// What a journal holds is printed.
+    Journal(Files<'a>),
+    /// An auction is recounted from its journal.
+    Audit(Files<'a>),
 }
 
 /// What a run without any word does.
@@ -109,7 +131,7 @@ fn text_in<'a>(options: &ArgMatches<'a>, name: &str) -> Option<&'a str>
 
 /// What the options of `serve` tell.
 fn serving_with<'a>(options: &ArgMatches<'a>) -> Option<Serving<'a>>
-    ensures { option_map told result ≡ serving_from (rows_of (found_of options.now)) }
+    ensures { option_map serving_told result ≡ serving_from (rows_of (found_of options.now)) }
 {
     let setup = text_in(options, "setup")?;
     let port = number_in(options, "port", 1, MOST_PORT)?;
@@ -118,32 +140,46 @@ fn serving_with<'a>(options: &ArgMatches<'a>) -> Option<Serving<'a>>
         setup,
         port: port as u16,
         connections,
+        journal: text_in(options, "journal"),
     })
 }
 
-/// What the matches tell `serve`, where they name it.
-fn serving_in<'a>(matches: &ArgMatches<'a>) -> Option<Serving<'a>>
-    ensures { option_map told result ≡ serving_met (subcommand_rows_of matches.now) }
+/// What the options of `journal` or `audit` tell.
+fn files_with<'a>(options: &ArgMatches<'a>) -> Option<Files<'a>>
+    ensures { option_map files_told result ≡ files_from (rows_of (found_of options.now)) }
+{
+    let setup = text_in(options, "setup")?;
+    let journal = text_in(options, "journal")?;
+    Some(Files { setup, journal })
+}
+
+/// What the matches ask to be done with files, where they do.
+fn task_in<'a>(matches: &ArgMatches<'a>) -> Option<FileTask<'a>>
+    ensures { option_map task_told result ≡ task_met (subcommand_rows_of matches.now) }
 {
     let (name, options) = matches.subcommand()?;
     if name == "serve" {
-        serving_with(options)
+        Some(FileTask::Serve(serving_with(options)?))
+    } else if name == "journal" {
+        Some(FileTask::Journal(files_with(options)?))
+    } else if name == "audit" {
+        Some(FileTask::Audit(files_with(options)?))
     } else {
         None
     }
 }
 
-/// What the words tell `serve`, where they ask for it. An error's text says what is wrong with the
+/// What the words ask to be done with files, where they do. An error's text says what is wrong with the
 /// words, or is the help that they ask for.
-pub fn serving_asked<'a>(
+pub fn file_task_asked<'a>(
     alloc: Global,
     helps: &'a NumberHelps,
     words: &'a [&'a str],
-) -> Result<Option<Serving<'a>>, Error>
-    ensures ok { IfOk result (λ serving. option_map told serving ≡ serving_of (map (λ word. word.now) words.entry.now)) }
+) -> Result<Option<FileTask<'a>>, Error>
+    ensures ok { IfOk result (λ task. option_map task_told task ≡ task_of (map (λ word. word.now) words.entry.now)) }
     ensures err { IfErr result (λ error. kind_of error ≢ ErrorKind.OutOfMemory
-        → serving_of (map (λ word. word.now) words.entry.now) ≡ None) }
+        → task_of (map (λ word. word.now) words.entry.now) ≡ None) }
 {
     let matches = program(alloc, helps)?.try_get_matches_from(words)?;
-    Ok(serving_in(&matches))
+    Ok(task_in(&matches))
 }

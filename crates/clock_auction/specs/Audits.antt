@@ -1,0 +1,67 @@
+-- What an auction is recounted as from its set-up document and its journal. The newest text stands first.
+--     chain_of first texts      the digest of the newest text
+--     closed_after setup texts      the rounds that texts have closed
+--     closing_digests first setup texts      the digests of the texts that closed a round, in digits, the oldest first
+--     IsRecounted first texts house chain digests      the auction stands for the texts, with the digests of its closings
+--     IsRecountOf setup first bytes ..      the same for all texts of a file
+--     audited setup first texts      what an audit prints of the rounds
+use Rattle.std.specs.Prelude.{◌≡◌, ◌++◌, ℕ, Bool, true, false, List, [], ◌∷◌, length, nat_lt}
+use Rattle.hex.specs.Hex.{encode_lower}
+use Rattle.clock_terms.specs.Limits.{SetupFields}
+use Rattle.clock_closing.specs.declared.closed_round.ClosedRound.{ClosedRound}
+use Rattle.clock_house.specs.History.{history}
+use Rattle.clock_house.specs.House.{HouseFields}
+use Rattle.clock_front.specs.Fronts.{StandsForTexts, commands_of}
+use Rattle.clock_journal.specs.Format.{link}
+use Rattle.clock_journal.specs.Reading.{onto}
+use Rattle.clock_journal.specs.Recovering.{IsPlaced}
+use Rattle.clock_journal.specs.declared.recovered.Recovered.{Recovered}
+use Rattle.clock_sim.specs.FinalReport.{report_of}
+use Rattle.clock_sim.specs.ReportText.{audit_text}
+
+abbrev pub chain_of : List ℕ → List (List ℕ) → List ℕ
+chain_of first [] = first
+chain_of first (text ∷ past) = link (chain_of first past) text
+
+abbrev pub closed_after : SetupFields → List (List ℕ) → List ClosedRound
+closed_after setup texts = (history setup (commands_of setup texts)).closed
+
+-- a text closed a round if there are more behind it than before
+abbrev pub closes : SetupFields → List ℕ → List (List ℕ) → Bool
+closes setup text past = nat_lt (length (closed_after setup past)) (length (closed_after setup (text ∷ past)))
+
+-- one digest more where a round was closed
+abbrev pub with_digest_if : Bool → List (List ℕ) → List ℕ → List (List ℕ)
+with_digest_if true digests chain = digests ++ encode_lower chain ∷ []
+with_digest_if false digests chain = digests
+
+abbrev pub closing_digests : List ℕ → SetupFields → List (List ℕ) → List (List ℕ)
+closing_digests first setup [] = []
+closing_digests first setup (text ∷ past) =
+    with_digest_if (closes setup text past) (closing_digests first setup past) (chain_of first (text ∷ past))
+
+-- the auction stands for the texts, and the digests are those of the texts
+pub record IsRecounted (first : List ℕ) (texts : List (List ℕ)) (house : HouseFields) (chain : List ℕ) (digests : List (List ℕ)) : Type 0 where
+  pub stands : StandsForTexts texts house
+  pub chain_is : chain ≡ chain_of first texts
+  pub digests_are : digests ≡ closing_digests first house.setup texts
+
+-- the same of some texts and some set-up document
+abbrev pub IsSomeRecount : HouseFields → List ℕ → List (List ℕ) → Type 0
+IsSomeRecount house chain digests = (first : List ℕ) × (texts : List (List ℕ)) × IsRecounted first texts house chain digests
+
+-- the file is the journal of these texts, but for a torn tail, and the auction stands for all of them
+pub record IsRecountOf (setup : SetupFields) (first bytes : List ℕ) (house : HouseFields) (chain : List ℕ) (digests : List (List ℕ)) : Type 0 where
+  pub texts : List (List ℕ)
+  pub recovered : Recovered
+  pub placed : IsPlaced first bytes texts recovered
+  pub same : house.setup ≡ setup
+  pub recounted : IsRecounted first (onto texts []) house chain digests
+
+-- the lines of the closed rounds, each with the digest of its closing, and what each bidder won where the auction has ended
+abbrev pub text_of_rounds : SetupFields → List ClosedRound → List (List ℕ) → List ℕ
+text_of_rounds setup [] digests = []
+text_of_rounds setup (round ∷ closed) digests = audit_text (report_of setup (round ∷ closed)) digests
+
+abbrev pub audited : SetupFields → List ℕ → List (List ℕ) → List ℕ
+audited setup first texts = text_of_rounds setup (closed_after setup texts) (closing_digests first setup texts)

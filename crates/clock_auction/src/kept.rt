@@ -1,0 +1,175 @@
+//! An auction that is served with a journal: its file is taken over before the port is listened on.
+ghost use Rattle.std.specs.Prelude.{◌≡◌, [], IfOk, false};
+ghost use Rattle.clock_front.specs.Fronts.{StandsForTexts};
+
+use crate::digests::Hex;
+use crate::fault::Fault;
+use crate::serve::{bound, file_bytes, front_in, tell_ready};
+use crate::serving_kept::serve_kept_on;
+use clock_journal::{FileDisk, Journal, Link, Recovered, digest_of};
+use clock_keeping::{Auction, take_up};
+use clock_queue::Woken;
+use clock_words::Serving;
+use std::alloc::Global;
+use std::fs::{File, OpenOptions, TryLockError};
+use std::io::{self, Read};
+use std::net::{Net, TcpListener, TcpStream};
+use std::os::unix::fs::OpenOptionsExt;
+use std::rt::Files;
+
+/// Serves an auction of the set-up in a file, and keeps it in a journal: takes the journal over, tells how many texts it has and the
+/// digest of the last, listens on 127.0.0.1, and serves so many connections, one after the other. The first fault ends it.
+pub fn serve_kept<R>(rt: &R, serving: &Serving, path: &str) -> Result<(), Fault>
+where
+    R: Files<File = File>
+        + Print
+        + Eprint
+        + Net<Listener = TcpListener, Stream = TcpStream>
+        + Alloc<A = Global>,
+{
+    let document = file_bytes(rt, serving.setup)?;
+    let digest = digest_of(document.as_slice());
+    let front = front_in(rt.alloc(), document)?;
+    let mut auction = Auction { front, texts: 0 };
+    let served = keep_and_serve(rt, &mut auction, digest, serving, path);
+    // let go by a call: at the end of the scope it would be proved part by part
+    drop(auction);
+    served
+}
+
+/// Takes the journal over, and serves connections by it.
+fn keep_and_serve<R>(
+    rt: &R,
+    auction: &mut Auction<Woken>,
+    digest: Link,
+    serving: &Serving,
+    path: &str,
+) -> Result<(), Fault>
+where
+    R: Files<File = File>
+        + Print
+        + Eprint
+        + Net<Listener = TcpListener, Stream = TcpStream>
+        + Alloc<A = Global>,
+    requires { StandsForTexts [] auction.old.front }
+{
+    let mut journal = taken_over(rt, auction, digest, path)?;
+    tell_journal(rt, auction.texts, *journal.chain())?;
+    let listener = bound(rt, serving.port)?;
+    tell_ready(rt, serving.port)?;
+    let served = serve_kept_on(rt, &mut auction.front, &mut journal, &listener, serving.connections);
+    drop(journal);
+    served
+}
+
+/// The journal in a file that was taken over and is held by this server alone.
+fn taken_over<R>(
+    rt: &R,
+    auction: &mut Auction<Woken>,
+    digest: Link,
+    path: &str,
+) -> Result<Journal<FileDisk<File>>, Fault>
+where
+    R: Files<File = File> + Eprint + Alloc<A = Global>,
+    requires { StandsForTexts [] auction.old.front }
+    ensures unfailed { IfOk result (λ journal. journal.has_failed ≡ false) }
+{
+    let file = opened(rt, path)?;
+    let bytes = bytes_of(rt.alloc(), &file)?;
+    let recovered = take_up(auction, &digest, bytes.as_slice())?;
+    let size = bytes.len();
+    drop(bytes);
+    if recovered.end < size {
+        let cut = size - recovered.end;
+        let end = recovered.end;
+        // it is told for the operator's eyes alone: where that fails the auction goes on
+        let _untold = eprintln!(rt; "cut {cut} bytes at {end}");
+    }
+    resumed(rt, file, digest, recovered, path)
+}
+
+/// The journal that goes on, and whose file a loss of power leaves in its folder.
+fn resumed<R>(
+    rt: &R,
+    file: File,
+    digest: Link,
+    recovered: Recovered,
+    path: &str,
+) -> Result<Journal<FileDisk<File>>, Fault>
+where
+    R: Files<File = File>,
+    ensures unfailed { IfOk result (λ journal. journal.has_failed ≡ false) }
+{
+    match Journal::resume(FileDisk::new(file), digest, recovered) {
+        Ok(journal) => match sync_folder(rt, path) {
+            Ok(()) => Ok(journal),
+            Err(fault) => {
+                drop(journal);
+                Err(fault)
+            }
+        },
+        Err(_) => Err(Fault::Journal),
+    }
+}
+
+/// The file, which is made where there is none, readable by its owner alone, and locked.
+fn opened<R: Files<File = File>>(rt: &R, path: &str) -> Result<File, Fault> {
+    let mut how = OpenOptions::new();
+    how.read(true).append(true).create(true).mode(0o600);
+    let Ok(file) = how.open(rt, path) else {
+        return Err(Fault::Journal);
+    };
+    if !is_plain(&file) {
+        return Err(Fault::Journal);
+    }
+    match file.try_lock() {
+        Ok(()) => Ok(file),
+        Err(TryLockError::WouldBlock) => Err(Fault::JournalBusy),
+        Err(TryLockError::Error(_)) => Err(Fault::Journal),
+    }
+}
+
+/// Whether it is a file of a disk: a device may have bytes without end.
+pub fn is_plain(file: &File) -> bool {
+    match file.metadata() {
+        Ok(metadata) => metadata.is_file(),
+        Err(_) => false,
+    }
+}
+
+/// All bytes of the file, from its beginning.
+pub fn bytes_of(alloc: Global, file: &File) -> Result<Vec<u8>, Fault> {
+    let mut bytes = Vec::new(alloc);
+    let mut reader = file;
+    match reader.read_to_end(&mut bytes) {
+        Ok(_) => Ok(bytes),
+        Err(error) if error.kind() == io::ErrorKind::OutOfMemory => Err(Fault::Memory),
+        Err(_) => Err(Fault::Journal),
+    }
+}
+
+/// Puts the name of the file on the disk, which its folder holds.
+fn sync_folder<R: Files<File = File>>(rt: &R, path: &str) -> Result<(), Fault> {
+    match File::open(rt, folder_of(path)) {
+        Ok(folder) if folder.sync_all().is_ok() => Ok(()),
+        _ => Err(Fault::Journal),
+    }
+}
+
+/// The folder that holds a file of this path.
+fn folder_of(path: &str) -> &str {
+    match path.rfind('/') {
+        Some(0) => "/",
+        Some(end) => &path[..end],
+        None => ".",
+    }
+}
+
+/// Tells how many texts were taken over, and the digest of the last.
+pub fn tell_journal<R: Print>(rt: &R, texts: u64, chain: Link) -> Result<(), Fault> {
+    let digest = Hex(chain);
+    match println!(rt; "journal {texts} {digest}") {
+        Ok(()) => Ok(()),
+        Err(_) => Err(Fault::Output),
+    }
+}

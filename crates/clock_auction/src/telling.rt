@@ -1,0 +1,65 @@
+//! `journal` and `audit`: what two files tell, printed.
+use crate::audit::{audit_of, recounted};
+use crate::fault::Fault;
+use crate::journal_text::listing_of;
+use crate::kept::{bytes_of, is_plain, tell_journal};
+use crate::serve::{file_bytes, front_in};
+use clock_device::{Sink, write_all};
+use clock_journal::{Link, digest_of};
+use clock_words::Files as Named;
+use std::alloc::Global;
+use std::fs::File;
+use std::rt::Files;
+
+/// Prints what a journal holds.
+pub fn tell_texts<R>(rt: &R, out: &mut impl Sink, named: &Named) -> Result<(), Fault>
+where
+    R: Files<File = File> + Print + Alloc<A = Global>,
+{
+    let document = file_bytes(rt, named.setup)?;
+    let first = digest_of(document.as_slice());
+    drop(document);
+    let bytes = journal_bytes(rt, named.journal)?;
+    let listing = listing_of(rt.alloc(), first, bytes.as_slice())?;
+    let end = listing.end();
+    let told = written(out, listing.text());
+    drop(listing);
+    told?;
+    tell_journal(rt, end.0, end.1)
+}
+
+/// Prints an auction that is recounted from its journal.
+pub fn tell_audit<R>(rt: &R, out: &mut impl Sink, named: &Named) -> Result<(), Fault>
+where
+    R: Files<File = File> + Print + Alloc<A = Global>,
+{
+    let document = file_bytes(rt, named.setup)?;
+    let first = digest_of(document.as_slice());
+    let front = front_in(rt.alloc(), document)?;
+    let bytes = journal_bytes(rt, named.journal)?;
+    let recount = recounted(rt.alloc(), front, first, bytes.as_slice())?;
+    let end = recount.end();
+    let text = audit_of(rt.alloc(), &recount);
+    drop(recount);
+    written(out, text?.as_slice())?;
+    tell_journal(rt, end.0, end.1)
+}
+
+/// All bytes of a journal.
+fn journal_bytes<R: Files<File = File> + Alloc<A = Global>>(
+    rt: &R,
+    path: &str,
+) -> Result<Vec<u8>, Fault> {
+    match File::open(rt, path) {
+        Ok(file) if is_plain(&file) => bytes_of(rt.alloc(), &file),
+        _ => Err(Fault::Journal),
+    }
+}
+
+/// Writes a text.
+fn written(out: &mut impl Sink, text: &[u8]) -> Result<(), Fault> {
+    match write_all(out, text) {
+        Ok(()) => Ok(()),
+        Err(_) => Err(Fault::Output),
+    }
+}

@@ -1,0 +1,22 @@
+"""A journal, read by its format alone: nothing here is shared with the program."""
+import hashlib
+
+KIND = b"clock_auction journal 1\n"
+HEAD = len(KIND) + 32
+FRONT = 40
+
+
+def texts_of(setup, bytes):
+    """The texts of a whole journal of this set-up document, each with its digest. A record that is not right is an AssertionError."""
+    digest = hashlib.sha256(setup).digest()
+    assert bytes[:HEAD] == KIND + digest, "no journal of this set-up"
+    found, place = [], HEAD
+    while place < len(bytes):
+        size = int.from_bytes(bytes[place : place + 4], "big")
+        text = bytes[place + FRONT : place + FRONT + size]
+        digest = hashlib.sha256(digest + text).digest()
+        assert bytes[place + 4 : place + 8] == bytes[place : place + 4] and len(text) == size, f"no record at {place}"
+        assert bytes[place + 8 : place + FRONT] == digest, f"another digest at {place}"
+        found.append((text, digest.hex()))
+        place += FRONT + size
+    return found

@@ -1,0 +1,95 @@
+/* Refuses one call of a program to the system that names or writes a file: preloaded beside it.
+ *
+ * REFUSE_CALL names the call, REFUSE_AT tells which one, from 1, and REFUSE_FILE the file, by its path. A write that is refused has
+ * written half of its bytes, as on a disk that is full. */
+#define _GNU_SOURCE
+#include <dlfcn.h>
+#include <errno.h>
+#include <fcntl.h>
+#include <stdarg.h>
+#include <stdlib.h>
+#include <string.h>
+#include <sys/file.h>
+#include <sys/stat.h>
+#include <unistd.h>
+
+static int calls;
+
+/* whether the descriptor is that of the file, or of the folder that holds it */
+static int is_file(int descriptor) {
+    struct stat one, other;
+    const char *path = getenv("REFUSE_FILE");
+    if (!path || fstat(descriptor, &one)) return 0;
+    if (S_ISDIR(one.st_mode)) return 1;
+    return !stat(path, &other) && one.st_ino == other.st_ino && one.st_dev == other.st_dev;
+}
+
+static int refuses(const char *call) {
+    const char *wanted = getenv("REFUSE_CALL"), *at = getenv("REFUSE_AT");
+    return wanted && at && !strcmp(wanted, call) && ++calls == atoi(at);
+}
+
+static int is_path(const char *path) {
+    const char *file = getenv("REFUSE_FILE");
+    return file && !strncmp(path, file, strlen(path));
+}
+
+#define OPENS(name)                                                                                     \
+    int name(const char *path, int flags, ...) {                                                        \
+        static int (*real)(const char *, int, ...);                                                     \
+        va_list rest;                                                                                   \
+        va_start(rest, flags);                                                                          \
+        mode_t mode = va_arg(rest, mode_t);                                                             \
+        va_end(rest);                                                                                   \
+        if (!real) real = dlsym(RTLD_NEXT, #name);                                                      \
+        if (is_path(path) && refuses("open")) { errno = EIO; return -1; }                               \
+        return real(path, flags, mode);                                                                 \
+    }
+OPENS(open)
+OPENS(open64)
+
+int openat(int folder, const char *path, int flags, ...) {
+    static int (*real)(int, const char *, int, ...);
+    va_list rest;
+    va_start(rest, flags);
+    mode_t mode = va_arg(rest, mode_t);
+    va_end(rest);
+    if (!real) real = dlsym(RTLD_NEXT, "openat");
+    if (is_path(path) && refuses("open")) { errno = EIO; return -1; }
+    return real(folder, path, flags, mode);
+}
+
+ssize_t write(int descriptor, const void *bytes, size_t count) {
+    static ssize_t (*real)(int, const void *, size_t);
+    if (!real) real = dlsym(RTLD_NEXT, "write");
+    if (descriptor > 2 && is_file(descriptor) && refuses("write")) {
+        if (real(descriptor, bytes, count / 2) < 0) return -1;
+        errno = ENOSPC;
+        return -1;
+    }
+    return real(descriptor, bytes, count);
+}
+
+#define REFUSED(name, call)                                                     \
+    int name(int descriptor) {                                                  \
+        static int (*real)(int);                                                \
+        if (!real) real = dlsym(RTLD_NEXT, #name);                              \
+        if (is_file(descriptor) && refuses(call)) { errno = EIO; return -1; }   \
+        return real(descriptor);                                                \
+    }
+REFUSED(fdatasync, "fdatasync")
+REFUSED(fsync, "fsync")
+
+int flock(int descriptor, int operation) {
+    static int (*real)(int, int);
+    if (!real) real = dlsym(RTLD_NEXT, "flock");
+    if (refuses("flock")) { errno = EIO; return -1; }
+    return real(descriptor, operation);
+}
+
+int ftruncate(int descriptor, off_t size) {
+    static int (*real)(int, off_t);
+    if (!real) real = dlsym(RTLD_NEXT, "ftruncate");
+    if (refuses("ftruncate")) { errno = EIO; return -1; }
+    return real(descriptor, size);
+}
