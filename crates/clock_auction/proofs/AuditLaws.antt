@@ -51,5 +51,11 @@ pub enough_for_report : (house : HouseFields) (chain : List ℕ) (digests given 
     → report ≡ report_of house.setup house.closed → given ≡ digests → length report.sheets ≤ length given
 enough_for_report house chain digests given report some is same =
     let many = length-map (reverse house.closed) (λ (closed : ClosedRound). closed.sheet) in
-    omega (arith, ap (λ (r : ReportFields). length r.sheets) is, many, length-reverse house.closed, ap length same,
-    enough_for some.0 some.1 house chain digests some.2)
+    omega (
+      arith,
+      ap (λ (r : ReportFields). length r.sheets) is,
+      many,
+      length-reverse house.closed,
+      ap length same,
+      enough_for some.0 some.1 house chain digests some.2,
+    )

@@ -44,7 +44,8 @@ impl Listing {
             self.text.push_number(number)?;
             self.text.push(b' ')?;
         }
-        self.text.extend_from_slice(digits_of(&self.chain).as_slice())?;
+        self.text
+            .extend_from_slice(digits_of(&self.chain).as_slice())?;
         self.text.push(b'\n')?;
         self.text.extend_from_slice(text)?;
         self.text.push(b'\n')?;

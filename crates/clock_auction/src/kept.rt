@@ -57,7 +57,13 @@ where
     tell_journal(rt, auction.texts, *journal.chain())?;
     let listener = bound(rt, serving.port)?;
     tell_ready(rt, serving.port)?;
-    let served = serve_kept_on(rt, &mut auction.front, &mut journal, &listener, serving.connections);
+    let served = serve_kept_on(
+        rt,
+        &mut auction.front,
+        &mut journal,
+        &listener,
+        serving.connections,
+    );
     drop(journal);
     served
 }

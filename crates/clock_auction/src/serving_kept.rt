@@ -40,7 +40,12 @@ pub fn serve_kept_on<P: Processor, R: Print + Alloc<A = Global>>(
         if kept.is_err() {
             return Err(Fault::Journal);
         }
-        tell_closing(rt, closed, front.house().closed_rounds(), Hex(*journal.chain()));
+        tell_closing(
+            rt,
+            closed,
+            front.house().closed_rounds(),
+            Hex(*journal.chain()),
+        );
     }
     Ok(())
 }

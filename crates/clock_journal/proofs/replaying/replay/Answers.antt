@@ -29,13 +29,14 @@ on_way_more old mid new first bytes chain rest text digest way is linked taken =
 }
 
 pub loop-chain-preserved : goal.loop-chain-preserved
-loop-chain-preserved g c =
-    (subst (λ rest. IsOnWay (g.M.Machine.stands_for c.args.machine.now) (g.M.Machine.stands_for c.take.new.self) c.args.first.now c.args.bytes.now c.in-Whole.digest rest)
-    (sym (take_rest c.loop-chain.rest.now (40 + length c.in-Whole.text.now)))
-    (on_way_more (g.M.Machine.stands_for c.args.machine.now) (g.M.Machine.stands_for c.loop-chain.machine) (g.M.Machine.stands_for c.take.new.self)
-    c.args.first.now c.args.bytes.now c.loop-chain.chain c.loop-chain.rest.now c.in-Whole.text.now c.in-Whole.digest
-    c.loop-chain.invariant.0 (sym c.in-Whole.ensures.next) c.in-Whole.ensures.record.linked c.in-Ok.ensures.taken),
-    c.in-Ok.ensures.rules ∙ c.loop-chain.invariant.1)
+loop-chain-preserved g c = (
+  subst (λ rest. IsOnWay (g.M.Machine.stands_for c.args.machine.now) (g.M.Machine.stands_for c.take.new.self) c.args.first.now c.args.bytes.now c.in-Whole.digest rest)
+      (sym (take_rest c.loop-chain.rest.now (40 + length c.in-Whole.text.now)))
+      (on_way_more (g.M.Machine.stands_for c.args.machine.now) (g.M.Machine.stands_for c.loop-chain.machine) (g.M.Machine.stands_for c.take.new.self)
+      c.args.first.now c.args.bytes.now c.loop-chain.chain c.loop-chain.rest.now c.in-Whole.text.now c.in-Whole.digest
+      c.loop-chain.invariant.0 (sym c.in-Whole.ensures.next) c.in-Whole.ensures.record.linked c.in-Ok.ensures.taken),
+  c.in-Ok.ensures.rules ∙ c.loop-chain.invariant.1,
+)
 
 found_at : (old new : List (List ℕ) → Type 0) (first bytes chain rest text : List ℕ) (size : ℕ) → IsOnWay old new first bytes chain rest → length bytes ≤ size
     → next chain rest ≡ whole text → IsFoundAt first bytes size (size - length rest) (whole text)
