@@ -33,16 +33,14 @@ def listens(port):
         return asked.connect_ex(("127.0.0.1", port)) == 0
 
 
-def has_journal(program):
-    """Whether the program's help names the option."""
-    said = subprocess.run([program, "serve", "--help"], capture_output=True, text=True, timeout=10)
-    return "--journal" in said.stdout + said.stderr
-
-
-def started(program, setup, port):
+def started(program, setup, port, journal=None):
     """A server of its own, once it listens."""
     words = [program, "serve", "--setup", setup, "--port", str(port), "--connections", "1000000"]
+    if journal is not None:
+        words += ["--journal", journal]
     server = subprocess.Popen(words, stdin=subprocess.DEVNULL, stdout=subprocess.PIPE)
+    if journal is not None and not server.stdout.readline().startswith(b"journal "):
+        raise Failed("the server does not tell of its journal")
     if server.stdout.readline() != b"ready %d\n" % port:
         raise Failed("the server is not ready")
     return server
@@ -57,7 +55,8 @@ class Place:
         self.server_port, self.outside, self.inside = free_port(), free_port(), free_port()
         try:
             self.write(setup_text)
-            self.server = self.keep(started(program, self.folder / "setup.json", self.server_port))
+            self.program, self.kills = program, 0
+            self.begin()
             words = ["nginx", "-p", self.folder, "-c", "nginx.conf", "-g", "daemon off;"]
             with open(self.folder / "nginx.words", "wb") as said:
                 self.nginx = self.keep(subprocess.Popen(words, stdin=subprocess.DEVNULL, stdout=said, stderr=said))
@@ -67,6 +66,17 @@ class Place:
         except BaseException:
             self.stop()
             raise
+
+    def begin(self):
+        """Starts the server, or starts it again, on its journal."""
+        self.server = self.keep(started(self.program, self.folder / "setup.json", self.server_port, self.folder / "auction.journal"))
+
+    def kill(self):
+        """Ends the server at once, as a loss of power would, and starts it again."""
+        self.server.kill()
+        self.server.wait(10)
+        self.begin()
+        self.kills += 1
 
     def keep(self, child):
         """Notes a child that stop() ends."""
