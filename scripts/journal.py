@@ -6,6 +6,33 @@ HEAD = len(KIND) + 32
 FRONT = 40
 
 
+def whole_texts_of(setup, bytes):
+    """The texts of a journal that a server may be adding to: of the last record only a part may be there."""
+    place = HEAD
+    while place + FRONT <= len(bytes) and (end := place + FRONT + int.from_bytes(bytes[place : place + 4], "big")) <= len(bytes):
+        place = end
+    return texts_of(setup, bytes[:place])
+
+
+def token_in(text):
+    """The bearer token of a request."""
+    for line in text.partition(b"\r\n\r\n")[0].split(b"\r\n")[1:]:
+        name, _, value = line.partition(b":")
+        if name.lower() == b"authorization":
+            return value.split()[1].decode()
+    return None
+
+
+def body_in(text):
+    """The body of a request that was accepted, without what was sent behind it."""
+    head, _, rest = text.partition(b"\r\n\r\n")
+    for line in head.split(b"\r\n")[1:]:
+        name, _, value = line.partition(b":")
+        if name.lower() == b"content-length":
+            return rest[: int(value)]
+    return b""
+
+
 def texts_of(setup, bytes):
     """The texts of a whole journal of this set-up document, each with its digest. A record that is not right is an AssertionError."""
     digest = hashlib.sha256(setup).digest()

@@ -87,8 +87,7 @@ class Place:
         """The folder's files: the set-up and its tokens for their owner alone, the pages, the certificate, nginx's configuration."""
         self.folder.chmod(0o755)              # nginx's workers are another user
         (self.folder / "tmp").mkdir()
-        for name in ("sheets.log", "access.log"):
-            (self.folder / "tmp" / name).touch(0o600)
+        (self.folder / "tmp" / "access.log").touch(0o600)
         setup = self.folder / "setup.json"
         setup.touch(0o600)
         setup.write_text(setup_text)
