@@ -7,7 +7,7 @@ import { activityOf, wordsOf } from "./rules.js";
 
 const MOST_TIES = 16_384;
 const rounds = new Map();
-let asker, page, results, status, ties = [], increments = [], stop = () => {}, gone = false;
+let asker, page, results, status, asked, ties = [], increments = [], stop = () => {}, gone = false;
 
 const say = (text) => { at("say").textContent = text; };
 const cell = (label, ...inside) => make("td", { "data-label": label }, ...inside);
@@ -36,11 +36,20 @@ function drawTies() {
     : `Tie numbers are drawn at random for all ${number(pairs)} pairs of bidder and product.`;
 }
 
+/** The last closed round, or 0. */
+function lastClosed() {
+  return status.ended ? status.round : status.round - 1;
+}
+
+function tellClosed() {
+  say(`✓ Round ${lastClosed()} is closed. ${status.ended ? "The auction has ended." : `Round ${status.round} is open.`}`);
+}
+
 async function load() {
   page ??= await asker.products();
   results = await asker.results();
   status = await asker.status();
-  const last = status.ended ? status.round : status.round - 1;
+  const last = lastClosed();
   if (last > 0 && !rounds.has(last)) rounds.set(last, (await asker.round(last)).products);
   drawTies();
   drawAll(last);
@@ -50,6 +59,7 @@ function drawAll(last) {
   at("round").textContent = status.ended ? `Ended after round ${status.round}` : `Round ${status.round} is open`;
   document.title = `${status.ended ? "Ended" : "Round " + status.round} · operator · clock auction`;
   at("closing").hidden = status.ended;
+  if (asked?.round <= last) at("question").hidden = true;
   at("eachlabel").hidden = page.version === 1;
   at("ask").textContent = `Close round ${status.round}`;
   at("which").replaceChildren(...Array.from({ length: last }, (_, n) => make("option", { value: last - n }, last - n)));
@@ -78,7 +88,7 @@ function drawIncrement(key) {
 }
 
 function owed(bidder) {
-  const last = rounds.get(status.ended ? status.round : status.round - 1);
+  const last = rounds.get(lastClosed());
   return bidder.demands.reduce((sum, held, p) => sum + BigInt(held) * BigInt(last?.[p].posted ?? page.products[p].opening), 0n);
 }
 
@@ -103,30 +113,30 @@ function closing() {
   return page.version === 1 ? { ...base, increment: Number(all[0]) } : { ...base, increments: all.map(Number) };
 }
 
+/** Asks first. What is closed is what the question names, though another round has come since. */
 function question() {
-  if (!closing()) return say("⚠ Not closed: " + wordsOf("increment") + ".");
-  at("asked").textContent = `Close round ${status.round} for all bidders? What is not sent by now does not count, and this can't be taken back.`;
+  asked = closing();
+  if (!asked) return say("⚠ Not closed: " + wordsOf("increment") + ".");
+  at("asked").textContent = `Close round ${asked.round} for all bidders? What is not sent by now does not count, and this can't be taken back.`;
   at("question").hidden = false;
   at("no").focus();
 }
 
 async function close() {
   at("question").hidden = true;
-  const sent = closing();
-  if (!sent) return say("⚠ Not closed: " + wordsOf("increment") + ".");
   try {
-    const done = await asker.close(sent);
+    await asker.close(asked);
     await load();
-    say(`✓ Round ${done.closed} is closed. ${done.ended ? "The auction has ended." : `Round ${status.round} is open.`}`);
+    tellClosed();
   } catch (fault) {
     const product = fault.code === "price_limit" ? page.products[fault.place]?.name : undefined;
-    say(`⚠ Refused: ${wordsOf(fault.code)}${product ? ` (${product})` : ""}. ${fault.status ? "The round is as it was." : "Look whether the round has risen."}`);
+    say(`⚠ Refused: ${wordsOf(fault.code)}${product ? ` (${product})` : ""}. ${fault.status ? "Nothing was closed." : "Look whether the round has risen."}`);
   }
 }
 
 function saveResults() {
-  const rows = results.bidders.flatMap((bidder) => bidder.demands.flatMap((held, p) => (held ? [[bidder.name, page.products[p].name, held, (rounds.get(status.ended ? status.round : status.round - 1)?.[p].posted ?? page.products[p].opening)]] : [])));
-  save(`results-${status.ended ? status.round : status.round - 1}.csv`, written([["bidder", "product", "blocks", "posted"], ...rows]));
+  const rows = results.bidders.flatMap((bidder) => bidder.demands.flatMap((held, p) => (held ? [[bidder.name, page.products[p].name, held, (rounds.get(lastClosed())?.[p].posted ?? page.products[p].opening)]] : [])));
+  save(`results-${lastClosed()}.csv`, written([["bidder", "product", "blocks", "posted"], ...rows]));
 }
 
 async function heard(now) {
@@ -135,7 +145,9 @@ async function heard(now) {
     at("link").textContent = "⚠ Nothing answers. It is asked again every five seconds.";
     return;
   }
-  if (gone || now.round !== status.round || now.ended !== status.ended) await load();
+  const risen = now.round > status.round || (now.ended && !status.ended);
+  if (gone || risen) await load();
+  if (risen) tellClosed();
   gone = false;
   at("link").textContent = "";
 }

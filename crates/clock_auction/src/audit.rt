@@ -2,11 +2,12 @@
 ghost use Rattle.std.specs.Prelude.{◌≡◌, ◌++◌, [], ◌∷◌, List, ℕ, IfOk, OnOk};
 ghost use Rattle.hex.specs.Hex.{encode_lower};
 ghost use Rattle.clock_front.specs.Fronts.{StandsForTexts};
+ghost use Rattle.clock_keeping.specs.Keeping.{IsRefused};
 ghost use Rattle.clock_auction.specs.Audits.{IsRecounted, IsRecountOf, IsSomeRecount, audited};
 
 use crate::digests::digits_of;
 use crate::fault::Fault;
-use clock_device::Text;
+use clock_device::{NoMemory, Text};
 use clock_front::Front;
 use clock_journal::{Link, Machine, Untaken, link_of, recover};
 use clock_queue::Woken;
@@ -33,6 +34,8 @@ impl Machine for Recount {
 
     ghost stands_for = { λ recount texts. IsRecounted recount.first texts recount.front recount.chain recount.digests.items };
 
+    ghost refuses = { λ rules texts text. IsRefused rules.0 texts text };
+
     fn take(&mut self, text: &[u8]) -> Result<(), Untaken> {
         let before = self.front.house().closed_rounds();
         match self.front.answer(text).code() {
@@ -43,20 +46,21 @@ impl Machine for Recount {
         self.chain = link_of(&self.chain, text);
         self.texts = self.texts.saturating_add(1);
         if before < self.front.house().closed_rounds() {
-            return remember(&mut self.digests, &self.chain);
+            return match remember(&mut self.digests, &self.chain) {
+                Ok(()) => Ok(()),
+                Err(NoMemory) => Err(Untaken::NoMemory),
+            };
         }
         Ok(())
     }
 }
 
 /// Remembers the digest of a closing.
-fn remember(digests: &mut Vec<Digits>, chain: &Link) -> Result<(), Untaken>
+fn remember(digests: &mut Vec<Digits>, chain: &Link) -> Result<(), NoMemory>
     ensures { OnOk result (digests.new.items ≡ digests.old.items ++ encode_lower chain.now ∷ []) }
 {
-    match digests.push(digits_of(chain)) {
-        Ok(()) => Ok(()),
-        Err(_) => Err(Untaken::NoMemory),
-    }
+    digests.push(digits_of(chain))?;
+    Ok(())
 }
 
 impl Recount {

@@ -15,7 +15,8 @@ use clock_words::{Job, job_asked};
 use std::alloc::Global;
 
 /// What is shown of good words that ask for `serve`, which is no command on streams.
-static NOT_HERE: &str = "error: `serve` is done by the program itself, and not over streams\n";
+static NOT_HERE: &str =
+    "error: `serve`, `journal` and `audit` are done by the program itself, and not over streams\n";
 
 /// One run of the program: does what the words after its name ask for, with a document from the
 /// reader, and answers the exit status.

@@ -25,6 +25,8 @@ impl Machine for Listing {
 
     ghost stands_for = { λ listing texts. Unit {0} };
 
+    ghost refuses = { λ rules texts text. ⊥ };
+
     fn take(&mut self, text: &[u8]) -> Result<(), Untaken> {
         self.chain = link_of(&self.chain, text);
         self.texts = self.texts.saturating_add(1);

@@ -8,8 +8,6 @@ mod memory;
 mod no_memory;
 mod std_streams;
 mod stream;
-#[cfg(test)]
-mod tests;
 
 pub use bounded::Bounded;
 pub use decimal::write_number;

@@ -9,7 +9,7 @@ use Rattle.clock_journal.specs.Headings.{begun, headed, of_another, unknown, hea
 use Rattle.clock_journal.specs.Kept.{file_of}
 use Rattle.clock_journal.specs.Crash.{ReadsSome, LeavesTexts}
 use Rattle.clock_journal.specs.inside.Replays.{IsReplayed, IsStopped}
-use Rattle.clock_journal.specs.Recovering.{HasTaken, IsFoundAt, IsHeaded, IsRecovered, IsRefusal, IsUntaken}
+use Rattle.clock_journal.specs.Recovering.{HasTaken, IsFoundAt, IsHeaded, IsRecovered, IsRefusal, IsRefusedRightly, IsUntaken}
 use Rattle.clock_journal.specs.declared.recovered.Recovered.{Recovered}
 use Rattle.clock_journal.specs.declared.fault.JournalFault.{JournalFault}
 use Rattle.clock_journal.specs.declared.fault.JournalFault.TheVariants.{Unknown, Setup, Damaged, Refused, NoMemory}
@@ -163,3 +163,10 @@ pub rest_within : (digest bytes rest : List ℕ) → heading digest bytes ≡ he
 rest_within digest bytes rest is =
     let found = found_head digest bytes rest is in
     omega (arith, found.long, ap length found.rest_is, length-drop 56 bytes)
+
+-- what a replay refuses is refused in the file
+pub refused_of : (refuses : List (List ℕ) → List ℕ → Type 0) (old : List (List ℕ) → Type 0) (digest bytes rest : List ℕ) (result : Result Recovered JournalFault)
+    → heading digest bytes ≡ headed rest → MatchResult result (λ _. Unit {0}) (IsRefusedRightly refuses old digest rest (length bytes))
+    → MatchResult result (λ _. Unit {0}) (IsRefusedRightly refuses old digest (drop 56 bytes) (length bytes))
+refused_of refuses old digest bytes rest result is refused =
+    subst (λ (b : List ℕ). MatchResult result (λ _. Unit {0}) (IsRefusedRightly refuses old digest b (length bytes))) (found_head digest bytes rest is).rest_is refused

@@ -5,6 +5,8 @@
 --     IsRecovered old new digest bytes recovered      the machine has taken all texts of the file
 --     IsFoundAt first bytes size place found      behind the texts before this place stands this
 --     IsRefusal digest bytes fault      the fault is told of such a file
+--     IsRefusedAt refuses old first bytes size place      whatever the machine stood for, the text at this place is none for it
+--     IsRefusedRightly refuses old first bytes size fault      a text that is told as refused is refused
 use Rattle.std.specs.Prelude.{◌≡◌, ◌⊎◌, ◌<◌, ◌≤◌, ◌+◌, ℕ, List, [], length, take, drop}
 use Rattle.clock_journal.specs.Format.{head, last_link, AllFit}
 use Rattle.clock_journal.specs.Kept.{file_of}
@@ -70,3 +72,16 @@ IsRefusal digest bytes (fault.Damaged place) =
 IsRefusal digest bytes (fault.Refused place) =
     (heading digest bytes ≡ headed (drop 56 bytes)) × ((text : List ℕ) × IsFoundAt digest (drop 56 bytes) (length bytes) place (whole text))
 IsRefusal digest bytes fault.NoMemory = Unit {0}
+
+-- all before the place reads as texts, and there stands one that the machine refuses after them, whatever it stood for before
+pub record IsRefusedAt (refuses : List (List ℕ) → List ℕ → Type 0) (old : List (List ℕ) → Type 0) (first bytes : List ℕ) (size place : ℕ) : Type 0 where
+  pub text : List ℕ
+  pub found : IsFoundAt first bytes size place (whole text)
+  pub refused : (past : List (List ℕ)) → old past → refuses (onto found.texts past) text
+
+abbrev pub IsRefusedRightly : (List (List ℕ) → List ℕ → Type 0) → (List (List ℕ) → Type 0) → List ℕ → List ℕ → ℕ → JournalFault → Type 0
+IsRefusedRightly refuses old first bytes size fault.Unknown = Unit {0}
+IsRefusedRightly refuses old first bytes size fault.Setup = Unit {0}
+IsRefusedRightly refuses old first bytes size (fault.Damaged place) = Unit {0}
+IsRefusedRightly refuses old first bytes size (fault.Refused place) = IsRefusedAt refuses old first bytes size place
+IsRefusedRightly refuses old first bytes size fault.NoMemory = Unit {0}

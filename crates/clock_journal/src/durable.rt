@@ -28,9 +28,9 @@ pub trait Durable {
         ensures err { OnErr result (synced self.new ≡ synced self.old) }
         ensures failed { has_failed self.new ≡ (has_failed self.old || is_err result) };
 
-    /// Cuts the file off at a place, for good: what is left is on the disk.
+    /// Cuts the file off at a place, for good. Where all that stood in it was on the disk, what is left is.
     fn cut(&mut self, place: usize) -> Result<(), Failed>
         ensures written { CutsTo (written self.old) (written self.new) place result }
-        ensures synced { OnOk result (synced self.new ≡ written self.new) }
+        ensures synced { OnOk result (synced self.old ≡ written self.old → synced self.new ≡ written self.new) }
         ensures failed { has_failed self.new ≡ (has_failed self.old || is_err result) };
 }

@@ -16,8 +16,6 @@ mod reading;
 mod recovered;
 mod recovering;
 mod replaying;
-#[cfg(test)]
-mod tests;
 
 pub use durable::Durable;
 pub use fault::JournalFault;

@@ -1,4 +1,5 @@
-ghost use Rattle.std.specs.Prelude.{◌≡◌, ◌∷◌, List, ℕ, OnOk};
+ghost use Rattle.std.specs.Prelude.{◌≡◌, ◌∷◌, List, ℕ, Err, OnOk};
+ghost use Rattle.clock_journal.specs.declared.machine.Untaken.TheVariants as untaken;
 
 /// Why a text was not taken: it is none that changes the machine as it stands, or there was no memory. The machine is not to be
 /// used any more.
@@ -18,8 +19,12 @@ pub trait Machine {
     /// It stands for these texts, of which the newest stands first.
     ghost stands_for: { Self → List (List ℕ) → Type 0 };
 
+    /// By what it goes by, a text is none for it after these texts.
+    ghost refuses: { Self.Rules → List (List ℕ) → List ℕ → Type 0 };
+
     /// Takes one more text.
     fn take(&mut self, text: &[u8]) -> Result<(), Untaken>
         ensures taken { OnOk result ((texts : List (List ℕ)) → stands_for self.old texts → stands_for self.new (text.now ∷ texts)) }
+        ensures refused { (texts : List (List ℕ)) → result ≡ Err untaken.Refused → stands_for self.old texts → refuses (rules self.old) texts text.now }
         ensures rules { rules self.new ≡ rules self.old };
 }

@@ -1,6 +1,6 @@
-ghost use Rattle.std.specs.Prelude.{◌≡◌, List, ℕ, MatchResult};
+ghost use Rattle.std.specs.Prelude.{◌≡◌, List, ℕ, MatchResult, drop, length};
 ghost use Rattle.clock_journal.specs.Crash.{LeavesTexts};
-ghost use Rattle.clock_journal.specs.Recovering.{HasTaken, IsRecovered, IsRefusal, IsUntaken};
+ghost use Rattle.clock_journal.specs.Recovering.{HasTaken, IsRecovered, IsRefusal, IsRefusedRightly, IsUntaken};
 
 use crate::fault::JournalFault;
 use crate::heading::Heading;
@@ -21,6 +21,8 @@ pub fn recover<M: Machine>(
         (IsRefusal digest.now bytes.now) }
     ensures crash { (texts : List (List ℕ)) (least : ℕ) → LeavesTexts digest.now bytes.now texts least
         → MatchResult result (λ _. HasTaken (M.stands_for machine.old) (M.stands_for machine.new) texts least) IsUntaken }
+    ensures refused { MatchResult result (λ _. Unit {0})
+        (IsRefusedRightly (M.refuses (M.rules machine.old)) (M.stands_for machine.old) digest.now (drop 56 bytes.now) (length bytes.now)) }
     ensures rules { M.rules machine.new ≡ M.rules machine.old }
 {
     match heading_of(digest, bytes) {

@@ -1,4 +1,5 @@
 ghost use Rattle.std.specs.Prelude.{◌≡◌, ◌≤◌, length, MatchResult};
+ghost use Rattle.clock_journal.specs.Recovering.{IsRefusedRightly};
 ghost use Rattle.clock_journal.specs.inside.Replays.{IsReplayed, IsStopped};
 
 use crate::fault::JournalFault;
@@ -19,6 +20,8 @@ pub fn replay<M: Machine>(
     ensures replayed { MatchResult result
         (IsReplayed (M.stands_for machine.old) (M.stands_for machine.new) first.now bytes.now size)
         (IsStopped first.now bytes.now size) }
+    ensures refused { MatchResult result (λ _. Unit {0})
+        (IsRefusedRightly (M.refuses (M.rules machine.old)) (M.stands_for machine.old) first.now bytes.now size) }
     ensures rules { M.rules machine.new ≡ M.rules machine.old }
 {
     let mut chain = *first;

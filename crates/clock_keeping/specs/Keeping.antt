@@ -5,6 +5,7 @@
 --     IsKept digest past text answer journal old new      how a text is answered and kept
 --     IsTakenUp digest bytes recovered house      the house stands for all texts of a file
 --     HasTakenUp texts least house      it stands for the first of the texts, so many at least
+--     IsRefused setup texts text      after these texts a text is not accepted
 --     GetsChangeNothing      why a request by GET is not kept
 use Rattle.std.specs.Prelude.{◌≡◌, ◌⊎◌, ◌≤◌, ◌++◌, ℕ, Bool, true, false, List, [], ◌∷◌, length, take, bytes_eq, codes}
 use Rattle.clock_terms.specs.Limits.{SetupFields}
@@ -66,6 +67,10 @@ pub record HasTakenUp (texts : List (List ℕ)) (least : ℕ) (house : HouseFiel
   pub enough : least ≤ count
   pub most : count ≤ length texts
   pub stands : StandsForKept (take count texts) house
+
+-- the right reply after these texts, of which the newest stands first, is no page
+abbrev pub IsRefused : SetupFields → List (List ℕ) → List ℕ → Type 0
+IsRefused setup texts text = (reply setup texts text).code ≡ Done → ⊥
 
 -- whatever the set-up, the text is neither a sheet nor a closing
 abbrev pub AsksNoChange : List ℕ → Type 0

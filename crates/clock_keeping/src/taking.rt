@@ -1,8 +1,8 @@
-ghost use Rattle.std.specs.Prelude.{◌≡◌, [], List, ℕ, MatchResult};
+ghost use Rattle.std.specs.Prelude.{◌≡◌, [], List, ℕ, MatchResult, drop, length};
 ghost use Rattle.clock_front.specs.Fronts.{StandsForTexts};
 ghost use Rattle.clock_journal.specs.Crash.{LeavesTexts};
-ghost use Rattle.clock_journal.specs.Recovering.{IsRefusal, IsUntaken};
-ghost use Rattle.clock_keeping.specs.Keeping.{HasTakenUp, IsTakenUp};
+ghost use Rattle.clock_journal.specs.Recovering.{IsRefusal, IsRefusedRightly, IsUntaken};
+ghost use Rattle.clock_keeping.specs.Keeping.{HasTakenUp, IsRefused, IsTakenUp};
 
 use clock_front::Front;
 use clock_journal::{JournalFault, Link, Machine, Recovered, Untaken, recover};
@@ -24,6 +24,8 @@ impl<P: Processor> Machine for Auction<P> {
     ghost rules = { λ auction. auction.front.setup };
 
     ghost stands_for = { λ auction texts. StandsForTexts texts auction.front };
+
+    ghost refuses = { λ setup texts text. IsRefused setup texts text };
 
     /// Answers the text. It must be accepted, as it was when it was kept.
     fn take(&mut self, text: &[u8]) -> Result<(), Untaken> {
@@ -52,6 +54,8 @@ pub fn take_up<P: Processor>(
     ensures read { MatchResult result (λ recovered. IsTakenUp digest.now bytes.now recovered auction.new.front) (IsRefusal digest.now bytes.now) }
     ensures crash { (texts : List (List ℕ)) (least : ℕ) → LeavesTexts digest.now bytes.now texts least
         → MatchResult result (λ _. HasTakenUp texts least auction.new.front) IsUntaken }
+    ensures refused { MatchResult result (λ _. Unit {0})
+        (IsRefusedRightly (IsRefused auction.old.front.setup) (λ past. past ≡ []) digest.now (drop 56 bytes.now) (length bytes.now)) }
     ensures setup { auction.new.front.setup ≡ auction.old.front.setup }
 {
     recover(auction, digest, bytes)

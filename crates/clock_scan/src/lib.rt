@@ -8,8 +8,6 @@ mod place;
 mod rows;
 mod scan;
 mod stop;
-#[cfg(test)]
-mod tests;
 mod words;
 
 pub use compact::CompactBid;

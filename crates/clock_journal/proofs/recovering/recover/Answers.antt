@@ -1,11 +1,12 @@
 use Rattle.std.proofs.Common.{◌≡◌, [], inr, length, drop, refl, sym, ◌∙◌, rules}
 use Rattle.clock_journal.specs.Headings.{begun, headed, of_another, unknown}
-use Rattle.clock_journal.proofs.Recovery.{heading_of_left, after_stop, of_replay, begun_is, rest_within}
+use Rattle.clock_journal.proofs.Recovery.{heading_of_left, after_stop, of_replay, refused_of, begun_is, rest_within}
 use Rattle.clock_journal.proofs.recovering.recover.Goals as goal
 
 pub returns-in-Begun : goal.returns-in-Begun
 returns-in-Begun g c = record {
   rules = refl;
+  refused = tt;
   read = let front = begun_is c.args.digest.now c.args.bytes.now (sym c.in-Begun.ensures) in record {
     texts = [];
     placed = inr (record { none = refl; short = front.0; front = front.1; chain_is = refl; end_is = refl });
@@ -19,6 +20,7 @@ returns-in-Begun g c = record {
 pub returns-in-OfAnother : goal.returns-in-OfAnother
 returns-in-OfAnother g c = record {
   read = sym c.in-OfAnother.ensures;
+  refused = tt;
   rules = refl;
   crash = λ texts least leaves.
       let size : length c.args.digest.now ≡ 32 = search rules in
@@ -28,6 +30,7 @@ returns-in-OfAnother g c = record {
 pub returns-in-Unknown : goal.returns-in-Unknown
 returns-in-Unknown g c = record {
   read = sym c.in-Unknown.ensures;
+  refused = tt;
   rules = refl;
   crash = λ texts least leaves.
       let size : length c.args.digest.now ≡ 32 = search rules in
@@ -37,6 +40,7 @@ returns-in-Unknown g c = record {
 pub returns-in-Headed : goal.returns-in-Headed
 returns-in-Headed g c = record {
   rules = c.replay.ensures.rules;
+  refused = refused_of _ _ c.args.digest.now c.args.bytes.now c.in-Headed.rest.now c.replay.result (sym c.in-Headed.ensures) c.replay.ensures.refused;
   read = of_replay _ _ c.args.digest.now c.args.bytes.now c.in-Headed.rest.now c.replay.result (λ place. search rules) (sym c.in-Headed.ensures) c.replay.ensures.replayed;
   crash = λ texts least leaves.
       let size : length c.args.digest.now ≡ 32 = search rules in

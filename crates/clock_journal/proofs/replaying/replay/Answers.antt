@@ -1,9 +1,9 @@
-use Rattle.std.proofs.Common.{◌≡◌, ◌≤◌, ◌+◌, ◌-◌, List, [], ◌∷◌, ◌++◌, ℕ, length, drop, refl, sym, ap, ◌∙◌, subst, arith, length-drop}
+use Rattle.std.proofs.Common.{◌≡◌, ◌≤◌, ◌+◌, ◌-◌, List, [], ◌∷◌, ◌++◌, ℕ, length, drop, refl, sym, ap, ◌∙◌, subst, arith, length-drop, rules}
 use Rattle.std.proofs.lemmas.List.{take_rest}
 use Rattle.clock_journal.specs.Format.{link, last_link}
 use Rattle.clock_journal.specs.Reading.{Reads, next, whole, onto}
 use Rattle.clock_journal.specs.inside.Replays.{IsOnWay}
-use Rattle.clock_journal.specs.Recovering.{IsFoundAt}
+use Rattle.clock_journal.specs.Recovering.{IsFoundAt, IsRefusedAt}
 use Rattle.clock_journal.proofs.Moments.{last_link-push}
 use Rattle.clock_journal.proofs.replaying.replay.Goals as goal
 
@@ -48,6 +48,16 @@ found_at old new first bytes chain rest text size way within is = record {
   place_is = omega (arith, way.within);
 }
 
+refused_at : (refuses now : List (List ℕ) → List ℕ → Type 0) (old new : List (List ℕ) → Type 0) (first bytes chain rest text : List ℕ) (size : ℕ)
+    → (way : IsOnWay old new first bytes chain rest) → length bytes ≤ size → next chain rest ≡ whole text → now ≡ refuses
+    → ((texts : List (List ℕ)) → new texts → now texts text) → IsRefusedAt refuses old first bytes size (size - length rest)
+unfolding found_at
+refused_at refuses now old new first bytes chain rest text size way within is same refused = record {
+  text = text;
+  found = found_at old new first bytes chain rest text size way within is;
+  refused = λ past was. subst (λ (by : List (List ℕ) → List ℕ → Type 0). by (onto way.texts past) text) same (refused (onto way.texts past) (way.stands past was));
+}
+
 pub returns-in-Err-Refused : goal.returns-in-Err-Refused
 returns-in-Err-Refused g c = record {
   replayed = (
@@ -55,5 +65,9 @@ returns-in-Err-Refused g c = record {
     found_at (g.M.Machine.stands_for c.args.machine.now) (g.M.Machine.stands_for c.loop-chain.machine) c.args.first.now c.args.bytes.now
         c.loop-chain.chain c.loop-chain.rest.now c.in-Whole.text.now c.args.size c.loop-chain.invariant.0 c.requires (sym c.in-Whole.ensures.next),
   );
+  refused = refused_at (g.M.Machine.refuses (g.M.Machine.rules c.args.machine.now)) (g.M.Machine.refuses (g.M.Machine.rules c.loop-chain.machine))
+      (g.M.Machine.stands_for c.args.machine.now) (g.M.Machine.stands_for c.loop-chain.machine) c.args.first.now c.args.bytes.now
+      c.loop-chain.chain c.loop-chain.rest.now c.in-Whole.text.now c.args.size c.loop-chain.invariant.0 c.requires (sym c.in-Whole.ensures.next)
+      (ap g.M.Machine.refuses c.loop-chain.invariant.1) (λ texts. c.take.ensures.refused texts (search rules));
   rules = c.take.ensures.rules ∙ c.loop-chain.invariant.1;
 }

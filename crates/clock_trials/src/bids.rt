@@ -3,7 +3,9 @@
 ghost use Rattle.std.specs.Prelude.{◌≡◌, ◌≤◌, ◌<◌, length, All, IsTrue};
 ghost use Rattle.clock_terms.specs.Limits.{IsRow};
 
-use crate::{Bid, BidFault, Change, Changes, Kind, Own, asked_demands, changes_of, check_sheet};
+use clock_bids::{
+    Bid, BidFault, Change, Changes, Kind, Own, asked_demands, changes_of, check_sheet,
+};
 use clock_device::NoMemory;
 use clock_money::{Point, Price};
 use clock_setup::fixtures::{ONE_PRODUCT, TWO_PRODUCTS};
@@ -140,7 +142,7 @@ fn asked_by(
 }
 
 /// The changes that the first bidder asks for without a sheet.
-#[tactic(auto, using(crate::proofs::Good::empty_sheet_good))]
+#[tactic(auto, using(clock_bids::proofs::Good::empty_sheet_good))]
 fn asked_without(
     rt: &impl Abort,
     alloc: Global,

@@ -1,7 +1,7 @@
 use Rattle.std.proofs.Common.{ℕ, ◌<◌, ◌≤◌}
 use Rattle.std.specs.Prelude.{slice_index}
 use Rattle.clock_terms.specs.Limits.{cap_of}
-use Rattle.clock_bids.proofs.tests.is_row.Given as goal
+use Rattle.clock_trials.proofs.bids.is_row.Given as goal
 
 -- the demands so far are within the caps
 abbrev pub invariant-loop-i : goal.invariant-loop-i

@@ -2,7 +2,7 @@
 use Rattle.std.proofs.Common.{◌≡◌, zero, suc, [], ◌∷◌, ◌++◌, arith, sym, subst, ap, ◌∙◌, AllPairs}
 use Rattle.clock_terms.specs.declared.change.Change.{Change}
 use Rattle.clock_terms.specs.Requests.{AreApart}
-use Rattle.clock_order.proofs.tests.both.Goals as goal
+use Rattle.clock_trials.proofs.orders.both.Goals as goal
 
 two_apart : (a b : Change) → (a.bidder ≡ b.bidder → ⊥) → AllPairs AreApart (a ∷ b ∷ [])
 two_apart a b differ zero zero d lt within = absurd (omega (arith, lt))

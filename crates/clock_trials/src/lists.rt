@@ -1,5 +1,5 @@
 //! Each call once: on bytes in memory, and on std's readers and writers.
-use crate::{
+use clock_device::{
     Failed, FromReader, Items, ListSink, ListSource, NoMemory, Sink, Source, Stop, Text, ToWriter,
 };
 use std::alloc::{AllocError, Global};

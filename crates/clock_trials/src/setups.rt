@@ -1,5 +1,5 @@
-use crate::fixtures::{ACTIVITY_LIMIT, GRANULES_AND_INCREMENTS, ONE_PRODUCT, TWO_PRODUCTS};
-use crate::{
+use clock_setup::fixtures::{ACTIVITY_LIMIT, GRANULES_AND_INCREMENTS, ONE_PRODUCT, TWO_PRODUCTS};
+use clock_setup::{
     OpeningFault, Place, Product, Setup, SetupFault, products_copy, read_opening, read_setup,
     setup_of,
 };

@@ -3,9 +3,9 @@
 ghost use Rattle.std.specs.Prelude.{◌≡◌, ◌≢◌, AllPairs, IfOk};
 ghost use Rattle.clock_terms.specs.Requests.{AreApart};
 
-use crate::{Tie, TieFault, Ties, ordered};
 use clock_device::NoMemory;
 use clock_money::Point;
+use clock_order::{Tie, TieFault, Ties, ordered};
 use clock_setup::fixtures::{ONE_PRODUCT, TWO_PRODUCTS};
 use clock_setup::read_setup;
 use clock_terms::{Change, Changes, Kind};

@@ -1,4 +1,4 @@
-use crate::{Scan, Stop, is_blank};
+use clock_scan::{Scan, Stop, is_blank};
 use std::alloc::Global;
 use std::test::Fail;
 

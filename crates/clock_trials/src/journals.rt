@@ -1,4 +1,4 @@
-use crate::{
+use clock_journal::{
     Durable, FileDisk, Journal, JournalFault, Link, Machine, MemoryDisk, Untaken, recover,
 };
 use std::alloc::Global;
@@ -16,6 +16,8 @@ impl Machine for Count {
     ghost rules = { λ count. tt };
 
     ghost stands_for = { λ count texts. Unit {0} };
+
+    ghost refuses = { λ rules texts text. ⊥ };
 
     fn take(&mut self, _text: &[u8]) -> Result<(), Untaken> {
         self.texts = self.texts.saturating_add(1);

@@ -1,0 +1,42 @@
+//! Prices, and how a clock price is raised.
+
+use clock_money::{LEAST_INCREMENT, MOST_GRANULE, MOST_INCREMENT, Price, clock_price};
+use std::test::Fail;
+
+/// The clock price over a start price, where there is such a price, increment and granule.
+fn raised(start: u64, percent: u64, granule: u64) -> Option<Option<u64>> {
+    let start = Price::new(start)?;
+    if !(LEAST_INCREMENT..=MOST_INCREMENT).contains(&percent)
+        || !(1..=MOST_GRANULE).contains(&granule)
+    {
+        return None;
+    }
+    Some(clock_price(start, percent, granule).map(|price| price.get()))
+}
+
+#[test]
+fn a_price_is_from_one_dollar_to_the_highest(rt: HostRuntime) {
+    assert_eq!(rt; Price::new(0), None);
+    assert_eq!(rt; Price::new(Price::HIGHEST + 1), None);
+    for dollars in [1, Price::HIGHEST] {
+        assert_eq!(rt; Price::new(dollars).map(|price| price.get()), Some(dollars));
+    }
+}
+
+#[test]
+fn clock_prices_round_up_to_whole_granules(rt: HostRuntime) {
+    for (start, percent, granule, clock) in [
+        (101, 10, 1, Some(112)),
+        (110, 10, 1, Some(121)),
+        (1, 1, 1, Some(2)),
+        (990_099_009_900, 1, 1, Some(999_999_999_999)),
+        (101, 10, 25, Some(125)),
+        (990_099_009_900, 1, 999_999, Some(999_999_999_999)),
+        (990_099_009_900, 1, MOST_GRANULE, Some(Price::HIGHEST)),
+        (990_099_009_900, 1, 17, None),
+        (990_099_009_901, 1, 1, None),
+        (Price::HIGHEST, 1, 1, None),
+    ] {
+        assert_eq!(rt; raised(start, percent, granule), Some(clock));
+    }
+}

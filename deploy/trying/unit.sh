@@ -1,0 +1,68 @@
+#!/bin/bash
+# Inside the container of deploy/try_unit: what the unit does under systemd, from its start to its last failure. Prints a line for each
+# thing that is as it must be, and ends at the first that is not.
+unit=clock-auction.service
+journal=/var/lib/private/clock_auction/auction.journal
+token=XXXXXXXXXXXXXXXX
+sheet='{"bids":[{"price":100,"product":0,"quantity":2}],"round":1}'
+
+seen() { echo "seen: $1"; }
+finish() { systemctl poweroff --no-block; exit 0; }
+fail() { echo "FAILED: $1"; journalctl -b -u $unit --no-pager -o cat | tail -n 12; finish; }
+expect() { local what=$1; shift; if "$@"; then seen "$what"; else fail "$what"; fi; }
+within() { local what=$1; shift; for _ in $(seq 150); do if "$@" > /dev/null 2>&1; then seen "$what"; return; fi; sleep 0.2; done; fail "$what, not within 30 s"; }
+asked() { curl -sS -m 5 -H "authorization: Bearer $token" "${@:2}" "http://127.0.0.1:8105$1"; }
+answers() { asked /v1/status | grep -q '"round":1'; }
+keeps() { asked /v1/me/bids | grep -qF "$sheet"; }
+main_process() { systemctl show -p MainPID --value $unit; }
+another_than() { local now; now=$(main_process); [ "$now" != 0 ] && [ "$now" != "$1" ]; }
+limit_is() { grep -qE "^$1 +$2 " "/proc/$(main_process)/limits"; }
+told_in_log() { journalctl -b -u $unit --no-pager -o cat | grep -qF "$1"; }
+cannot_write() { ! nsenter -t "$(main_process)" -m -- touch "$1" 2> /dev/null; }
+
+within "it answers after the start of the machine" answers
+process=$(main_process)
+expect "it has a user of its own" test "$(stat -c %u "/proc/$process")" -gt 60000
+expect "it has no capability" grep -qE '^CapEff:\s0+$' "/proc/$process/status"
+expect "its calls are filtered" grep -qE '^Seccomp:\s2$' "/proc/$process/status"
+expect "its address space is limited to 4 GiB" limit_is "Max address space" 4294967296
+expect "it leaves no core" limit_is "Max core file size" 0
+expect "the journal is its own alone" test "$(stat -c %a:%u $journal)" = "600:$(stat -c %u "/proc/$process")"
+expect "it reads a copy of the set-up, and no other user does" test "$(stat -c %a:%u /run/credentials/$unit/setup.json)" = "400:$(stat -c %u "/proc/$process")"
+for place in /usr /etc /srv/auction /home /root /boot; do expect "nothing can be written in $place" cannot_write "$place/x"; done
+expect "pages of another auction are gone from nginx's cache" test ! -e /srv/auction/tmp/cache/page
+
+expect "a sheet is accepted" test "$(asked /v1/me/bids -X PUT -d "$sheet")" = '{"accepted":true,"bids":1,"round":1}'
+kill -KILL "$process"
+within "after SIGKILL it is started again" another_than "$process"
+within "and goes on with the sheet" keeps
+process=$(main_process)
+kill -TERM "$process"
+within "after SIGTERM it is started again" another_than "$process"
+within "and goes on with the sheet" keeps
+systemctl reset-failed $unit
+mkdir -p /etc/systemd/system/$unit.d
+sed -n 's/--connections 1000000/--connections 3/; s/^ExecStart=\(.*\)/[Service]\nExecStart=\nExecStart=\1/p' /etc/systemd/system/$unit > /etc/systemd/system/$unit.d/few.conf
+systemctl daemon-reload
+systemctl restart $unit
+within "with three connections it answers" answers
+process=$(main_process)
+answers
+answers
+within "after its last connection it is started again" another_than "$process"
+within "and goes on with the sheet" keeps
+rm -r /etc/systemd/system/$unit.d
+systemctl daemon-reload
+systemctl stop $unit
+expect "it can be stopped" test "$(systemctl is-active $unit)" = inactive
+expect "the log tells what the journal has" told_in_log "journal 1 "
+
+printf x | dd of=$journal bs=1 seek=20 conv=notrunc status=none
+systemctl reset-failed $unit
+systemctl start $unit
+within "with a damaged journal it is given up" systemctl is-failed $unit
+within "and somebody is called" test -s /called
+expect "the log tells the fault" told_in_log "fault: journal_unknown"
+expect "systemd's judgement of what it is exposed to: $(systemd-analyze security --no-pager $unit 2> /dev/null | tail -n 1 | grep -oE '[0-9.]+ [A-Z]+')" true
+echo "the end"
+finish
