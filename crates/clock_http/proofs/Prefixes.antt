@@ -12,7 +12,7 @@ use Rattle.clock_http.specs.declared.code.Code.TheVariants.{LongHead}
 use Rattle.clock_http.specs.Scans.{empty_line, head_length}
 use Rattle.clock_http.specs.Framing.{ended_at, ok_head, ended_head, head_in, head_limit, head_with_length, Head, Known, unended, waiting}
 use Rattle.clock_http.specs.Framing.{complete, refused, known_with_body, known_with_head, known_with_end, known, advanced, is_incomplete}
-use Rattle.clock_http.specs.Framing.{Framing, incomplete, refusal, whole, framed_at, framed_head, framing}
+use Rattle.clock_http.specs.Framing.{incomplete, refusal, whole, framed_at, framed_head, framing}
 use Rattle.clock_http.specs.inside.Framed.{framed}
 use Rattle.clock_http.specs.FramingLaws.{IsDecidedOnce, IsKnownByParts, HasOneHead}
 
