@@ -60,6 +60,8 @@ class Recorder:
             page["private"] = PRIVATE + (token[1] if token else "")
         if path == "/v1/me/rounds/9":
             page["big"] = "x" * BIG
+        if not re.fullmatch(r"/v1/(status|products|rounds/\d+|me|me/bids|me/rounds/\d+|close|results)(\?.*)?", path):
+            return 404, b'{"code":"no_page","status":404}'
         asked = re.fullmatch(r"/v1/rounds/(\d+)", path)
         if asked and int(asked[1]) > self.closed:
             return 404, b'{"code":"no_round","status":404}'
