@@ -42,9 +42,9 @@ return least;
 """
 
 
-def whole(window, page):
+def whole(window, page, widths=WIDTHS):
     """Nothing is cut off, and nothing reaches beyond the window, from 360 to 1,600 pixels."""
-    for wide in WIDTHS:
+    for wide in widths:
         window.size(wide, 900)
         time.sleep(0.3)
         cut = window.run(CUT)
@@ -175,6 +175,8 @@ def many_for_operator(window):
     expect(f"the operator's page stands within a second: {stands:.0f} ms", stands < 1000)
     expect("tie numbers are drawn for as many pairs as may be listed", "for 16,384 of all 19,398 pairs" in window.text("ties"))
     window.noted()
+    window.click("draw")
+    wait_for("tie numbers are drawn anew", lambda: "drawn anew" in window.text("say"))
     window.close_round()
     wait_for("its round is closed", lambda: "Ended after round 1" in window.text("round"), 30)
     ties = json.loads(window.run("return window.sent[0]"))["ties"]
