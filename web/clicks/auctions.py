@@ -56,7 +56,8 @@ def live_round(x, y, operator, work):
     wait_for("asked stands beside applied", lambda: x.rows("pastbody") == [["A", "$100", "$110", "$103", "≤ 2", "0 at 103", "1"]])
     x.choose("which", "1")
     wait_for("an earlier round is shown", lambda: x.rows("pastbody") == [["A", "$100", "$100", "$100", "3 of 2", "2 at 100", "2"]])
-    expect("the chart tells both rounds", "round 1: 100 dollars, 2 held; round 2: 103 dollars, 1 held" in x.run("return document.querySelector('#chart title').textContent"))
+    told = x.run("return document.querySelector('#chart title').textContent")
+    expect("the chart tells both rounds", "round 1: 100 dollars, 2 held; round 2: 103 dollars, 1 held" in told)
     results_saved(operator, work)
 
 
@@ -103,7 +104,8 @@ def keep_and_drop(window):
     window.click("send")
     wait_for("an empty sheet is asked about again", lambda: window.at("question").is_displayed())
     window.at("yes").click()
-    wait_for("an empty sheet is accepted", lambda: "Accepted: 0 bids for round 2" in window.text("say") and "a sheet of 0 bids" in window.text("force"))
+    wait_for("an empty sheet is accepted",
+             lambda: "Accepted: 0 bids for round 2" in window.text("say") and "a sheet of 0 bids" in window.text("force"))
 
 
 def faults(window, work):
@@ -113,7 +115,8 @@ def faults(window, work):
         refused(window, words)
     window.bid(0, 2, 100)
     window.bid(1, 2, 100)
-    wait_for("told above the table: too much activity", lambda: "more activity than it may" in window.text("judged") and "⚠ 4 of 2" in window.text("sums"))
+    wait_for("told above the table: too much activity",
+             lambda: "more activity than it may" in window.text("judged") and "⚠ 4 of 2" in window.text("sums"))
     window.send("Refused: the sheet asks for more activity")
     window.bid(1, "x", 100)
     wait_for("told at the row: no number", lambda: "no whole number" in window.wrong(1))
@@ -220,7 +223,8 @@ def closings_refused(steep, level, x, y, operator):
     sent(y, 1, 100)
     operator.click("ask")
     level.close(1)
-    wait_for("a question whose round was closed elsewhere goes away", lambda: "Round 1 is closed" in operator.text("say") and not operator.at("question").is_displayed())
+    wait_for("a question whose round was closed elsewhere goes away",
+             lambda: "Round 1 is closed" in operator.text("say") and not operator.at("question").is_displayed())
     for window in (x, y, operator):
         wait_for("round 2 is told", lambda: "Round 2" in window.text("round"))
     for window in (x, y):

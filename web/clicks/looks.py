@@ -72,6 +72,8 @@ def named(window):
     met = [node for node in nodes if not node["ignored"] and node["role"]["value"] in roles]
     bare = [node["role"]["value"] for node in met if not node.get("name", {}).get("value", "").strip()]
     expect(f"all of {len(met)} fields, buttons and regions have a name {bare}", met and not bare)
+    told = {node["role"]["value"] for node in nodes if not node["ignored"]}
+    expect("a table is told as one, drawn as cards too", {"table", "row", "rowheader", "columnheader", "cell"} <= told)
     headings = window.run("return ['h1', 'section', 'section[aria-labelledby]', 'section > h2'].map(s => document.querySelectorAll(s).length)")
     expect(f"one first heading, and one for each section {headings}", headings[0] == 1 and headings[1] == headings[2] == headings[3] > 1)
     small = window.run("return [...document.querySelectorAll('button, input:not([type=file], [type=checkbox]), select, .button')]"
