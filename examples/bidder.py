@@ -54,15 +54,18 @@ class Auction:
 
     def wait(self, number):
         """Returns once a round is closed."""
-        while True:
-            status = self.ask("/v1/status")
-            if status["round"] < number:
-                sys.exit(f"the round fell from {number} to {status['round']}: this is another auction")
-            if status["round"] > number + 1:
-                sys.exit(f"round {number + 1} was missed")
-            if status["ended"] or status["round"] > number:
-                return
+        while last_closed(self.ask("/v1/status"), number) < number:
             time.sleep(self.every)
+
+
+def last_closed(page, number):
+    """The last closed round, by a page that tells the current one. Where that fell, or a round was missed, the program ends."""
+    closed = page["round"] if page["ended"] else page["round"] - 1
+    if page["round"] < number:
+        sys.exit(f"the round fell from {number} to {page['round']}: this is another auction")
+    if closed > number:
+        sys.exit(f"round {number + 1} was missed")
+    return closed
 
 
 def first_bids(limits, clock):
@@ -90,13 +93,15 @@ def bids_of(wanted, products, prices, held, number):
 
 
 def play(auction, wanted):
-    products = auction.ask("/v1/products")["products"]
-    while not (account := auction.ask("/v1/me"))["ended"]:
+    products, account = auction.ask("/v1/products")["products"], auction.ask("/v1/me")
+    while not account["ended"]:
         number = account["round"]
         sheet = {"bids": bids_of(wanted, products, auction.prices(products, number), account["demands"], number), "round": number}
         print("sheet", json.dumps(sheet), auction.ask("/v1/me/bids", sheet)["accepted"], flush=True)
         auction.wait(number)
         print("slip", json.dumps(auction.ask(f"/v1/me/rounds/{number}")), flush=True)
+        account = auction.ask("/v1/me")
+        last_closed(account, number)
     last = auction.ask(f"/v1/rounds/{account['round']}")["products"]
     pay = sum(blocks * product["posted"] for blocks, product in zip(account["demands"], last))
     print("won", account["name"], *account["demands"], pay)

@@ -47,7 +47,8 @@ def started(program, setup, port, journal=None):
 
 
 class Place:
-    """Program and nginx in a folder of their own, on free ports of this machine, as docs/operators.md starts them."""
+    """Program and nginx in a folder of their own, on free ports of this machine, as docs/operators.md starts them. Without a program nginx
+    is there alone, and whoever wants to be its server listens at `server_port`."""
 
     def __init__(self, program, setup_text):
         self.folder = pathlib.Path(tempfile.mkdtemp(prefix="deploy-"))
@@ -56,7 +57,8 @@ class Place:
         try:
             self.write(setup_text)
             self.program, self.kills = program, 0
-            self.begin()
+            if program is not None:
+                self.begin()
             words = ["nginx", "-p", self.folder, "-c", "nginx.conf", "-g", "daemon off;"]
             with open(self.folder / "nginx.words", "wb") as said:
                 self.nginx = self.keep(subprocess.Popen(words, stdin=subprocess.DEVNULL, stdout=said, stderr=said))

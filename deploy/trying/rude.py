@@ -90,7 +90,7 @@ async def hostile(port, number, token, operator, over, counted, found):
         if writer:
             writer.transport.abort()
         counted[reply.split()[1].decode("latin1") if len(reply.split()) > 1 else "no reply"] += 1
-        if FOREIGN.search(reply):
+        if FOREIGN.search(reply) or b"<html>" in reply.lower():      # nginx's own words are of docs/formats.md too
             found.append(f"{text[:600]!r} is answered {reply[:600]!r}")
         await asyncio.sleep(chance.random() * 0.2)
 

@@ -53,6 +53,10 @@ within "after its last connection it is started again" another_than "$process"
 within "and goes on with the sheet" keeps
 rm -r /etc/systemd/system/$unit.d
 systemctl daemon-reload
+rm -r /srv/auction/tmp/cache
+systemctl restart $unit
+within "where nginx has no cache yet it starts all the same" answers
+expect "and goes on with the sheet" keeps
 systemctl stop $unit
 expect "it can be stopped" test "$(systemctl is-active $unit)" = inactive
 expect "the log tells what the journal has" told_in_log "journal 1 "
