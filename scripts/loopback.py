@@ -25,13 +25,13 @@ def free_port():
             return port
 
 
-def reply_to(port, text, cut=None):
+def reply_to(port, text, cut=None, seconds=SECONDS):
     """The bytes that come for a text, which is sent in two pieces where it is cut, and after which the writing side is shut.
 
     A server answers as soon as it knows its answer. What it has not read by then resets the connection, after the reply.
     """
     reply = b""
-    with socket.create_connection(("127.0.0.1", port), SECONDS) as client:
+    with socket.create_connection(("127.0.0.1", port), seconds) as client:
         try:
             client.sendall(text[:cut])
             if cut is not None:

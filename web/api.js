@@ -2,7 +2,7 @@
 
 const SECONDS = 20;
 
-/** What the server refused, or that nothing answered (then `status` is 0). */
+/** What the server refused, or that nothing answered (then `status` is 0, and nobody knows what was done). */
 export class Fault extends Error {
   constructor(page, status) {
     super(page.code);
@@ -13,6 +13,7 @@ export class Fault extends Error {
   }
 }
 
+const noAnswer = () => new Fault({ code: "no_answer" }, 0);
 const pause = (time) => new Promise((done) => setTimeout(done, time));
 
 /** Somebody who asks: a bidder, the operator, or anybody where there is no token. */
@@ -35,10 +36,12 @@ export class Asker {
       try {
         page = await reply.json();
       } catch {
-        throw new Fault({ code: "no_answer" }, 0);
+        throw noAnswer();
       }
-      if (!reply.ok) throw new Fault(page, reply.status);
-      return page;
+      if (reply.ok) return page;
+      // the proxy that stands before the server answers, and no server behind it
+      if (page.code === "proxy" && reply.status >= 500) throw noAnswer();
+      throw new Fault(page, reply.status);
     }
   }
 
@@ -46,11 +49,16 @@ export class Asker {
     const headers = this.#token ? { authorization: "Bearer " + this.#token } : {};
     try {
       return await fetch(path, {
-        method, headers, cache: "no-store", credentials: "omit", referrerPolicy: "no-referrer",
-        body: body === undefined ? undefined : JSON.stringify(body), signal: AbortSignal.timeout(SECONDS * 1000),
+        method,
+        headers,
+        cache: "no-store",
+        credentials: "omit",
+        referrerPolicy: "no-referrer",
+        body: body === undefined ? undefined : JSON.stringify(body),
+        signal: AbortSignal.timeout(SECONDS * 1000),
       });
     } catch {
-      throw new Fault({ code: "no_answer" }, 0);
+      throw noAnswer();
     }
   }
 
@@ -65,22 +73,23 @@ export class Asker {
   results() { return this.ask("/v1/results"); }
 }
 
-/** Asks the status every second, and every five while nothing answers. `heard` takes the status, or null. */
-export function watch(asker, heard) {
+/**
+ * Asks the status every second, and every five seconds while it can't be had. `heard` takes a status, and may ask more;
+ * `missed` takes the fault where that failed. Gives a function that ends it.
+ */
+export function watch(asker, heard, missed) {
   let stopped = false;
   (async () => {
     while (!stopped) {
-      let status = null;
+      let wait = 1000;
       try {
-        status = await asker.status();
-      } catch { /* told as null */ }
-      if (stopped) return;
-      try {
-        await heard(status);
-      } catch {
-        status = null;
+        const status = await asker.status();
+        if (!stopped) await heard(status);
+      } catch (fault) {
+        wait = 5000;
+        if (!stopped) missed(fault);
       }
-      await pause(status ? 1000 : 5000);
+      await pause(wait);
     }
   })();
   return () => { stopped = true; };

@@ -1,125 +1,163 @@
-// The bidder's page: what round it is, what is held, what is wanted, what the server said, and what came of each round.
+// The bidder's page: what round it is, what is held, wanted and in force, what is still to do, and what the server said.
 
 import { Asker, watch } from "./api.js";
 import { readBids, save, writtenBids } from "./csv.js";
-import { chart } from "./chart.js";
-import { Rows, at, counted, dollars, make, number } from "./page.js";
+import { at, cell, counted, dollars, door, facts, lastClosed, make, number, question, rowHead, say, sum } from "./page.js";
+import { Past } from "./past.js";
 import { activityLimit, activityOf, askedDemands, costOf, faultsOf, wordsOf } from "./rules.js";
 import { Sheet } from "./sheet.js";
+import { Rows } from "./table.js";
 
-const sheet = new Sheet(), rounds = new Map(), slips = new Map(), asked = new Map();
-let asker, me, terms, previous, faults = new Map(), refused = null, stop = () => {}, gone = false;
-
-const say = (text) => { at("say").textContent = text; };
-const table = new Rows(at("frame"), at("body"), drawStep);
-const pastTable = new Rows(at("pastframe"), at("pastbody"), drawPast);
+const sheet = new Sheet(), past = new Past(), table = new Rows(at("frame"), at("body"), drawStep);
 const keyOf = (product, step) => `${product}.${step}`;
+const partsOf = (key) => key.split(".").map(Number);
+const plain = (bids) => bids.map(({ price, product, quantity }) => ({ price, product, quantity }));
 
-/** Reads the account, and the prices where a round has been closed since. */
+// who asks, the account, what the sheet is judged by, the slip of the round before, and the sheet in force
+let asker, me, terms, earlier, force = { bids: null, by: new Map() };
+// the faults of what is typed, by row; the server's own refusal; the end of the watch; whether something could not be had
+let faults = new Map(), refused = null, stop = () => {}, gone = false;
+
+/** Asks for the account and the sheet in force, and for the prices where a round has been closed since. */
 async function load() {
-  const before = me, page = terms ? null : await asker.products(), now = await asker.account();
-  if (before && now.round < before.round) for (const known of [rounds, slips, asked]) known.clear(); // the server was started anew
-  if (before && now.round !== before.round) previous = before.demands;
-  const products = page?.products ?? terms.products, last = now.ended ? now.round : now.round - 1;
-  if (last > 0 && !rounds.has(last)) rounds.set(last, (await asker.round(last)).products);
-  if (last > 0 && !slips.has(last)) slips.set(last, await asker.slip(last));
-  const prices = last > 0 ? rounds.get(last).map((p) => ({ start: p.posted, clock: p.next ?? p.posted }))
-    : products.map((p) => ({ start: p.opening, clock: p.opening }));
-  const force = now.ended ? null : (await asker.inForce()).bids;
+  const page = terms ?? await asker.products(), now = await asker.account(), before = me, last = lastClosed(now);
+  if (before && now.round < before.round) past.clear(); // the server was started anew
+  if (last > 0) await past.learn(asker, last);
+  if (last > 1) await past.learn(asker, last - 1);
+  const reply = now.ended ? null : await asker.inForce();
   me = now;
-  terms = { products, prices, limit: page?.limit ?? terms?.limit ?? 100, requirement: page?.requirement ?? terms?.requirement,
-    round: now.round, held: now.demands, eligibility: now.eligibility };
+  earlier = last > 1 ? past.slip(last - 1) : null;
+  terms = {
+    products: page.products, requirement: page.requirement, limit: page.limit ?? 100,
+    prices: pricesOf(page.products, last), round: now.round, held: now.demands, eligibility: now.eligibility,
+  };
   refused = null;
-  if (!before && force) sheet.take(force);
-  if (force) asked.set(now.round, force);
-  tellForce(force);
+  takeForce(reply?.bids ?? null, "as it stood at");
+  if (!before && force.bids) sheet.take(force.bids);
   if (before && (before.round !== now.round || before.ended !== now.ended)) tellChange(before);
   drawAll();
-  loadPast(last);
+  past.draw(asker, terms.products, last);
 }
 
-/** The rounds before, one after the other, for the chart. */
-async function loadPast(last) {
-  try {
-    for (let n = last; n > 0; n--) {
-      if (!rounds.has(n)) rounds.set(n, (await asker.round(n)).products);
-      if (!slips.has(n)) slips.set(n, await asker.slip(n));
-    }
-  } catch { /* asked again after the next round */ }
-  drawPastRounds(last);
+/** Start and clock price of each product: the opening price, or what the sheet of the last round tells. */
+function pricesOf(products, last) {
+  if (last === 0) return products.map((product) => ({ start: product.opening, clock: product.opening }));
+  return past.products(last).map((sold) => ({ start: sold.posted, clock: sold.next ?? sold.posted }));
+}
+
+/** Notes the sheet in force, and since when it is known. */
+function takeForce(bids, words) {
+  const by = new Map();
+  for (const bid of bids ?? []) by.set(bid.product, [...(by.get(bid.product) ?? []), bid]);
+  force = { bids: bids && plain(bids).sort((a, b) => a.product - b.product), by };
+  if (bids) past.ask(me.round, bids);
+  const time = new Date().toLocaleTimeString("en-GB");
+  at("force").textContent = bids ? `In force: a sheet of ${counted(bids.length, "bid")}, ${words} ${time}.` : `In force: no sheet, as it stood at ${time}.`;
 }
 
 function tellChange(before) {
   const moved = terms.products.filter((_, p) => before.demands[p] !== me.demands[p]).length;
-  const end = me.ended ? `The auction has ended after round ${me.round}. ` : `Round ${before.round} is closed, round ${me.round} is open: the prices are new. `;
-  say(`${end}What you hold changed in ${moved} of ${terms.products.length} products. ${me.ended ? "" : "What you typed was kept and is not sent."}`);
-}
-
-function tellForce(bids, when = new Date()) {
-  const time = when.toLocaleTimeString("en-GB");
-  at("force").textContent = me.ended ? "" : bids ? `In force: a sheet of ${counted(bids.length, "bid")}, as of ${time}.` : `No sheet is in force, as of ${time}.`;
-}
-
-function facts(list, pairs) {
-  at(list).replaceChildren(...pairs.map(([name, value]) => make("div", {}, make("dt", {}, name), make("dd", {}, value))));
+  const closed = me.ended ? `The auction has ended after round ${me.round}.` : `Round ${before.round} is closed, round ${me.round} is open: the prices are new.`;
+  const fell = before.eligibility === me.eligibility ? "" : ` Your eligibility is ${number(me.eligibility)}, it was ${number(before.eligibility)}.`;
+  const kept = me.ended ? "" : " What you typed was kept and is not sent.";
+  say(`${closed} What you hold changed in ${moved} of ${counted(terms.products.length, "product")}.${fell}${kept}`);
 }
 
 function drawAll() {
   at("who").textContent = "· " + me.name;
   document.title = `${me.ended ? "Ended" : "Round " + me.round} · ${me.name} · clock auction`;
   at("round").textContent = me.ended ? `Ended after round ${me.round}` : `Round ${me.round}`;
-  const cost = me.demands.reduce((sum, held, p) => sum + BigInt(held) * BigInt(terms.prices[p].start), 0n);
-  const unused = me.eligibility - me.activity;
-  facts("facts", [["Eligibility", number(me.eligibility)], ["Activity held", number(me.activity)], ["Unused", number(unused)],
-    [me.ended ? "Won" : "Blocks held", number(me.demands.reduce((a, b) => a + b, 0))],
-    [me.ended ? "To pay" : "At start prices", dollars(cost)], ["Activity required", terms.requirement + " %"]]);
-  for (const id of ["keep", "drop", "send", "up"]) at(id).disabled = me.ended;
+  drawFacts();
+  for (const id of ["keep", "drop", "send", "up", "again", "back"]) at(id).disabled = me.ended;
   judge();
   lay();
 }
 
+function costHeld() {
+  return me.demands.reduce((cost, blocks, p) => cost + BigInt(blocks) * BigInt(terms.prices[p].start), 0n);
+}
+
+function drawFacts() {
+  const was = (now, then) => (earlier && now !== then ? number(then) : "");
+  const held = sum(me.demands), heldThen = earlier && sum(earlier.demands);
+  facts("facts", [
+    ["Eligibility", number(me.eligibility), was(me.eligibility, earlier?.eligibility)],
+    ["Activity", number(me.activity), was(me.activity, earlier?.activity)],
+    ["Unused", number(me.eligibility - me.activity)],
+    [me.ended ? "Blocks won" : "Blocks held", number(held), was(held, heldThen)],
+    [me.ended ? "To pay" : "At start prices", dollars(costHeld())],
+    ["Activity required", terms.requirement + " %"],
+  ]);
+}
+
+/** What a product was held of before the last closing, where that is another number. */
+function heldBefore(p) {
+  const then = earlier ? earlier.demands[p] : me.demands[p];
+  return then === me.demands[p] ? null : then;
+}
+
 /** Which rows there are, by the name that is sought and the filter. */
 function lay() {
-  const sought = at("find").value.trim().toLowerCase(), filter = at("filter").value, keys = [];
-  const atFault = new Set([...faults.keys()].map((key) => key.split(".")[0]));
+  const sought = at("find").value.trim().toLowerCase(), keys = [];
+  const atFault = new Set([...faults.keys()].map((key) => partsOf(key)[0]));
+  const shows = {
+    all: () => true,
+    held: (p) => me.demands[p] > 0,
+    wanted: (p) => sheet.isAsked(p),
+    changed: (p) => heldBefore(p) !== null,
+    fault: (p) => atFault.has(p),
+  }[at("filter").value];
   terms.products.forEach((product, p) => {
-    if (sought && !product.name.toLowerCase().includes(sought)) return;
-    if (filter === "held" && !me.demands[p]) return;
-    if (filter === "wanted" && !sheet.isAsked(p)) return;
-    if (filter === "fault" && !atFault.has(String(p))) return;
+    if (!shows(p) || !product.name.toLowerCase().includes(sought)) return;
     sheet.steps(p).forEach((_, step) => keys.push(keyOf(p, step)));
   });
   table.set(keys);
+  at("none").hidden = keys.length > 0;
 }
 
-const cell = (label, ...inside) => make("td", { "data-label": label }, ...inside);
-
-/** What is held of a product, with what was held a round ago where that is known and another. */
-function heldNow(p) {
-  const was = previous?.[p];
-  return number(me.demands[p]) + (was === undefined || was === me.demands[p] ? "" : ` (was ${number(was)})`);
+/** What is in force at a step; the last row of a product says how many steps more there are. */
+function forceWords(p, step) {
+  const bids = force.by.get(p) ?? [], more = bids.length - sheet.steps(p).length;
+  if (!bids[step]) return "–";
+  const words = `${number(bids[step].quantity)} at ${number(bids[step].price)}`;
+  return more > 0 && step === sheet.steps(p).length - 1 ? `${words}, ${more} more` : words;
 }
 
+/** A field of a step: its quantity or its price. */
+function drawField(p, step, name, words, hint) {
+  const key = keyOf(p, step), product = terms.products[p];
+  const input = make("input", {
+    inputmode: "numeric", autocomplete: "off", placeholder: hint, disabled: me.ended, "data-key": key, "data-field": name,
+    "aria-label": `${words}, ${product.name}, step ${step + 1}`, "aria-describedby": "wrong" + key,
+    oninput: () => {
+      sheet.type(p, step, name, input.value);
+      refused = null;
+      judge();
+    },
+  });
+  input.value = sheet.steps(p)[step][name];
+  return input;
+}
+
+function moreSteps(p) {
+  sheet.addStep(p);
+  lay();
+  table.focus(keyOf(p, sheet.steps(p).length - 1), "quantity");
+}
+
+/** The row of a product's step; what does not depend on the step stands at the first alone. */
 function drawStep(key) {
-  const [p, step] = key.split(".").map(Number), product = terms.products[p], price = terms.prices[p];
-  const typed = sheet.steps(p)[step], held = me.demands[p], first = step === 0;
-  const field = (name, words, hint) => {
-    const input = make("input", { inputmode: "numeric", autocomplete: "off", "aria-label": `${words}, ${product.name}, step ${step + 1}`, placeholder: hint,
-      disabled: me.ended, "aria-describedby": "wrong" + key, "data-key": key, "data-field": name,
-      oninput: (event) => { sheet.type(p, step, name, event.target.value); refused = null; judge(); } });
-    input.value = typed[name];
-    return input;
-  };
-  const more = make("button", { type: "button", disabled: me.ended, "aria-label": `One more step for ${product.name}`, onclick: () => {
-    sheet.addStep(p);
-    lay();
-    at("body").querySelector(`[data-key="${keyOf(p, sheet.steps(p).length - 1)}"]`)?.focus();
-  } }, "+ step");
+  const [p, step] = partsOf(key), product = terms.products[p], price = terms.prices[p], first = step === 0, held = me.demands[p];
+  const once = (label, ...inside) => cell(label, ...(first ? inside : []));
+  const was = heldBefore(p), before = was === null ? [] : [make("small", {}, `was ${number(was)}`)];
+  const more = make("button", { type: "button", disabled: me.ended, "aria-label": `One more step for ${product.name}`, onclick: () => moreSteps(p) }, "+ step");
   const row = make("tr", { class: first ? (held ? "held" : "") : "more" },
-    make("th", { scope: "row" }, first ? product.name : `↳ step ${step + 1}`),
-    cell("Start", first ? dollars(price.start) : ""), cell("Clock", first ? dollars(price.clock) : ""), cell("Units", first ? number(product.units) : ""),
-    cell("Cap", first ? number(product.cap) : ""), cell("Held", first ? heldNow(p) : ""),
-    cell("Wanted", field("quantity", "Blocks wanted", "–")), cell("Price", field("price", "At price", String(price.clock))), cell("", first ? more : ""),
+    rowHead(first ? product.name : `↳ step ${step + 1}`),
+    once("Units", number(product.units)), once("Cap", number(product.cap)),
+    once("Start", dollars(price.start)), once("Clock", dollars(price.clock)),
+    once("Held", number(held), ...before), cell("In force", forceWords(p, step)),
+    cell("Wanted", drawField(p, step, "quantity", "Blocks wanted", "–")),
+    cell("At price", drawField(p, step, "price", "At price", String(price.clock))), once("Steps", more),
     make("td", { class: "fault", id: "wrong" + key }));
   tellRow(key, row);
   return row;
@@ -129,132 +167,181 @@ function tellRow(key, row) {
   const fault = faults.get(key), said = row.querySelector("td.fault");
   row.classList.toggle("wrong", fault !== undefined);
   said.textContent = fault === undefined ? "" : "⚠ " + fault;
-  said.title = fault ?? "";
   for (const input of row.querySelectorAll("input")) input.setAttribute("aria-invalid", String(fault !== undefined));
 }
 
-/** Judges what is typed, as the server would, and tells it at the rows and below the table. */
+/** Judges what is typed, as the server would, and tells it at the rows and above the table. */
 function judge() {
   const { bids, wrong } = sheet.read();
   faults = new Map(wrong.map((w) => [keyOf(w.product, w.step), w.text]));
-  const found = faultsOf(terms, bids);
   let whole = "";
-  for (const fault of refused ? [refused, ...found] : found) {
+  for (const fault of [...(refused ? [refused] : []), ...faultsOf(terms, bids)]) {
     const bid = bids[fault.place], words = (fault === refused ? "refused: " : "") + wordsOf(fault.code);
-    if (bid) { if (!faults.has(keyOf(bid.product, bid.step))) faults.set(keyOf(bid.product, bid.step), words); }
-    else whole ||= words;
+    if (!bid) whole ||= words;
+    else if (!faults.has(keyOf(bid.product, bid.step))) faults.set(keyOf(bid.product, bid.step), words);
   }
   for (const [key, row] of table.shown) tellRow(key, row);
-  const askedFor = activityOf(terms.products, askedDemands(terms.products, bids)), most = activityLimit(me.round, me.eligibility, terms.limit);
-  facts("sums", [["Bids", number(bids.length)], ["Activity asked", `${number(askedFor)} of ${number(most)}`], ["Cost at asked prices", dollars(costOf(terms.products, bids))]]);
-  const count = faults.size + (whole ? 1 : 0);
-  at("judged").textContent = me.ended ? "" : whole ? "⚠ " + whole : count ? `⚠ ${count} ${count === 1 ? "bid is" : "bids are"} at fault.`
-    : bids.length ? "✓ No fault is seen." : me.round === 1 ? "Empty: you would hold nothing, and be out." : "Empty: that asks to drop all at the start prices.";
-  at("judged").classList.toggle("fault", count > 0);
-  return { bids, wrong, count };
+  tellSums(bids);
+  tellJudged(bids, whole);
+  tellToDo(wrong.length ? null : plain(bids));
+  return { bids, wrong };
 }
 
+function tellSums(bids) {
+  const asked = activityOf(terms.products, askedDemands(terms.products, bids));
+  const most = activityLimit(me.round, me.eligibility, terms.limit);
+  facts("sums", [
+    ["Bids", number(bids.length)],
+    ["Cost at asked prices", dollars(costOf(terms.products, bids))],
+    ["Activity asked", `${asked > most ? "⚠ " : ""}${number(asked)} of ${number(most)}`],
+  ]);
+  at("meter").max = Math.max(1, Number(most), Number(asked));
+  at("meter").high = Number(most);
+  at("meter").value = Number(asked);
+}
+
+function tellJudged(bids, whole) {
+  const count = faults.size + (whole ? 1 : 0), empty = "Empty: that asks to drop all at the start prices.";
+  at("judged").classList.toggle("fault", count > 0);
+  at("tofault").hidden = faults.size === 0;
+  if (me.ended) at("judged").textContent = "";
+  else if (whole) at("judged").textContent = "⚠ " + whole;
+  else if (count) at("judged").textContent = `⚠ ${count} ${count === 1 ? "bid is" : "bids are"} at fault.`;
+  else if (bids.length) at("judged").textContent = "✓ No fault is seen.";
+  else at("judged").textContent = me.round === 1 ? "Empty: you would hold nothing, and be out." : empty;
+}
+
+/** What is left to do in the round, in a line that stands out until it is done; `typed` are bids, or null where they can't be read. */
+function tellToDo(typed) {
+  const same = force.bids && JSON.stringify(force.bids) === JSON.stringify(typed);
+  let words = "✓ Your sheet is in force. Nothing is left to do in this round.", done = true;
+  if (me.ended) {
+    words = `✓ The auction has ended. You won ${counted(sum(me.demands), "block")} for ${dollars(costHeld())}.`;
+  } else if (!force.bids) {
+    done = false;
+    words = `● To do: send a sheet for round ${me.round}. Without one you ask to ${me.round === 1 ? "hold nothing" : "drop all"}.`;
+  } else if (!same) {
+    done = false;
+    words = "● To do: what is typed is not what is in force. Send it, or fill in what is in force.";
+  }
+  if (at("todo").textContent !== words) at("todo").textContent = words;
+  at("todo").classList.toggle("done", done);
+  at("back").hidden = !force.bids || same;
+}
+
+/** Sends what is typed; the server decides. */
 async function send() {
-  const { bids, wrong } = judge(), plain = bids.map(({ price, product, quantity }) => ({ price, product, quantity })), round = me.round;
-  if (wrong.length) return say("Not sent: a row can't be read as a bid.");
-  if (!plain.length && !confirm("The sheet is empty: it asks to drop everything. Send it?")) return;
+  const { bids, wrong } = judge(), sent = plain(bids), round = me.round;
+  if (wrong.length) return say("⚠ Not sent: a row can't be read as a bid.");
+  if (!sent.length && !await question("The sheet is empty: it asks to drop everything. Send it?")) return;
   at("send").disabled = true;
   try {
-    const done = await asker.put(round, plain);
-    asked.set(round, plain);
-    tellForce(plain);
+    const done = await asker.put(round, sent);
+    if (me.round === round) takeForce(sent, "accepted at");
+    else past.ask(round, sent);
     say(`✓ Accepted: ${counted(done.bids, "bid")} for round ${done.round}.`);
+    judge();
+    lay();
   } catch (fault) {
-    refused = fault;
-    const { bids: now } = judge(), bid = now[fault.place];
-    say(`⚠ Refused: ${wordsOf(fault.code)}${bid ? " (" + terms.products[bid.product].name + ")" : ""}. ${fault.status ? "The sheet before it stays in force." : "Look at what is in force, or send again."}`);
-    if (bid) table.show(keyOf(bid.product, bid.step));
+    tellRefused(fault);
   } finally {
     at("send").disabled = me.ended;
   }
 }
 
-function options(select, pairs) {
-  const kept = select.value;
-  select.replaceChildren(...pairs.map(([value, text]) => make("option", { value }, text)));
-  if (pairs.some(([value]) => String(value) === kept)) select.value = kept;
+function tellRefused(fault) {
+  const unknown = fault.status === 0;
+  refused = unknown ? null : fault;
+  const bid = judge().bids[fault.place], product = bid && terms.products[bid.product];
+  if (unknown) return say(`⚠ ${wordsOf(fault.code)}. Nobody knows whether the sheet was taken: look at what is in force, or send it again.`);
+  say(`⚠ Refused: ${wordsOf(fault.code)}${product ? ` (${product.name})` : ""}. The sheet before it stays in force.`);
+  if (bid) table.show(keyOf(bid.product, bid.step));
 }
 
-function drawPastRounds(last) {
-  options(at("which"), Array.from({ length: last }, (_, n) => [last - n, last - n]));
-  if (!at("charted").options.length) options(at("charted"), terms.products.map((product, p) => [p, product.name]));
-  at("which").value = last || "";
-  drawRound();
-}
-
-function drawRound() {
-  const n = Number(at("which").value), slip = slips.get(n), p = Number(at("charted").value);
-  at("slip").textContent = slip ? `Your slip of round ${n}: activity ${number(slip.activity)}, eligibility ${number(slip.eligibility)}.` : "No round is closed yet.";
-  const points = [...rounds.keys()].filter((r) => slips.has(r)).sort((a, b) => a - b)
-    .map((r) => ({ round: r, posted: rounds.get(r)[p].posted, held: slips.get(r).demands[p] }));
-  at("chart").replaceChildren(...(points.length ? [make("figcaption", {}, `${terms.products[p].name}: posted price (line) and blocks held (bars), by round`), chart(terms.products[p].name, points)] : []));
-  pastTable.set(slip && rounds.has(n) ? terms.products.map((_, product) => String(product)) : []);
-}
-
-function drawPast(key) {
-  const n = Number(at("which").value), p = Number(key), sold = rounds.get(n)[p], product = terms.products[p];
-  const bids = asked.get(n)?.filter((bid) => bid.product === p);
-  const wanted = !bids ? "not known here" : bids.length ? bids.map((bid) => `${bid.quantity} at ${number(bid.price)}`).join(", ") : "no bid";
-  return make("tr", {}, make("th", { scope: "row" }, product.name), cell("Start", dollars(sold.start)), cell("Clock", dollars(sold.clock)), cell("Posted", dollars(sold.posted)),
-    cell("Demand", sold.demand === null ? `≤ ${product.supply}` : `${sold.demand} of ${product.supply}`), cell("Asked", wanted), cell("Applied", number(slips.get(n).demands[p])));
-}
-
-async function heard(status) {
-  if (!status) {
-    gone = true;
-    at("link").textContent = "⚠ Nothing answers. It is asked again every five seconds; what you typed is kept.";
-    return;
+async function lookAgain() {
+  try {
+    const reply = await asker.inForce();
+    if (reply.round !== me.round) return;
+    takeForce(reply.bids, "as it stood at");
+    judge();
+    lay();
+  } catch (fault) {
+    say("⚠ " + wordsOf(fault.code));
   }
-  if (gone || status.round !== me.round || status.ended !== me.ended) await load();
-  gone = false;
-  at("link").textContent = "";
+}
+
+/** Shows the first row at fault, whatever the filter shows. */
+function toFault() {
+  const order = (key) => partsOf(key).reduce((product, step) => product * 10_000 + step);
+  const [first] = [...faults.keys()].sort((a, b) => order(a) - order(b));
+  if (first === undefined) return;
+  at("find").value = "";
+  at("filter").value = "all";
+  lay();
+  table.focus(first, "quantity");
 }
 
 async function upload(event) {
   const [file] = event.target.files, { bids, wrong } = readBids(terms.products, await file.text());
   event.target.value = "";
-  at("lines").replaceChildren(...wrong.slice(0, 50).map((text) => make("li", {}, text)));
-  if (wrong.length) return say(`Not taken: the file has ${counted(wrong.length, "wrong line")}.`);
-  sheet.take(bids);
-  typed(`${counted(bids.length, "bid")} read from the file. Nothing is sent yet.`);
+  at("lines").replaceChildren(...wrong.map((text) => make("li", {}, text)));
+  if (wrong.length) return say(`⚠ Not taken: the file has ${counted(wrong.length, "wrong line")}.`);
+  fill(() => sheet.take(bids), `${counted(bids.length, "bid")} read from the file.`);
 }
 
-function typed(words) {
+/** Fills the sheet in one step, and says that this sends nothing. */
+function fill(take, words) {
+  take();
   refused = null;
   judge();
   lay();
-  say(words);
+  say(words + " Nothing is sent yet.");
 }
 
-at("door").addEventListener("submit", async (event) => {
+/** Arrows and Enter go to the row above or below, as in a sheet of figures; Enter with Ctrl sends. */
+function byKey(event) {
+  const { key, field } = event.target.dataset, by = { ArrowDown: 1, Enter: 1, ArrowUp: -1 }[event.key];
+  if (!field || !by) return;
   event.preventDefault();
+  if (event.ctrlKey && event.key === "Enter") send();
+  else table.move(key, by, field);
+}
+
+async function heard(status) {
+  if (gone || status.round !== me.round || status.ended !== me.ended) await load();
+  gone = false;
+  at("link").textContent = "";
+}
+
+function missed(fault) {
+  gone = true;
+  const words = fault.status ? wordsOf(fault.code) + "." : "Nothing answers.";
+  at("link").textContent = `⚠ ${words} It is asked again every five seconds; what you typed is kept.`;
+}
+
+async function enter(token) {
   stop();
-  asker = new Asker(at("token").value.trim());
-  at("token").value = "";
-  me = terms = previous = undefined;
-  for (const known of [sheet, rounds, slips, asked]) known.clear();
-  try {
-    at("desk").hidden = false;
-    await load();
-    at("door").hidden = true;
-    say("");
-    stop = watch(asker, heard);
-  } catch (fault) {
-    at("desk").hidden = true;
-    say("⚠ " + wordsOf(fault.code ?? String(fault)));
-  }
-});
+  asker = new Asker(token);
+  me = terms = earlier = undefined;
+  sheet.clear();
+  past.clear();
+  await load();
+  stop = watch(asker, heard, missed);
+}
+
+door(enter, wordsOf);
 at("send").addEventListener("click", send);
-at("find").addEventListener("input", lay);
-at("filter").addEventListener("change", lay);
-at("keep").addEventListener("click", () => { sheet.keepAll(me.demands, terms.prices); typed("Filled in: all that you hold, at the clock prices. Nothing is sent yet."); });
-at("drop").addEventListener("click", () => { sheet.clear(); typed("All bids are taken away. Nothing is sent yet."); });
+at("again").addEventListener("click", lookAgain);
+at("tofault").addEventListener("click", toFault);
+for (const [id, event] of [["find", "input"], ["filter", "change"]]) {
+  at(id).addEventListener(event, () => {
+    at("frame").scrollTop = 0;
+    lay();
+  });
+}
+at("body").addEventListener("keydown", byKey);
+at("keep").addEventListener("click", () => fill(() => sheet.keepAll(me.demands, terms.prices), "Filled in: all that you hold, at the clock prices."));
+at("drop").addEventListener("click", () => fill(() => sheet.clear(), "All bids are taken away."));
+at("back").addEventListener("click", () => fill(() => sheet.take(force.bids), "Filled in: the sheet that is in force."));
 at("down").addEventListener("click", () => save(`bids-${me.name}-${me.round}.csv`, writtenBids(terms.products, sheet.read().bids)));
 at("up").addEventListener("change", upload);
-at("which").addEventListener("change", drawRound);
-at("charted").addEventListener("change", drawRound);

@@ -1,7 +1,7 @@
 // A chart of one product by round: its posted price as a line, own blocks held as bars. Drawn as SVG; the table beside it says the same.
 
 const SVG = "http://www.w3.org/2000/svg";
-const WIDE = 640, HIGH = 240, LEFT = 64, RIGHT = 36, TOP = 16, FOOT = 28, MIDDLE = 120;
+const HIGH = 260, TOP = 30, MIDDLE = 140, FOOT = 30, RIGHT = 16, LETTER = 7;
 
 function shape(tag, attributes, text) {
   const element = document.createElementNS(SVG, tag);
@@ -10,26 +10,40 @@ function shape(tag, attributes, text) {
   return element;
 }
 
-/** The chart of points {round, posted, held}. */
-export function chart(name, points) {
-  const svg = shape("svg", { viewBox: `0 0 ${WIDE} ${HIGH}`, role: "img" });
-  const told = points.map((p) => `round ${p.round}: ${p.posted} dollars, ${p.held} held`).join("; ");
-  svg.append(shape("title", {}, `${name}, posted price and blocks held. ${told}`));
-  if (points.length === 0) return svg;
-  const prices = points.map((p) => p.posted), low = Math.min(...prices), high = Math.max(...prices, low + 1);
-  const most = Math.max(1, ...points.map((p) => p.held)), step = (WIDE - LEFT - RIGHT) / points.length;
-  const x = (place) => LEFT + step * (place + 0.5), y = (price) => MIDDLE - ((price - low) / (high - low)) * (MIDDLE - TOP);
-  const tall = (held) => (held / most) * (HIGH - FOOT - MIDDLE - 24), every = Math.ceil(points.length / 16), bar = Math.min(40, step * 0.6);
-  points.forEach((p, place) => {
-    svg.append(shape("rect", { class: "held", x: x(place) - bar / 2, y: HIGH - FOOT - tall(p.held), width: bar, height: tall(p.held) }));
-    if (place % every === 0) svg.append(shape("text", { x: x(place), y: HIGH - 8, "text-anchor": "middle" }, p.round));
-    if (p.held && place % every === 0) svg.append(shape("text", { x: x(place), y: HIGH - FOOT - tall(p.held) - 5, "text-anchor": "middle" }, p.held));
+const words = (x, y, anchor, text, kind = "") => shape("text", { x, y, "text-anchor": anchor, class: kind }, text);
+const told = (price) => price.toLocaleString("en-US");
+
+/** The bars of blocks held, with their numbers and the rounds' below them; every so many rounds are named where there is no room for all. */
+function bars(points, x, step) {
+  const most = Math.max(1, ...points.map((point) => point.held)), room = HIGH - FOOT - MIDDLE - 40;
+  const every = Math.ceil(24 / step), wide = Math.min(44, step * 0.62);
+  return points.flatMap((point, place) => {
+    const tall = (point.held / most) * room, top = HIGH - FOOT - tall;
+    const bar = shape("rect", { class: "held", x: x(place) - wide / 2, y: top, width: wide, height: tall });
+    if ((points.length - 1 - place) % every) return [bar];
+    return [bar, words(x(place), top - 6, "middle", point.held, "strong"), words(x(place), HIGH - 10, "middle", point.round)];
   });
-  svg.append(shape("line", { class: "axis", x1: LEFT, x2: WIDE - RIGHT, y1: HIGH - FOOT, y2: HIGH - FOOT }));
-  svg.append(shape("polyline", { class: "price", points: points.map((p, place) => `${x(place)},${y(p.posted)}`).join(" ") }));
-  points.forEach((p, place) => svg.append(shape("circle", { class: "price", cx: x(place), cy: y(p.posted), r: 3.5 })));
-  for (const price of new Set([low, Math.max(...prices)])) {
-    svg.append(shape("text", { x: LEFT - 8, y: y(price) + 4, "text-anchor": "end" }, price.toLocaleString("en-US")));
+}
+
+/** The chart of points {round, posted, held}, so many pixels wide. */
+export function chart(name, points, wide) {
+  const prices = points.map((point) => point.posted), low = Math.min(...prices), high = Math.max(...prices);
+  const left = Math.max(56, LETTER * told(high).length + 20);
+  const step = (wide - left - RIGHT) / points.length;
+  const x = (place) => left + step * (place + 0.5);
+  const y = (price) => (high === low ? (TOP + MIDDLE) / 2 : MIDDLE - ((price - low) / (high - low)) * (MIDDLE - TOP));
+  const svg = shape("svg", { viewBox: `0 0 ${wide} ${HIGH}`, width: wide, height: HIGH, role: "img" });
+  const each = points.map((point) => `round ${point.round}: ${point.posted} dollars, ${point.held} held`).join("; ");
+  svg.append(shape("title", {}, `${name}, posted price and blocks held. ${each}`));
+  for (const price of new Set([low, high])) {
+    svg.append(shape("line", { class: "grid", x1: left, x2: wide - RIGHT, y1: y(price), y2: y(price) }));
+    svg.append(words(left - 10, y(price) + 4, "end", told(price)));
   }
+  svg.append(words(0, 12, "start", "Posted, $"), words(0, MIDDLE + 36, "start", "Held"));
+  svg.append(...bars(points, x, step));
+  svg.append(shape("line", { class: "axis", x1: left, x2: wide - RIGHT, y1: HIGH - FOOT, y2: HIGH - FOOT }));
+  svg.append(words(0, HIGH - 10, "start", "Round"));
+  svg.append(shape("polyline", { class: "price", points: points.map((point, place) => `${x(place)},${y(point.posted)}`).join(" ") }));
+  svg.append(...points.map((point, place) => shape("circle", { class: "price", cx: x(place), cy: y(point.posted), r: 4 })));
   return svg;
 }

@@ -70,7 +70,35 @@ async function terms(port, setup) {
 }
 
 const told = {};
-let sheets = 0, others = 0;
+let sheets = 0, wrong = 0, others = 0, activities = 0;
+
+/** Compares the activity of the pages with that of the account, and in round 1, where all that is asked is applied, with what was asked. */
+async function compareActivity(port, setup, accepted) {
+  const me = await ask(port, "GET", "/v1/me", TOKEN);
+  const mine = [rules.activityOf(setup.products, me.demands)];
+  if (accepted) mine.push(rules.activityOf(setup.products, rules.askedDemands(setup.products, accepted)));
+  activities++;
+  if (mine.every((activity) => activity === BigInt(me.activity))) return;
+  others++;
+  console.log(JSON.stringify({ mine: mine.map(String), me, accepted }));
+}
+
+/** The words of each fault stand in a document, at its row of the table: what is wrong, and what to do. */
+function compareWords() {
+  const rows = new Map();
+  for (const name of ["operators", "bidders"]) {
+    const text = fs.readFileSync(path.join(path.dirname(rulesFile), "../docs", name + ".md"), "utf8");
+    for (const [, code, wrong, mend] of text.matchAll(/^\| `([a-z_]+)` \| \d+ \| (.*?) \| (.*?) \|$/gm)) {
+      rows.set(code, `${wrong}: ${mend}`.replace(" at `place`", ""));
+    }
+  }
+  for (const [code, words] of Object.entries(rules.WORDS)) {
+    if (rows.get(code) === words) continue;
+    others++;
+    console.log(`${code}: the page says "${words}", and the document "${rows.get(code)}"`);
+  }
+  return Object.keys(rules.WORDS).length;
+}
 
 async function play(folder) {
   const setup = setUp(), port = await freePort(), file = path.join(folder, "set-up.json");
@@ -80,12 +108,14 @@ async function play(folder) {
   for (let round = 1; round <= 4 && sheets < SHEETS; round++) {
     const now = await terms(port, setup);
     if (!now) break;
+    let accepted = [];
     for (let n = 0; n < EACH && sheets < SHEETS; n++, sheets++) {
       const bids = randomSheet(now), reply = await ask(port, "PUT", "/v1/me/bids", TOKEN, { bids, round: now.round });
       const mine = rules.firstFault(now, bids), code = reply.accepted ? "accepted" : reply.code;
       told[code] = (told[code] ?? 0) + 1;
+      if (reply.accepted) accepted = bids;
       if ((mine?.code ?? "accepted") === code && mine?.place === reply.place) continue;
-      others++;
+      wrong++;
       console.log(JSON.stringify({ mine, reply, bids, held: now.held, prices: now.prices, round: now.round }));
     }
     // rivals keep all blocks, so that the auction goes on
@@ -95,13 +125,16 @@ async function play(folder) {
     }
     const increments = setup.products.map(() => from(5, 50));
     await ask(port, "POST", "/v1/close", OPERATOR, { increments, round: now.round, ties: [] });
+    await compareActivity(port, setup, round === 1 && accepted);
   }
   server.kill();
 }
 
+const words = compareWords();
 const folder = fs.mkdtempSync(path.join(os.tmpdir(), "rules-"));
 while (sheets < SHEETS) await play(folder);
 fs.rmSync(folder, { recursive: true });
 const counts = Object.entries(told).sort().map(([code, count]) => `${code} ${count}`).join(", ");
-console.log(`web/check_rules: ${sheets} random sheets, ${sheets - others} judged as the server judges them (${counts})`);
-process.exit(others ? 1 : 0);
+console.log(`web/check_rules: ${sheets} random sheets, ${sheets - wrong} judged as the server judges them (${counts}); ` +
+  `${activities} activities as the server counts them; ${words} faults in the words of docs/`);
+process.exit(wrong + others ? 1 : 0);

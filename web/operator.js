@@ -1,16 +1,15 @@
-// The operator's page: increments, tie numbers, closing with a question first, the results of all, the sheet of each round.
+// The operator's page: increments, tie numbers, closing with a question first, the results of all bidders, the sheet of each round.
 
 import { Asker, watch } from "./api.js";
 import { save, written } from "./csv.js";
-import { Rows, at, dollars, make, number } from "./page.js";
+import { at, cell, counted, demandOf, dollars, door, facts, lastClosed, make, number, options, question, rowHead, say, sum, unask } from "./page.js";
 import { activityOf, wordsOf } from "./rules.js";
+import { Rows } from "./table.js";
 
-const MOST_TIES = 16_384;
+const MOST_TIES = 16_384, LONG = 72; // letters that a row has room for
 const rounds = new Map();
-let asker, page, results, status, asked, ties = [], increments = [], stop = () => {}, gone = false;
+let asker, page, results, status, ties = [], increments = [], stop = () => {}, gone = false;
 
-const say = (text) => { at("say").textContent = text; };
-const cell = (label, ...inside) => make("td", { "data-label": label }, ...inside);
 const incTable = new Rows(at("incframe"), at("incbody"), drawIncrement);
 const resTable = new Rows(at("resframe"), at("resbody"), drawBidder);
 const pastTable = new Rows(at("pastframe"), at("pastbody"), drawProduct);
@@ -24,154 +23,171 @@ function below(n) {
 
 /** Tie numbers for the pairs of bidders and products in random order: all pairs, or as many as one closing may list, drawn from all. */
 function drawTies() {
-  const products = page.products.length, pairs = results.bidders.length * products;
-  const places = Array.from({ length: pairs }, (_, pair) => pair), listed = Math.min(pairs, MOST_TIES);
+  const products = page.products.length, pairs = results.bidders.length * products, listed = Math.min(pairs, MOST_TIES);
+  const places = Array.from({ length: pairs }, (_, pair) => pair);
   for (let k = 0; k < listed; k++) {
     const other = k + below(pairs - k);
     [places[k], places[other]] = [places[other], places[k]];
   }
   ties = places.slice(0, listed).map((pair, k) => [Math.floor(pair / products), pair % products, k + 1]);
-  at("ties").textContent = listed < pairs
-    ? `Tie numbers are drawn for ${number(listed)} of ${number(pairs)} pairs of bidder and product, which is the most that a closing may list. The others have 0 and come before them.`
-    : `Tie numbers are drawn at random for all ${number(pairs)} pairs of bidder and product.`;
+  const time = new Date().toLocaleTimeString("en-GB"), whole = `all ${number(pairs)} pairs of bidder and product`;
+  at("ties").textContent = listed === pairs ? `Drawn at random at ${time}, for ${whole}.`
+    : `Drawn at random at ${time}, for ${number(listed)} of ${whole}: a closing may list no more. The others have 0 and come before them.`;
 }
 
-/** The last closed round, or 0. */
-function lastClosed() {
-  return status.ended ? status.round : status.round - 1;
-}
-
-function tellClosed() {
-  say(`✓ Round ${lastClosed()} is closed. ${status.ended ? "The auction has ended." : `Round ${status.round} is open.`}`);
-}
-
+/** Asks for the results, the status and the last closed round, and draws tie numbers for the next closing. */
 async function load() {
   page ??= await asker.products();
   results = await asker.results();
-  status = await asker.status();
-  const last = lastClosed();
+  const now = await asker.status(), last = lastClosed(now);
+  if (status && now.round < status.round) rounds.clear(); // the server was started anew
   if (last > 0 && !rounds.has(last)) rounds.set(last, (await asker.round(last)).products);
+  status = now;
   drawTies();
   drawAll(last);
+}
+
+function tellClosed() {
+  say(`✓ Round ${lastClosed(status)} is closed. ${status.ended ? "The auction has ended." : `Round ${status.round} is open.`}`);
 }
 
 function drawAll(last) {
   at("round").textContent = status.ended ? `Ended after round ${status.round}` : `Round ${status.round} is open`;
   document.title = `${status.ended ? "Ended" : "Round " + status.round} · operator · clock auction`;
   at("closing").hidden = status.ended;
-  if (asked?.round <= last) at("question").hidden = true;
   at("eachlabel").hidden = page.version === 1;
-  at("ask").textContent = `Close round ${status.round}`;
-  at("which").replaceChildren(...Array.from({ length: last }, (_, n) => make("option", { value: last - n }, last - n)));
+  at("ask").textContent = `Close round ${status.round} …`;
+  at("asof").textContent = last === 0 ? "No round is closed yet: nobody holds anything."
+    : status.ended ? "What each bidder won, and pays." : `What each bidder holds since round ${last} was closed, at its posted prices. Sheets of the open round are not told here.`;
+  at("pastdesk").hidden = last === 0;
   if (increments.length !== page.products.length) increments = page.products.map(() => "");
+  drawFacts(last);
   incTable.set(page.products.map((_, p) => String(p)));
   resTable.set(results.bidders.map((_, b) => String(b)));
+  const stays = at("which").options.length > 0 && Number(at("which").value) < last - 1; // somebody reads an earlier round
+  options(at("which"), Array.from({ length: last }, (_, n) => [last - n, last - n]));
+  if (!stays) at("which").value = last || "";
   showRound();
 }
 
+/** A product's posted price in the last closed round, or its opening price. */
+function posted(p) {
+  return rounds.get(lastClosed(status))?.[p].posted ?? page.products[p].opening;
+}
+
+const paid = (bidder) => bidder.demands.reduce((cost, blocks, p) => cost + BigInt(blocks) * BigInt(posted(p)), 0n);
+
+function drawFacts(last) {
+  const held = sum(results.bidders.map((bidder) => sum(bidder.demands))), supply = sum(page.products.map((product) => product.supply));
+  const tight = rounds.get(last)?.filter((sold) => sold.demand !== null).length ?? 0;
+  const active = results.bidders.filter((bidder) => bidder.eligibility > 0).length;
+  facts("facts", [
+    ["Bidders with eligibility", `${number(active)} of ${number(results.bidders.length)}`],
+    ["Products above supply", last ? `${number(tight)} of ${number(page.products.length)}` : "–"],
+    [status.ended ? "Blocks won" : "Blocks held", `${number(held)} of ${number(supply)}`],
+    [status.ended ? "Proceeds" : "At posted prices", dollars(results.bidders.reduce((cost, bidder) => cost + paid(bidder), 0n))],
+  ]);
+}
+
+/** Shows the chosen round, which is asked for where it is not known yet. */
 async function showRound() {
-  const n = Number(at("which").value);
+  const round = Number(at("which").value);
   try {
-    if (n && !rounds.has(n)) rounds.set(n, (await asker.round(n)).products);
+    if (round && !rounds.has(round)) rounds.set(round, (await asker.round(round)).products);
   } catch (fault) {
     say("⚠ " + wordsOf(fault.code));
   }
-  pastTable.set(rounds.has(n) ? page.products.map((_, p) => String(p)) : []);
+  if (Number(at("which").value) === round) pastTable.set(rounds.has(round) ? page.products.map((_, p) => String(p)) : []);
 }
 
 function drawIncrement(key) {
-  const product = page.products[key], posted = rounds.get(status.round - 1)?.[key].posted ?? product.opening;
-  const input = make("input", { inputmode: "numeric", "aria-label": `Increment of ${product.name}, percent`, placeholder: at("increment").value,
-    oninput: (event) => { increments[key] = event.target.value; } });
+  const product = page.products[key];
+  const input = make("input", {
+    inputmode: "numeric", autocomplete: "off", "aria-label": `Increment of ${product.name}, percent`, placeholder: at("increment").value,
+    "data-key": key, "data-field": "increment", oninput: () => { increments[key] = input.value; },
+  });
   input.value = increments[key];
-  return make("tr", {}, make("th", { scope: "row" }, product.name), cell("Start", dollars(posted)), cell("Increment", input));
-}
-
-function owed(bidder) {
-  const last = rounds.get(lastClosed());
-  return bidder.demands.reduce((sum, held, p) => sum + BigInt(held) * BigInt(last?.[p].posted ?? page.products[p].opening), 0n);
+  return make("tr", {}, rowHead(product.name), cell("Posted", dollars(posted(key))), cell("Increment, percent", input));
 }
 
 function drawBidder(key) {
-  const bidder = results.bidders[key], held = bidder.demands.map((n, p) => (n ? `${page.products[p].name} ${n}` : "")).filter(Boolean);
-  const told = held.length > 12 ? `${held.length} products (see the CSV)` : held.join(", ") || "none";
-  return make("tr", {}, make("th", { scope: "row" }, bidder.name), cell("Eligibility", number(bidder.eligibility)),
-    cell("Activity", number(activityOf(page.products, bidder.demands))), cell("Blocks", told), cell("At posted prices", dollars(owed(bidder))));
+  const bidder = results.bidders[key];
+  const held = bidder.demands.flatMap((blocks, p) => (blocks ? [`${page.products[p].name} ${blocks}`] : []));
+  const all = held.join(", ") || "none";
+  const told = all.length > LONG ? `${counted(sum(bidder.demands), "block")} of ${counted(held.length, "product")} (see the CSV)` : all;
+  return make("tr", {}, rowHead(bidder.name), cell("Eligibility", number(bidder.eligibility)),
+    cell("Activity", number(activityOf(page.products, bidder.demands))), cell("At posted prices", dollars(paid(bidder))), cell("Blocks", told));
 }
 
 function drawProduct(key) {
   const sold = rounds.get(Number(at("which").value))[key], product = page.products[key];
-  return make("tr", {}, make("th", { scope: "row" }, product.name), cell("Start", dollars(sold.start)), cell("Clock", dollars(sold.clock)), cell("Posted", dollars(sold.posted)),
-    cell("Demand", sold.demand === null ? `≤ ${product.supply}` : `${number(sold.demand)} of ${product.supply}`), cell("Next", dollars(sold.next)));
+  return make("tr", {}, rowHead(product.name), cell("Start", dollars(sold.start)), cell("Clock", dollars(sold.clock)),
+    cell("Posted", dollars(sold.posted)), cell("Demand", demandOf(sold, product)), cell("Next clock", dollars(sold.next)));
 }
 
 /** The closing as it is set on the page, or null where an increment can't be read. */
 function closing() {
-  const all = at("each").checked ? increments.map((text) => text.trim() || at("increment").value.trim()) : page.products.map(() => at("increment").value.trim());
+  const one = at("increment").value.trim(), each = at("each").checked;
+  const all = page.products.map((_, p) => (each && increments[p].trim()) || one);
   if (all.some((text) => !/^\d{1,3}$/.test(text) || Number(text) < 1 || Number(text) > 50)) return null;
   const base = { round: status.round, ties };
-  return page.version === 1 ? { ...base, increment: Number(all[0]) } : { ...base, increments: all.map(Number) };
+  return page.version === 1 ? { ...base, increment: Number(one) } : { ...base, increments: all.map(Number) };
 }
 
-/** Asks first. What is closed is what the question names, though another round has come since. */
-function question() {
-  asked = closing();
-  if (!asked) return say("⚠ Not closed: " + wordsOf("increment") + ".");
-  at("asked").textContent = `Close round ${asked.round} for all bidders? What is not sent by now does not count, and this can't be taken back.`;
-  at("question").hidden = false;
-  at("no").focus();
-}
-
+/** Asks first, and closes. What is closed is what the question names, though another round has come since. */
 async function close() {
-  at("question").hidden = true;
+  const asked = closing();
+  if (!asked) return say("⚠ Not closed: " + wordsOf("increment") + ".");
+  if (!await question(`Close round ${asked.round} for all bidders? What is not sent by now does not count, and this can't be taken back.`)) return;
   try {
     await asker.close(asked);
     await load();
     tellClosed();
   } catch (fault) {
-    const product = fault.code === "price_limit" ? page.products[fault.place]?.name : undefined;
-    say(`⚠ Refused: ${wordsOf(fault.code)}${product ? ` (${product})` : ""}. ${fault.status ? "Nothing was closed." : "Look whether the round has risen."}`);
+    tellRefused(fault);
   }
 }
 
+function tellRefused(fault) {
+  const product = fault.code === "price_limit" ? page.products[fault.place]?.name : undefined;
+  if (fault.status === 0) return say(`⚠ ${wordsOf(fault.code)}. Nobody knows whether the round was closed: look whether it has risen before you send it again.`);
+  say(`⚠ Refused: ${wordsOf(fault.code)}${product ? ` (${product})` : ""}. Nothing was closed.`);
+}
+
+/** A line for each bidder and product that it holds. */
 function saveResults() {
-  const rows = results.bidders.flatMap((bidder) => bidder.demands.flatMap((held, p) => (held ? [[bidder.name, page.products[p].name, held, (rounds.get(lastClosed())?.[p].posted ?? page.products[p].opening)]] : [])));
-  save(`results-${lastClosed()}.csv`, written([["bidder", "product", "blocks", "posted"], ...rows]));
+  const rows = results.bidders.flatMap((bidder) => bidder.demands.flatMap((blocks, p) =>
+    (blocks ? [[bidder.name, page.products[p].name, blocks, posted(p)]] : [])));
+  save(`results-${lastClosed(status)}.csv`, written([["bidder", "product", "blocks", "posted"], ...rows]));
 }
 
 async function heard(now) {
-  if (!now) {
-    gone = true;
-    at("link").textContent = "⚠ Nothing answers. It is asked again every five seconds.";
-    return;
-  }
   const risen = now.round > status.round || (now.ended && !status.ended);
-  if (gone || risen) await load();
+  if (risen) unask();
+  if (gone || risen || now.round < status.round) await load();
   if (risen) tellClosed();
   gone = false;
   at("link").textContent = "";
 }
 
-at("door").addEventListener("submit", async (event) => {
-  event.preventDefault();
+function missed(fault) {
+  gone = true;
+  at("link").textContent = `⚠ ${fault.status ? wordsOf(fault.code) + "." : "Nothing answers."} It is asked again every five seconds.`;
+}
+
+async function enter(token) {
   stop();
-  asker = new Asker(at("token").value.trim());
-  at("token").value = "";
-  try {
-    at("desk").hidden = false;
-    await load();
-    at("door").hidden = true;
-    say("");
-    stop = watch(asker, heard);
-  } catch (fault) {
-    at("desk").hidden = true;
-    say("⚠ " + wordsOf(fault.code ?? String(fault)));
-  }
-});
-at("ask").addEventListener("click", question);
-at("yes").addEventListener("click", close);
-at("no").addEventListener("click", () => { at("question").hidden = true; at("ask").focus(); });
+  asker = new Asker(token);
+  page = results = status = undefined;
+  rounds.clear();
+  await load();
+  stop = watch(asker, heard, missed);
+}
+
+door(enter, wordsOf);
+at("ask").addEventListener("click", close);
 at("draw").addEventListener("click", () => { drawTies(); say("Tie numbers are drawn anew."); });
 at("each").addEventListener("change", () => { at("incframe").hidden = !at("each").checked; });
+at("increment").addEventListener("input", () => { for (const input of at("incbody").querySelectorAll("input")) input.placeholder = at("increment").value; });
 at("save").addEventListener("click", saveResults);
 at("which").addEventListener("change", showRound);

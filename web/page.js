@@ -1,4 +1,4 @@
-// What both pages draw with: elements whose text is never HTML, numbers in words, and a table that lays out only the rows that are seen.
+// What both pages draw with: elements whose text is never HTML, numbers in words, facts, cells, a question, and the door.
 
 export const at = (id) => document.getElementById(id);
 
@@ -14,61 +14,66 @@ export function make(tag, attributes = {}, ...children) {
 }
 
 export const number = (n) => (n === null || n === undefined ? "–" : n.toLocaleString("en-US"));
+export const dollars = (n) => (n === null || n === undefined ? "–" : "$" + number(n));
 /** A count with its word, which is in the plural but for one. */
 export const counted = (n, word) => `${number(n)} ${word}${n === 1 ? "" : "s"}`;
-export const dollars = (n) => (n === null || n === undefined ? "–" : "$" + number(n));
+export const sum = (numbers) => numbers.reduce((a, b) => a + b, 0);
 
-/** A table body that holds as many rows as are seen, and empty room for the others. Rows are all as high as `--row`. */
-export class Rows {
-  #keys = [];
-  #shown = new Map();
+/** The last closed round of an auction of that status, or 0. */
+export const lastClosed = (status) => (status.ended ? status.round : status.round - 1);
+/** What was asked for of a product in a closed round, which is told only where it is above the supply. */
+export const demandOf = (sold, product) =>
+  (sold.demand === null ? `≤ ${number(product.supply)}` : `${number(sold.demand)} of ${number(product.supply)}`);
 
-  constructor(frame, body, draw) {
-    Object.assign(this, { frame, body, draw });
-    this.above = make("tr", { "aria-hidden": "true", class: "room" });
-    this.below = make("tr", { "aria-hidden": "true", class: "room" });
-    frame.addEventListener("scroll", () => this.lay(), { passive: true });
-    new ResizeObserver(() => this.lay()).observe(frame);
-  }
+/** A message to the person, which a screen reader says at once. */
+export const say = (text) => { at("say").textContent = text; };
 
-  /** Takes the rows by their keys, and draws those that are seen anew. */
-  set(keys) {
-    this.#keys = keys;
-    this.#shown.clear();
-    this.body.replaceChildren(this.above, this.below);
-    this.body.closest("table").setAttribute("aria-rowcount", keys.length + 1);
-    this.lay();
-  }
+/** A cell with its label, which stands above it where the table is drawn as cards. */
+export const cell = (label, ...inside) => make("td", { "data-label": label }, ...inside);
+export const rowHead = (text) => make("th", { scope: "row" }, text);
 
-  /** The rows that are laid out now, by key. */
-  get shown() { return this.#shown; }
+/** Fills a list with names and values; a third word, if there is one, says what the value was before. */
+export function facts(id, rows) {
+  at(id).replaceChildren(...rows.map(([name, value, before]) =>
+    make("div", {}, make("dt", {}, name), make("dd", {}, value, ...(before ? [make("small", {}, ` was ${before}`)] : [])))));
+}
 
-  lay() {
-    const high = parseFloat(getComputedStyle(this.frame).getPropertyValue("--row")) || 40;
-    const first = Math.max(0, Math.floor(this.frame.scrollTop / high) - 8);
-    const last = Math.min(this.#keys.length, first + Math.ceil(this.frame.clientHeight / high) + 16);
-    const wanted = new Set(this.#keys.slice(first, last));
-    for (const [key, row] of this.#shown) if (!wanted.has(key)) { row.remove(); this.#shown.delete(key); }
-    let before = this.above;
-    for (let place = first; place < last; place++) {
-      const key = this.#keys[place];
-      let row = this.#shown.get(key);
-      if (!row) {
-        row = this.draw(key);
-        row.setAttribute("aria-rowindex", place + 2);
-        this.#shown.set(key, row);
-        before.after(row);
-      }
-      before = row;
+/** Puts options into a select, and keeps what is selected where it is still there. */
+export function options(select, pairs) {
+  const kept = select.value;
+  select.replaceChildren(...pairs.map(([value, text]) => make("option", { value }, text)));
+  if (pairs.some(([value]) => String(value) === kept)) select.value = kept;
+}
+
+/** Asks a question with a yes and a no; true for yes. Escape, and `unask`, are no. */
+export function question(words) {
+  const dialog = at("question");
+  at("asked").textContent = words;
+  dialog.returnValue = "no";
+  dialog.showModal();
+  return new Promise((done) => dialog.addEventListener("close", () => done(dialog.returnValue === "yes"), { once: true }));
+}
+
+/** Takes a question back that is not answered yet. */
+export function unask() {
+  if (at("question").open) at("question").close("no");
+}
+
+/** The door: `enter` is called with each token that is typed; where it fails the door stays, and its words are said. */
+export function door(enter, words) {
+  at("door").addEventListener("submit", async (event) => {
+    event.preventDefault();
+    const token = at("token").value.trim();
+    at("token").value = "";
+    at("desk").hidden = false; // rows are laid out by the height of what is seen
+    try {
+      await enter(token);
+      at("door").hidden = true;
+      say("");
+      at("round").focus();
+    } catch (fault) {
+      at("desk").hidden = true;
+      say("⚠ " + words(fault.code ?? String(fault)));
     }
-    this.above.style.height = first * high + "px";
-    this.below.style.height = (this.#keys.length - last) * high + "px";
-  }
-
-  /** Brings a row into sight. */
-  show(key) {
-    const high = parseFloat(getComputedStyle(this.frame).getPropertyValue("--row")) || 40;
-    this.frame.scrollTop = Math.max(0, this.#keys.indexOf(key) * high - high);
-    this.lay();
-  }
+  });
 }

@@ -4,35 +4,39 @@
 
 export const MOST_BIDS = 8192;
 
-/** What each fault of a sheet or of its sending means, in the words of docs/bidders.md. */
+/** What each fault of a sheet, a closing or a request means, and what to do: in the words of docs/bidders.md and docs/operators.md. */
 export const WORDS = {
   too_many: "more than 8,192 bids: send fewer",
-  unknown_product: "no product has that number",
+  unknown_product: "no product has that number: count products from 0",
   price_range: "the price is not from start to clock: take the prices of this round",
   over_cap: "the quantity is above the product's cap: ask for less",
-  price_order: "an earlier bid for the product has this price or a higher one: give rising prices",
+  price_order: "an earlier bid for the product has this price or a higher one: give each product's bids with rising prices",
   mixed_direction: "the quantity doesn't go on in the direction of the bids before it: only less and less, or only more and more",
   keep_price: "the quantity is what you hold, and the price not the clock price: to keep, bid at the clock price",
   over_activity: "the sheet asks for more activity than it may: ask for less of something",
+  increment: "an increment is not 1 to 50, or there is not one for each product: mend it",
+  too_many_ties: "more than 16,384 tie numbers: send fewer",
+  price_limit: "the next clock price of the product would be above 10^12 dollars: take a smaller increment",
+};
+
+/** What the documents tell in words of requests, in words of these pages. */
+const OF_REQUESTS = {
   ended: "the auction is over: read the last round",
   wrong_round: "another round is the current one: read the new prices, and bid anew",
-  no_round: "that round is not closed",
-  token: "no token, or a token of nobody",
-  role: "this token is not for this page",
-  memory: "the server had no memory; nothing was changed: send it again",
-  no_answer: "nothing answers: it is asked again",
-  long_body: "the sheet is too long to be sent",
-  shape: "a value is no whole number from 0 on",
-  bad_json: "what was sent is no JSON",
-  increment: "an increment is not 1 to 50, or there is not one for each product",
-  too_many_ties: "more than 16,384 tie numbers: send fewer",
-  tie_range: "a tie number names a bidder or product that there is not",
-  tie_repeated: "a pair has two tie numbers",
-  price_limit: "the next clock price of a product would be above 10^12 dollars: take a smaller increment",
+  no_round: "that round is not closed: choose a closed one",
+  token: "no token, or a token of nobody: type it again",
+  role: "this token is not for this page: it is not yours",
+  memory: "the server had no memory, and nothing was changed: send it again",
+  long_body: "the sheet is too long to be sent: send fewer bids",
+  too_often: "you asked too often: wait a little, and ask again",
+  no_answer: "nothing answers",
 };
 
 /** The words of a code, or the code where it has none here. */
-export const wordsOf = (code) => (Object.hasOwn(WORDS, code) ? WORDS[code] : "refused: " + code);
+export function wordsOf(code) {
+  const words = [WORDS, OF_REQUESTS].find((known) => Object.hasOwn(known, code));
+  return words ? words[code] : "refused: " + code;
+}
 
 /** The activity of demands, one for each product. */
 export function activityOf(products, demands) {

@@ -2,7 +2,7 @@
 use Rattle.std.proofs.Common.{◌≡◌, ℕ, ◌+◌, ◌≤◌, Bool, true, false, ◌||◌, List, [], Option, Ok, Err, length, refl, subst, ◌∙◌, inl, arith}
 use Rattle.clock_device.specs.Streams.{HasRead}
 use Rattle.clock_device.proofs.Streams.{read_nothing, read_twice, same_bytes}
-use Rattle.clock_http.specs.Framing.{framing, known, needs_more}
+use Rattle.clock_http.specs.Framing.{framing, needs_more}
 use Rattle.clock_device.specs.Readings.{Reading}
 use Rattle.clock_front.specs.Arrivals.{IsReadByNeed, HasArrived, HasNoRoom, EndsArrival}
 use Rattle.clock_front.specs.inside.Arrivals.{IsStepOf, is_read_fault}
@@ -10,7 +10,7 @@ use Rattle.clock_front.specs.declared.reading.Unread.{Unread}
 use Rattle.clock_front.specs.declared.reading.Unread.TheVariants as unread
 
 pub nothing_needs_more : needs_more [] ≡ true
-unfolding framing known
+unfolding framing
 nothing_needs_more = refl
 
 pub nothing_read : (bytes : Option (List ℕ)) → HasRead bytes bytes []

@@ -5,12 +5,12 @@ use Rattle.std.specs.Prelude.{Option, Some, None}
 use Rattle.std.proofs.lemmas.List.{length-map, get_or-map}
 use Rattle.std.specs.Cmp.Lexicographic.{bytes_decides}
 use Rattle.clock_terms.specs.declared.setup.Bidder.{Bidder as BidderRow}
-use Rattle.clock_terms.specs.Limits.{SetupFields, IsSetup}
+use Rattle.clock_terms.specs.Limits.{SetupFields}
 use Rattle.clock_house.specs.History.{bidder_at}
 use Rattle.clock_http.specs.Heads.{same_bytes}
 use Rattle.clock_front.specs.Views.{has_token}
 use Rattle.clock_front.specs.declared.tokens.Asker.TheVariants.{Operator, Bidder}
-use Rattle.clock_front.specs.Askers.{bidder_tokens, holder, asker}
+use Rattle.clock_front.specs.Askers.{bidder_tokens, holder, asker, HasOwnTokens}
 
 same : (a b : List ℕ) → same_bytes a b ≡ true → a ≡ b
 same a b e = (bytes_decides a b).0 e
@@ -58,19 +58,19 @@ holds i n [] token e = absurd cc
 holds i n (bidder ∷ bidders) token e =
     holds_if (same_bytes token bidder.token) i n bidder bidders token refl (holds (suc i) n bidders token) e
 
-module _ (setup : SetupFields) (limits : IsSetup setup) where
+module _ (setup : SetupFields) (tokens : HasOwnTokens setup) where
   token_at : (b : ℕ) → b < length setup.bidders → get_or (map (λ (row : BidderRow). row.token) setup.bidders) b [] ≡ (bidder_at setup b).token
   token_at b lt = get_or-map (λ (row : BidderRow). row.token) setup.bidders b no_bidder [] lt
 
   -- the operator's token is no bidder's
   operator_apart : (b : ℕ) → b < length setup.bidders → (bidder_at setup b).token ≡ setup.operator → ⊥
   operator_apart b lt e =
-      limits.tokens 0 (suc b) [] (omega arith) (omega (arith, lt, length-map setup.bidders (λ (row : BidderRow). row.token))) (sym e ∙ sym (token_at b lt))
+      tokens 0 (suc b) [] (omega arith) (omega (arith, lt, length-map setup.bidders (λ (row : BidderRow). row.token))) (sym e ∙ sym (token_at b lt))
 
   -- no earlier bidder has a bidder's token
   earlier_apart : (b d : ℕ) → b < d → d < length setup.bidders → (bidder_at setup b).token ≡ (bidder_at setup d).token → ⊥
   earlier_apart b d smaller lt e =
-      limits.tokens (suc b) (suc d) [] (omega (arith, smaller)) (omega (arith, lt, length-map setup.bidders (λ (row : BidderRow). row.token)))
+      tokens (suc b) (suc d) [] (omega (arith, smaller)) (omega (arith, lt, length-map setup.bidders (λ (row : BidderRow). row.token)))
       (token_at b (omega (arith, smaller, lt)) ∙ e ∙ sym (token_at d lt))
 
   -- the bidder whose token was sent is the asker

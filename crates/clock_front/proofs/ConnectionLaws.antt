@@ -3,7 +3,7 @@ use Rattle.std.proofs.Common.{◌≡◌, ◌≢◌, Bool, true, false, List, [],
 use Rattle.std.proofs.Common.{refl, sym, ◌∙◌, ap, subst, true≢false}
 use Rattle.clock_house.specs.House.{HouseFields}
 use Rattle.clock_http.specs.Replies.{Answer}
-use Rattle.clock_http.specs.Framing.{framing, known, needs_more}
+use Rattle.clock_http.specs.Framing.{framing, needs_more}
 use Rattle.clock_front.specs.declared.connections.Conn.{Conn}
 use Rattle.clock_front.specs.declared.hub_fault.HubFault.{HubFault}
 use Rattle.clock_front.specs.declared.fed.Fed.{Fed}
@@ -82,7 +82,7 @@ pub waits_no_more : (new : ConnectionFields) (conn : Conn) → text_of new conn 
 waits_no_more new conn gone text at = absurd (true≢false (sym (ap is_some (sym gone ∙ at))))
 
 no_bytes_wait : needs_more [] ≡ true
-unfolding framing known
+unfolding framing
 no_bytes_wait = refl
 
 -- a connection was made, or nothing has changed

@@ -8,11 +8,11 @@ use Rattle.clock_house.specs.History.{history}
 use Rattle.clock_house.specs.House.{HouseFields, StandsFor, IsFollowedBy, StandsStill}
 use Rattle.clock_bids.specs.declared.sheet.Bid.{Bid}
 use Rattle.clock_http.specs.declared.code.Code.{Code}
-use Rattle.clock_http.specs.declared.code.Code.TheVariants.{CutShort}
 use Rattle.clock_http.specs.Framing.{Head, Framing, incomplete, refusal, whole, framing, is_incomplete, needs_more}
 use Rattle.clock_http.proofs.FramedLaws.{refused_by, whole_head}
 use Rattle.std.specs.Prelude.{IfOk, OnOk}
 use Rattle.clock_views.specs.Refusals.{alone}
+use Rattle.clock_views.specs.RefusalPage.{refusal_bytes}
 use Rattle.clock_views.proofs.Codes.{refusal_in_bytes}
 use Rattle.clock_http.specs.Replies.{Answer, reply_bytes}
 use Rattle.clock_front.specs.FixedReplies.{refusal_of, cut_short}
@@ -20,7 +20,7 @@ use Rattle.clock_front.specs.inside.FixedReplies.{is_fixed}
 use Rattle.clock_front.specs.Requests.{Ask, Request, ask_of, ask_by_route, request_of}
 use Rattle.clock_http.specs.Routes.{page_of}
 use Rattle.clock_front.specs.declared.tokens.Asker.{Asker}
-use Rattle.clock_front.specs.Outcomes.{Outcome, outcome, answer_of, refused as told_refused}
+use Rattle.clock_front.specs.Outcomes.{Outcome, outcome, answer_of}
 use Rattle.clock_front.specs.Fronts.{house_after, text_command, commands_of, StandsForTexts}
 
 -- a text that is refused at its head or at its length is refused by a reply that is always the same
@@ -94,14 +94,15 @@ pub if_done : {A N : Type 0} {P : Type 0} (told : Result A N) → P → OnOk tol
 if_done (Ok reply) is = is
 if_done (Err e) is = tt
 
--- a constant reply is that of the refusal by its code alone
-pub constant_answer : (code : Code) → refusal_of code ≡ answer_of (told_refused (alone code))
-constant_answer code =
-    let told : List ℕ → Answer = λ page. record { code = code; bytes = reply_bytes code None page } in
-    ap told (sym (refusal_in_bytes (alone code)))
+-- the constant bytes are those of the refusal by its code alone
+abbrev pub constant_bytes : Code → List ℕ
+constant_bytes code = reply_bytes code None (refusal_bytes (alone code))
+
+pub constant_reply : (code : Code) → constant_bytes code ≡ (refusal_of code).bytes
+constant_reply code = ap (reply_bytes code None) (sym (refusal_in_bytes (alone code)))
 
 -- the reply to a text that needed more when its input ended
 pub answered_cut_short : (house : HouseFields) (who : Asker) (text : List ℕ) → needs_more text ≡ true
     → answer_of (outcome house who (request_of text).ask) ≡ cut_short
 answered_cut_short house who text is =
-    ap (λ ask. answer_of (outcome house who ask)) (sym (ask_by text incomplete (sym (needs_by_test text is)))) ∙ sym (constant_answer CutShort)
+    ap (λ ask. answer_of (outcome house who ask)) (sym (ask_by text incomplete (sym (needs_by_test text is))))

@@ -1,12 +1,13 @@
 -- What is told of a closed round, and of none; which requests are no commands.
-use Rattle.std.proofs.Common.{◌≡◌, Option, Some, None, refl, sym, ap}
+use Rattle.std.proofs.Common.{◌≡◌, ℕ, Option, Some, None, refl, sym, ◌∙◌, ap}
 use Rattle.std.specs.Prelude.{option_map, Result}
 use Rattle.serde_json.specs.Data.{Data}
 use Rattle.clock_terms.specs.Limits.{SetupFields}
 use Rattle.clock_house.specs.Command.{other}
 use Rattle.clock_closing.specs.declared.closed_round.ClosedRound.{ClosedRound}
 use Rattle.clock_http.specs.declared.code.Code.{Code}
-use Rattle.clock_views.specs.Refusals.{alone}
+use Rattle.clock_views.specs.Refusals.{Shown}
+use Rattle.clock_http.specs.Replies.{Answer}
 use Rattle.clock_http.specs.declared.routes.Page.{Page}
 use Rattle.clock_front.specs.declared.tokens.Asker.{Asker}
 use Rattle.clock_front.specs.declared.tokens.Asker.TheVariants.{Nobody, Operator, Bidder}
@@ -17,7 +18,7 @@ use Rattle.clock_bodies.specs.declared.close_body.CloseBody.{CloseBody}
 use Rattle.clock_bodies.specs.declared.body_fault.BodyFault.{BodyFault}
 use Rattle.clock_front.specs.Requests as asked
 use Rattle.clock_front.specs.inside.ShownAsked.{shown_reading}
-use Rattle.clock_front.specs.Outcomes.{Outcome, for_bidder, for_operator, done, refused, page_or_no_round, turned_away_by, unless_turned_away, command_of}
+use Rattle.clock_front.specs.Outcomes.{Outcome, answer_of, done, refused, page_or_no_round, command_of}
 
 -- a page of a part of the closed round that is there
 pub found_page : {T : Type 0} (value : T → Data) (part : ClosedRound → T) (closed : Option ClosedRound) (x : T) → Some x ≡ option_map part closed
@@ -26,8 +27,8 @@ found_page value part None x is = absurd cc
 found_page value part (Some round) x is = (let same : x ≡ part round = cc in ap (λ y. done (value y)) same)
 
 -- an asker that may not see a page is told why
-pub turned : (away : Option Code) (code : Code) (outcome : Outcome) → away ≡ Some code → refused (alone code) ≡ unless_turned_away away outcome
-turned away code outcome is = sym (ap (λ a. unless_turned_away a outcome) is)
+pub turned : (answer : Answer) (away : Shown) (outcome : Outcome) → outcome ≡ refused away → answer ≡ answer_of (refused away) → answer ≡ answer_of outcome
+turned answer away outcome is told = told ∙ sym (ap answer_of is)
 
 -- ---- requests that are no commands
 
@@ -48,17 +49,17 @@ reading_other setup (Bidder b) reading.Bids = refl
 reading_other setup (Bidder b) (reading.Slip segment) = refl
 reading_other setup (Bidder b) reading.Results = refl
 
-pub put_other : (setup : SetupFields) (asker : Asker) (code : Code) (body : Result PutBody BodyFault) → turned_away_by for_bidder asker ≡ Some code
+pub put_other : (setup : SetupFields) (asker : Asker) (body : Result PutBody BodyFault) → ((bidder : ℕ) → asker ≡ Bidder bidder → ⊥)
     → command_of setup asker (asked.put body) ≡ other
-put_other setup Nobody code body is = refl
-put_other setup Operator code body is = refl
-put_other setup (Bidder b) code body is = absurd cc
+put_other setup Nobody body none = refl
+put_other setup Operator body none = refl
+put_other setup (Bidder b) body none = absurd (none b refl)
 
-pub close_other : (setup : SetupFields) (asker : Asker) (code : Code) (body : Result CloseBody BodyFault) → turned_away_by for_operator asker ≡ Some code
+pub close_other : (setup : SetupFields) (asker : Asker) (body : Result CloseBody BodyFault) → (asker ≡ Operator → ⊥)
     → command_of setup asker (asked.close body) ≡ other
-close_other setup Nobody code body is = refl
-close_other setup Operator code body is = absurd cc
-close_other setup (Bidder b) code body is = refl
+close_other setup Nobody body none = refl
+close_other setup Operator body none = absurd (none refl)
+close_other setup (Bidder b) body none = refl
 
 pub away_other : (setup : SetupFields) (asker : Asker) (code : Code) → command_of setup asker (asked.turned_away code) ≡ other
 away_other setup Nobody code = refl

@@ -5,7 +5,7 @@ use Rattle.std.specs.Prelude.{Option, Some, None, option_map, option_and_then, s
 use Rattle.std.proofs.lemmas.Bool.Decides.{nat_tests}
 use Rattle.std.proofs.lemmas.List.FromFn.{get_or-map-range_with_len}
 use Rattle.clock_terms.specs.declared.setup.Bidder.{Bidder}
-use Rattle.clock_terms.specs.Limits.{SetupFields, IsSetup, PublicSetup, public_setup}
+use Rattle.clock_terms.specs.Limits.{SetupFields, PublicSetup, public_setup}
 use Rattle.clock_bids.specs.declared.sheet.Bid.{Bid}
 use Rattle.clock_bids.specs.Holding.{Holding}
 use Rattle.clock_posting.specs.declared.sheet.RoundSheet.{RoundSheet}
@@ -26,7 +26,7 @@ use Rattle.clock_bodies.specs.declared.close_body.CloseBody.{CloseBody}
 use Rattle.clock_bodies.specs.declared.body_fault.BodyFault.{BodyFault}
 use Rattle.clock_front.specs.declared.tokens.Asker.{Asker}
 use Rattle.clock_front.specs.declared.tokens.Asker.TheVariants as who
-use Rattle.clock_front.specs.Askers.{asker}
+use Rattle.clock_front.specs.Askers.{asker, HasOwnTokens}
 use Rattle.clock_http.specs.Decimals.{plain_number}
 use Rattle.clock_front.specs.Requests.{Ask, request_of}
 use Rattle.clock_front.specs.Requests as ask
@@ -91,26 +91,26 @@ other_seen setup b auction who.Operator (ask.close sent) not_b = closing_seen_of
 other_seen setup b auction _ _ not_b = refl
 
 -- the sheets and closings in a view of texts are what is seen of their commands
-text_seen : (setup : SetupFields) (b : ℕ) (limits : IsSetup setup) → b < length setup.bidders
+text_seen : (setup : SetupFields) (b : ℕ) (tokens : HasOwnTokens setup) → b < length setup.bidders
     → (past : List (List ℕ)) (text : List ℕ) (mine : Bool) → is_own (bidder_at setup b) text ≡ mine →
     typed_view (cond mine (own text ∷ []) (closings_of (seen_of setup b (history setup (commands_of setup past)) (text_command setup text))))
     ≡ seen_of setup b (history setup (commands_of setup past)) (text_command setup text)
-text_seen setup b limits lt past text true is =
+text_seen setup b tokens lt past text true is =
     append-nil (sheet_put (request_of text).ask)
     ∙ sym (own_seen setup b (history setup (commands_of setup past)) (request_of text).ask)
     ∙ ap (λ author. seen_of setup b (history setup (commands_of setup past)) (command_of setup author (request_of text).ask))
-    (sym (asker_own setup limits b lt (request_of text).token is))
-text_seen setup b limits lt past text false is =
+    (sym (asker_own setup tokens b lt (request_of text).token is))
+text_seen setup b tokens lt past text false is =
     other_seen setup b (history setup (commands_of setup past)) (asker setup (request_of text).token) (request_of text).ask
     (asker_other setup b (request_of text).token is)
 
-pub typed_view-text_view : (setup : SetupFields) (b : ℕ) (limits : IsSetup setup) → b < length setup.bidders → (past : List (List ℕ)) →
+pub typed_view-text_view : (setup : SetupFields) (b : ℕ) (tokens : HasOwnTokens setup) → b < length setup.bidders → (past : List (List ℕ)) →
     typed_view (text_view setup b past) ≡ view_of setup b (commands_of setup past)
-typed_view-text_view setup b limits lt [] = refl
-typed_view-text_view setup b limits lt (text ∷ past) =
+typed_view-text_view setup b tokens lt [] = refl
+typed_view-text_view setup b tokens lt (text ∷ past) =
     typed_view-append (seen_of_text setup b past text) (text_view setup b past)
-    ∙ ap (λ front. front ++ typed_view (text_view setup b past)) (text_seen setup b limits lt past text (is_own (bidder_at setup b) text) refl)
-    ∙ ap (λ rest. seen_of setup b (history setup (commands_of setup past)) (text_command setup text) ++ rest) (typed_view-text_view setup b limits lt past)
+    ∙ ap (λ front. front ++ typed_view (text_view setup b past)) (text_seen setup b tokens lt past text (is_own (bidder_at setup b) text) refl)
+    ∙ ap (λ rest. seen_of setup b (history setup (commands_of setup past)) (text_command setup text) ++ rest) (typed_view-text_view setup b tokens lt past)
 
 -- ---- a reply depends on what is known of the round that is asked for, and of no other
 abbrev Rounds : Type 0
@@ -232,18 +232,18 @@ module _ (setup : SetupFields) (b : ℕ) (lt : b < length setup.bidders) (comman
 -- ---- the headline
 
 pub answered_from_view : IsAnsweredFromView
-answered_from_view setup b past text limits lt is =
+answered_from_view setup b past text tokens lt is =
     ap (λ author. answer_of (outcome (house_after setup (commands_of setup past)) author (request_of text).ask))
-    (asker_own setup limits b lt (request_of text).token is)
+    (asker_own setup tokens b lt (request_of text).token is)
     ∙ ap answer_of (told_of_view setup b lt (commands_of setup past) (request_of text).ask)
     ∙ ap (λ view. answer_of (bidder_outcome (public_setup setup) (bidder_at setup b) (known_from (public_setup setup) (bidder_at setup b) view)
-    (request_of text).ask)) (sym (typed_view-text_view setup b limits lt past))
+    (request_of text).ask)) (sym (typed_view-text_view setup b tokens lt past))
 
 pub isolated : IsIsolated
-isolated one two b d past other_past text limits other_limits lb ld alike is =
+isolated one two b d past other_past text tokens other_tokens lb ld alike is =
     let is_other : is_own (bidder_at two d) text ≡ true = ap (λ row. is_own row text) (sym alike.row) ∙ is in
-    answered_from_view one b past text limits lb is
+    answered_from_view one b past text tokens lb is
     ∙ ap (λ public. answer public (bidder_at one b) (text_view one b past) text) alike.public
     ∙ ap (λ row. answer (public_setup two) row (text_view one b past) text) alike.row
     ∙ ap (λ view. answer (public_setup two) (bidder_at two d) view text) alike.view
-    ∙ sym (answered_from_view two d other_past text other_limits ld is_other)
+    ∙ sym (answered_from_view two d other_past text other_tokens ld is_other)

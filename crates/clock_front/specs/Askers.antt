@@ -4,9 +4,10 @@
 --     asker_by of token      who asks with a token, or with none, where a function tells whose it is
 --     IsKnown count asker      a bidder that asks is one of so many
 --     asker setup token      who asks with a token, or with none
-use Rattle.std.specs.Prelude.{ℕ, suc, List, [], ◌∷◌, if◌then◌else◌, Option, Some, None}
+--     HasOwnTokens setup      no two may ask with the same token
+use Rattle.std.specs.Prelude.{ℕ, suc, List, [], ◌∷◌, map, if◌then◌else◌, Option, Some, None}
 use Rattle.clock_terms.specs.declared.setup.Bidder.{Bidder as BidderRow}
-use Rattle.clock_terms.specs.Limits.{SetupFields}
+use Rattle.clock_terms.specs.Limits.{SetupFields, AreDistinct}
 use Rattle.clock_http.specs.Heads.{same_bytes}
 use Rattle.clock_front.specs.declared.tokens.Asker.{Asker}
 use Rattle.clock_front.specs.declared.tokens.Asker.TheVariants.{Nobody, Operator, Bidder}
@@ -32,3 +33,7 @@ asker_by of (Some token) = of token
 -- who asks
 abbrev pub asker : SetupFields → Option (List ℕ) → Asker
 asker setup token = asker_by (holder (tokens_of setup)) token
+
+-- no two may ask with the same token, as in every set-up that is read
+abbrev pub HasOwnTokens : SetupFields → Type 0
+HasOwnTokens setup = AreDistinct (setup.operator ∷ map (λ bidder. bidder.token) setup.bidders)

@@ -13,12 +13,13 @@
 --     IsRun setup texts answers      what a run from the beginning answers, and what it has made of the auction
 --     IsEventRun setup events replies      the requests of the events are run, and each reply has the number of its request
 use Rattle.std.specs.Prelude.{◌≡◌, ◌<◌, ◌⊎◌, ℕ, true, List, [], ◌∷◌, length, map}
-use Rattle.clock_terms.specs.Limits.{SetupFields, IsSetup, public_setup}
+use Rattle.clock_terms.specs.Limits.{SetupFields, public_setup}
 use Rattle.clock_house.specs.History.{history, bidder_at}
 use Rattle.clock_house.specs.Laws.{IsSound}
 use Rattle.clock_http.specs.Replies.{Answer}
 use Rattle.clock_front.specs.declared.events.Event.{Event}
 use Rattle.clock_front.specs.declared.events.EventReply.{EventReply}
+use Rattle.clock_front.specs.Askers.{HasOwnTokens}
 use Rattle.clock_front.specs.Fronts.{reply, commands_of, IsStruckOut}
 use Rattle.clock_front.specs.Views.{is_own, text_view, answer}
 use Rattle.clock_front.specs.Pieces.{requests_of}
@@ -32,7 +33,7 @@ pub record SeesTheSame (one two : SetupFields) (bidder other_number : ℕ) (past
 -- the reply to an own request is the answer to the bidder's view, and every other run in which a bidder sees the same gives it too
 pub record IsPrivate (setup : SetupFields) (bidder : ℕ) (past : List (List ℕ)) (text : List ℕ) (one : Answer) : Type 0 where
   pub from_view : one ≡ answer (public_setup setup) (bidder_at setup bidder) (text_view setup bidder past) text
-  pub elsewhere : (other : SetupFields) (other_number : ℕ) (other_past : List (List ℕ)) → IsSetup other → other_number < length other.bidders
+  pub elsewhere : (other : SetupFields) (other_number : ℕ) (other_past : List (List ℕ)) → HasOwnTokens other → other_number < length other.bidders
       → SeesTheSame setup other bidder other_number past other_past → one ≡ reply other other_past text
 
 -- the right reply after the texts of the past, private to each bidder whose own request it answers

@@ -1,7 +1,7 @@
 -- What an asker is told, as the auction stands, and which command its request is.
 --     Outcome      a page, a refusal, or that the page is for other methods
 --     answer_of outcome      its code and its bytes
---     turned_away_by role asker      why the asker may not see pages of the role
+--     to_bidder asker told, to_operator asker told      a page of bidders, or of the operator, told to an asker
 --     outcome house asker ask      what the asker is told
 --     command_of setup asker ask      the command that the request is
 use Rattle.std.specs.Prelude.{ℕ, List, length, Option, Some, None, option_map, option_and_then, Result, Ok, Err, slice_index_or}
@@ -51,21 +51,17 @@ answer_of (done value) = with_page code.Done None value
 answer_of (refused shown) = with_page shown.code None (refusal_value shown)
 answer_of (not_allowed page) = with_page code.Method (Some page) (refusal_value (alone code.Method))
 
--- whose token is asked for: nobody's, so that a token is not looked at; a bidder's; the operator's
-pub data Role : Type 0 where
-  for_anyone : Role
-  for_bidder : Role
-  for_operator : Role
+-- a page of bidders: without a token it is asked for, and the operator's is of another role
+abbrev pub to_bidder : Asker → (ℕ → Outcome) → Outcome
+to_bidder Nobody told = refused (alone code.Token)
+to_bidder Operator told = refused (alone code.Role)
+to_bidder (Bidder bidder) told = told bidder
 
--- the token of a page's role is missing, or it is another's
-abbrev pub turned_away_by : Role → Asker → Option Code
-turned_away_by for_anyone asker = None
-turned_away_by for_bidder Nobody = Some code.Token
-turned_away_by for_bidder Operator = Some code.Role
-turned_away_by for_bidder (Bidder b) = None
-turned_away_by for_operator Nobody = Some code.Token
-turned_away_by for_operator Operator = None
-turned_away_by for_operator (Bidder b) = Some code.Role
+-- a page of the operator, in the same way
+abbrev pub to_operator : Asker → Outcome → Outcome
+to_operator Nobody told = refused (alone code.Token)
+to_operator (Bidder bidder) told = refused (alone code.Role)
+to_operator Operator told = told
 
 -- a fault of a body
 abbrev pub body_code : BodyFault → Code
@@ -105,60 +101,22 @@ close_to house (Ok body) = close_outcome body.round (closing_in house body.round
 
 -- ---- what an asker is told
 
--- whose token is asked for
-abbrev pub role_of : Ask → Role
-role_of (asked.turned_away code) = for_anyone
-role_of (asked.no_method page) = for_anyone
-role_of asked.status = for_anyone
-role_of asked.products = for_anyone
-role_of (asked.sheet segment) = for_anyone
-role_of asked.account = for_bidder
-role_of asked.bids = for_bidder
-role_of (asked.put body) = for_bidder
-role_of (asked.slip segment) = for_bidder
-role_of (asked.close body) = for_operator
-role_of asked.results = for_operator
-
--- a bidder is told of itself; what is no page of a bidder's is asked of another role
-abbrev pub told_bidder : HouseFields → ℕ → Ask → Outcome
-told_bidder house bidder asked.account =
-    done (account_value house.setup.products (bidder_at house.setup bidder).name (standing_in house).round (holding_in house bidder) (standing_in house).ended)
-told_bidder house bidder (asked.put body) = put_to house bidder body
-told_bidder house bidder (asked.slip segment) = page_or_no_round (option_map (λ closed. slip_value (slip_of bidder closed)) (round_in house segment))
-told_bidder house bidder asked.bids = done (bids_value (standing_in house).round (slice_index_or house.sheets bidder None))
-told_bidder house bidder other = refused (alone code.NoPage)
-
--- the operator is told of all; what is no page of its own is asked of another role
-abbrev pub told_operator : HouseFields → Ask → Outcome
-told_operator house (asked.close body) = close_to house (in_version house.setup.version body)
-told_operator house asked.results = done (results_value house)
-told_operator house other = refused (alone code.NoPage)
-
--- anyone is told what is public; all else is asked of another role
-abbrev pub told_anyone : HouseFields → Ask → Outcome
-told_anyone house (asked.turned_away code) = refused (alone code)
-told_anyone house (asked.no_method page) = not_allowed page
-told_anyone house asked.products = done (products_value (public_setup house.setup))
-told_anyone house (asked.sheet segment) =
-    page_or_no_round (option_map (λ closed. sheet_value (public_setup house.setup) closed.sheet) (round_in house segment))
-told_anyone house asked.status = done (status_value (public_setup house.setup) (standing_in house).round (standing_in house).ended)
-told_anyone house other = refused (alone code.NoPage)
-
--- an asker whose token the page asks for
-abbrev pub told_asker : HouseFields → Asker → Ask → Outcome
-told_asker house Nobody ask = told_anyone house ask
-told_asker house Operator ask = told_operator house ask
-told_asker house (Bidder bidder) ask = told_bidder house bidder ask
-
 -- pages of anyone take no notice of the token
-abbrev pub told_by_role : HouseFields → Role → Asker → Ask → Outcome
-told_by_role house for_anyone asker ask = told_anyone house ask
-told_by_role house for_bidder asker ask = told_asker house asker ask
-told_by_role house for_operator asker ask = told_asker house asker ask
-
-abbrev pub unless_turned_away : Option Code → Outcome → Outcome
-unless_turned_away None outcome = outcome
-unless_turned_away (Some code) outcome = refused (alone code)
+abbrev pub told : HouseFields → Asker → Ask → Outcome
+told house asker (asked.turned_away why) = refused (alone why)
+told house asker (asked.no_method page) = not_allowed page
+told house asker asked.status = done (status_value (public_setup house.setup) (standing_in house).round (standing_in house).ended)
+told house asker asked.products = done (products_value (public_setup house.setup))
+told house asker (asked.sheet segment) =
+    page_or_no_round (option_map (λ closed. sheet_value (public_setup house.setup) closed.sheet) (round_in house segment))
+told house asker asked.account = to_bidder asker (λ bidder. done (account_value house.setup.products (bidder_at house.setup bidder).name
+    (standing_in house).round (holding_in house bidder) (standing_in house).ended))
+told house asker asked.bids = to_bidder asker (λ bidder. done (bids_value (standing_in house).round (slice_index_or house.sheets bidder None)))
+told house asker (asked.put body) = to_bidder asker (λ bidder. put_to house bidder body)
+told house asker (asked.slip segment) =
+    to_bidder asker (λ bidder. page_or_no_round (option_map (λ closed. slip_value (slip_of bidder closed)) (round_in house segment)))
+told house asker (asked.close body) = to_operator asker (close_to house (in_version house.setup.version body))
+told house asker asked.results = to_operator asker (done (results_value house))
 
 -- the same house: room for further rounds shows nowhere
 abbrev pub without_room : HouseFields → HouseFields
@@ -166,8 +124,7 @@ without_room house = record { setup = house.setup; closed = house.closed; sheets
 
 -- what an asker is told
 abbrev pub outcome : HouseFields → Asker → Ask → Outcome
-outcome house asker ask =
-    unless_turned_away (turned_away_by (role_of ask) asker) (told_by_role (without_room house) (role_of ask) asker ask)
+outcome house asker ask = told (without_room house) asker ask
 
 -- ---- the command that a request is
 

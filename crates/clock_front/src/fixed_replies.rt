@@ -2,7 +2,7 @@
 //! want of memory.
 
 ghost use Rattle.std.specs.Prelude.{◌≡◌, IsTrue};
-ghost use Rattle.clock_front.specs.FixedReplies.{refusal_of, refusal_bytes, no_memory};
+ghost use Rattle.clock_front.specs.FixedReplies.{refusal_of, no_memory};
 ghost use Rattle.clock_front.specs.inside.FixedReplies.{is_fixed};
 
 use clock_http::Reply;
@@ -29,7 +29,7 @@ const MEMORY: &[u8] = b"HTTP/1.1 503 Service Unavailable\r\nconnection: close\r\
 /// The bytes of the reply that refuses by a code alone.
 fn fixed_bytes(code: Code) -> &'static [u8]
     requires { IsTrue (is_fixed code) }
-    ensures { result.now ≡ refusal_bytes code }
+    ensures { result.now ≡ (refusal_of code).bytes }
 {
     match code {
         Code::LongHead => LONG_HEAD,

@@ -1,8 +1,8 @@
 //! Replies that tell of the auction and change nothing.
 
 ghost use Rattle.std.specs.Prelude.{◌≡◌, ◌<◌, length, Some, None, IfOk};
-ghost use Rattle.clock_front.specs.Outcomes as told;
-ghost use Rattle.clock_front.specs.Outcomes.{answer_of};
+ghost use Rattle.clock_front.specs.declared.tokens.Asker.TheVariants as who;
+ghost use Rattle.clock_front.specs.Outcomes.{answer_of, not_allowed as told_not_allowed, refused, told, without_room};
 ghost use Rattle.clock_front.specs.inside.Private.{IsToldByView};
 ghost use Rattle.clock_front.specs.Requests as asked;
 
@@ -17,7 +17,7 @@ use std::alloc::Global;
 
 /// A refusal.
 pub(crate) fn refusal(alloc: Global, refusal: Refusal) -> Result<Reply, NoMemory>
-    ensures { IfOk result (λ reply. reply ≡ answer_of (told.refused refusal)) }
+    ensures { IfOk result (λ reply. reply ≡ answer_of (refused refusal)) }
 {
     let mut text = text_with_room(alloc)?;
     push_refusal_page(&mut text, refusal)?;
@@ -26,7 +26,7 @@ pub(crate) fn refusal(alloc: Global, refusal: Refusal) -> Result<Reply, NoMemory
 
 /// A refusal of a method that the page has not.
 pub(crate) fn not_allowed(alloc: Global, page: Page) -> Result<Reply, NoMemory>
-    ensures { IfOk result (λ reply. reply ≡ answer_of (told.not_allowed page)) }
+    ensures { IfOk result (λ reply. reply ≡ answer_of (told_not_allowed page)) }
 {
     let mut text = text_with_room(alloc)?;
     push_refusal_page(&mut text, Refusal::alone(Code::Method))?;
@@ -35,7 +35,7 @@ pub(crate) fn not_allowed(alloc: Global, page: Page) -> Result<Reply, NoMemory>
 
 /// Where the auction stands.
 pub(crate) fn status<P>(alloc: Global, house: &House<P>) -> Result<Reply, NoMemory>
-    ensures { IfOk result (λ reply. reply ≡ answer_of (told.told_anyone house.now asked.status)) }
+    ensures { IfOk result (λ reply. reply ≡ answer_of (told house.now who.Nobody asked.status)) }
 {
     let mut text = text_with_room(alloc)?;
     push_status_page(&mut text, house.setup(), house.round(), house.ended())?;
@@ -44,7 +44,7 @@ pub(crate) fn status<P>(alloc: Global, house: &House<P>) -> Result<Reply, NoMemo
 
 /// What is auctioned.
 pub(crate) fn products<P>(alloc: Global, house: &House<P>) -> Result<Reply, NoMemory>
-    ensures { IfOk result (λ reply. reply ≡ answer_of (told.told_anyone house.now asked.products)) }
+    ensures { IfOk result (λ reply. reply ≡ answer_of (told house.now who.Nobody asked.products)) }
 {
     let mut text = text_with_room(alloc)?;
     push_products_page(&mut text, house.setup())?;
@@ -53,7 +53,7 @@ pub(crate) fn products<P>(alloc: Global, house: &House<P>) -> Result<Reply, NoMe
 
 /// The sheet of the round that a segment names.
 pub(crate) fn sheet<P>(alloc: Global, house: &House<P>, segment: &[u8]) -> Result<Reply, NoMemory>
-    ensures { IfOk result (λ reply. reply ≡ answer_of (told.told_anyone house.now (asked.sheet segment.now))) }
+    ensures { IfOk result (λ reply. reply ≡ answer_of (told house.now who.Nobody (asked.sheet segment.now))) }
 {
     let Some(round) = plain_number(segment) else {
         return refusal(alloc, Refusal::alone(Code::NoRound));
@@ -69,7 +69,7 @@ pub(crate) fn sheet<P>(alloc: Global, house: &House<P>, segment: &[u8]) -> Resul
 /// What a bidder holds.
 pub(crate) fn account<P>(alloc: Global, house: &House<P>, bidder: u32) -> Result<Reply, NoMemory>
     requires { bidder < length house.now.setup.bidders }
-    ensures reply { IfOk result (λ reply. reply ≡ answer_of (told.told_bidder house.now bidder asked.account)) }
+    ensures reply { IfOk result (λ reply. reply ≡ answer_of (told house.now (who.Bidder bidder) asked.account)) }
     ensures private { IfOk result (IsToldByView house.now bidder asked.account) }
 {
     let mut text = text_with_room(alloc)?;
@@ -86,7 +86,7 @@ pub(crate) fn account<P>(alloc: Global, house: &House<P>, bidder: u32) -> Result
 /// A bidder's sheet of bids in force.
 pub(crate) fn bids<P>(alloc: Global, house: &House<P>, bidder: u32) -> Result<Reply, NoMemory>
     requires { bidder < length house.now.setup.bidders }
-    ensures { IfOk result (λ reply. reply ≡ answer_of (told.told_bidder house.now bidder asked.bids)) }
+    ensures { IfOk result (λ reply. reply ≡ answer_of (told house.now (who.Bidder bidder) asked.bids)) }
 {
     let mut text = text_with_room(alloc)?;
     push_bids_page(&mut text, house.round(), house.bids(bidder))?;
@@ -101,7 +101,7 @@ pub(crate) fn slip<P>(
     segment: &[u8],
 ) -> Result<Reply, NoMemory>
     requires { bidder < length house.now.setup.bidders }
-    ensures { IfOk result (λ reply. reply ≡ answer_of (told.told_bidder house.now bidder (asked.slip segment.now))) }
+    ensures { IfOk result (λ reply. reply ≡ answer_of (told house.now (who.Bidder bidder) (asked.slip segment.now))) }
 {
     let Some(round) = plain_number(segment) else {
         return refusal(alloc, Refusal::alone(Code::NoRound));
@@ -116,7 +116,7 @@ pub(crate) fn slip<P>(
 
 /// What all bidders hold.
 pub(crate) fn results<P>(alloc: Global, house: &House<P>) -> Result<Reply, NoMemory>
-    ensures { IfOk result (λ reply. reply ≡ answer_of (told.told_operator (told.without_room house.now) asked.results)) }
+    ensures { IfOk result (λ reply. reply ≡ answer_of (told (without_room house.now) who.Operator asked.results)) }
 {
     let mut text = text_with_room(alloc)?;
     push_results_page(&mut text, house)?;

@@ -1,10 +1,8 @@
 //! Which page an asker is told.
 
-ghost use Rattle.std.specs.Prelude.{◌≡◌, ◌<◌, length, Some, IfOk, IfErr, OnOk};
-ghost use Rattle.clock_views.specs.Refusals.{alone};
+ghost use Rattle.std.specs.Prelude.{◌≡◌, ◌<◌, ℕ, length, IfOk, IfErr, OnOk, OnErr};
 ghost use Rattle.clock_front.specs.inside.Askers.{IsKnown};
-ghost use Rattle.clock_front.specs.Outcomes as told;
-ghost use Rattle.clock_front.specs.Outcomes.{answer_of, outcome, turned_away_by};
+ghost use Rattle.clock_front.specs.Outcomes.{Outcome, answer_of, outcome, refused, to_bidder, to_operator};
 ghost use Rattle.clock_front.specs.inside.ShownAsked.{shown_reading};
 
 use crate::asked::Reading;
@@ -19,7 +17,8 @@ use std::alloc::Global;
 /// The bidder that asks, or why pages of bidders are not for this asker.
 pub(crate) fn bidder_of(asker: Asker) -> Result<u32, Refusal>
     ensures ok { IfOk result (λ bidder. asker ≡ Asker.Bidder bidder) }
-    ensures err { IfErr result (λ away. (turned_away_by told.for_bidder asker ≡ Some away.code) × (away ≡ alone away.code)) }
+    ensures err { IfErr result (λ away. (told : ℕ → Outcome) → to_bidder asker told ≡ refused away) }
+    ensures none { OnErr result ((bidder : ℕ) → asker ≡ Asker.Bidder bidder → ⊥) }
 {
     match asker {
         Asker::Bidder(bidder) => Ok(bidder),
@@ -31,7 +30,8 @@ pub(crate) fn bidder_of(asker: Asker) -> Result<u32, Refusal>
 /// Why pages of the operator are not for this asker, if they are not.
 pub(crate) fn operator_of(asker: Asker) -> Result<(), Refusal>
     ensures ok { OnOk result (asker ≡ Asker.Operator) }
-    ensures err { IfErr result (λ away. (turned_away_by told.for_operator asker ≡ Some away.code) × (away ≡ alone away.code)) }
+    ensures err { IfErr result (λ away. (told : Outcome) → to_operator asker told ≡ refused away) }
+    ensures none { OnErr result (asker ≡ Asker.Operator → ⊥) }
 {
     match asker {
         Asker::Operator => Ok(()),

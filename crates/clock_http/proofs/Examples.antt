@@ -6,7 +6,9 @@ use Rattle.clock_http.specs.declared.routes.Page.{Page}
 use Rattle.clock_http.specs.declared.routes.Page.TheVariants.{Status, Products, Sheet, Account, Bids, Slip, Close, Results}
 use Rattle.clock_http.specs.Replies.{reply_bytes}
 use Rattle.clock_http.specs.Decimals.{plain_number}
-use Rattle.clock_http.specs.Routes.{has_method, last_segment}
+use Rattle.matchit.specs.Route.{scan}
+use Rattle.matchit.specs.Seek.{seek, param_step}
+use Rattle.clock_http.specs.Routes.{has_method, last_segment, page_at, table}
 
 pages : List Page
 pages = Status ∷ Products ∷ Sheet ∷ Account ∷ Bids ∷ Slip ∷ Close ∷ Results ∷ []
@@ -30,6 +32,18 @@ methods_are_told_apart_by_case = refl
 no_page_has_another_method : map (λ page. has_method page (codes "HEAD")) pages ≡ map (λ _. false) pages
 unfolding pages
 no_page_has_another_method = refl
+
+each_route_has_its_page :
+    map page_at (codes "/v1/status" ∷ codes "/v1/products" ∷ codes "/v1/rounds/7" ∷ codes "/v1/me" ∷ codes "/v1/me/bids" ∷ codes "/v1/me/rounds/7"
+    ∷ codes "/v1/close" ∷ codes "/v1/results" ∷ []) ≡ map Some pages
+unfolding pages table scan seek param_step
+each_route_has_its_page = refl
+
+no_other_path_has_a_page :
+    map page_at (codes "/v1/rounds/" ∷ codes "/v1/rounds" ∷ codes "/v1/rounds/1/2" ∷ codes "/v1/status/" ∷ codes "/v1/Status" ∷ codes "/" ∷ [] ∷ [])
+    ≡ None ∷ None ∷ None ∷ None ∷ None ∷ None ∷ None ∷ []
+unfolding table scan seek param_step
+no_other_path_has_a_page = refl
 
 rounds_are_named_by_plain_digits :
     map plain_number (last_segment (codes "/v1/rounds/12") ∷ last_segment (codes "/v1/rounds/0") ∷ last_segment (codes "/v1/me/rounds/18446744073709551615")

@@ -1,5 +1,5 @@
 -- By which codes a text is refused, and whose request a whole text is.
-use Rattle.std.proofs.Common.{◌≡◌, ℕ, ◌+◌, cond, List, [], ◌∷◌, length, take, Option, Some, None, Ok, Err, Result, refl}
+use Rattle.std.proofs.Common.{◌≡◌, ℕ, ◌+◌, cond, List, [], ◌∷◌, length, take, Option, Some, None, Ok, Err, Result}
 use Rattle.std.proofs.Common.{◌∙◌, ap, subst, inl, inr}
 use Rattle.std.specs.Prelude.{nat_lt, codes}
 use Rattle.std.specs.Str.Parse.{digits_value}
@@ -12,8 +12,9 @@ use Rattle.clock_http.specs.Decimals.{is_number}
 use Rattle.clock_http.specs.HeaderLines.{Pairs, pairs_of, values_of, length_from, within_limit, unless_coded, body_length, body_limit}
 use Rattle.clock_http.specs.Framing.{head_limit, or_bad_head, ended_head, Head, kept, and_length, length_read, head_with_length, Known, unended}
 use Rattle.clock_http.specs.Framing.{waiting, complete, refused, known_with_head, known_with_end, known}
-use Rattle.clock_http.specs.Framing.{refusal, whole, framed, framing, ok_head, ended_at, head_in}
-use Rattle.clock_http.proofs.Prefixes.{cond_cases}
+use Rattle.clock_http.specs.Framing.{refusal, whole, framing, ok_head, ended_at, head_in}
+use Rattle.clock_http.specs.inside.Framed.{framed}
+use Rattle.clock_http.proofs.Prefixes.{cond_cases, framed_is}
 
 -- ---- a text is refused by one of five codes
 
@@ -92,8 +93,8 @@ module _ (P : Code → Type 0) (long_head : P LongHead) (bad_head : P BadHead) (
   by_known (refused c) text code e = (let is : c ≡ code = cc in ap refused is)
 
   pub refused_by : (text : List ℕ) (code : Code) → framing text ≡ refusal code → P code
-  unfolding framing known
-  refused_by text code e = by_end (head_length (take head_limit text)) text code (by_known (known text) text code e)
+  unfolding known
+  refused_by text code e = by_end (head_length (take head_limit text)) text code (by_known (known text) text code (framed_is text ∙ e))
 
 -- ---- whose request a whole text is
 
@@ -140,7 +141,7 @@ whole_of (complete h n b) text head body e = (let same : h ≡ head = cc in (n, 
 
 -- a whole text has its head
 pub whole_head : (text : List ℕ) (head : Head) (body : List ℕ) → framing text ≡ whole head body → head_in text ≡ Some head
-unfolding framing known head_in
+unfolding known head_in
 whole_head text head body e =
-    let is = whole_of (known text) text head body e in
+    let is = whole_of (known text) text head body (framed_is text ∙ e) in
     end_head (head_length (take head_limit text)) text head is.0 is.1 is.2

@@ -1,7 +1,7 @@
 -- A decided text stays decided, and what is known of a text follows from what is known of its beginning.
 use Rattle.std.proofs.Common.{◌≡◌, ℕ, ◌+◌, ◌≤◌, ◌⊎◌, suc, Bool, true, false, cond, List, [], ◌∷◌, ◌++◌, length, take, drop, Option, Some}
 use Rattle.std.proofs.Common.{None, Ok, Err, Result, refl, sym, ◌∙◌, ap, arith, inl, inr, zero, length-append, length-drop}
-use Rattle.std.specs.Prelude.{option_map, nat_eq, nat_lt}
+use Rattle.std.specs.Prelude.{option_map, nat_eq, nat_lt, if◌then◌else◌}
 use Rattle.std.specs.List.{starts_with}
 use Rattle.std.specs.Cmp.Lexicographic.{as_long, pointwise}
 use Rattle.std.proofs.lemmas.Bool.Decides.{nat_tests}
@@ -12,7 +12,8 @@ use Rattle.clock_http.specs.declared.code.Code.TheVariants.{LongHead}
 use Rattle.clock_http.specs.Scans.{empty_line, head_length}
 use Rattle.clock_http.specs.Framing.{ended_at, ok_head, ended_head, head_in, head_limit, head_with_length, Head, Known, unended, waiting}
 use Rattle.clock_http.specs.Framing.{complete, refused, known_with_body, known_with_head, known_with_end, known, advanced, is_incomplete}
-use Rattle.clock_http.specs.Framing.{whole, framed, framing}
+use Rattle.clock_http.specs.Framing.{incomplete, refusal, whole, framed_at, framed_head, framing}
+use Rattle.clock_http.specs.inside.Framed.{framed}
 use Rattle.clock_http.specs.FramingLaws.{IsDecidedOnce, IsKnownByParts, HasOneHead}
 
 pub cond_cases : {A : Type 0} (b : Bool) (x y z : A) → cond b x y ≡ z → ((b ≡ true) × (x ≡ z)) ⊎ ((b ≡ false) × (y ≡ z))
@@ -144,10 +145,34 @@ framed-append text more (complete head n body) e d =
     ap (λ rest. whole head (take body rest)) (drop-append-le n text more before)
     ∙ ap (whole head) (take-append-le body (drop n text) more after)
 
+-- what is known of a text tells its framing
+framed_with : (text : List ℕ) (n : ℕ) (head : Head) (body : ℕ) (short : Bool)
+    → framed (if short then waiting head n body else complete head n body) text
+    ≡ (if short then incomplete else whole head (take body (drop n text)))
+framed_with text n head body true = refl
+framed_with text n head body false = refl
+
+framed_unended : (text : List ℕ) (n : ℕ) (short : Bool)
+    → framed (if short then unended n else refused LongHead) text ≡ (if short then incomplete else refusal LongHead)
+framed_unended text n true = refl
+framed_unended text n false = refl
+
+framed_read : (text : List ℕ) (n : ℕ) (read : Result (Head × ℕ) Code) → framed (known_with_head (length text) n read) text ≡ framed_head n text read
+framed_read text n (Err fault) = refl
+framed_read text n (Ok read) = framed_with text n read.0 read.1 (nat_lt (length text) (n + read.1))
+
+framed_end : (text : List ℕ) (o : Option ℕ) → framed (known_with_end o text) text ≡ framed_at o text
+framed_end text None = framed_unended text (length text) (nat_lt (length text) head_limit)
+framed_end text (Some n) = framed_read text n (head_with_length (take n text))
+
+pub framed_is : (text : List ℕ) → framed (known text) text ≡ framing text
+unfolding framing known
+framed_is text = framed_end text (head_length (take head_limit text))
+
 pub decided_once : IsDecidedOnce
-unfolding framing
 decided_once text more d =
-    ap (λ k. framed k (text ++ more)) (known_by_parts text more) ∙ framed-append text more (known text) refl d
+    sym (framed_is (text ++ more)) ∙ ap (λ k. framed k (text ++ more)) (known_by_parts text more)
+    ∙ framed-append text more (known text) refl (ap is_incomplete (framed_is text) ∙ d) ∙ framed_is text
 
 -- ---- whose request a text is
 
@@ -166,5 +191,5 @@ ended_at-append text more (Some n) e d =
 
 -- a decided text keeps its head
 pub one_head : HasOneHead
-unfolding framing known head_in
-one_head text more d = ended_at-append text more (head_length (take head_limit text)) refl d
+unfolding known head_in
+one_head text more d = ended_at-append text more (head_length (take head_limit text)) refl (ap is_incomplete (framed_is text) ∙ d)

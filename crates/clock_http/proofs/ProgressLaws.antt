@@ -14,10 +14,11 @@ use Rattle.clock_http.specs.declared.progress.Progress.{Progress}
 use Rattle.clock_http.specs.declared.progress.Progress.TheVariants as so_far
 use Rattle.clock_http.specs.Scans.{head_length}
 use Rattle.clock_http.specs.Framing.{head_limit, Head, head_with_length, Known, unended, waiting, complete, refused, known_with_body}
-use Rattle.clock_http.specs.Framing.{known_with_head, known_with_end, known, advanced, whole, framed, framing, is_incomplete, needs_more}
+use Rattle.clock_http.specs.Framing.{known_with_head, known_with_end, known, advanced, whole, framing, is_incomplete, needs_more}
 use Rattle.clock_http.specs.Shown.{shown_ended, IsHeadWithin, IsRequestWithin, IsSomeWithin, Knows, KnowsOfStart}
 use Rattle.clock_http.specs.inside.Followed.{Waits, WaitsBelow}
-use Rattle.clock_http.proofs.Prefixes.{cond_cases, head_length_within, known_by_parts}
+use Rattle.clock_http.specs.inside.Framed.{framed}
+use Rattle.clock_http.proofs.Prefixes.{cond_cases, framed_is, head_length_within, known_by_parts}
 use Rattle.clock_http.proofs.ScanLaws.{skipped}
 
 -- ---- spans in a longer text
@@ -174,8 +175,7 @@ known_complete text count head is in_front =
 -- ---- what a text is of which all is known
 
 pub framed_of : (text : List ℕ) (k : Known) → k ≡ known text → framed k text ≡ framing text
-unfolding framing
-framed_of text k is = ap (λ k. framed k text) is
+framed_of text k is = ap (λ k. framed k text) is ∙ framed_is text
 
 pub needs_more_of : (text : List ℕ) (k : Known) → k ≡ known text → is_incomplete (framed k text) ≡ needs_more text
 needs_more_of text k is = ap is_incomplete (framed_of text k is)

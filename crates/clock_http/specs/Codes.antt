@@ -1,6 +1,6 @@
 -- The codes of replies (own), and the statuses of HTTP that they have.
---     status_of code      the status
---     text_of code      the code as pages show it
+--     row_of code      the table: the status of a code, and the code as pages show it
+--     status_of code, text_of code      its two columns
 use Rattle.std.specs.Prelude.{ℕ, List, codes}
 use Rattle.clock_http.specs.declared.code.Code.{Code}
 use Rattle.clock_http.specs.declared.code.Code.TheVariants.{Done, BadHead, BadLength, CutShort, BadJson, Token, Role, NoPage, NoRound, Method, Ended}
@@ -8,68 +8,41 @@ use Rattle.clock_http.specs.declared.code.Code.TheVariants.{WrongRound, LongBody
 use Rattle.clock_http.specs.declared.code.Code.TheVariants.{MixedDirection, KeepPrice, OverActivity, Increment, TieRange, TieRepeated, TooManyTies}
 use Rattle.clock_http.specs.declared.code.Code.TheVariants.{PriceLimit, LongHead, Coding, Memory}
 
--- the status of HTTP
-abbrev pub status_of : Code → ℕ
-status_of Done = 200
-status_of BadHead = 400
-status_of BadLength = 400
-status_of CutShort = 400
-status_of BadJson = 400
-status_of Token = 401
-status_of Role = 403
-status_of NoPage = 404
-status_of NoRound = 404
-status_of Method = 405
-status_of Ended = 409
-status_of WrongRound = 409
-status_of LongBody = 413
-status_of Shape = 422
-status_of TooMany = 422
-status_of UnknownProduct = 422
-status_of PriceRange = 422
-status_of OverCap = 422
-status_of PriceOrder = 422
-status_of MixedDirection = 422
-status_of KeepPrice = 422
-status_of OverActivity = 422
-status_of Increment = 422
-status_of TieRange = 422
-status_of TieRepeated = 422
-status_of TooManyTies = 422
-status_of PriceLimit = 422
-status_of LongHead = 431
-status_of Coding = 501
-status_of Memory = 503
+-- the table: the status of HTTP, and the code as pages show it
+abbrev pub row_of : Code → ℕ × List ℕ
+row_of Done = (200, codes "done")
+row_of BadHead = (400, codes "bad_head")
+row_of BadLength = (400, codes "bad_length")
+row_of CutShort = (400, codes "cut_short")
+row_of BadJson = (400, codes "bad_json")
+row_of Token = (401, codes "token")
+row_of Role = (403, codes "role")
+row_of NoPage = (404, codes "no_page")
+row_of NoRound = (404, codes "no_round")
+row_of Method = (405, codes "method")
+row_of Ended = (409, codes "ended")
+row_of WrongRound = (409, codes "wrong_round")
+row_of LongBody = (413, codes "long_body")
+row_of Shape = (422, codes "shape")
+row_of TooMany = (422, codes "too_many")
+row_of UnknownProduct = (422, codes "unknown_product")
+row_of PriceRange = (422, codes "price_range")
+row_of OverCap = (422, codes "over_cap")
+row_of PriceOrder = (422, codes "price_order")
+row_of MixedDirection = (422, codes "mixed_direction")
+row_of KeepPrice = (422, codes "keep_price")
+row_of OverActivity = (422, codes "over_activity")
+row_of Increment = (422, codes "increment")
+row_of TieRange = (422, codes "tie_range")
+row_of TieRepeated = (422, codes "tie_repeated")
+row_of TooManyTies = (422, codes "too_many_ties")
+row_of PriceLimit = (422, codes "price_limit")
+row_of LongHead = (431, codes "long_head")
+row_of Coding = (501, codes "coding")
+row_of Memory = (503, codes "memory")
 
--- the code as pages show it
+abbrev pub status_of : Code → ℕ
+status_of code = (row_of code).0
+
 abbrev pub text_of : Code → List ℕ
-text_of Done = codes "done"
-text_of BadHead = codes "bad_head"
-text_of BadLength = codes "bad_length"
-text_of CutShort = codes "cut_short"
-text_of BadJson = codes "bad_json"
-text_of Token = codes "token"
-text_of Role = codes "role"
-text_of NoPage = codes "no_page"
-text_of NoRound = codes "no_round"
-text_of Method = codes "method"
-text_of Ended = codes "ended"
-text_of WrongRound = codes "wrong_round"
-text_of LongBody = codes "long_body"
-text_of Shape = codes "shape"
-text_of TooMany = codes "too_many"
-text_of UnknownProduct = codes "unknown_product"
-text_of PriceRange = codes "price_range"
-text_of OverCap = codes "over_cap"
-text_of PriceOrder = codes "price_order"
-text_of MixedDirection = codes "mixed_direction"
-text_of KeepPrice = codes "keep_price"
-text_of OverActivity = codes "over_activity"
-text_of Increment = codes "increment"
-text_of TieRange = codes "tie_range"
-text_of TieRepeated = codes "tie_repeated"
-text_of TooManyTies = codes "too_many_ties"
-text_of PriceLimit = codes "price_limit"
-text_of LongHead = codes "long_head"
-text_of Coding = codes "coding"
-text_of Memory = codes "memory"
+text_of code = (row_of code).1

@@ -1,11 +1,11 @@
 -- What a text of bytes is when it has come so far: less than a request, a request, or refused.
 --     ended_head bytes      the head that these bytes are, or why they are refused
---     known text      what is known of a text: nothing but its length, its head while its body still comes, all, or a refusal
---     advanced known text      what is known of a longer text, by what was known of its beginning
 --     framing text      the request that a text is, a refusal, or that it is incomplete
 --     needs_more text      it is incomplete
 --     IsDecided text      the text is a request or refused, whatever follows
 --     head_in text      the head of a text, also where its body is refused or still to come
+--     known text      what is kept of a text so far: nothing but its length, its head while its body still comes, all, or a refusal
+--     advanced known text      what is known of a longer text, by what was known of its beginning
 -- The order of the refusals is this server's own. They are looked at only once a head has ended, or where it is too long.
 use Rattle.std.specs.Prelude.{◌≡◌, ℕ, ◌+◌, ◌-◌, Bool, true, false, List, length, take, drop, if◌then◌else◌, ◌==◌, nat_lt, Option, Some, None, Result}
 use Rattle.std.specs.Prelude.{Ok, Err}
@@ -68,6 +68,53 @@ length_read (Ok head) = and_length head (body_length (pairs_of head))
 abbrev pub head_with_length : List ℕ → Result (Head × ℕ) Code
 head_with_length bytes = length_read (ended_head bytes)
 
+-- ---- what the text is
+
+pub data Framing : Type 0 where
+  incomplete : Framing
+  refusal : Code → Framing
+  whole : Head → List ℕ → Framing
+
+-- a head of n bytes and the body that its lines tell, once that has come; bytes after the body are no part of the request
+abbrev pub framed_head : ℕ → List ℕ → Result (Head × ℕ) Code → Framing
+framed_head n text (Err fault) = refusal fault
+framed_head n text (Ok read) = if nat_lt (length text) (n + read.1) then incomplete else whole read.0 (take read.1 (drop n text))
+
+-- the head has ended after n bytes, or has not, and may still do so
+abbrev pub framed_at : Option ℕ → List ℕ → Framing
+framed_at None text = if nat_lt (length text) head_limit then incomplete else refusal LongHead
+framed_at (Some n) text = framed_head n text (head_with_length (take n text))
+
+unfoldable pub framing : List ℕ → Framing
+framing text = framed_at (head_length (take head_limit text)) text
+
+abbrev pub is_incomplete : Framing → Bool
+is_incomplete incomplete = true
+is_incomplete (refusal code) = false
+is_incomplete (whole head body) = false
+
+-- the text is less than a request, and not refused
+abbrev pub needs_more : List ℕ → Bool
+needs_more text = is_incomplete (framing text)
+
+-- the text is decided, whatever follows
+abbrev pub IsDecided : List ℕ → Type 0
+IsDecided text = needs_more text ≡ false
+
+-- ---- whose request a text is, also where its body is refused or cut short
+
+abbrev pub ok_head : Result RequestHead Code → Option Head
+ok_head (Err fault) = None
+ok_head (Ok head) = Some (kept head)
+
+abbrev pub ended_at : Option ℕ → List ℕ → Option Head
+ended_at None text = None
+ended_at (Some n) text = ok_head (ended_head (take n text))
+
+-- the whole head that a text has
+unfoldable pub head_in : List ℕ → Option Head
+head_in text = ended_at (head_length (take head_limit text)) text
+
 -- ---- what is known of a text so far
 
 -- no head has ended among so many bytes, which are all; a head, its length and its body's, part of which is still to come;
@@ -100,47 +147,3 @@ advanced (unended n) text = known text
 advanced (waiting head n body) text = known_with_body (length text) head n body
 advanced (complete head n body) text = complete head n body
 advanced (refused fault) text = refused fault
-
--- ---- what the text is
-
-pub data Framing : Type 0 where
-  incomplete : Framing
-  refusal : Code → Framing
-  whole : Head → List ℕ → Framing
-
--- what a text is of which this is known; bytes after the body are no part of the request
-abbrev pub framed : Known → List ℕ → Framing
-framed (unended n) text = incomplete
-framed (waiting head n body) text = incomplete
-framed (complete head n body) text = whole head (take body (drop n text))
-framed (refused fault) text = refusal fault
-
-unfoldable pub framing : List ℕ → Framing
-framing text = framed (known text) text
-
-abbrev pub is_incomplete : Framing → Bool
-is_incomplete incomplete = true
-is_incomplete (refusal code) = false
-is_incomplete (whole head body) = false
-
--- the text is less than a request, and not refused
-abbrev pub needs_more : List ℕ → Bool
-needs_more text = is_incomplete (framing text)
-
--- the text is decided, whatever follows
-abbrev pub IsDecided : List ℕ → Type 0
-IsDecided text = needs_more text ≡ false
-
--- ---- whose request a text is, also where its body is refused or cut short
-
-abbrev pub ok_head : Result RequestHead Code → Option Head
-ok_head (Err fault) = None
-ok_head (Ok head) = Some (kept head)
-
-abbrev pub ended_at : Option ℕ → List ℕ → Option Head
-ended_at None text = None
-ended_at (Some n) text = ok_head (ended_head (take n text))
-
--- the whole head that a text has
-unfoldable pub head_in : List ℕ → Option Head
-head_in text = ended_at (head_length (take head_limit text)) text

@@ -2,6 +2,7 @@
 //! again.
 #![tactic(auto)]
 
+mod line;
 mod lines;
 mod queue;
 mod ready;

@@ -2,14 +2,12 @@ ghost use Rattle.std.specs.Prelude.{◌≡◌, ◌<◌, [], ◌∷◌, ◌++◌,
 ghost use Rattle.clock_queue.specs.inside.Lines as lines;
 ghost use Rattle.clock_queue.specs.inside.Lines.{HasLines};
 
-use clock_device::{Items, NoMemory};
+use crate::line::Line;
+use clock_device::NoMemory;
 use clock_terms::{Change, Kind};
 use std::alloc::Global;
 use std::marker::Model;
 use std::mem;
-
-/// Places of requests that wait for one thing.
-pub(crate) type Line = Items<usize>;
 
 /// The lines in which requests wait: for each product one of its reductions, for each bidder one of its increases.
 /// Contracts see the list of the lines.

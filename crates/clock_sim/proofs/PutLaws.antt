@@ -1,5 +1,5 @@
 -- A sheet closes no round: a text that begins with the method PUT asks for no closing.
-use Rattle.std.proofs.Common.{◌≡◌, ℕ, suc, Bool, true, false, List, [], ◌∷◌, take, length, Option, Some, None, Result, Ok, Err, codes, refl, sym, ap, subst}
+use Rattle.std.proofs.Common.{◌≡◌, ℕ, suc, Bool, true, false, List, [], ◌∷◌, take, drop, Option, Some, None, Result, Ok, Err, codes, refl, sym, ap, subst}
 use Rattle.std.specs.Prelude.{option_map, if◌then◌else◌}
 use Rattle.clock_terms.specs.Limits.{SetupFields}
 use Rattle.clock_bids.specs.declared.sheet.Bid.{Bid}
@@ -10,7 +10,7 @@ use Rattle.clock_http.specs.declared.code.Code.{Code}
 use Rattle.clock_http.specs.declared.code.Code.TheVariants.{LongHead, BadHead}
 use Rattle.clock_http.specs.Scans.{head_length}
 use Rattle.clock_http.specs.Heads.{same_bytes, onto_first, lines_of, head_from, head_of}
-use Rattle.clock_http.specs.Framing.{Head, Framing, framed, framing, known, known_with_end, known_with_head, ended_head, or_bad_head, length_read, and_length}
+use Rattle.clock_http.specs.Framing.{Head, Framing, framing, framed_at, framed_head, ended_head, or_bad_head, length_read, and_length}
 use Rattle.clock_http.specs.Framing as framed_as
 use Rattle.clock_front.specs.Requests.{Ask, ask_of, ask_by_route, ask_of_page, request_of}
 use Rattle.clock_front.specs.Requests as asked
@@ -68,28 +68,28 @@ IsPutFraming (framed_as.refusal code) = Unit {0}
 IsPutFraming (framed_as.whole head body) = head.method ≡ codes "PUT"
 
 in_body : (text : List ℕ) (short : Bool) (head : Head) (n body : ℕ) → head.method ≡ codes "PUT"
-    → IsPutFraming (framed (if short then framed_as.waiting head n body else framed_as.complete head n body) text)
+    → IsPutFraming (if short then framed_as.incomplete else framed_as.whole head (take body (drop n text)))
 in_body text true head n body is = tt
 in_body text false head n body is = is
 
-in_head : (text : List ℕ) (count n : ℕ) (read : Result (Head × ℕ) Code) → IsPutKnown read → IsPutFraming (framed (known_with_head count n read) text)
-in_head text count n (Err fault) is = tt
-in_head text count n (Ok read) is = in_body text _ read.0 n read.1 is
+in_head : (text : List ℕ) (n : ℕ) (read : Result (Head × ℕ) Code) → IsPutKnown read → IsPutFraming (framed_head n text read)
+in_head text n (Err fault) is = tt
+in_head text n (Ok read) is = in_body text _ read.0 n read.1 is
 
-ended_or_not : (text : List ℕ) (short : Bool) → IsPutFraming (framed (if short then framed_as.unended (length text) else framed_as.refused LongHead) text)
-ended_or_not text true = tt
-ended_or_not text false = tt
+ended_or_not : (short : Bool) → IsPutFraming (if short then framed_as.incomplete else framed_as.refusal LongHead)
+ended_or_not true = tt
+ended_or_not false = tt
 
 -- the head ends behind its method
 abbrev behind : Option ℕ → Option ℕ
 behind found = option_map suc (option_map suc (option_map suc (option_map suc found)))
 
-at_end : (rest : List ℕ) (found : Option ℕ) → IsPutFraming (framed (known_with_end (behind found) (begun rest)) (begun rest))
-at_end rest None = ended_or_not (begun rest) _
-at_end rest (Some n) = in_head (begun rest) _ _ _ (begun_head (take n rest))
+at_end : (rest : List ℕ) (found : Option ℕ) → IsPutFraming (framed_at (behind found) (begun rest))
+at_end rest None = ended_or_not _
+at_end rest (Some n) = in_head (begun rest) _ _ (begun_head (take n rest))
 
 begun_framing : (rest : List ℕ) → IsPutFraming (framing (begun rest))
-unfolding framing known
+unfolding framing
 begun_framing rest = at_end rest (head_length (take 16380 rest))
 
 -- ---- what is asked for

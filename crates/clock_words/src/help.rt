@@ -3,8 +3,8 @@ use std::alloc::{AllocError, Global};
 
 /// Of the whole program.
 pub static PROGRAM_HELP: &str = "\
-A document is read from standard input, by `serve`, `journal` and `audit` from a file. Without any word the program does
-`prices --increment 10`.
+A document is read from standard input, as in `clock_auction prices < FILE`; by `serve`, `journal` and `audit` from a file
+that they name. Without any word the program does `prices --increment 10`.
 
 Status 0: all was done, and the answer is on standard output.
 Status 1: there was a fault, with one line `fault: WORDS` on standard error. Nothing is on standard output,

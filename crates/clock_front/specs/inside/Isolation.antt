@@ -2,8 +2,9 @@
 --     IsAnsweredFromView      the reply to an own request is the answer to the bidder's view
 --     IsIsolated      where a bidder sees the same, it is answered alike
 use Rattle.std.specs.Prelude.{◌≡◌, ◌<◌, ℕ, true, List, length}
-use Rattle.clock_terms.specs.Limits.{SetupFields, IsSetup, public_setup}
+use Rattle.clock_terms.specs.Limits.{SetupFields, public_setup}
 use Rattle.clock_house.specs.History.{bidder_at}
+use Rattle.clock_front.specs.Askers.{HasOwnTokens}
 use Rattle.clock_front.specs.Fronts.{reply}
 use Rattle.clock_front.specs.Views.{is_own, text_view, answer}
 use Rattle.clock_front.specs.Headline.{SeesTheSame}
@@ -11,12 +12,12 @@ use Rattle.clock_front.specs.Headline.{SeesTheSame}
 -- the reply to an own request is the answer to the bidder's view; in an answer's arguments no rival occurs
 abbrev pub IsAnsweredFromView : Type 0
 IsAnsweredFromView = (setup : SetupFields) (bidder : ℕ) (past : List (List ℕ)) (text : List ℕ)
-    → IsSetup setup → bidder < length setup.bidders → is_own (bidder_at setup bidder) text ≡ true
+    → HasOwnTokens setup → bidder < length setup.bidders → is_own (bidder_at setup bidder) text ≡ true
     → reply setup past text ≡ answer (public_setup setup) (bidder_at setup bidder) (text_view setup bidder past) text
 
 -- and then it is answered alike
 abbrev pub IsIsolated : Type 0
 IsIsolated = (one two : SetupFields) (bidder other_number : ℕ) (past other_past : List (List ℕ)) (text : List ℕ)
-    → IsSetup one → IsSetup two → bidder < length one.bidders → other_number < length two.bidders
+    → HasOwnTokens one → HasOwnTokens two → bidder < length one.bidders → other_number < length two.bidders
     → SeesTheSame one two bidder other_number past other_past → is_own (bidder_at one bidder) text ≡ true
     → reply one past text ≡ reply two other_past text

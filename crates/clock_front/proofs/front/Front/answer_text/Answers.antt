@@ -14,7 +14,7 @@ use Rattle.clock_front.specs.inside.TokenTable.{IsTableOf}
 use Rattle.clock_front.specs.declared.tokens.Asker.{Asker}
 use Rattle.clock_front.proofs.OutcomeLaws.{away_other}
 use Rattle.clock_front.proofs.PrivateLaws.{private_reply, if_private}
-use Rattle.clock_front.proofs.FrontLaws.{refused_fixed, told_as, done_as, if_done, ask_by, whole_request, constant_answer}
+use Rattle.clock_front.proofs.FrontLaws.{refused_fixed, told_as, done_as, if_done, ask_by, whole_request}
 use Rattle.clock_front.proofs.front.Front.answer_text.Goals as goal
 
 pub fixed_reply-requires : goal.fixed_reply-requires
@@ -43,7 +43,7 @@ returns-in-Refused-clause-reply g c =
     let house = c.args.self.now in
     let text = c.args.text.now in
     let code = c.in-Refused.code in
-    c.fixed_reply.ensures ∙ constant_answer code
+    c.fixed_reply.ensures
     ∙ ap (λ (ask : Ask). answer_of (outcome house (asker house.setup (request_of text).token) ask)) (ask_by text (refusal code) c.in-Refused.ensures)
 
 pub returns-in-Refused-clause-followed : goal.returns-in-Refused-clause-followed

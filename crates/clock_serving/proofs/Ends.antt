@@ -1,0 +1,84 @@
+-- How a run ends by one connection.
+use Rattle.std.proofs.Common.{◌≡◌, ◌<◌, ◌+◌, ℕ, List, [], ◌∷◌, ◌++◌, Option, Result, Ok, Err, length, refl, sym, ◌∙◌, subst, arith, length-append}
+use Rattle.clock_terms.specs.Limits.{IsSetup}
+use Rattle.clock_house.specs.House.{HouseFields}
+use Rattle.clock_journal.specs.Crash.{LeavesTexts}
+use Rattle.clock_journal.specs.Disks.{MayBeLeft}
+use Rattle.clock_journal.specs.Kept.{HasTexts, JournalState}
+use Rattle.clock_keeping.specs.Keeping.{IsInStep}
+use Rattle.clock_serving.specs.declared.fault.ServeFault.{ServeFault}
+use Rattle.clock_serving.specs.declared.fault.ServeFault.TheVariants.{Accept, Journal}
+use Rattle.clock_serving.specs.Exchanges.{Exchange, HasClosed}
+use Rattle.clock_serving.specs.Serving.{AreServed, EndsServing, EndsUnkept, HasKeptTold}
+use Rattle.clock_serving.specs.inside.Served.{EndsOne, IsUnkept}
+use Rattle.clock_serving.proofs.Walking.{closed_more}
+use Rattle.clock_serving.proofs.Served.{served_more}
+
+-- so many connections were served
+pub record HasServed (count : ℕ) (closed_old closed_new : Option (List Exchange)) (journal_old journal_new : JournalState) (old new : HouseFields) : Type 0 where
+  pub exchanges : List Exchange
+  pub closed : HasClosed closed_old closed_new exchanges
+  pub counted : length exchanges ≡ count
+  pub served : AreServed exchanges journal_old journal_new old new
+
+module _ (takes : List ℕ → Type 0) (count : ℕ) (first mid last : Option (List Exchange)) (journal_old journal_mid journal_new : JournalState) (old now new : HouseFields)
+    (limits : IsSetup old.setup) (same : now.setup ≡ old.setup) (before : HasServed count first mid journal_old journal_mid old now) where
+  -- one more was
+  pub one_more : {U : Type 0} (done : U) → EndsOne takes mid last journal_mid journal_new now new (Ok done)
+      → HasServed (count + 1) first last journal_old journal_new old new
+  one_more done ends = record {
+    exchanges = before.exchanges ++ ends.0 ∷ [];
+    closed = closed_more first mid last before.exchanges (ends.0 ∷ []) before.closed ends.1;
+    counted = omega (arith, length-append before.exchanges (ends.0 ∷ []), before.counted);
+    served = served_more before.exchanges ends.0 journal_old journal_mid journal_new old now new limits same before.served ends.2;
+  }
+
+  told_are_kept : (text : List ℕ) (digest : List ℕ) (past : List (List ℕ)) → IsInStep digest past journal_old old
+      → ((digest : List ℕ) (past : List (List ℕ)) → HasTexts digest past journal_mid → (left : List ℕ)
+      → MayBeLeft journal_mid.synced journal_new.written left → LeavesTexts digest left (past ++ text ∷ []) (length past))
+      → HasKeptTold digest past before.exchanges text journal_new old
+  told_are_kept text digest past in_step moments =
+      let so_far = before.served.kept digest past in_step in
+      record {
+        end = so_far.end;
+        walks = so_far.walks;
+        left_ones = λ left may.
+            moments digest so_far.end so_far.in_step.has left
+            (subst (λ (bytes : Option (List ℕ)). MayBeLeft bytes journal_new.written left)
+            (sym (so_far.in_step.has.synced_is ∙ so_far.in_step.has.file)) may);
+      }
+
+  -- the text of one more could not be kept
+  ends_unkept : (one : Exchange) → IsUnkept takes one journal_mid journal_new → EndsUnkept takes before.exchanges one journal_old journal_new old
+  ends_unkept one unkept = record {
+    text = unkept.0.text;
+    arrived = unkept.0.arrived;
+    failed = unkept.0.failed;
+    silent = unkept.1;
+    replied = λ past stands. let so_far = before.served.replied past stands in (so_far.end, so_far.walks);
+    kept = λ digest past in_step. told_are_kept unkept.0.text digest past in_step unkept.0.moments;
+  }
+
+  -- it ends the run
+  pub ends_by : {U : Type 0} (result : Result U ServeFault) (most : ℕ) (fault : ServeFault) → count < most → EndsOne {U = U} takes mid last journal_mid journal_new now new (Err fault)
+      → (exchanges : List Exchange) × HasClosed first last exchanges × EndsServing {U = U} takes most exchanges journal_old journal_new old new (Err fault)
+  ends_by result most Accept below ends = (
+    before.exchanges,
+    subst (λ (closed : Option (List Exchange)). HasClosed first closed before.exchanges) (sym ends.0) before.closed,
+    (
+      omega (arith, before.counted, below),
+      subst (λ (house : HouseFields). AreServed before.exchanges journal_old journal_new old house) (sym ends.2)
+          (subst (λ (journal : JournalState). AreServed before.exchanges journal_old journal old now) (sym ends.1) before.served),
+    ),
+  )
+  ends_by result most Journal below ends = (
+    before.exchanges ++ ends.0 ∷ [],
+    closed_more first mid last before.exchanges (ends.0 ∷ []) before.closed ends.1,
+    (
+      before.exchanges,
+      ends.0,
+      refl,
+      omega (arith, length-append before.exchanges (ends.0 ∷ []), before.counted, below),
+      ends_unkept ends.0 ends.2,
+    ),
+  )

@@ -1,0 +1,5 @@
+mod Right
+mod Walking
+mod Served
+mod Ends
+mod Bytes

@@ -1,0 +1,157 @@
+-- A run goes on by one connection that is served.
+use Rattle.std.proofs.Common.{◌≡◌, ◌≤◌, ◌⊎◌, inl, inr, ℕ, List, [], ◌∷◌, ◌++◌, Option, Some, length, take, refl, sym, ap, ◌∙◌, subst, arith, length-append, append-nil}
+use Rattle.std.proofs.lemmas.List.{take-append-le}
+use Rattle.clock_terms.specs.Limits.{SetupFields, IsSetup}
+use Rattle.clock_house.specs.House.{HouseFields}
+use Rattle.clock_http.specs.Replies.{Answer}
+use Rattle.clock_front.specs.FixedReplies.{no_memory}
+use Rattle.clock_front.specs.Fronts.{IsStruckOut, StandsForTexts, reply}
+use Rattle.clock_front.specs.Headline.{IsRight}
+use Rattle.clock_journal.specs.Crash.{LeavesTexts}
+use Rattle.clock_journal.specs.Disks.{MayBeLeft}
+use Rattle.clock_journal.specs.Kept.{HasTexts, JournalState, file_of}
+use Rattle.clock_journal.specs.Reading.{onto}
+use Rattle.clock_journal.proofs.Moments.{every_front}
+use Rattle.clock_keeping.specs.Keeping.{IsInStep, IsKept}
+use Rattle.clock_keeping.specs.Serving.{WritesReply}
+use Rattle.clock_serving.specs.Exchanges.{Exchange}
+use Rattle.clock_serving.specs.Serving.{AreServed, KeepsText, RepliesTo, Walks}
+use Rattle.clock_serving.specs.inside.Served.{IsServed}
+use Rattle.clock_serving.proofs.Right.{right}
+use Rattle.clock_serving.proofs.Walking.{all_behind, walks_on}
+
+take_all : {A : Type 0} (xs : List A) → take (length xs) xs ≡ xs
+take_all [] = refl
+take_all (x ∷ xs) = ap (λ ys. x ∷ ys) (take_all xs)
+
+take_front : {A : Type 0} (xs more : List A) → take (length xs) (xs ++ more) ≡ xs
+take_front xs more = take-append-le (length xs) xs more (omega arith) ∙ take_all xs
+
+-- of a journal to which texts were added a stop has left those that were there, and of the others the first
+pub left_since : (digest : List ℕ) (past more : List (List ℕ)) (journal_old journal_new : JournalState) (left : List ℕ)
+    → HasTexts digest past journal_old → HasTexts digest (past ++ more) journal_new → MayBeLeft journal_old.synced journal_new.written left
+    → LeavesTexts digest left (past ++ more) (length past)
+left_since digest past more journal_old journal_new left has_old has_new may =
+    let known : MayBeLeft (Some (file_of digest past)) (Some (file_of digest (past ++ more))) left =
+    subst (λ (bytes : Option (List ℕ)). MayBeLeft bytes (Some (file_of digest (past ++ more))) left) (has_old.synced_is ∙ has_old.file)
+    (subst (λ (bytes : Option (List ℕ)). MayBeLeft journal_old.synced bytes left) has_new.file may) in
+    subst (λ (bytes : List ℕ). LeavesTexts digest bytes (past ++ more) (length past)) (sym known.2)
+    (every_front digest (past ++ more) (length past) known.0 has_new.fit (omega (arith, length-append past more))
+    (subst (λ (all : List (List ℕ)). length (file_of digest all) ≤ known.0) (sym (take_front past more)) known.1))
+
+module _ (one : Exchange) (journal_old journal_new : JournalState) (old new : HouseFields) (setup : SetupFields) (limits : IsSetup setup)
+    (same : old.setup ≡ setup) where
+  right_here : (past : List (List ℕ)) (text : List ℕ) (answer : Answer) → answer ≡ reply old.setup past text → IsRight setup past text answer
+  right_here past text answer is = right setup limits past text answer (is ∙ ap (λ (of_setup : SetupFields). reply of_setup past text) same)
+
+  written_no_memory : (answer : Answer) → answer ≡ no_memory → WritesReply one.writing answer → WritesReply one.writing no_memory
+  written_no_memory answer is written = subst (λ (a : Answer). WritesReply one.writing a) is written
+
+  -- the texts of the front
+  replied_one : (past : List (List ℕ)) → StandsForTexts past old → IsServed one journal_old journal_new old new
+      → (next : List (List ℕ)) × RepliesTo setup past one next × StandsForTexts next new
+  replied_one past stands (inl (answer, inl told, written)) =
+      elim (told.answers past stands) [
+        | inl done ↦ (
+          told.text ∷ past,
+          inl (told.text, answer, record { arrived = told.arrived; written = written }, inl (right_here past told.text answer done.0, refl)),
+          done.1,
+        )
+        | inr struck ↦ (
+          past,
+          inl (told.text, answer, record { arrived = told.arrived; written = written }, inr (struck.0, refl)),
+          struck.1,
+        )
+      ]
+  replied_one past stands (inl (answer, inr (room, is, still, kept), written)) = (
+    past,
+    inr (inl (room, written_no_memory answer is written), refl),
+    subst (λ (house : HouseFields). StandsForTexts past house) (sym still) stands,
+  )
+  replied_one past stands (inr ((unanswered, kept), silent)) = (
+    past,
+    inr (inr (unanswered.0, silent), refl),
+    subst (λ (house : HouseFields). StandsForTexts past house) (sym unanswered.1) stands,
+  )
+
+  right_or_struck : (past : List (List ℕ)) (text : List ℕ) (answer : Answer) → (answer ≡ reply old.setup past text) ⊎ IsStruckOut text answer
+      → IsRight setup past text answer ⊎ IsStruckOut text answer
+  right_or_struck past text answer (inl is) = inl (right_here past text answer is)
+  right_or_struck past text answer (inr struck) = inr struck
+
+  in_step_still : (digest : List ℕ) (past : List (List ℕ)) → IsInStep digest past journal_old old → new ≡ old → journal_new ≡ journal_old
+      → IsInStep digest past journal_new new
+  in_step_still digest past in_step still kept =
+      subst (λ (house : HouseFields). IsInStep digest past journal_new house) (sym still)
+      (subst (λ (journal : JournalState). IsInStep digest past journal old) (sym kept) in_step)
+
+  -- the texts of the journal
+  kept_one : (digest : List ℕ) (past : List (List ℕ)) → IsInStep digest past journal_old old → IsServed one journal_old journal_new old new
+      → (next : List (List ℕ)) × KeepsText setup past one next × IsInStep digest next journal_new new
+  kept_one digest past in_step (inl (answer, inl told, written)) =
+      let kept : IsKept digest past told.text answer journal_new old new = told.kept digest past in_step in (
+        kept.texts,
+        inl (
+          told.text,
+          answer,
+          record { arrived = told.arrived; written = written },
+          kept.next,
+          right_or_struck (onto past []) told.text answer kept.right,
+        ),
+        kept.in_step,
+      )
+  kept_one digest past in_step (inl (answer, inr (room, is, still, kept), written)) = (
+    past,
+    inr (inl (room, written_no_memory answer is written), refl),
+    in_step_still digest past in_step still kept,
+  )
+  kept_one digest past in_step (inr ((unanswered, kept), silent)) = (
+    past,
+    inr (inr (unanswered.0, silent), refl),
+    in_step_still digest past in_step unanswered.1 kept,
+  )
+
+-- none was served yet
+pub served_none : (journal : JournalState) (house : HouseFields) → AreServed [] journal journal house house
+served_none journal house = record {
+  replied = λ past stands. record { end = past; walks = refl; stands = stands };
+  kept = λ digest past in_step. record {
+    end = past;
+    walks = refl;
+    in_step = in_step;
+    moments = λ left may.
+        subst (λ (texts : List (List ℕ)). LeavesTexts digest left texts (length past)) (append-nil past)
+        (left_since digest past [] journal journal left in_step.has
+        (subst (λ (texts : List (List ℕ)). HasTexts digest texts journal) (sym (append-nil past)) in_step.has) may);
+  };
+}
+
+-- one more was served
+pub served_more : (exchanges : List Exchange) (one : Exchange) (journal_old journal_mid journal_new : JournalState) (old mid new : HouseFields)
+    → IsSetup old.setup → mid.setup ≡ old.setup → AreServed exchanges journal_old journal_mid old mid → IsServed one journal_mid journal_new mid new
+    → AreServed (exchanges ++ one ∷ []) journal_old journal_new old new
+served_more exchanges one journal_old journal_mid journal_new old mid new limits same before served = record {
+  replied = λ past stands.
+      let so_far = before.replied past stands in
+      let next = replied_one one journal_mid journal_new mid new old.setup limits same so_far.end so_far.stands served in
+      record {
+        end = next.0;
+        walks = walks_on (RepliesTo old.setup) past exchanges so_far.end one next.0 so_far.walks next.1;
+        stands = next.2;
+      };
+  kept = λ digest past in_step.
+      let so_far = before.kept digest past in_step in
+      let next = kept_one one journal_mid journal_new mid new old.setup limits same digest so_far.end so_far.in_step served in
+      let walks : Walks (KeepsText old.setup) past (exchanges ++ one ∷ []) next.0 =
+      walks_on (KeepsText old.setup) past exchanges so_far.end one next.0 so_far.walks next.1 in
+      let behind = all_behind old.setup past (exchanges ++ one ∷ []) next.0 walks in
+      record {
+        end = next.0;
+        walks = walks;
+        in_step = next.2;
+        moments = λ left may.
+            subst (λ (texts : List (List ℕ)). LeavesTexts digest left texts (length past)) (sym behind.1)
+            (left_since digest past behind.0 journal_old journal_new left in_step.has
+            (subst (λ (texts : List (List ℕ)). HasTexts digest texts journal_new) behind.1 next.2.has) may);
+      };
+}

@@ -1,0 +1,53 @@
+-- Connections that follow one another.
+use Rattle.std.proofs.Common.{◌≡◌, inl, inr, ℕ, List, [], ◌∷◌, ◌++◌, Option, Some, None, refl, sym, ap, ◌∙◌, subst, append_assoc, append-nil}
+use Rattle.clock_terms.specs.Limits.{SetupFields}
+use Rattle.clock_device.specs.Readings.{Reading}
+use Rattle.clock_front.specs.Streamed.{Writing}
+use Rattle.clock_serving.specs.Exchanges.{Closes, Exchange, HasClosed, Offer}
+use Rattle.clock_serving.specs.Serving.{KeepsText, Walks}
+
+-- none was closed since
+pub closed_none : (closed : Option (List Exchange)) → HasClosed closed closed []
+closed_none None = tt
+closed_none (Some old) = ap Some (sym (append-nil old))
+
+-- these were closed, and then those
+pub closed_more : (first mid last : Option (List Exchange)) (some others : List Exchange) → HasClosed first mid some → HasClosed mid last others
+    → HasClosed first last (some ++ others)
+closed_more None mid last some others before after = tt
+closed_more (Some old) mid last some others before after =
+    subst (λ (closed : Option (List Exchange)). HasClosed closed last others) before after ∙ ap Some (append_assoc old some others)
+
+-- one connection more
+pub walks_on : (step : List (List ℕ) → Exchange → List (List ℕ) → Type 0) (past : List (List ℕ)) (exchanges : List Exchange) (end : List (List ℕ))
+    (one : Exchange) (next : List (List ℕ)) → Walks step past exchanges end → step end one next → Walks step past (exchanges ++ one ∷ []) next
+walks_on step past [] end one next walks steps = (next, subst (λ (texts : List (List ℕ)). step texts one next) walks steps, refl)
+walks_on step past (first ∷ others) end one next walks steps = (walks.0, walks.1, walks_on step walks.0 others end one next walks.2 steps)
+
+-- what is kept stays, and more comes behind it
+kept_behind : (setup : SetupFields) (past : List (List ℕ)) (one : Exchange) (next : List (List ℕ)) → KeepsText setup past one next
+    → (more : List (List ℕ)) × (next ≡ past ++ more)
+kept_behind setup past one next (inl told) =
+    elim told.3 [
+      | inl accepted ↦ (told.0 ∷ [], accepted.1)
+      | inr passed ↦ ([], passed.1 ∙ sym (append-nil past))
+    ]
+kept_behind setup past one next (inr alone) = ([], alone.1 ∙ sym (append-nil past))
+
+pub all_behind : (setup : SetupFields) (past : List (List ℕ)) (exchanges : List Exchange) (end : List (List ℕ))
+    → Walks (KeepsText setup) past exchanges end → (more : List (List ℕ)) × (end ≡ past ++ more)
+all_behind setup past [] end walks = ([], walks ∙ sym (append-nil past))
+all_behind setup past (one ∷ others) end walks =
+    let here = kept_behind setup past one walks.0 walks.1 in
+    let later = all_behind setup walks.0 others end walks.2 in
+    (here.0 ++ later.0, later.1 ∙ ap (λ (texts : List (List ℕ)). texts ++ later.0) here.1 ∙ append_assoc past here.0 later.0)
+
+-- the one that was open was closed
+pub closed_one : (first mid last : Option (List Exchange)) (offer : Offer) (source sink : Option (List ℕ)) (reading : Option (List ℕ) → Reading)
+    (writing : Option (List ℕ) → Writing) → mid ≡ first → offer.source ≡ source → offer.sink ≡ sink
+    → Closes mid last (reading offer.source) (writing offer.sink)
+    → HasClosed first last (record { reading = reading source; writing = writing sink } ∷ [])
+closed_one first mid last offer source sink reading writing same from to closes =
+    subst (λ (closed : Option (List Exchange)). Closes closed last (reading source) (writing sink)) same
+    (subst (λ (bytes : Option (List ℕ)). Closes mid last (reading bytes) (writing sink)) from
+    (subst (λ (bytes : Option (List ℕ)). Closes mid last (reading offer.source) (writing bytes)) to closes))

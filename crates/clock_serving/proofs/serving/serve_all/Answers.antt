@@ -1,0 +1,49 @@
+use Rattle.std.proofs.Common.{◌≡◌, [], refl, subst, ◌∙◌}
+use Rattle.clock_terms.specs.Limits.{IsSetup}
+use Rattle.clock_house.specs.House.{HouseFields}
+use Rattle.clock_serving.proofs.Walking.{closed_none}
+use Rattle.clock_serving.proofs.Served.{served_none}
+use Rattle.clock_serving.proofs.Ends.{ends_by, one_more}
+use Rattle.clock_serving.proofs.serving.serve_all.Goals as goal
+
+-- the limits that hold of every set-up, of the house that is asked
+limits_of : (house front : HouseFields) → house ≡ front → IsSetup house.setup → IsSetup front.setup
+limits_of house front same limits = subst (λ (fields : HouseFields). IsSetup fields.setup) same limits
+
+pub loop-connection-init : goal.loop-connection-init
+loop-connection-init g c = record {
+  served = record {
+    exchanges = [];
+    closed = closed_none (g.C.Connections.closed c.args.connections.now);
+    counted = refl;
+    served = served_none (g.K.Keeper.journal c.args.keeper.now) c.args.front.now;
+  };
+  unfailed = c.requires.unfailed;
+  closed = c.requires.closed;
+  setup = refl;
+}
+
+pub returns-in-Err-clause-served : goal.returns-in-Err-clause-served
+returns-in-Err-clause-served g c =
+    let closed = g.C.Connections.closed in
+    let journal = g.K.Keeper.journal in
+    let loop = c.loop-connection in
+    ends_by g.K.Keeper.takes loop._connection (closed c.args.connections.now) (closed loop.connections) (closed c.serve_next.new.connections)
+    (journal c.args.keeper.now) (journal loop.keeper) (journal c.serve_next.new.keeper) c.args.front.now loop.front c.serve_next.new.front
+    (limits_of c.house.result.now c.args.front.now c.house.ensures c.law_of_house.ensures.limits) loop.invariant.setup loop.invariant.served
+    c.serve_next.result c.args.count c.in-Err.fault c.loop-connection-test.true c.in-Err.ensures.ends
+
+pub loop-connection-preserved : goal.loop-connection-preserved
+loop-connection-preserved g c =
+    let closed = g.C.Connections.closed in
+    let journal = g.K.Keeper.journal in
+    let loop = c.loop-connection in
+    record {
+      served = one_more g.K.Keeper.takes loop._connection (closed c.args.connections.now) (closed loop.connections) (closed c.serve_next.new.connections)
+          (journal c.args.keeper.now) (journal loop.keeper) (journal c.serve_next.new.keeper) c.args.front.now loop.front c.serve_next.new.front
+          (limits_of c.house.result.now c.args.front.now c.house.ensures c.law_of_house.ensures.limits) loop.invariant.setup loop.invariant.served
+          c.in_default.field-0 c.in_default.ensures.ends;
+      unfailed = c.in_default.ensures.unfailed;
+      closed = c.in_default.ensures.closed;
+      setup = c.in_default.ensures.setup ∙ loop.invariant.setup;
+    }

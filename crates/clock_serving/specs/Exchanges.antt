@@ -1,0 +1,33 @@
+-- What is seen of connections that are served one after the other.
+--     Offer      what a connection has where it is taken
+--     Exchange      what was read and written on a connection until it was closed
+--     HasClosed old new exchanges      these connections were closed, in order, and no others
+--     Closes old new reading writing      one was
+--     no_journal      what is kept where nothing is
+use Rattle.std.specs.Prelude.{◌≡◌, ◌++◌, ℕ, false, List, [], ◌∷◌, Option, Some, None}
+use Rattle.clock_device.specs.Readings.{Reading}
+use Rattle.clock_front.specs.Streamed.{Writing}
+use Rattle.clock_journal.specs.Kept.{JournalState}
+
+-- the bytes that its source has and those that its sink has taken, where they tell them
+pub record Offer : Type 0 where
+  pub source : Option (List ℕ)
+  pub sink : Option (List ℕ)
+
+-- all reads and all writes that were made on one connection
+pub record Exchange : Type 0 where
+  pub reading : Reading
+  pub writing : Writing
+
+-- these connections were closed, in order, and no others; nothing is said where connections are not told
+abbrev pub HasClosed : Option (List Exchange) → Option (List Exchange) → List Exchange → Type 0
+HasClosed (Some old) new exchanges = new ≡ Some (old ++ exchanges)
+HasClosed None new exchanges = Unit {0}
+
+-- one connection was closed
+abbrev pub Closes : Option (List Exchange) → Option (List Exchange) → Reading → Writing → Type 0
+Closes old new reading writing = HasClosed old new (record { reading = reading; writing = writing } ∷ [])
+
+-- a journal of which nothing is told, and no call failed: nothing is kept
+abbrev pub no_journal : JournalState
+no_journal = record { written = None; synced = None; has_failed = false; chain = [] }

@@ -1,0 +1,9 @@
+-- Connections that stand in memory.
+--     ListedState      whether one is open, what its source had where it was taken, and what was read and written on each closed one
+use Rattle.std.specs.Prelude.{ℕ, Bool, List}
+use Rattle.clock_serving.specs.Exchanges.{Exchange}
+
+pub record ListedState : Type 0 where
+  pub is_open : Bool
+  pub offered : List ℕ
+  pub closed : List Exchange

@@ -1,0 +1,107 @@
+-- How connections are served one after the other, one request each. Texts of a front stand newest first, those of a journal oldest first.
+--     IsReplied one text answer      the text was read, and the reply was written
+--     EndsAlone one      no text was read that could be answered
+--     Walks step past exchanges end      connection by connection the texts become others by this step
+--     RepliesTo setup past one next      the reply is the right one after the texts before it
+--     KeepsText setup past one next      it is the right one after the kept texts, and an accepted text is kept
+--     AreServed exchanges ..      so all of these connections were served
+--     EndsUnkept takes served last ..      after these the text of the last could not be kept
+--     EndsServing takes count exchanges .. result      how serving so many connections ends
+use Rattle.std.specs.Prelude.{◌≡◌, ◌<◌, ◌≤◌, ◌⊎◌, ◌++◌, ℕ, true, List, [], ◌∷◌, length, Some, Result, Ok, Err}
+use Rattle.clock_terms.specs.Limits.{SetupFields}
+use Rattle.clock_house.specs.House.{HouseFields}
+use Rattle.clock_http.specs.Replies.{Answer}
+use Rattle.clock_front.specs.Arrivals.{HasArrived, HasFailedRead, HasNoRoom, RunsOutOfReads}
+use Rattle.clock_front.specs.FixedReplies.{no_memory}
+use Rattle.clock_front.specs.Fronts.{IsStruckOut, StandsForTexts}
+use Rattle.clock_front.specs.Headline.{IsRight}
+use Rattle.clock_front.specs.Streamed.{WritesNothing}
+use Rattle.clock_journal.specs.Crash.{LeavesTexts}
+use Rattle.clock_journal.specs.Disks.{MayBeLeft}
+use Rattle.clock_journal.specs.Kept.{JournalState, file_of}
+use Rattle.clock_journal.specs.Reading.{onto}
+use Rattle.clock_keeping.specs.Keeping.{IsInStep, IsNextKept}
+use Rattle.clock_keeping.specs.Serving.{WritesReply}
+use Rattle.clock_serving.specs.Exchanges.{Exchange}
+use Rattle.clock_serving.specs.declared.fault.ServeFault.{ServeFault}
+use Rattle.clock_serving.specs.declared.fault.ServeFault.TheVariants as fault
+
+-- the text was read on this connection, and the reply was written on it, whole or a front of it where a write failed
+pub record IsReplied (one : Exchange) (text : List ℕ) (answer : Answer) : Type 0 where
+  pub arrived : HasArrived one.reading text
+  pub written : WritesReply one.writing answer
+
+-- there was no memory for the bytes, and the reply says so; or no request could be read, and nothing was written
+abbrev pub EndsAlone : Exchange → Type 0
+EndsAlone one =
+    (HasNoRoom one.reading × WritesReply one.writing no_memory)
+    ⊎ ((HasFailedRead one.reading ⊎ RunsOutOfReads one.reading) × WritesNothing one.writing)
+
+-- connection by connection, in order, the texts become others by this step
+abbrev pub Walks : (List (List ℕ) → Exchange → List (List ℕ) → Type 0) → List (List ℕ) → List Exchange → List (List ℕ) → Type 0
+Walks step past [] end = end ≡ past
+Walks step past (one ∷ others) end = (next : List (List ℕ)) × step past one next × Walks step next others end
+
+-- the right reply, after which the text stands before the others; or the text found no memory, and is struck out
+abbrev pub IsNextReply : SetupFields → List (List ℕ) → List ℕ → Answer → List (List ℕ) → Type 0
+IsNextReply setup past text answer next =
+    (IsRight setup past text answer × (next ≡ text ∷ past)) ⊎ (IsStruckOut text answer × (next ≡ past))
+
+-- the request that was read got its reply; or there was none, and this connection ended alone
+abbrev pub RepliesTo : SetupFields → List (List ℕ) → Exchange → List (List ℕ) → Type 0
+RepliesTo setup past one next =
+    ((text : List ℕ) × (answer : Answer) × IsReplied one text answer × IsNextReply setup past text answer next)
+    ⊎ (EndsAlone one × (next ≡ past))
+
+-- the same after the kept texts, behind which the text is put if it was accepted as a sheet or a closing
+abbrev pub KeepsText : SetupFields → List (List ℕ) → Exchange → List (List ℕ) → Type 0
+KeepsText setup past one next =
+    ((text : List ℕ) × (answer : Answer) × IsReplied one text answer × IsNextKept past text answer next
+    × (IsRight setup (onto past []) text answer ⊎ IsStruckOut text answer))
+    ⊎ (EndsAlone one × (next ≡ past))
+
+-- what these connections have made of the texts that the front stood for
+pub record HasReplied (past : List (List ℕ)) (exchanges : List Exchange) (old new : HouseFields) : Type 0 where
+  pub end : List (List ℕ)
+  pub walks : Walks (RepliesTo old.setup) past exchanges end
+  pub stands : StandsForTexts end new
+
+-- what they have made of the texts of the journal: all of these are on its disk; and a stop at any moment since has left the first
+-- of them, in order, and none fewer than there were
+pub record HasKept (digest : List ℕ) (past : List (List ℕ)) (exchanges : List Exchange) (journal_old journal_new : JournalState) (old new : HouseFields) : Type 0 where
+  pub end : List (List ℕ)
+  pub walks : Walks (KeepsText old.setup) past exchanges end
+  pub in_step : IsInStep digest end journal_new new
+  pub moments : (left : List ℕ) → MayBeLeft journal_old.synced journal_new.written left → LeavesTexts digest left end (length past)
+
+-- these connections were served in order, whatever texts there were
+pub record AreServed (exchanges : List Exchange) (journal_old journal_new : JournalState) (old new : HouseFields) : Type 0 where
+  pub replied : (past : List (List ℕ)) → StandsForTexts past old → HasReplied past exchanges old new
+  pub kept : (digest : List ℕ) (past : List (List ℕ)) → IsInStep digest past journal_old old → HasKept digest past exchanges journal_old journal_new old new
+
+-- all texts that were told are on the disk, and a stop leaves these, and at most the one that could not be kept
+pub record HasKeptTold (digest : List ℕ) (past : List (List ℕ)) (served : List Exchange) (text : List ℕ) (journal : JournalState) (old : HouseFields) : Type 0 where
+  pub end : List (List ℕ)
+  pub walks : Walks (KeepsText old.setup) past served end
+  pub left_ones : (left : List ℕ) → MayBeLeft (Some (file_of digest end)) journal.written left → LeavesTexts digest left (end ++ text ∷ []) (length end)
+
+-- after these connections the text of the last one could not be kept, since a call of the disk failed or it is none that is taken; and
+-- nothing was written on it
+pub record EndsUnkept (takes : List ℕ → Type 0) (served : List Exchange) (last : Exchange) (journal_old journal_new : JournalState) (old : HouseFields) : Type 0 where
+  pub text : List ℕ
+  pub arrived : HasArrived last.reading text
+  pub failed : (journal_new.has_failed ≡ true) ⊎ (takes text → ⊥)
+  pub silent : WritesNothing last.writing
+  pub replied : (past : List (List ℕ)) → StandsForTexts past old → (end : List (List ℕ)) × Walks (RepliesTo old.setup) past served end
+  pub kept : (digest : List ℕ) (past : List (List ℕ)) → IsInStep digest past journal_old old → HasKeptTold digest past served text journal_new old
+
+-- how serving so many connections ends: each was served; or one could not be taken, and those before it were served; or the text
+-- of the last one that was taken could not be kept
+abbrev pub EndsServing : {U : Type 0} → (List ℕ → Type 0) → ℕ → List Exchange → JournalState → JournalState → HouseFields → HouseFields → Result U ServeFault → Type 0
+EndsServing takes count exchanges journal_old journal_new old new (Ok done) =
+    (length exchanges ≡ count) × AreServed exchanges journal_old journal_new old new
+EndsServing takes count exchanges journal_old journal_new old new (Err fault.Accept) =
+    (length exchanges < count) × AreServed exchanges journal_old journal_new old new
+EndsServing takes count exchanges journal_old journal_new old new (Err fault.Journal) =
+    (served : List Exchange) × (last : Exchange) × (exchanges ≡ served ++ last ∷ []) × (length exchanges ≤ count)
+    × EndsUnkept takes served last journal_old journal_new old

@@ -1,0 +1,62 @@
+-- How one connection is served.
+--     IsAnswered reading answer ..      the reply to what was read, or that of want of memory for it
+--     IsServed one ..      one connection was served
+--     IsUnkept takes one ..      its text could not be kept
+--     EndsOne takes old new .. result      how serving one ends
+use Rattle.std.specs.Prelude.{◌≡◌, ◌⊎◌, ◌++◌, ℕ, true, List, [], ◌∷◌, length, Option, Result, Ok, Err}
+use Rattle.clock_device.specs.Readings.{Reading}
+use Rattle.clock_house.specs.House.{HouseFields}
+use Rattle.clock_http.specs.Replies.{Answer}
+use Rattle.clock_front.specs.Arrivals.{HasArrived, HasNoRoom}
+use Rattle.clock_front.specs.FixedReplies.{no_memory}
+use Rattle.clock_front.specs.Fronts.{AnswersText}
+use Rattle.clock_front.specs.Streamed.{WritesNothing}
+use Rattle.clock_journal.specs.Crash.{LeavesTexts}
+use Rattle.clock_journal.specs.Disks.{MayBeLeft}
+use Rattle.clock_journal.specs.Kept.{JournalState, HasTexts}
+use Rattle.clock_keeping.specs.Keeping.{IsInStep, IsKept}
+use Rattle.clock_keeping.specs.Serving.{IsLeftAlone, WritesReply}
+use Rattle.clock_serving.specs.Exchanges.{Exchange, HasClosed}
+use Rattle.clock_serving.specs.declared.fault.ServeFault.{ServeFault}
+use Rattle.clock_serving.specs.declared.fault.ServeFault.TheVariants as fault
+
+-- the text that was read is answered, and kept where it is accepted
+pub record AnswersAndKeeps (reading : Reading) (answer : Answer) (journal_old journal_new : JournalState) (old new : HouseFields) : Type 0 where
+  pub text : List ℕ
+  pub arrived : HasArrived reading text
+  pub answers : AnswersText text answer old new
+  pub kept : (digest : List ℕ) (past : List (List ℕ)) → IsInStep digest past journal_old old → IsKept digest past text answer journal_new old new
+
+-- or there was no memory for it, the reply says so, and nothing has changed
+abbrev pub IsAnswered : Reading → Answer → JournalState → JournalState → HouseFields → HouseFields → Type 0
+IsAnswered reading answer journal_old journal_new old new =
+    AnswersAndKeeps reading answer journal_old journal_new old new
+    ⊎ (HasNoRoom reading × (answer ≡ no_memory) × (new ≡ old) × (journal_new ≡ journal_old))
+
+-- its reply was written; or nothing was, where no request could be read
+abbrev pub IsServed : Exchange → JournalState → JournalState → HouseFields → HouseFields → Type 0
+IsServed one journal_old journal_new old new =
+    ((answer : Answer) × IsAnswered one.reading answer journal_old journal_new old new × WritesReply one.writing answer)
+    ⊎ (IsLeftAlone one.reading journal_old journal_new old new × WritesNothing one.writing)
+
+-- the text that was read could not be kept: a stop leaves the texts before it, and at most this one more
+pub record FailsToKeep (takes : List ℕ → Type 0) (reading : Reading) (journal_old journal_new : JournalState) : Type 0 where
+  pub text : List ℕ
+  pub arrived : HasArrived reading text
+  pub failed : (journal_new.has_failed ≡ true) ⊎ (takes text → ⊥)
+  pub moments : (digest : List ℕ) (past : List (List ℕ)) → HasTexts digest past journal_old
+      → (left : List ℕ) → MayBeLeft journal_old.synced journal_new.written left → LeavesTexts digest left (past ++ text ∷ []) (length past)
+
+-- and nothing was written
+abbrev pub IsUnkept : (List ℕ → Type 0) → Exchange → JournalState → JournalState → Type 0
+IsUnkept takes one journal_old journal_new = FailsToKeep takes one.reading journal_old journal_new × WritesNothing one.writing
+
+-- how serving one connection ends: it was served; or it could not be taken, and nothing has changed; or its text could not be kept
+abbrev pub EndsOne : {U : Type 0} → (List ℕ → Type 0) → Option (List Exchange) → Option (List Exchange) → JournalState → JournalState → HouseFields → HouseFields
+    → Result U ServeFault → Type 0
+EndsOne takes closed_old closed_new journal_old journal_new old new (Ok done) =
+    (one : Exchange) × HasClosed closed_old closed_new (one ∷ []) × IsServed one journal_old journal_new old new
+EndsOne takes closed_old closed_new journal_old journal_new old new (Err fault.Accept) =
+    (closed_new ≡ closed_old) × (journal_new ≡ journal_old) × (new ≡ old)
+EndsOne takes closed_old closed_new journal_old journal_new old new (Err fault.Journal) =
+    (one : Exchange) × HasClosed closed_old closed_new (one ∷ []) × IsUnkept takes one journal_old journal_new

@@ -1,0 +1,58 @@
+ghost use Rattle.std.specs.Prelude.{◌≡◌, Bool, List, Option, IfOk, is_err, not, true, false};
+ghost use Rattle.clock_device.specs.Calls.{IsUnread, IsUnused};
+ghost use Rattle.clock_serving.specs.Exchanges.{Closes, Exchange, Offer};
+
+use clock_device::{Failed, Sink, Source};
+
+/// A connection that was taken: where its request comes from, and where its reply goes.
+#[derive(Drop)]
+pub struct Connection<R, W> {
+    pub source: R,
+    pub sink: W,
+}
+
+/// Connections that are taken one after the other, each closed before the next.
+///
+/// Contracts see whether one is open, what it had where it was taken, and what was read and written on each that was closed, where
+/// it tells them: a source and a sink belong to one connection, since no two are open at once.
+pub trait Connections {
+    type Reader: Source;
+
+    type Writer: Sink;
+
+    ghost is_open: { Self → Bool };
+
+    ghost offer: { Self → Offer };
+
+    ghost closed: { Self → Option (List Exchange) };
+
+    /// Takes the next connection. It waits for one as long as that takes.
+    fn accept(&mut self) -> Result<Connection<Self::Reader, Self::Writer>, Failed>
+        requires { is_open self.old ≡ false }
+        ensures open { is_open self.new ≡ not (is_err result) }
+        ensures source { IfOk result (λ one. (offer self.new).source ≡ Self.Reader.bytes_left one.source) }
+        ensures sink { IfOk result (λ one. (offer self.new).sink ≡ Self.Writer.bytes_taken one.sink) }
+        ensures unread { IfOk result (λ one. IsUnread (Self.Reader.calls one.source) (Self.Reader.interruptions one.source)
+            (Self.Reader.has_failed one.source)) }
+        ensures unused { IfOk result (λ one. IsUnused (Self.Writer.calls one.sink) (Self.Writer.has_failed one.sink)) }
+        ensures closed { closed self.new ≡ closed self.old };
+
+    /// Closes the connection that is open.
+    fn close(&mut self, connection: Connection<Self::Reader, Self::Writer>)
+        requires { is_open self.old ≡ true }
+        ensures open { is_open self.new ≡ false }
+        ensures closed { Closes (closed self.old) (closed self.new)
+            (record {
+              before = (offer self.old).source;
+              after = Self.Reader.bytes_left connection.source;
+              calls = Self.Reader.calls connection.source;
+              interruptions = Self.Reader.interruptions connection.source;
+              has_failed = Self.Reader.has_failed connection.source;
+            })
+            (record {
+              before = (offer self.old).sink;
+              after = Self.Writer.bytes_taken connection.sink;
+              calls = Self.Writer.calls connection.sink;
+              has_failed = Self.Writer.has_failed connection.sink;
+            }) };
+}

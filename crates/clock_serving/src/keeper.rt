@@ -1,0 +1,88 @@
+ghost use Rattle.std.specs.Prelude.{◌≡◌, ◌⊎◌, ◌++◌, ℕ, List, [], ◌∷◌, length, IfOk, OnOk, OnErr, true, false};
+ghost use Rattle.clock_front.specs.Fronts.{AnswersText};
+ghost use Rattle.clock_http.specs.Shown.{Knows};
+ghost use Rattle.clock_journal.specs.Crash.{LeavesTexts};
+ghost use Rattle.clock_journal.specs.Disks.{MayBeLeft};
+ghost use Rattle.clock_journal.specs.Format.{Fits};
+ghost use Rattle.clock_journal.specs.Kept.{HasTexts, JournalState};
+ghost use Rattle.clock_keeping.specs.Keeping.{IsInStep, IsKept};
+ghost use Rattle.clock_serving.specs.Exchanges.{no_journal};
+
+use clock_device::Failed;
+use clock_front::{Front, Progress, Reply};
+use clock_journal::{Durable, Journal};
+use clock_keeping::answer_and_keep;
+use clock_processor::Processor;
+
+/// What keeps the accepted texts of a front before they are replied to.
+///
+/// Contracts see the journal that it keeps.
+pub trait Keeper {
+    ghost journal: { Self → JournalState };
+
+    /// The texts that it can keep.
+    ghost takes: { List ℕ → Type 0 };
+
+    /// The reply to a text of which this is known, after which the input has ended. Where the text was accepted as a sheet or a
+    /// closing it is kept before the reply is given out.
+    ///
+    /// At `Err` the text could not be kept: nothing is to be replied, and neither the front nor this is to be used any more.
+    fn answer<P: Processor>(
+        &mut self,
+        front: &mut Front<P>,
+        text: &[u8],
+        progress: Progress,
+    ) -> Result<Reply, Failed>
+        requires known { Knows text.now progress }
+        requires unfailed { (journal self.old).has_failed ≡ false }
+        ensures answered { IfOk result (λ reply. AnswersText text.now reply front.old front.new) }
+        ensures setup { front.new.setup ≡ front.old.setup }
+        ensures kept { (digest : List ℕ) (past : List (List ℕ)) → IsInStep digest past (journal self.old) front.old
+            → IfOk result (λ reply. IsKept digest past text.now reply (journal self.new) front.old front.new) }
+        ensures moments { (digest : List ℕ) (past : List (List ℕ)) → HasTexts digest past (journal self.old)
+            → (left : List ℕ) → MayBeLeft (journal self.old).synced (journal self.new).written left
+            → LeavesTexts digest left (past ++ text.now ∷ []) (length past) }
+        ensures ok { OnOk result ((journal self.new).has_failed ≡ false) }
+        ensures err { OnErr result (((journal self.new).has_failed ≡ true) ⊎ (takes text.now → ⊥)) };
+
+    /// Is told that a round was closed, behind the reply to its closing.
+    fn round_closed(&mut self, round: u64)
+        ensures { journal self.new ≡ journal self.old };
+}
+
+impl<D: Durable> Keeper for Journal<D> {
+    ghost journal = { λ journal. journal };
+
+    ghost takes = { Fits };
+
+    fn answer<P: Processor>(
+        &mut self,
+        front: &mut Front<P>,
+        text: &[u8],
+        progress: Progress,
+    ) -> Result<Reply, Failed> {
+        answer_and_keep(front, self, text, progress)
+    }
+
+    fn round_closed(&mut self, _round: u64) {}
+}
+
+/// Keeps no text.
+pub struct Unkept;
+
+impl Keeper for Unkept {
+    ghost journal = { λ unkept. no_journal };
+
+    ghost takes = { λ text. Unit {0} };
+
+    fn answer<P: Processor>(
+        &mut self,
+        front: &mut Front<P>,
+        text: &[u8],
+        progress: Progress,
+    ) -> Result<Reply, Failed> {
+        Ok(front.answer_known(text, progress))
+    }
+
+    fn round_closed(&mut self, _round: u64) {}
+}

@@ -1,0 +1,23 @@
+//! The loop of a server: connections that are taken one after the other, with one request each.
+//!
+//! [`serve_all`] serves them by a front. Where they come from is a [`Connections`]: a [`Listening`] on a port of the machine, or a
+//! [`Listed`] in memory. Where accepted texts are kept is a [`Keeper`]: a journal, or [`Unkept`].
+#![tactic(auto)]
+
+mod closed;
+mod connections;
+mod fault;
+mod keeper;
+mod laws;
+mod listed;
+mod listening;
+mod serving;
+
+pub use closed::Closed;
+pub use connections::{Connection, Connections};
+pub use fault::ServeFault;
+pub use keeper::{Keeper, Unkept};
+pub use laws::law_told_bytes;
+pub use listed::{Client, Listed};
+pub use listening::Listening;
+pub use serving::serve_all;

@@ -1,0 +1,122 @@
+ghost use Rattle.std.specs.Prelude.{◌≡◌, [], IfOk, Some, true, false};
+ghost use Rattle.clock_serving.specs.Exchanges.{Closes};
+
+use crate::closed::Closed;
+use crate::connections::{Connection, Connections};
+use clock_device::{Bounded, Failed, ListSink, ListSource, NoMemory, Stop};
+use std::alloc::Global;
+use std::marker::Model;
+
+/// What a client of a connection in memory sends and takes: its bytes, how many of them one read gives at most and at which read
+/// they stop; how many bytes it takes in all, how many of them by one write, and at which write it fails. A read and a write are
+/// of one byte at least, and are counted from 0.
+#[derive(Clone, Copy)]
+pub struct Client<'a> {
+    pub bytes: &'a [u8],
+    pub read: usize,
+    pub read_stop: Option<(u64, Stop)>,
+    pub room: usize,
+    pub write: usize,
+    pub write_stop: Option<u64>,
+}
+
+/// Connections in memory: one for each of these clients, in order. Where there is none left, taking one fails.
+#[derive(Drop)]
+pub struct Listed<'a> {
+    alloc: Global,
+    clients: &'a [Client<'a>],
+    next: usize,
+    is_open: bool,
+    offered: &'a [u8],
+    closed: Bounded<Closed<'a>>,
+}
+
+impl<'a> Model for Listed<'a> {
+    ghost use Rattle.std.specs.Prelude.{◌≤◌, ◌+◌, length, MatchBool};
+    ghost use Rattle.clock_serving.specs.Listed.{ListedState};
+
+    ghost Value = { ListedState };
+
+    ghost view = { λ l. record { is_open = l.is_open; offered = l.offered.now; closed = l.closed.items } };
+
+    ghost invariant = { λ l. (l.next ≤ length l.clients.now) × (length l.clients.now ≤ l.next + l.closed.room)
+        × MatchBool l.is_open (length l.clients.now + 1 ≤ l.next + l.closed.room) (Unit {0}) };
+}
+
+impl<'a> Listed<'a> {
+    /// The connections of these clients, of which none was taken yet.
+    pub fn new(alloc: Global, clients: &'a [Client<'a>]) -> Result<Listed<'a>, NoMemory>
+        ensures { IfOk result (λ listed. listed ≡ record { is_open = false; offered = []; closed = [] }) }
+    {
+        Ok(Listed {
+            alloc,
+            clients,
+            next: 0,
+            is_open: false,
+            offered: &[],
+            closed: Bounded::with_capacity(alloc, clients.len())?,
+        })
+    }
+
+    /// The connections that were closed, in order.
+    pub fn closed(&self) -> &[Closed<'a>]
+        ensures { result.now ≡ self.now.closed }
+    {
+        self.closed.as_slice()
+    }
+}
+
+impl<'a> Connections for Listed<'a> {
+    type Reader = ListSource<'a>;
+
+    type Writer = ListSink;
+
+    ghost is_open = { λ listed. listed.is_open };
+
+    ghost offer = { λ listed. record { source = Some listed.offered; sink = Some [] } };
+
+    ghost closed = { λ listed. Some listed.closed };
+
+    fn accept(&mut self) -> Result<Connection<ListSource<'a>, ListSink>, Failed> {
+        let Some(client) = self.clients.get(self.next) else {
+            return Err(Failed);
+        };
+        let Ok(sink) = ListSink::new(
+            self.alloc,
+            client.room,
+            client.write.max(1),
+            client.write_stop,
+        ) else {
+            return Err(Failed);
+        };
+        self.next += 1;
+        self.is_open = true;
+        self.offered = client.bytes;
+        Ok(Connection {
+            source: ListSource::new(client.bytes, client.read.max(1), client.read_stop),
+            sink,
+        })
+    }
+
+    fn close(&mut self, connection: Connection<ListSource<'a>, ListSink>)
+        requires { self.old.is_open ≡ true }
+        ensures open { self.new.is_open ≡ false }
+        ensures closed { Closes (Some self.old.closed) (Some self.new.closed)
+            (record {
+              before = Some self.old.offered;
+              after = Some connection.entry.source.left;
+              calls = connection.entry.source.calls;
+              interruptions = connection.entry.source.interruptions;
+              has_failed = connection.entry.source.has_failed;
+            })
+            (record {
+              before = Some [];
+              after = Some connection.entry.sink.taken;
+              calls = connection.entry.sink.calls;
+              has_failed = connection.entry.sink.has_failed;
+            }) }
+    {
+        self.is_open = false;
+        self.closed.push(Closed::new(self.offered, connection));
+    }
+}

@@ -1,0 +1,57 @@
+ghost use Rattle.std.specs.Prelude.{◌≡◌, None, false};
+
+use crate::connections::{Connection, Connections};
+use clock_device::{Failed, FromReader, ToWriter};
+use std::net::{TcpListener, TcpStream};
+
+/// The connections of a port of this machine that is listened on. It tells no bytes, as sockets tell none.
+pub struct Listening<'a> {
+    listener: &'a TcpListener,
+    is_open: bool,
+}
+
+impl<'a> Listening<'a> {
+    /// No connection was taken yet.
+    pub fn new(listener: &'a TcpListener) -> Listening<'a>
+        ensures open { ⟦<Listening<'a> as Connections>⟧.is_open result ≡ false }
+        ensures closed { ⟦<Listening<'a> as Connections>⟧.closed result ≡ None }
+    {
+        Listening {
+            listener,
+            is_open: false,
+        }
+    }
+}
+
+impl Connections for Listening<'_> {
+    type Reader = FromReader<TcpStream>;
+
+    type Writer = ToWriter<TcpStream>;
+
+    ghost is_open = { λ listening. listening.is_open };
+
+    ghost offer = { λ listening. record { source = None; sink = None } };
+
+    ghost closed = { λ listening. None };
+
+    fn accept(&mut self) -> Result<Connection<FromReader<TcpStream>, ToWriter<TcpStream>>, Failed> {
+        let Ok((stream, _peer)) = self.listener.accept() else {
+            return Err(Failed);
+        };
+        let Ok(reader) = stream.try_clone() else {
+            return Err(Failed);
+        };
+        self.is_open = true;
+        Ok(Connection {
+            source: FromReader::new(reader),
+            sink: ToWriter::new(stream),
+        })
+    }
+
+    fn close(&mut self, connection: Connection<FromReader<TcpStream>, ToWriter<TcpStream>>)
+        ensures open { self.new.is_open ≡ false }
+    {
+        self.is_open = false;
+        drop(connection);
+    }
+}

@@ -1,0 +1,174 @@
+ghost use Rattle.std.specs.Prelude.{◌≡◌, ◌≤◌, ℕ, List, IfOk, OnOk, OnErr, MatchOption, false, length};
+ghost use Rattle.clock_device.specs.Calls.{IsUnread, IsUnused};
+ghost use Rattle.clock_device.specs.Readings.{Reading};
+ghost use Rattle.clock_front.specs.Streamed.{Writing};
+ghost use Rattle.clock_keeping.specs.Serving.{IsLeftAlone};
+ghost use Rattle.clock_serving.specs.Exchanges.{Exchange, HasClosed};
+ghost use Rattle.clock_serving.specs.Serving.{EndsServing};
+ghost use Rattle.clock_serving.specs.inside.Served.{EndsOne, FailsToKeep, IsAnswered, IsServed, IsUnkept};
+
+use crate::connections::Connections;
+use crate::fault::ServeFault;
+use crate::keeper::Keeper;
+use clock_device::{Failed, Sink, Source, write_all};
+use clock_front::{Front, Reply, Unread, no_memory_reply, read_request};
+use clock_processor::Processor;
+use std::alloc::Global;
+
+/// The reply to the request that a source brings, kept where it was accepted; and none where no request could be read.
+fn answer_source<P: Processor, K: Keeper, R: Source>(
+    alloc: Global,
+    front: &mut Front<P>,
+    keeper: &mut K,
+    source: &mut R,
+) -> Result<Option<Reply>, Failed>
+    requires unread { IsUnread (R.calls source.old) (R.interruptions source.old) (R.has_failed source.old) }
+    requires unfailed { (K.journal keeper.old).has_failed ≡ false }
+    ensures answered { let reading : Reading = record {
+      before = R.bytes_left source.old;
+      after = R.bytes_left source.new;
+      calls = R.calls source.new;
+      interruptions = R.interruptions source.new;
+      has_failed = R.has_failed source.new;
+    } in IfOk result (λ given. MatchOption given
+        (IsLeftAlone reading (K.journal keeper.old) (K.journal keeper.new) front.old front.new)
+        (λ answer. IsAnswered reading answer (K.journal keeper.old) (K.journal keeper.new) front.old front.new)) }
+    ensures unkept { let reading : Reading = record {
+      before = R.bytes_left source.old;
+      after = R.bytes_left source.new;
+      calls = R.calls source.new;
+      interruptions = R.interruptions source.new;
+      has_failed = R.has_failed source.new;
+    } in OnErr result (FailsToKeep K.takes reading (K.journal keeper.old) (K.journal keeper.new)) }
+    ensures unfailed { OnOk result ((K.journal keeper.new).has_failed ≡ false) }
+    ensures setup { front.new.setup ≡ front.old.setup }
+{
+    match read_request(alloc, source) {
+        Ok(request) => match keeper.answer(front, request.as_slice(), request.progress()) {
+            Ok(reply) => Ok(Some(reply)),
+            Err(failed) => Err(failed),
+        },
+        Err(Unread::Memory) => Ok(Some(no_memory_reply())),
+        Err(Unread::Read) => Ok(None),
+    }
+}
+
+/// Reads one request, answers it, keeps it where it was accepted as a sheet or a closing, and then writes its reply.
+fn serve_one<P: Processor, K: Keeper, R: Source, W: Sink>(
+    alloc: Global,
+    front: &mut Front<P>,
+    keeper: &mut K,
+    source: &mut R,
+    sink: &mut W,
+) -> Result<(), Failed>
+    requires unread { IsUnread (R.calls source.old) (R.interruptions source.old) (R.has_failed source.old) }
+    requires unused { IsUnused (W.calls sink.old) (W.has_failed sink.old) }
+    requires unfailed { (K.journal keeper.old).has_failed ≡ false }
+    ensures served { let one : Exchange = record {
+      reading = record {
+        before = R.bytes_left source.old;
+        after = R.bytes_left source.new;
+        calls = R.calls source.new;
+        interruptions = R.interruptions source.new;
+        has_failed = R.has_failed source.new;
+      };
+      writing = record {
+        before = W.bytes_taken sink.old;
+        after = W.bytes_taken sink.new;
+        calls = W.calls sink.new;
+        has_failed = W.has_failed sink.new;
+      };
+    } in OnOk result (IsServed one (K.journal keeper.old) (K.journal keeper.new) front.old front.new) }
+    ensures unkept { let one : Exchange = record {
+      reading = record {
+        before = R.bytes_left source.old;
+        after = R.bytes_left source.new;
+        calls = R.calls source.new;
+        interruptions = R.interruptions source.new;
+        has_failed = R.has_failed source.new;
+      };
+      writing = record {
+        before = W.bytes_taken sink.old;
+        after = W.bytes_taken sink.new;
+        calls = W.calls sink.new;
+        has_failed = W.has_failed sink.new;
+      };
+    } in OnErr result (IsUnkept K.takes one (K.journal keeper.old) (K.journal keeper.new)) }
+    ensures unfailed { OnOk result ((K.journal keeper.new).has_failed ≡ false) }
+    ensures setup { front.new.setup ≡ front.old.setup }
+{
+    match answer_source(alloc, front, keeper, source) {
+        Ok(Some(reply)) => {
+            // a fault ends this connection alone: what its request has done is told by the front
+            let _fault = write_all(sink, reply.bytes());
+            Ok(())
+        }
+        Ok(None) => Ok(()),
+        Err(failed) => Err(failed),
+    }
+}
+
+/// Tells of a round that was closed since.
+fn tell_closing<K: Keeper>(keeper: &mut K, before: u64, after: u64)
+    ensures { K.journal keeper.new ≡ K.journal keeper.old }
+{
+    if before < after {
+        keeper.round_closed(after);
+    }
+}
+
+/// Takes the next connection, serves it and closes it.
+fn serve_next<P: Processor, K: Keeper, C: Connections>(
+    alloc: Global,
+    front: &mut Front<P>,
+    keeper: &mut K,
+    connections: &mut C,
+) -> Result<(), ServeFault>
+    requires unfailed { (K.journal keeper.old).has_failed ≡ false }
+    requires closed { C.is_open connections.old ≡ false }
+    ensures ends { EndsOne K.takes (C.closed connections.old) (C.closed connections.new) (K.journal keeper.old) (K.journal keeper.new)
+        front.old front.new result }
+    ensures unfailed { OnOk result ((K.journal keeper.new).has_failed ≡ false) }
+    ensures closed { C.is_open connections.new ≡ false }
+    ensures setup { front.new.setup ≡ front.old.setup }
+{
+    let Ok(mut one) = connections.accept() else {
+        return Err(ServeFault::Accept);
+    };
+    let before = front.house().closed_rounds();
+    let kept = serve_one(alloc, front, keeper, &mut one.source, &mut one.sink);
+    connections.close(one);
+    match kept {
+        Ok(()) => {
+            tell_closing(keeper, before, front.house().closed_rounds());
+            Ok(())
+        }
+        Err(Failed) => Err(ServeFault::Journal),
+    }
+}
+
+/// Serves so many connections, one after the other, with one request each. A fault of a stream ends its connection alone.
+///
+/// It waits for each connection, and for each peer, as long as these take.
+pub fn serve_all<P: Processor, K: Keeper, C: Connections>(
+    alloc: Global,
+    front: &mut Front<P>,
+    keeper: &mut K,
+    connections: &mut C,
+    count: u64,
+) -> Result<(), ServeFault>
+    requires unfailed { (K.journal keeper.old).has_failed ≡ false }
+    requires closed { C.is_open connections.old ≡ false }
+    ensures served { (exchanges : List Exchange) × HasClosed (C.closed connections.old) (C.closed connections.new) exchanges
+        × EndsServing K.takes count exchanges (K.journal keeper.old) (K.journal keeper.new) front.old front.new result }
+    ensures closed { C.is_open connections.new ≡ false }
+    ensures setup { front.new.setup ≡ front.old.setup }
+{
+    front.house().law_of_house();
+    for _connection in 0..count {
+        if let Err(fault) = serve_next(alloc, front, keeper, connections) {
+            return Err(fault);
+        }
+    }
+    Ok(())
+}

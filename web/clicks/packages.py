@@ -1,0 +1,36 @@
+"""Debian's packages that the browser's trial needs: which are missing, and their installation where that may be done."""
+import os
+import pathlib
+import shutil
+import subprocess
+import sys
+
+DEBIAN = "/usr/bin/python3"
+QUIET = {"stdout": subprocess.DEVNULL, "stderr": subprocess.DEVNULL}
+
+
+def has_selenium():
+    """Whether Debian's python has selenium; another python on the path may not."""
+    return pathlib.Path(DEBIAN).exists() and subprocess.run([DEBIAN, "-c", "import selenium"], **QUIET).returncode == 0
+
+
+def missing():
+    """The packages that are not on the machine."""
+    commands = {"chromium": "chromium", "chromedriver": "chromium-driver", "nginx": "nginx", "openssl": "openssl"}
+    lacking = [package for command, package in commands.items() if not shutil.which(command)]
+    return lacking + ([] if has_selenium() else ["python3-selenium"])
+
+
+def prepare():
+    """Installs what is missing where CI is set and the user is root; says what is still missing, and ends; goes on in a python with selenium."""
+    if missing() and os.environ.get("CI") and os.geteuid() == 0:
+        subprocess.run(["apt-get", "update"], **QUIET)
+        if subprocess.run(["apt-get", "install", "-y", "--no-install-recommends", *missing()], **QUIET).returncode:
+            print("web/try: the packages could not be installed")
+    if lacking := missing():
+        print(f"web/try: {', '.join(lacking)} of Debian's packages: missing, and no page was tried")
+        sys.exit(0)
+    try:
+        import selenium  # noqa: F401
+    except ImportError:
+        os.execv(DEBIAN, [DEBIAN, *sys.argv])

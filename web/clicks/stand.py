@@ -1,0 +1,89 @@
+"""The program with a journal behind nginx, as deploy/ has it, and what was seen of it."""
+import json
+import pathlib
+import ssl
+import sys
+import time
+import urllib.error
+import urllib.request
+
+TOP = pathlib.Path(__file__).resolve().parents[2]
+sys.path[:0] = [str(TOP / "scripts"), str(TOP / "deploy")]
+
+from trying.place import Place
+
+SEEN = []
+
+
+def expect(what, good):
+    """Notes what is seen as it must be, or ends the trial."""
+    if not good:
+        sys.exit(f"web/try: not as it must be: {what}")
+    SEEN.append(what)
+
+
+def wait_for(what, look, seconds=15):
+    """Waits until what is looked for is there, at most so long."""
+    end = time.monotonic() + seconds
+    while time.monotonic() < end:
+        try:
+            if look():
+                return SEEN.append(what)
+        except Exception:
+            pass    # not there yet, or drawn anew meanwhile
+        time.sleep(0.04)
+    sys.exit(f"web/try: not within {seconds} s: {what}")
+
+
+class Stand:
+    """An auction of its own: bidders come over TLS, the operator on the machine itself."""
+
+    def __init__(self, program, setup):
+        self.place = Place(program, json.dumps(setup))
+
+    def address(self, page):
+        place = self.place
+        return f"http://127.0.0.1:{place.inside}/{page}" if page.startswith("operator") else f"https://localhost:{place.outside}/{page}"
+
+    def start(self):
+        self.place.begin()
+
+    def stop(self):
+        self.place.server.kill()
+        self.place.server.wait()
+
+    def end(self):
+        self.place.stop()
+
+    def close(self, number):
+        """Closes the round as somebody else than the page."""
+        status, _ = self.inside("v1/close", {"round": number, "increment": 10, "ties": []})
+        expect(f"round {number} is closed by another", status == 200)
+
+    def inside(self, path, body=None):
+        """Status and page of a request of the operator's."""
+        data = None if body is None else json.dumps(body).encode()
+        asked = urllib.request.Request(f"http://127.0.0.1:{self.place.inside}/{path}", data, {"authorization": "Bearer OPERATOROPERATOR"})
+        with urllib.request.urlopen(asked, timeout=20) as reply:
+            return reply.status, json.loads(reply.read())
+
+    def put(self, token, sheet):
+        """A sheet that comes by another way than the page."""
+        head = {"authorization": "Bearer " + token}
+        asked = urllib.request.Request(f"http://127.0.0.1:{self.place.server_port}/v1/me/bids", json.dumps(sheet).encode(), head, method="PUT")
+        with urllib.request.urlopen(asked, timeout=20) as reply:
+            expect("a sheet is accepted that another program sends", reply.status == 200)
+
+    def head(self, address):
+        """Status and headers of a file of the pages."""
+        anybody = ssl.create_default_context()
+        anybody.check_hostname, anybody.verify_mode = False, ssl.CERT_NONE
+        try:
+            with urllib.request.urlopen(address, timeout=10, context=anybody) as reply:
+                return reply.status, reply.headers
+        except urllib.error.HTTPError as refused:
+            return refused.code, refused.headers
+
+    def logs(self):
+        """All that nginx wrote."""
+        return "".join(file.read_text() for file in (self.place.folder / "tmp").glob("*.log"))

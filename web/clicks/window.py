@@ -1,0 +1,142 @@
+"""A browser window of its own, in which somebody has entered with a token, and does what a person does."""
+import base64
+import shutil
+import sys
+import time
+
+from selenium import webdriver
+from selenium.webdriver.chrome.service import Service
+from selenium.webdriver.common.action_chains import ActionChains
+from selenium.webdriver.common.by import By
+from selenium.webdriver.common.keys import Keys
+from selenium.webdriver.support.ui import Select
+
+from clicks.stand import expect, wait_for
+
+WORDS = ["--headless=new", "--no-sandbox", "--disable-gpu", "--disable-dev-shm-usage", "--hide-scrollbars", "--ignore-certificate-errors"]
+
+
+class Window:
+    """One window, in a browser of its own."""
+
+    def __init__(self, work, stand, page, token, wide=1280, high=900):
+        options = webdriver.ChromeOptions()
+        options.binary_location = shutil.which("chromium")
+        for word in WORDS:
+            options.add_argument(word)
+        options.add_experimental_option("prefs", {"download.default_directory": str(work)})
+        options.set_capability("goog:loggingPrefs", {"browser": "ALL"})
+        self.driver = webdriver.Chrome(options=options, service=Service(shutil.which("chromedriver")))
+        self.size(wide, high)
+        self.open(stand, page, token)
+
+    def end(self):
+        self.driver.quit()
+
+    def open(self, stand, page, token):
+        """Enters with a token."""
+        self.driver.get(stand.address(page))
+        self.at("token").send_keys(token)
+        self.driver.find_element(By.CSS_SELECTOR, "#door button").click()
+
+    def size(self, wide, high):
+        self.driver.execute_cdp_cmd("Emulation.setDeviceMetricsOverride", {"width": wide, "height": high, "deviceScaleFactor": 1, "mobile": False})
+
+    def dark(self, wanted):
+        value = "dark" if wanted else "light"
+        self.driver.execute_cdp_cmd("Emulation.setEmulatedMedia", {"features": [{"name": "prefers-color-scheme", "value": value}]})
+
+    def run(self, script, *words):
+        return self.driver.execute_script(script, *words)
+
+    def at(self, name):
+        return self.driver.find_element(By.ID, name)
+
+    def text(self, name):
+        return self.at(name).text
+
+    def click(self, name):
+        self.run("arguments[0].scrollIntoView({block:'center'})", self.at(name))
+        self.at(name).click()
+
+    def write(self, name, words):
+        """Writes in place of what stands in a field."""
+        self.at(name).clear()
+        self.at(name).send_keys(words)
+
+    def choose(self, name, words):
+        Select(self.at(name)).select_by_visible_text(words)
+
+    def field(self, name, product, step=0):
+        return self.driver.find_element(By.CSS_SELECTOR, f'#body [data-key="{product}.{step}"][data-field="{name}"]')
+
+    def value(self, name, product, step=0):
+        return self.field(name, product, step).get_attribute("value")
+
+    def bid(self, product, quantity, price, step=0):
+        for name, value in (("quantity", quantity), ("price", price)):
+            field = self.field(name, product, step)
+            field.clear()
+            field.send_keys(str(value))
+
+    def wrong(self, product, step=0):
+        return self.at(f"wrong{product}.{step}").text
+
+    def rows(self, body):
+        """The texts of the cells of each row that is laid out."""
+        return self.run("return [...document.querySelectorAll(`#${arguments[0]} tr:not(.room)`)].map(r => [...r.cells].map(c => c.textContent))", body)
+
+    def send(self, words):
+        """Sends the sheet, and waits for what is said."""
+        self.click("send")
+        wait_for(f"said of the sheet: {words}", lambda: words in self.text("say"))
+
+    def close_round(self):
+        """Closes the round, and says yes to the question."""
+        self.click("ask")
+        wait_for("a closing is asked about first", lambda: self.at("question").is_displayed())
+        self.at("yes").click()
+
+    def tab_to(self, what, selector):
+        """Presses Tab until the cursor is there, and gives what it stands on."""
+        for _ in range(60):
+            self.press(Keys.TAB)
+            if self.run("return document.activeElement.matches(arguments[0])", selector):
+                return self.driver.switch_to.active_element
+        sys.exit(f"web/try: no way by keys to {what}")
+
+    def press(self, *keys):
+        ActionChains(self.driver).send_keys(*keys).perform()
+
+    def deaf(self):
+        """From here on the page hears of no status: what it sends next is of the round that it knows."""
+        self.run("const asked = window.fetch; window.fetch = (path, options) => (path.endsWith('/status') ? new Promise(() => {}) : asked(path, options))")
+        time.sleep(1.1)
+
+    def noted(self):
+        """From here on the page notes when it asks for the status, and what it sends."""
+        self.run("""const asked = window.fetch; window.asks = []; window.sent = [];
+            window.fetch = (path, options) => {
+                if (path.endsWith('/status')) window.asks.push(performance.now());
+                if (options.body) window.sent.push(options.body);
+                return asked(path, options);
+            }""")
+
+    def picture(self, folder, name, wide, part="body"):
+        """Keeps a picture of a part of the page, whole, where there is a folder for it."""
+        if not folder:
+            return
+        self.run("document.activeElement.blur(); window.scrollTo(0, 0)")
+        for _ in range(2):      # what is laid out depends on the window's height
+            self.size(wide, max(900, self.run("return document.documentElement.scrollHeight")))
+            time.sleep(0.3)
+        box = self.run("const box = document.querySelector(arguments[0]).getBoundingClientRect(); return [box.top, box.height]", part)
+        clip = {"x": 0, "y": max(0, box[0] - 12), "width": wide, "height": min(box[1] + 24, 2000), "scale": 1}
+        folder.mkdir(parents=True, exist_ok=True)
+        shot = self.driver.execute_cdp_cmd("Page.captureScreenshot", {"clip": clip})
+        (folder / f"{name}.png").write_bytes(base64.b64decode(shot["data"]))
+
+    def quiet(self):
+        """No line of the browser's log tells of a fault of the page itself, nor of what the page's security forbids."""
+        lines = [line["message"] for line in self.driver.get_log("browser") if "favicon" not in line["message"] and "status of" not in line["message"]]
+        expect(f"the browser's log is quiet {lines}", not lines)

@@ -1,0 +1,105 @@
+// A table body that holds as many rows as are seen, and empty room for the others. Rows are all as high as `--row`.
+
+import { make } from "./page.js";
+
+const BESIDE = 6; // rows that are laid out above and below what is seen
+
+export class Rows {
+  #keys = [];
+  #shown = new Map();
+
+  /** `draw` makes the row of a key. */
+  constructor(frame, body, draw) {
+    Object.assign(this, { frame, body, draw });
+    this.above = make("tr", { "aria-hidden": "true", class: "room" });
+    this.below = make("tr", { "aria-hidden": "true", class: "room" });
+    frame.addEventListener("scroll", () => this.lay(), { passive: true });
+    new ResizeObserver(() => this.lay()).observe(frame);
+  }
+
+  /** The rows that are laid out now, by key. */
+  get shown() { return this.#shown; }
+
+  get #high() {
+    return parseFloat(getComputedStyle(this.frame).getPropertyValue("--row")) || 44;
+  }
+
+  /** Takes the rows by their keys, and draws those that are seen anew. Who types in one of them goes on typing there. */
+  set(keys) {
+    const typing = this.#typing(), scrolled = this.frame.scrollTop;
+    this.#keys = keys;
+    this.#shown.clear();
+    this.body.replaceChildren(this.above, this.below);
+    this.above.style.height = 0;
+    this.below.style.height = keys.length * this.#high + "px";
+    this.frame.scrollTop = scrolled;
+    this.body.closest("table").setAttribute("aria-rowcount", keys.length + 1);
+    this.lay();
+    typing?.();
+  }
+
+  /** What brings the cursor back to where it is now, if that is a field of this table. */
+  #typing() {
+    const { activeElement } = document;
+    if (!this.body.contains(activeElement) || !activeElement.dataset.field) return null;
+    const { selectionStart, selectionEnd, dataset: { key, field } } = activeElement;
+    return () => {
+      const input = this.field(key, field);
+      input?.focus({ preventScroll: true });
+      input?.setSelectionRange(selectionStart, selectionEnd);
+    };
+  }
+
+  /** Lays out the rows that are seen, and takes the others away. */
+  lay() {
+    const high = this.#high;
+    const first = Math.max(0, Math.floor(this.frame.scrollTop / high) - BESIDE);
+    const seen = Math.ceil(this.frame.clientHeight / high) + 2 * BESIDE;
+    const keys = this.#keys.slice(first, first + seen), wanted = new Set(keys);
+    for (const [key, row] of this.#shown) {
+      if (wanted.has(key)) continue;
+      row.remove();
+      this.#shown.delete(key);
+    }
+    let before = this.above;
+    keys.forEach((key, place) => {
+      let row = this.#shown.get(key);
+      if (!row) {
+        row = this.draw(key);
+        row.setAttribute("aria-rowindex", first + place + 2);
+        this.#shown.set(key, row);
+        before.after(row);
+      }
+      before = row;
+    });
+    this.above.style.height = first * high + "px";
+    this.below.style.height = (this.#keys.length - first - keys.length) * high + "px";
+  }
+
+  /** Brings a row into sight. */
+  show(key) {
+    const high = this.#high, top = this.#keys.indexOf(key) * high;
+    if (top < this.frame.scrollTop) this.frame.scrollTop = top;
+    else if (top + 2 * high > this.frame.scrollTop + this.frame.clientHeight) this.frame.scrollTop = top + 2 * high - this.frame.clientHeight;
+    this.lay();
+  }
+
+  /** The field of a row that is laid out. */
+  field(key, field) {
+    return this.body.querySelector(`[data-key="${key}"][data-field="${field}"]`);
+  }
+
+  /** Puts the cursor into a field of a row, wherever the row is. */
+  focus(key, field) {
+    this.show(key);
+    this.field(key, field)?.focus();
+  }
+
+  /** The same field of the row so many below. */
+  move(key, by, field) {
+    const next = this.#keys[this.#keys.indexOf(key) + by];
+    if (next === undefined) return;
+    this.focus(next, field);
+    this.field(next, field)?.select();
+  }
+}
