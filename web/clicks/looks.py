@@ -42,9 +42,9 @@ return least;
 """
 
 
-def whole(window, page):
+def whole(window, page, widths=WIDTHS):
     """Nothing is cut off, and nothing reaches beyond the window, from 360 to 1,600 pixels."""
-    for wide in WIDTHS:
+    for wide in widths:
         window.size(wide, 900)
         time.sleep(0.3)
         cut = window.run(CUT)
@@ -72,6 +72,8 @@ def named(window):
     met = [node for node in nodes if not node["ignored"] and node["role"]["value"] in roles]
     bare = [node["role"]["value"] for node in met if not node.get("name", {}).get("value", "").strip()]
     expect(f"all of {len(met)} fields, buttons and regions have a name {bare}", met and not bare)
+    told = {node["role"]["value"] for node in nodes if not node["ignored"]}
+    expect("a table is told as one, drawn as cards too", {"table", "row", "rowheader", "columnheader", "cell"} <= told)
     headings = window.run("return ['h1', 'section', 'section[aria-labelledby]', 'section > h2'].map(s => document.querySelectorAll(s).length)")
     expect(f"one first heading, and one for each section {headings}", headings[0] == 1 and headings[1] == headings[2] == headings[3] > 1)
     small = window.run("return [...document.querySelectorAll('button, input:not([type=file], [type=checkbox]), select, .button')]"
@@ -175,6 +177,8 @@ def many_for_operator(window):
     expect(f"the operator's page stands within a second: {stands:.0f} ms", stands < 1000)
     expect("tie numbers are drawn for as many pairs as may be listed", "for 16,384 of all 19,398 pairs" in window.text("ties"))
     window.noted()
+    window.click("draw")
+    wait_for("tie numbers are drawn anew", lambda: "drawn anew" in window.text("say"))
     window.close_round()
     wait_for("its round is closed", lambda: "Ended after round 1" in window.text("round"), 30)
     ties = json.loads(window.run("return window.sent[0]"))["ties"]
