@@ -49,13 +49,8 @@ export class Asker {
     const headers = this.#token ? { authorization: "Bearer " + this.#token } : {};
     try {
       return await fetch(path, {
-        method,
-        headers,
-        cache: "no-store",
-        credentials: "omit",
-        referrerPolicy: "no-referrer",
-        body: body === undefined ? undefined : JSON.stringify(body),
-        signal: AbortSignal.timeout(SECONDS * 1000),
+        method, headers, cache: "no-store", credentials: "omit", referrerPolicy: "no-referrer",
+        body: body === undefined ? undefined : JSON.stringify(body), signal: AbortSignal.timeout(SECONDS * 1000),
       });
     } catch {
       throw noAnswer();

@@ -52,12 +52,14 @@ function takeForce(bids, words) {
   force = { bids: bids && plain(bids).sort((a, b) => a.product - b.product), by };
   if (bids) past.ask(me.round, bids);
   const time = new Date().toLocaleTimeString("en-GB");
-  at("force").textContent = bids ? `In force: a sheet of ${counted(bids.length, "bid")}, ${words} ${time}.` : `In force: no sheet, as it stood at ${time}.`;
+  const what = bids ? `a sheet of ${counted(bids.length, "bid")}, ${words}` : "no sheet, as it stood at";
+  at("force").textContent = me.ended ? "The auction is over: no sheet is in force any more." : `In force: ${what} ${time}.`;
 }
 
 function tellChange(before) {
   const moved = terms.products.filter((_, p) => before.demands[p] !== me.demands[p]).length;
-  const closed = me.ended ? `The auction has ended after round ${me.round}.` : `Round ${before.round} is closed, round ${me.round} is open: the prices are new.`;
+  const closed = me.ended ? `The auction has ended after round ${me.round}.`
+    : `Round ${before.round} is closed, round ${me.round} is open: the prices are new.`;
   const fell = before.eligibility === me.eligibility ? "" : ` Your eligibility is ${number(me.eligibility)}, it was ${number(before.eligibility)}.`;
   const kept = me.ended ? "" : " What you typed was kept and is not sent.";
   say(`${closed} What you hold changed in ${moved} of ${counted(terms.products.length, "product")}.${fell}${kept}`);
@@ -150,7 +152,8 @@ function drawStep(key) {
   const [p, step] = partsOf(key), product = terms.products[p], price = terms.prices[p], first = step === 0, held = me.demands[p];
   const once = (label, ...inside) => cell(label, ...(first ? inside : []));
   const was = heldBefore(p), before = was === null ? [] : [make("small", {}, `was ${number(was)}`)];
-  const more = make("button", { type: "button", disabled: me.ended, "aria-label": `One more step for ${product.name}`, onclick: () => moreSteps(p) }, "+ step");
+  const words = `One more step for ${product.name}`;
+  const more = make("button", { type: "button", disabled: me.ended, "aria-label": words, onclick: () => moreSteps(p) }, "+ step");
   const row = make("tr", { class: first ? (held ? "held" : "") : "more" },
     rowHead(first ? product.name : `↳ step ${step + 1}`),
     once("Units", number(product.units)), once("Cap", number(product.cap)),

@@ -44,6 +44,6 @@ export function chart(name, points, wide) {
   svg.append(shape("line", { class: "axis", x1: left, x2: wide - RIGHT, y1: HIGH - FOOT, y2: HIGH - FOOT }));
   svg.append(words(0, HIGH - 10, "start", "Round"));
   svg.append(shape("polyline", { class: "price", points: points.map((point, place) => `${x(place)},${y(point.posted)}`).join(" ") }));
-  svg.append(...points.map((point, place) => shape("circle", { class: "price", cx: x(place), cy: y(point.posted), r: 4 })));
+  svg.append(...points.map((point, place) => shape("circle", { class: "price", cx: x(place), cy: y(point.posted), r: Math.min(4, step / 4) })));
   return svg;
 }

@@ -58,7 +58,8 @@ function drawAll(last) {
   at("eachlabel").hidden = page.version === 1;
   at("ask").textContent = `Close round ${status.round} …`;
   at("asof").textContent = last === 0 ? "No round is closed yet: nobody holds anything."
-    : status.ended ? "What each bidder won, and pays." : `What each bidder holds since round ${last} was closed, at its posted prices. Sheets of the open round are not told here.`;
+    : status.ended ? "What each bidder won, and pays."
+    : `What each bidder holds since round ${last} was closed, at its posted prices. Sheets of the open round are not told here.`;
   at("pastdesk").hidden = last === 0;
   if (increments.length !== page.products.length) increments = page.products.map(() => "");
   drawFacts(last);
@@ -150,7 +151,7 @@ async function close() {
 
 function tellRefused(fault) {
   const product = fault.code === "price_limit" ? page.products[fault.place]?.name : undefined;
-  if (fault.status === 0) return say(`⚠ ${wordsOf(fault.code)}. Nobody knows whether the round was closed: look whether it has risen before you send it again.`);
+  if (fault.status === 0) return say(`⚠ ${wordsOf(fault.code)}. Nobody knows whether the round was closed: look whether it has risen.`);
   say(`⚠ Refused: ${wordsOf(fault.code)}${product ? ` (${product})` : ""}. Nothing was closed.`);
 }
 
@@ -188,6 +189,8 @@ door(enter, wordsOf);
 at("ask").addEventListener("click", close);
 at("draw").addEventListener("click", () => { drawTies(); say("Tie numbers are drawn anew."); });
 at("each").addEventListener("change", () => { at("incframe").hidden = !at("each").checked; });
-at("increment").addEventListener("input", () => { for (const input of at("incbody").querySelectorAll("input")) input.placeholder = at("increment").value; });
+at("increment").addEventListener("input", () => {
+  for (const input of at("incbody").querySelectorAll("input")) input.placeholder = at("increment").value;
+});
 at("save").addEventListener("click", saveResults);
 at("which").addEventListener("change", showRound);

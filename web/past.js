@@ -4,6 +4,8 @@ import { chart } from "./chart.js";
 import { at, cell, counted, demandOf, dollars, make, number, options, rowHead, sum } from "./page.js";
 import { Rows } from "./table.js";
 
+const AT_ONCE = 20;
+
 /** What was asked for a product, in the fewest words: both of two steps, or the first and the last of more. */
 function askedWords(bids) {
   if (!bids) return "not known here";
@@ -17,6 +19,7 @@ export class Past {
   #slips = new Map();
   #asked = new Map();
   #products = [];
+  #turn = 0;
   #table = new Rows(at("pastframe"), at("pastbody"), (key) => this.#row(key));
 
   constructor() {
@@ -28,6 +31,7 @@ export class Past {
 
   /** Forgets all, for another bidder or another auction. */
   clear() {
+    this.#turn++;
     for (const known of [this.#rounds, this.#slips, this.#asked]) known.clear();
     for (const select of ["which", "charted"]) at(select).replaceChildren();
     at("slip").textContent = "No round is closed yet.";
@@ -48,20 +52,28 @@ export class Past {
     if (!this.#slips.has(round)) this.#slips.set(round, await asker.slip(round));
   }
 
-  /** Shows the rounds up to the last closed one, of which those that are not known yet are asked for. */
+  /** Shows the rounds up to the last closed one, and asks for those that are not known yet: at first at once, then slowly. */
   async draw(asker, products, last) {
+    const turn = ++this.#turn;
     this.#products = products;
-    try {
-      for (let round = last; round > 0; round--) await this.learn(asker, round);
-    } catch { /* they are asked for again after the next round */ }
-    if (last === 0 || products !== this.#products) return;
+    if (last === 0) return;
     const stays = at("which").options.length > 0 && Number(at("which").value) < last - 1; // somebody reads an earlier round
     options(at("which"), Array.from({ length: last }, (_, n) => [last - n, last - n]));
     if (!stays) at("which").value = last;
-    this.#offerCharts(this.#slips.get(last)?.demands ?? []);
+    this.#offerCharts(this.#slips.get(last).demands);
     at("pastdesk").hidden = false;
     this.#drawRound();
     this.#drawChart();
+    try {
+      for (let round = last - 1; round > 0; round--) {
+        if (this.#slips.has(round)) continue;
+        await this.learn(asker, round);
+        if (turn !== this.#turn) return; // another round was closed meanwhile, or somebody else has entered
+        this.#drawChart();
+        if (Number(at("which").value) === round) this.#drawRound();
+        if (round < last - AT_ONCE) await new Promise((done) => setTimeout(done, 1000)); // a bidder may ask twice a second
+      }
+    } catch { /* they are asked for again after the next round */ }
   }
 
   /** The products to be charted; the first that is held is the one, until another is chosen. */
@@ -73,7 +85,10 @@ export class Past {
 
   #drawRound() {
     const round = Number(at("which").value), slip = this.#slips.get(round), asked = this.#asked.get(round);
-    if (!slip || !this.#rounds.has(round)) return this.#table.set([]);
+    if (!slip || !this.#rounds.has(round)) {
+      at("slip").textContent = `Round ${round} is being asked for.`;
+      return this.#table.set([]);
+    }
     at("slip").textContent = `Your slip of round ${round}: ${counted(sum(slip.demands), "block")} held, ` +
       `activity ${number(slip.activity)}, eligibility ${number(slip.eligibility)}.`;
     const mine = new Set(asked?.map((bid) => bid.product));

@@ -12,6 +12,7 @@ TOP = pathlib.Path(__file__).resolve().parents[2]
 sys.path.insert(0, str(TOP / "scripts"))
 
 from loopback import free_port
+from packages import PATHS
 
 
 class Failed(Exception):
@@ -59,7 +60,7 @@ class Place:
             self.program, self.kills = program, 0
             if program is not None:
                 self.begin()
-            words = ["nginx", "-p", self.folder, "-c", "nginx.conf", "-g", "daemon off;"]
+            words = [shutil.which("nginx", path=PATHS) or "nginx", "-p", self.folder, "-c", "nginx.conf", "-g", "daemon off;"]
             with open(self.folder / "nginx.words", "wb") as said:
                 self.nginx = self.keep(subprocess.Popen(words, stdin=subprocess.DEVNULL, stdout=said, stderr=said))
             wait_for("nginx listens", lambda: listens(self.outside) or self.nginx.poll() is not None, 10)

@@ -29,6 +29,8 @@ expect "its address space is limited to 4 GiB" limit_is "Max address space" 4294
 expect "it leaves no core" limit_is "Max core file size" 0
 expect "the journal is its own alone" test "$(stat -c %a:%u $journal)" = "600:$(stat -c %u "/proc/$process")"
 expect "it reads a copy of the set-up, and no other user does" test "$(stat -c %a:%u /run/credentials/$unit/setup.json)" = "400:$(stat -c %u "/proc/$process")"
+writable=$(nsenter -t "$process" -m -- setpriv --reuid "$(stat -c %u "/proc/$process")" --regid "$(stat -c %g "/proc/$process")" --clear-groups find / -path /proc -prune -o -writable ! -type l ! -type c ! -type s -print 2> /dev/null | sort | paste -sd ' ')
+expect "all that it can write: $writable" test "$writable" = "/var/lib/private/clock_auction $journal"
 for place in /usr /etc /srv/auction /home /root /boot; do expect "nothing can be written in $place" cannot_write "$place/x"; done
 expect "pages of another auction are gone from nginx's cache" test ! -e /srv/auction/tmp/cache/page
 

@@ -14,7 +14,7 @@ def enter(stand, *entries):
     for window, token in entries:
         window.open(stand, OPERATORS if token == OPERATOR else "", token)
     for window, _ in entries:
-        wait_for("the round is told", lambda: "Round" in window.text("round"))
+        wait_for("the round is told", lambda: "round" in window.text("round").lower())
 
 
 def live_round(x, y, operator, work):
@@ -22,8 +22,10 @@ def live_round(x, y, operator, work):
     for window in (x, y, operator):
         wait_for("round 1 is told", lambda: "Round 1" in window.text("round"))
     expect("what is to do stands out", "To do: send a sheet for round 1" in x.text("todo"))
+    expect("eligibility and activity are told", ["Eligibility", "10", "Activity", "0"] == x.text("facts").splitlines()[:4])
     x.bid(0, 2, 100)
     y.bid(0, 1, 100)
+    expect("bids, their cost and their activity are told", x.text("sums").splitlines()[1::2] == ["1", "$200", "2 of 10"])
     for window in (x, y):
         window.send("Accepted: 1 bid for round 1")
         expect("what is in force is told with its time", "In force: a sheet of 1 bid, accepted at" in window.text("force"))
@@ -37,6 +39,7 @@ def live_round(x, y, operator, work):
     x.press("5")
     expect("who typed goes on typing where it was", x.value("price", 0) == "995")
     wait_for("Y sees round 2", lambda: y.text("round") == "Round 2")
+    expect("the table tells units, cap, prices and what is held", x.rows("body")[0][:7] == ["A", "1", "2", "$100", "$110", "2", "–"])
     steps_refused(x)
     keep_and_drop(x)
     x.bid(0, 0, 103)
@@ -47,10 +50,14 @@ def live_round(x, y, operator, work):
     wait_for("the operator is told of the end", lambda: operator.text("round") == "Ended after round 2")
     wait_for("X is told of the end", lambda: x.text("round") == "Ended after round 2")
     expect("X and Y won one block each", [(row[0], row[4]) for row in operator.rows("resbody")] == [("X", "A 1"), ("Y", "A 1")])
+    expect("what changed since the round before is told", "Blocks won\n1 was 2" in x.text("facts") and x.rows("body")[0][5] == "1was 2")
+    x.choose("filter", "changed since the last round")
+    expect("and can be filtered", [row[0] for row in x.rows("body")] == ["A"])
     wait_for("asked stands beside applied", lambda: x.rows("pastbody") == [["A", "$100", "$110", "$103", "≤ 2", "0 at 103", "1"]])
     x.choose("which", "1")
     wait_for("an earlier round is shown", lambda: x.rows("pastbody") == [["A", "$100", "$100", "$100", "3 of 2", "2 at 100", "2"]])
-    expect("the chart tells both rounds", "round 1: 100 dollars, 2 held; round 2: 103 dollars, 1 held" in x.run("return document.querySelector('#chart title').textContent"))
+    told = x.run("return document.querySelector('#chart title').textContent")
+    expect("the chart tells both rounds", "round 1: 100 dollars, 2 held; round 2: 103 dollars, 1 held" in told)
     results_saved(operator, work)
 
 
@@ -66,7 +73,7 @@ def results_saved(operator, work):
 
 def refused(window, words, step=0):
     """What is typed is at fault at a row before it is sent, and the server refuses it in the same words."""
-    wait_for(f"told at the row: {words}", lambda: words in window.wrong(0, step))
+    wait_for(f"told at the row, with a sign beside its colour: {words}", lambda: words in window.wrong(0, step) and window.wrong(0, step)[0] == "⚠")
     window.click("send")
     wait_for(f"refused by the server: {words}",
              lambda: "Refused" in window.text("say") and words in window.text("say") and "refused" in window.wrong(0, step))
@@ -97,7 +104,8 @@ def keep_and_drop(window):
     window.click("send")
     wait_for("an empty sheet is asked about again", lambda: window.at("question").is_displayed())
     window.at("yes").click()
-    wait_for("an empty sheet is accepted", lambda: "Accepted: 0 bids for round 2" in window.text("say") and "a sheet of 0 bids" in window.text("force"))
+    wait_for("an empty sheet is accepted",
+             lambda: "Accepted: 0 bids for round 2" in window.text("say") and "a sheet of 0 bids" in window.text("force"))
 
 
 def faults(window, work):
@@ -107,7 +115,8 @@ def faults(window, work):
         refused(window, words)
     window.bid(0, 2, 100)
     window.bid(1, 2, 100)
-    wait_for("told above the table: too much activity", lambda: "more activity than it may" in window.text("judged") and "⚠ 4 of 2" in window.text("sums"))
+    wait_for("told above the table: too much activity",
+             lambda: "more activity than it may" in window.text("judged") and "⚠ 4 of 2" in window.text("sums"))
     window.send("Refused: the sheet asks for more activity")
     window.bid(1, "x", 100)
     wait_for("told at the row: no number", lambda: "no whole number" in window.wrong(1))
@@ -214,7 +223,8 @@ def closings_refused(steep, level, x, y, operator):
     sent(y, 1, 100)
     operator.click("ask")
     level.close(1)
-    wait_for("a question whose round was closed elsewhere goes away", lambda: "Round 1 is closed" in operator.text("say") and not operator.at("question").is_displayed())
+    wait_for("a question whose round was closed elsewhere goes away",
+             lambda: "Round 1 is closed" in operator.text("say") and not operator.at("question").is_displayed())
     for window in (x, y, operator):
         wait_for("round 2 is told", lambda: "Round 2" in window.text("round"))
     for window in (x, y):

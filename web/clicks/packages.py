@@ -28,7 +28,7 @@ def prepare():
         if subprocess.run(["apt-get", "install", "-y", "--no-install-recommends", *missing()], **QUIET).returncode:
             print("web/try: the packages could not be installed")
     if lacking := missing():
-        print(f"web/try: {', '.join(lacking)} of Debian's packages: missing, and no page was tried")
+        print(f"web/try: Debian's {', '.join(lacking)} missing, and no page was tried")
         sys.exit(0)
     try:
         import selenium  # noqa: F401

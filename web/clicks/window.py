@@ -101,6 +101,9 @@ class Window:
         """Presses Tab until the cursor is there, and gives what it stands on."""
         for _ in range(60):
             self.press(Keys.TAB)
+            if self.run("return document.activeElement !== document.body && !document.activeElement.matches('.button *')"
+                        " && getComputedStyle(document.activeElement).outlineStyle === 'none'"):
+                sys.exit("web/try: it can't be seen where the cursor is, on the way to " + what)
             if self.run("return document.activeElement.matches(arguments[0])", selector):
                 return self.driver.switch_to.active_element
         sys.exit(f"web/try: no way by keys to {what}")

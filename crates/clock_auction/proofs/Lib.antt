@@ -1,5 +1,4 @@
 mod Reading
 mod Outcomes
 mod Limited
-mod ServingLaws
 mod AuditLaws

@@ -1,6 +1,7 @@
 -- The one line that a run shows of its fault. (Own format.)
 --     fault_line fault     `fault: WORDS` and a line feed
 --     of_journal fault      the fault of a journal that is not taken over
+--     of_serving fault      the fault of a loop that has not served all connections
 use Rattle.std.specs.Prelude.{ℕ, List, ◌++◌, codes, decimal}
 use Rattle.clock_setup.specs.declared.fault.Place.{Place}
 use Rattle.clock_setup.specs.declared.fault.Place.TheVariants as place
@@ -14,6 +15,8 @@ use Rattle.clock_sim.specs.declared.sim_fault.SimFault.{SimFault}
 use Rattle.clock_sim.specs.declared.sim_fault.SimFault.TheVariants as in_simulation
 use Rattle.clock_journal.specs.declared.fault.JournalFault.{JournalFault}
 use Rattle.clock_journal.specs.declared.fault.JournalFault.TheVariants as in_journal
+use Rattle.clock_serving.specs.declared.fault.ServeFault.{ServeFault}
+use Rattle.clock_serving.specs.declared.fault.ServeFault.TheVariants as in_serving
 use Rattle.clock_http.specs.Codes.{text_of}
 use Rattle.clock_auction.specs.declared.fault.Fault.{Fault}
 use Rattle.clock_auction.specs.declared.fault.Fault.TheVariants as fault
@@ -79,6 +82,11 @@ of_journal in_journal.Setup = fault.JournalSetup
 of_journal (in_journal.Damaged place) = fault.JournalDamaged place
 of_journal (in_journal.Refused place) = fault.JournalRefused place
 of_journal in_journal.NoMemory = fault.Memory
+
+-- the fault of a loop that has not served all connections
+abbrev pub of_serving : ServeFault → Fault
+of_serving in_serving.Accept = fault.Accept
+of_serving in_serving.Journal = fault.Journal
 
 -- a fault of a document has the document's words
 abbrev pub fault_words : Fault → List ℕ

@@ -1,9 +1,10 @@
 ghost use Rattle.std.specs.Prelude.{◌≡◌};
-ghost use Rattle.clock_auction.specs.FaultLines.{of_journal};
+ghost use Rattle.clock_auction.specs.FaultLines.{of_journal, of_serving};
 ghost use Rattle.clock_auction.specs.declared.fault.Fault.TheVariants.{Memory};
 
 use clock_device::NoMemory;
 use clock_journal::JournalFault;
+use clock_serving::ServeFault;
 use clock_setup::{OpeningFault, SetupFault};
 use clock_sim::{ScriptFault, SimFault};
 use std::alloc::AllocError;
@@ -77,6 +78,17 @@ impl From<JournalFault> for Fault {
             JournalFault::Damaged(place) => Fault::JournalDamaged(place as u64),
             JournalFault::Refused(place) => Fault::JournalRefused(place as u64),
             JournalFault::NoMemory => Fault::Memory,
+        }
+    }
+}
+
+impl From<ServeFault> for Fault {
+    ghost from_gives = { λ fault given. given ≡ of_serving fault };
+
+    fn from(fault: ServeFault) -> Fault {
+        match fault {
+            ServeFault::Accept => Fault::Accept,
+            ServeFault::Journal => Fault::Journal,
         }
     }
 }

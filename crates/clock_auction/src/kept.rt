@@ -2,10 +2,11 @@
 ghost use Rattle.std.specs.Prelude.{◌≡◌, [], IfOk, false};
 ghost use Rattle.clock_front.specs.Fronts.{StandsForTexts};
 
+use crate::closings::Telling;
 use crate::digests::Hex;
 use crate::fault::Fault;
 use crate::serve::{bound, file_bytes, front_in, tell_ready};
-use crate::serving_kept::serve_kept_on;
+use crate::serving::serve_kept_on;
 use clock_journal::{FileDisk, Journal, Link, Recovered, digest_of};
 use clock_keeping::{Auction, take_up};
 use clock_queue::Woken;
@@ -53,19 +54,20 @@ where
         + Alloc<A = Global>,
     requires { StandsForTexts [] auction.old.front }
 {
-    let mut journal = taken_over(rt, auction, digest, path)?;
+    let journal = taken_over(rt, auction, digest, path)?;
     tell_journal(rt, auction.texts, *journal.chain())?;
     let listener = bound(rt, serving.port)?;
     tell_ready(rt, serving.port)?;
+    let mut telling = Telling::new(rt, journal);
     let served = serve_kept_on(
-        rt,
+        rt.alloc(),
         &mut auction.front,
-        &mut journal,
+        &mut telling,
         &listener,
         serving.connections,
     );
-    drop(journal);
-    served
+    drop(telling);
+    Ok(served?)
 }
 
 /// The journal in a file that was taken over and is held by this server alone.

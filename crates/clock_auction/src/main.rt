@@ -5,6 +5,7 @@ ghost use Rattle.std.specs.Prelude.{◌≡◌, map, string_bytes, IfOk};
 
 mod answer;
 mod audit;
+mod closings;
 mod command;
 mod digests;
 mod fault;
@@ -17,7 +18,6 @@ mod loopback;
 mod prices;
 mod serve;
 mod serving;
-mod serving_kept;
 mod telling;
 #[cfg(test)]
 mod tests;

@@ -5,7 +5,7 @@ ghost use Rattle.clock_front.specs.Fronts.{StandsForTexts};
 use crate::answer::setup_in;
 use crate::fault::Fault;
 use crate::input::read_all;
-use crate::serving::{ServeFault, serve_on};
+use crate::serving::serve_on;
 use clock_device::{FromReader, Text};
 use clock_front::Front;
 use clock_queue::Woken;
@@ -46,10 +46,7 @@ where
 {
     let listener = bound(rt, serving.port)?;
     tell_ready(rt, serving.port)?;
-    match serve_on(rt.alloc(), front, &listener, serving.connections) {
-        Ok(()) => Ok(()),
-        Err(ServeFault::Accept) => Err(Fault::Accept),
-    }
+    Ok(serve_on(rt.alloc(), front, &listener, serving.connections)?)
 }
 
 /// The port of this machine, listened on.

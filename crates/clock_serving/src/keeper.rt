@@ -68,6 +68,7 @@ impl<D: Durable> Keeper for Journal<D> {
 }
 
 /// Keeps no text.
+#[derive(Drop)]
 pub struct Unkept;
 
 impl Keeper for Unkept {

@@ -5,6 +5,7 @@ use clock_device::{Failed, FromReader, ToWriter};
 use std::net::{TcpListener, TcpStream};
 
 /// The connections of a port of this machine that is listened on. It tells no bytes, as sockets tell none.
+#[derive(Drop)]
 pub struct Listening<'a> {
     listener: &'a TcpListener,
     is_open: bool,
