@@ -1,6 +1,8 @@
 // The server's routes. A token stays in the object that asks, in this tab's memory, and goes nowhere but into the request's header.
 
+// how long an answer is awaited: the closing of a very large auction may take most of a minute
 const SECONDS = 20;
+const CLOSING_SECONDS = 300;
 
 /** What the server refused, or that nothing answered (then `status` is 0, and nobody knows what was done). */
 export class Fault extends Error {
@@ -50,7 +52,7 @@ export class Asker {
     try {
       return await fetch(path, {
         method, headers, cache: "no-store", credentials: "omit", referrerPolicy: "no-referrer",
-        body: body === undefined ? undefined : JSON.stringify(body), signal: AbortSignal.timeout(SECONDS * 1000),
+        body: body === undefined ? undefined : JSON.stringify(body), signal: AbortSignal.timeout((method === "POST" ? CLOSING_SECONDS : SECONDS) * 1000),
       });
     } catch {
       throw noAnswer();
