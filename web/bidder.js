@@ -53,7 +53,7 @@ function takeForce(bids, words) {
   if (bids) past.ask(me.round, bids);
   const time = new Date().toLocaleTimeString("en-GB");
   const what = bids ? `a sheet of ${counted(bids.length, "bid")}, ${words}` : "no sheet, as it stood at";
-  at("force").textContent = `In force: ${what} ${time}.`;
+  at("force").textContent = me.ended ? "The auction is over: no sheet is in force any more." : `In force: ${what} ${time}.`;
 }
 
 function tellChange(before) {

@@ -129,22 +129,31 @@ def letters(window, operator, halves):
     expect("bidders' names stand as text", [row[0] for row in operator.rows("resbody")[:2]] == halves)
 
 
-def many(window):
-    """3,233 products: the time until the first table stands, and until a key is dealt with; finding and filtering."""
+KEYS = """const field = document.querySelector('[data-field=quantity]'), times = [];
+    for (let n = 0; n < 30; n++) {
+        const begun = performance.now();
+        field.value = n;
+        field.dispatchEvent(new Event('input'));
+        document.body.offsetHeight;
+        times.push(performance.now() - begun);
+    }
+    return times.sort((a, b) => a - b)"""
+
+
+def key_time(window, what):
+    """The milliseconds of a key: reading and judging the whole sheet, and drawing."""
+    times = window.run(KEYS)
+    expect(f"{what}, a key is dealt with, drawing and all, in {times[27]:.1f} ms", times[27] < 50)
+    return times[15]
+
+
+def many(window, work):
+    """3,233 products: the time until the first table stands, and until a key is dealt with; finding, filtering, and a fault far below."""
     rows = window.run("return document.querySelectorAll('#body tr').length")
     expect("no more is laid out than what is seen, and some rows beside it", rows < 45)
     stands = window.run("return window.stands")
     expect(f"the first table stands within a second: {stands:.0f} ms", stands < 1000)
-    key = window.run("""const field = document.querySelector('[data-field=quantity]'), times = [];
-        for (let n = 0; n < 30; n++) {
-            const begun = performance.now();
-            field.value = n;
-            field.dispatchEvent(new Event('input'));
-            document.body.offsetHeight;
-            times.push(performance.now() - begun);
-        }
-        return times.sort((a, b) => a - b)""")
-    expect(f"a key is dealt with, drawing and all, in {key[27]:.1f} ms", key[27] < 50)
+    key = key_time(window, "on an empty sheet")
     window.run("document.getElementById('frame').scrollTop = 1e9")
     wait_for("the last product is reached", lambda: "P-3232" in window.text("body"))
     window.write("find", "p-19")
@@ -155,7 +164,18 @@ def many(window):
     for shown, count in (("wanted", 1), ("held", 0), ("all products", 3233)):
         window.choose("filter", shown)
         wait_for(f"{shown}: {count}", lambda: window.run("return document.querySelector('.bids').getAttribute('aria-rowcount')") == str(count + 1))
-    return f"3,233 products: the first table stands {stands:.0f} ms after the click, {rows} rows are laid out, a key takes {key[15]:.1f} ms"
+    file = work / "full.csv"
+    file.write_text("".join(f"{p},2,100\n" for p in range(3232)) + "P-3232,3,100\n")
+    window.at("up").send_keys(str(file))
+    wait_for("a sheet of 3,233 bids is read", lambda: "3,233 bids read" in window.text("say"))
+    full = key_time(window, "on a sheet of 3,233 bids")
+    window.bid(0, 2, 100)
+    wait_for("one is at fault", lambda: "1 bid is at fault" in window.text("judged"))
+    window.click("tofault")
+    wait_for("the fault far below is gone to", lambda: window.run("return document.activeElement.dataset.key") == "3232.0" and "cap" in window.wrong(3232))
+    window.click("drop")
+    return f"3,233 products: the first table stands {stands:.0f} ms after the click, {rows} rows are laid out, a key takes {key:.1f} ms, " \
+           f"and {full:.1f} ms on a sheet of 3,233 bids"
 
 
 def timed_entry(window, stand, page, token, body):

@@ -7,6 +7,7 @@
 mod audit_lines;
 mod final_report;
 mod groups;
+mod product_pieces;
 mod report;
 mod report_lines;
 mod request_texts;

@@ -6,8 +6,10 @@ ghost use Rattle.clock_views.specs.Values.{whole, list_of, Adds};
 ghost use Rattle.clock_views.specs.inside.Values.{item_text};
 ghost use Rattle.clock_views.specs.BidderPages.{bid_value};
 ghost use Rattle.clock_sim.specs.RequestTexts as texts;
+ghost use Rattle.clock_sim.specs.inside.ProductPieces.{product_piece};
 ghost use Rattle.clock_sim.specs.inside.RequestTexts.{increments_text, whole_text};
 
+use crate::product_pieces::ProductPieces;
 use clock_bids::Bid;
 use clock_device::NoMemory;
 use clock_order::Tie;
@@ -67,36 +69,78 @@ fn push_numbers(text: &mut Vec<u8>, numbers: &[u64]) -> Result<(), NoMemory>
     Ok(())
 }
 
+/// Adds the product of a bid and the label of its quantity.
+#[inline(always)]
+fn push_product(text: &mut Vec<u8>, pieces: &ProductPieces, product: u64) -> Result<(), NoMemory>
+    ensures { OnOk result (Adds (product_piece product) text.old.items text.new.items) }
+{
+    match pieces.get(product) {
+        Some(piece) => push_label(text, piece),
+        None => push_other_product(text, product),
+    }
+}
+
+/// The same for a product that no piece was made for.
+#[inline(never)]
+fn push_other_product(text: &mut Vec<u8>, product: u64) -> Result<(), NoMemory>
+    ensures { OnOk result (Adds (product_piece product) text.old.items text.new.items) }
+{
+    push_number(text, b",\"product\":", product)?;
+    push_label(text, b",\"quantity\":")?;
+    Ok(())
+}
+
+/// Adds a number, which has one digit mostly.
+#[inline(always)]
+fn push_short_number(text: &mut Vec<u8>, number: u64) -> Result<(), NoMemory>
+    ensures { OnOk result (Adds (decimal number) text.old.items text.new.items) }
+{
+    if number < 10 {
+        return push_label(text, &[b'0' + number as u8]);
+    }
+    push_number(text, b"", number)
+}
+
 /// Adds a bid, behind a comma where it is not the first.
-fn push_bid(text: &mut Vec<u8>, later: bool, bid: &Bid) -> Result<(), NoMemory>
+fn push_bid(
+    text: &mut Vec<u8>,
+    pieces: &ProductPieces,
+    later: bool,
+    bid: &Bid,
+) -> Result<(), NoMemory>
     ensures { OnOk result (Adds (item_text later (bid_value bid.now)) text.old.items text.new.items) }
 {
     push_comma_if(text, later)?;
     push_number(text, b"{\"price\":", bid.price)?;
-    push_number(text, b",\"product\":", bid.product)?;
-    push_number(text, b",\"quantity\":", bid.quantity)?;
+    push_product(text, pieces, bid.product)?;
+    push_short_number(text, bid.quantity)?;
     push_label(text, b"}")?;
     Ok(())
 }
 
 /// Adds an array of bids.
-fn push_bids(text: &mut Vec<u8>, bids: &[Bid]) -> Result<(), NoMemory>
+fn push_bids(text: &mut Vec<u8>, pieces: &ProductPieces, bids: &[Bid]) -> Result<(), NoMemory>
     ensures { OnOk result (Adds (compact_text (list_of bid_value bids.now)) text.old.items text.new.items) }
 {
     push_label(text, b"[")?;
     for (i, bid) in bids.iter().enumerate() {
-        push_bid(text, i > 0, bid)?;
+        push_bid(text, pieces, i > 0, bid)?;
     }
     push_label(text, b"]")?;
     Ok(())
 }
 
 /// Adds the body of a sheet.
-fn push_put_body(text: &mut Vec<u8>, round: u64, bids: &[Bid]) -> Result<(), NoMemory>
+fn push_put_body(
+    text: &mut Vec<u8>,
+    pieces: &ProductPieces,
+    round: u64,
+    bids: &[Bid],
+) -> Result<(), NoMemory>
     ensures { OnOk result (Adds (texts.put_body round bids.now) text.old.items text.new.items) }
 {
     push_label(text, b"{\"bids\":")?;
-    push_bids(text, bids)?;
+    push_bids(text, pieces, bids)?;
     push_number(text, b",\"round\":", round)?;
     push_label(text, b"}")?;
     Ok(())
@@ -177,15 +221,17 @@ fn push_head(text: &mut Vec<u8>, line: &[u8], token: &[u8], length: u64) -> Resu
 pub(crate) struct RequestText {
     head: Vec<u8>,
     body: Vec<u8>,
+    pieces: ProductPieces,
 }
 
 impl RequestText {
-    /// Nothing yet. It takes no memory.
-    pub(crate) fn new(alloc: Global) -> RequestText {
-        RequestText {
+    /// Nothing yet, of an auction of so many products.
+    pub(crate) fn new(alloc: Global, products: usize) -> Result<RequestText, NoMemory> {
+        Ok(RequestText {
             head: Vec::new(alloc),
             body: Vec::new(alloc),
-        }
+            pieces: ProductPieces::new(alloc, products)?,
+        })
     }
 
     /// Writes the request by which the bidder of a token puts a sheet.
@@ -198,7 +244,7 @@ impl RequestText {
         ensures { OnOk result (whole_text self.new ≡ texts.put_text token.now round bids.now) }
     {
         self.body.clear();
-        push_put_body(&mut self.body, round, bids)?;
+        push_put_body(&mut self.body, &self.pieces, round, bids)?;
         self.head.clear();
         push_head(
             &mut self.head,

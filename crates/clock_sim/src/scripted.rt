@@ -46,12 +46,12 @@ fn sheet_of(sheets: &[Option<BidList>], round: u64) -> Option<&BidList>
 }
 
 impl Requests {
-    /// None yet. It takes no memory.
-    pub(crate) fn new(alloc: Global) -> Requests {
-        Requests {
+    /// None yet, of an auction of so many products.
+    pub(crate) fn new(alloc: Global, products: usize) -> Result<Requests, NoMemory> {
+        Ok(Requests {
             bids: Vec::new(alloc),
-            request: RequestText::new(alloc),
-        }
+            request: RequestText::new(alloc, products)?,
+        })
     }
 
     /// Writes the sheet that a sincere bidder puts.

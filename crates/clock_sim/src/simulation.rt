@@ -10,11 +10,18 @@ use crate::report::Report;
 use crate::rounds::play;
 use crate::scripted::Requests;
 use crate::sim_fault::SimFault;
+use clock_device::NoMemory;
 use clock_front::{Front, Hub};
 use clock_processor::Processor;
 use clock_queue::Woken;
 use clock_replays::{Closing, Replay, Script};
 use std::alloc::Global;
+
+/// The requests of an auction, of which none is written yet.
+fn no_requests<P: Processor>(alloc: Global, hub: &Hub<P>) -> Result<Requests, NoMemory> {
+    let setup = hub.front().house().setup();
+    Requests::new(alloc, setup.products.as_slice().len())
+}
 
 /// Plays an auction before its first request.
 fn played<P: Processor>(
@@ -31,7 +38,7 @@ fn played<P: Processor>(
     ensures err { let replay : ReplayFields = record { setup = hub.old.house.setup; scripts = scripts.now; closings = closings.now } in
         IfErr result (IsRefusal faults.NoMemory (rules.simulated replay)) }
 {
-    let mut requests = Requests::new(alloc);
+    let mut requests = no_requests(alloc, hub)?;
     play(alloc, hub, &mut requests, scripts, closings)?;
     Ok(final_report(alloc, hub.front().house())?)
 }

@@ -10,7 +10,7 @@ pub returns-in_err-play-clause-err : goal.returns-in_err-play-clause-err
 returns-in_err-play-clause-err g c =
     let house = c.args.hub.now.house in
     let replay : ReplayFields = record { setup = house.setup; scripts = c.args.scripts.now; closings = c.args.closings.now } in
-    let told = err_from_is_err_and c.from_residual.result c.from_residual.ensures.1 in
+    let told = err_from_is_err_and c.from_residual-in_err-play.result c.from_residual-in_err-play.ensures.1 in
     rw (told.1, told.2) (faulted replay house.setup house c.play.new.hub.house _ refl refl c.requires.first c.in_err-play.ensures.step)
 
 pub returns-clause-ok : goal.returns-clause-ok
