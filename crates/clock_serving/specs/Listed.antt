@@ -1,5 +1,6 @@
 -- Connections that stand in memory.
---     ListedState      whether one is open, what its source had where it was taken, and what was read and written on each closed one
+--     ListedState      whether one is open, what its source had where it was taken, what was read and written on each closed one, and
+--                      whether taking one has failed
 use Rattle.std.specs.Prelude.{ℕ, Bool, List}
 use Rattle.clock_serving.specs.Exchanges.{Exchange}
 
@@ -7,3 +8,4 @@ pub record ListedState : Type 0 where
   pub is_open : Bool
   pub offered : List ℕ
   pub closed : List Exchange
+  pub has_failed : Bool

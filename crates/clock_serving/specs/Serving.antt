@@ -6,8 +6,9 @@
 --     KeepsText setup past one next      it is the right one after the kept texts, and an accepted text is kept
 --     AreServed exchanges ..      so all of these connections were served
 --     EndsUnkept takes served last ..      after these the text of the last could not be kept
+--     is_accept_fault result      a connection could not be taken
 --     EndsServing takes count exchanges .. result      how serving so many connections ends
-use Rattle.std.specs.Prelude.{◌≡◌, ◌<◌, ◌≤◌, ◌⊎◌, ◌++◌, ℕ, true, List, [], ◌∷◌, length, Some, Result, Ok, Err}
+use Rattle.std.specs.Prelude.{◌≡◌, ◌<◌, ◌≤◌, ◌⊎◌, ◌++◌, ℕ, Bool, true, false, List, [], ◌∷◌, length, Some, Result, Ok, Err}
 use Rattle.clock_terms.specs.Limits.{SetupFields}
 use Rattle.clock_house.specs.House.{HouseFields}
 use Rattle.clock_http.specs.Replies.{Answer}
@@ -94,6 +95,12 @@ pub record EndsUnkept (takes : List ℕ → Type 0) (served : List Exchange) (la
   pub silent : WritesNothing last.writing
   pub replied : (past : List (List ℕ)) → StandsForTexts past old → (end : List (List ℕ)) × Walks (RepliesTo old.setup) past served end
   pub kept : (digest : List ℕ) (past : List (List ℕ)) → IsInStep digest past journal_old old → HasKeptTold digest past served text journal_new old
+
+-- a connection could not be taken
+abbrev pub is_accept_fault : {U : Type 0} → Result U ServeFault → Bool
+is_accept_fault (Ok done) = false
+is_accept_fault (Err fault.Accept) = true
+is_accept_fault (Err fault.Journal) = false
 
 -- how serving so many connections ends: each was served; or one could not be taken, and those before it were served; or the text
 -- of the last one that was taken could not be kept

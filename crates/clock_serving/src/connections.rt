@@ -1,4 +1,4 @@
-ghost use Rattle.std.specs.Prelude.{◌≡◌, Bool, List, Option, IfOk, is_err, not, true, false};
+ghost use Rattle.std.specs.Prelude.{◌≡◌, ◌||◌, Bool, List, Option, IfOk, is_err, not, true, false};
 ghost use Rattle.clock_device.specs.Calls.{IsUnread, IsUnused};
 ghost use Rattle.clock_serving.specs.Exchanges.{Closes, Exchange, Offer};
 
@@ -26,6 +26,9 @@ pub trait Connections {
 
     ghost closed: { Self → Option (List Exchange) };
 
+    /// Whether taking one has failed.
+    ghost has_failed: { Self → Bool };
+
     /// Takes the next connection. It waits for one as long as that takes.
     fn accept(&mut self) -> Result<Connection<Self::Reader, Self::Writer>, Failed>
         requires { is_open self.old ≡ false }
@@ -35,12 +38,14 @@ pub trait Connections {
         ensures unread { IfOk result (λ one. IsUnread (Self.Reader.calls one.source) (Self.Reader.interruptions one.source)
             (Self.Reader.has_failed one.source)) }
         ensures unused { IfOk result (λ one. IsUnused (Self.Writer.calls one.sink) (Self.Writer.has_failed one.sink)) }
-        ensures closed { closed self.new ≡ closed self.old };
+        ensures closed { closed self.new ≡ closed self.old }
+        ensures failed { has_failed self.new ≡ (has_failed self.old || is_err result) };
 
     /// Closes the connection that is open.
     fn close(&mut self, connection: Connection<Self::Reader, Self::Writer>)
         requires { is_open self.old ≡ true }
         ensures open { is_open self.new ≡ false }
+        ensures failed { has_failed self.new ≡ has_failed self.old }
         ensures closed { Closes (closed self.old) (closed self.new)
             (record {
               before = (offer self.old).source;

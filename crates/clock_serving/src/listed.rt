@@ -29,6 +29,7 @@ pub struct Listed<'a> {
     is_open: bool,
     offered: &'a [u8],
     closed: Bounded<Closed<'a>>,
+    has_failed: bool,
 }
 
 impl<'a> Model for Listed<'a> {
@@ -37,7 +38,7 @@ impl<'a> Model for Listed<'a> {
 
     ghost Value = { ListedState };
 
-    ghost view = { λ l. record { is_open = l.is_open; offered = l.offered.now; closed = l.closed.items } };
+    ghost view = { λ l. record { is_open = l.is_open; offered = l.offered.now; closed = l.closed.items; has_failed = l.has_failed } };
 
     ghost invariant = { λ l. (l.next ≤ length l.clients.now) × (length l.clients.now ≤ l.next + l.closed.room)
         × MatchBool l.is_open (length l.clients.now + 1 ≤ l.next + l.closed.room) (Unit {0}) };
@@ -46,7 +47,7 @@ impl<'a> Model for Listed<'a> {
 impl<'a> Listed<'a> {
     /// The connections of these clients, of which none was taken yet.
     pub fn new(alloc: Global, clients: &'a [Client<'a>]) -> Result<Listed<'a>, NoMemory>
-        ensures { IfOk result (λ listed. listed ≡ record { is_open = false; offered = []; closed = [] }) }
+        ensures { IfOk result (λ listed. listed ≡ record { is_open = false; offered = []; closed = []; has_failed = false }) }
     {
         Ok(Listed {
             alloc,
@@ -55,6 +56,7 @@ impl<'a> Listed<'a> {
             is_open: false,
             offered: &[],
             closed: Bounded::with_capacity(alloc, clients.len())?,
+            has_failed: false,
         })
     }
 
@@ -77,8 +79,11 @@ impl<'a> Connections for Listed<'a> {
 
     ghost closed = { λ listed. Some listed.closed };
 
+    ghost has_failed = { λ listed. listed.has_failed };
+
     fn accept(&mut self) -> Result<Connection<ListSource<'a>, ListSink>, Failed> {
         let Some(client) = self.clients.get(self.next) else {
+            self.has_failed = true;
             return Err(Failed);
         };
         let Ok(sink) = ListSink::new(
@@ -87,6 +92,7 @@ impl<'a> Connections for Listed<'a> {
             client.write.max(1),
             client.write_stop,
         ) else {
+            self.has_failed = true;
             return Err(Failed);
         };
         self.next += 1;
@@ -101,6 +107,7 @@ impl<'a> Connections for Listed<'a> {
     fn close(&mut self, connection: Connection<ListSource<'a>, ListSink>)
         requires { self.old.is_open ≡ true }
         ensures open { self.new.is_open ≡ false }
+        ensures failed { self.new.has_failed ≡ self.old.has_failed }
         ensures closed { Closes (Some self.old.closed) (Some self.new.closed)
             (record {
               before = Some self.old.offered;

@@ -9,6 +9,7 @@ use std::net::{TcpListener, TcpStream};
 pub struct Listening<'a> {
     listener: &'a TcpListener,
     is_open: bool,
+    has_failed: bool,
 }
 
 impl<'a> Listening<'a> {
@@ -16,10 +17,12 @@ impl<'a> Listening<'a> {
     pub fn new(listener: &'a TcpListener) -> Listening<'a>
         ensures open { ⟦<Listening<'a> as Connections>⟧.is_open result ≡ false }
         ensures closed { ⟦<Listening<'a> as Connections>⟧.closed result ≡ None }
+        ensures unfailed { ⟦<Listening<'a> as Connections>⟧.has_failed result ≡ false }
     {
         Listening {
             listener,
             is_open: false,
+            has_failed: false,
         }
     }
 }
@@ -35,11 +38,15 @@ impl Connections for Listening<'_> {
 
     ghost closed = { λ listening. None };
 
+    ghost has_failed = { λ listening. listening.has_failed };
+
     fn accept(&mut self) -> Result<Connection<FromReader<TcpStream>, ToWriter<TcpStream>>, Failed> {
         let Ok((stream, _peer)) = self.listener.accept() else {
+            self.has_failed = true;
             return Err(Failed);
         };
         let Ok(reader) = stream.try_clone() else {
+            self.has_failed = true;
             return Err(Failed);
         };
         self.is_open = true;
@@ -51,6 +58,7 @@ impl Connections for Listening<'_> {
 
     fn close(&mut self, connection: Connection<FromReader<TcpStream>, ToWriter<TcpStream>>)
         ensures open { self.new.is_open ≡ false }
+        ensures failed { self.new.has_failed ≡ self.old.has_failed }
     {
         self.is_open = false;
         drop(connection);

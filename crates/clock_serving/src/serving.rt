@@ -4,7 +4,7 @@ ghost use Rattle.clock_device.specs.Readings.{Reading};
 ghost use Rattle.clock_front.specs.Streamed.{Writing};
 ghost use Rattle.clock_keeping.specs.Serving.{IsLeftAlone};
 ghost use Rattle.clock_serving.specs.Exchanges.{Exchange, HasClosed};
-ghost use Rattle.clock_serving.specs.Serving.{EndsServing};
+ghost use Rattle.clock_serving.specs.Serving.{EndsServing, is_accept_fault};
 ghost use Rattle.clock_serving.specs.inside.Served.{EndsOne, FailsToKeep, IsAnswered, IsServed, IsUnkept};
 
 use crate::connections::Connections;
@@ -126,10 +126,12 @@ fn serve_next<P: Processor, K: Keeper, C: Connections>(
 ) -> Result<(), ServeFault>
     requires unfailed { (K.journal keeper.old).has_failed ≡ false }
     requires closed { C.is_open connections.old ≡ false }
+    requires taken { C.has_failed connections.old ≡ false }
     ensures ends { EndsOne K.takes (C.closed connections.old) (C.closed connections.new) (K.journal keeper.old) (K.journal keeper.new)
         front.old front.new result }
     ensures unfailed { OnOk result ((K.journal keeper.new).has_failed ≡ false) }
     ensures closed { C.is_open connections.new ≡ false }
+    ensures taken { C.has_failed connections.new ≡ is_accept_fault result }
     ensures setup { front.new.setup ≡ front.old.setup }
 {
     let Ok(mut one) = connections.accept() else {
@@ -159,9 +161,11 @@ pub fn serve_all<P: Processor, K: Keeper, C: Connections>(
 ) -> Result<(), ServeFault>
     requires unfailed { (K.journal keeper.old).has_failed ≡ false }
     requires closed { C.is_open connections.old ≡ false }
+    requires taken { C.has_failed connections.old ≡ false }
     ensures served { (exchanges : List Exchange) × HasClosed (C.closed connections.old) (C.closed connections.new) exchanges
         × EndsServing K.takes count exchanges (K.journal keeper.old) (K.journal keeper.new) front.old front.new result }
     ensures closed { C.is_open connections.new ≡ false }
+    ensures taken { C.has_failed connections.new ≡ is_accept_fault result }
     ensures setup { front.new.setup ≡ front.old.setup }
 {
     front.house().law_of_house();

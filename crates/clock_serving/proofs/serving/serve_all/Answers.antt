@@ -20,6 +20,7 @@ loop-connection-init g c = record {
   };
   unfailed = c.requires.unfailed;
   closed = c.requires.closed;
+  taken = c.requires.taken;
   setup = refl;
 }
 
@@ -45,5 +46,6 @@ loop-connection-preserved g c =
           c.in_default.field-0 c.in_default.ensures.ends;
       unfailed = c.in_default.ensures.unfailed;
       closed = c.in_default.ensures.closed;
+      taken = c.in_default.ensures.taken;
       setup = c.in_default.ensures.setup ∙ loop.invariant.setup;
     }

@@ -1,0 +1,109 @@
+//! The loop of a server over connections in memory: what is written on each, where one fails, and where a text can't be kept.
+ghost use Rattle.std.specs.Prelude.{◌≡◌, false};
+
+use super::texts::{ACCEPTED, CUT_SHORT, PUT, STATUS};
+use crate::front::example::on_front;
+use clock_device::Stop;
+use clock_front::Front;
+use clock_journal::{Journal, MemoryDisk};
+use clock_processor::Plain;
+use clock_serving::{Client, Keeper, Listed, ServeFault, Unkept, serve_all};
+use clock_setup::fixtures::ONE_PRODUCT;
+use std::alloc::Global;
+use std::process::Abort;
+use std::test::Fail;
+
+/// The reply to a question for the status of an auction in its first round.
+const FIRST_ROUND: &str = "HTTP/1.1 200 OK\r\nconnection: close\r\n\
+    content-length: 37\r\ncontent-type: application/json\r\n\r\n{\"ended\":false,\"round\":1,\"version\":1}";
+
+/// A client that sends this in small pieces, and takes a reply in small pieces.
+fn client(text: &str) -> Client<'_> {
+    Client {
+        bytes: text.as_bytes(),
+        read: 7,
+        read_stop: None,
+        room: 1024,
+        write: 9,
+        write_stop: None,
+    }
+}
+
+/// A sheet, a part of one, a connection that fails at its second read, a client that takes 18 bytes of its reply, and a question.
+fn clients() -> [Client<'static>; 5] {
+    let mut broken = client(PUT);
+    broken.read_stop = Some((1, Stop::Failed));
+    let mut gone = client(STATUS);
+    gone.write_stop = Some(2);
+    [
+        client(PUT),
+        client("PUT /v1/me"),
+        broken,
+        gone,
+        client(STATUS),
+    ]
+}
+
+/// Serves clients, and compares how that ends and what is written on each connection that was taken.
+fn compare<K: Keeper>(
+    rt: &impl Abort,
+    alloc: Global,
+    front: &mut Front<Plain>,
+    keeper: &mut K,
+    ended: Result<(), ServeFault>,
+    written: &[&str],
+) -> Result<(), Fail>
+    requires { (K.journal keeper.old).has_failed ≡ false }
+{
+    let clients = clients();
+    let mut listed = Listed::new(alloc, &clients)?;
+    let end = serve_all(alloc, front, keeper, &mut listed, 5);
+    assert_eq!(rt; end, ended);
+    assert_eq!(rt; listed.closed().len(), written.len());
+    for (closed, bytes) in listed.closed().iter().zip(written) {
+        assert_eq!(rt; closed.written(), bytes.as_bytes());
+    }
+    Ok(())
+}
+
+/// The same with a journal whose syncs fail from one on.
+fn compare_kept(
+    rt: &impl Abort,
+    alloc: Global,
+    front: &mut Front<Plain>,
+    syncs: u64,
+    ended: Result<(), ServeFault>,
+    written: &[&str],
+) -> Result<(), Fail> {
+    let Ok(mut journal) = Journal::begin(MemoryDisk::new(alloc, 4096, syncs), [7; 32]) else {
+        return Err("no journal")?;
+    };
+    compare(rt, alloc, front, &mut journal, ended, written)?;
+    assert_eq!(rt; journal.disk().bytes().len(), 56 + 40 + PUT.len());
+    Ok(())
+}
+
+/// What is written where nothing fails but what the clients do.
+const WRITTEN: [&str; 5] = [ACCEPTED, CUT_SHORT, "", "HTTP/1.1 200 OK\r\nc", FIRST_ROUND];
+
+#[test]
+fn each_connection_gets_its_own_reply(rt: HostRuntime) -> Result<(), Fail> {
+    on_front(rt.alloc(), ONE_PRODUCT, |front| {
+        compare(&rt, rt.alloc(), front, &mut Unkept, Ok(()), &WRITTEN)
+    })
+}
+
+#[test]
+fn an_accepted_text_is_kept(rt: HostRuntime) -> Result<(), Fail> {
+    on_front(rt.alloc(), ONE_PRODUCT, |front| {
+        compare_kept(&rt, rt.alloc(), front, 2, Ok(()), &WRITTEN)
+    })
+}
+
+/// The sync of the first text fails: its client hears nothing, and no other connection is taken.
+#[test]
+fn a_text_that_is_not_kept_ends_the_loop(rt: HostRuntime) -> Result<(), Fail> {
+    on_front(rt.alloc(), ONE_PRODUCT, |front| {
+        compare_kept(&rt, rt.alloc(), front, 1, Err(ServeFault::Journal), &[""])
+    })
+}
