@@ -11,8 +11,8 @@ pub right : (setup : SetupFields) → IsSetup setup → (past : List (List ℕ))
 right setup limits past text one is = record {
   is = is;
   private = λ bidder lt own. record {
-    from_view = is ∙ answered_from_view setup bidder past text limits lt own;
-    elsewhere = λ other number other_past other_limits other_lt alike. is
-        ∙ isolated setup other bidder number past other_past text limits other_limits lt other_lt alike own;
+    from_view = is ∙ answered_from_view setup bidder past text limits.tokens lt own;
+    elsewhere = λ other number other_past other_tokens other_lt alike. is
+        ∙ isolated setup other bidder number past other_past text limits.tokens other_tokens lt other_lt alike own;
   };
 }
