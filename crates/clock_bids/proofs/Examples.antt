@@ -1,5 +1,5 @@
 -- The rules on sheets and changes, computed on examples.
-use Rattle.std.specs.Prelude.{◌≡◌, ℕ, ◌-◌, ◌<◌, List, [], ◌∷◌, Option, Some, None, length, refl, codes}
+use Rattle.std.specs.Prelude.{◌≡◌, ℕ, ◌<◌, List, [], ◌∷◌, Option, Some, None, length, refl, codes}
 use Rattle.std.proofs.lemmas.Bool.{lt-leb}
 use Rattle.clock_terms.specs.Limits.{SetupFields, PublicSetup, public_setup}
 use Rattle.clock_terms.specs.declared.setup.Product.{Product}
@@ -8,8 +8,6 @@ use Rattle.clock_terms.proofs.Examples.{one_product, two_products, activity_limi
 use Rattle.clock_terms.specs.Prices.{opening_prices}
 use Rattle.clock_bids.specs.declared.sheet.Bid.{Bid}
 use Rattle.clock_bids.specs.declared.sheet.BidFault.{BidFault}
-use Rattle.clock_terms.specs.declared.change.Change.{Change}
-use Rattle.clock_terms.specs.declared.change.Kind.{Kind}
 use Rattle.clock_terms.specs.declared.change.Kind.TheVariants.{Increase, Reduction}
 use Rattle.clock_bids.specs.declared.sheet.BidFault.TheVariants.{TooMany, UnknownProduct, PriceRange, OverCap, PriceOrder}
 use Rattle.clock_bids.specs.declared.sheet.BidFault.TheVariants.{MixedDirection, KeepPrice, OverActivity}

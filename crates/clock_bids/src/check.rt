@@ -8,7 +8,7 @@ ghost use Rattle.clock_bids.specs.Sheet.{IsGoodSheet, asked_demands, most_bids, 
 ghost use Rattle.clock_bids.specs.inside.Chains.{bid_at, checks_by_last, quantity_of, step_checks};
 
 use crate::sheet::{Bid, BidFault, Own, Sheet};
-use clock_terms::{PricePair, Prices, Product, Setup};
+use clock_terms::{PricePair, Prices, Product, Row, Setup};
 use std::alloc::Global;
 
 /// The most bids that a sheet may have.
@@ -71,7 +71,7 @@ fn judge(
     alloc: Global,
     setup: &Setup,
     prices: &[PricePair],
-    demands: &[u64],
+    demands: &Row,
     bids: &[Bid],
 ) -> Result<u64, BidFault>
     requires prices { length prices.now ≡ length setup.now.products }
@@ -129,7 +129,7 @@ fn last_bid(bids: &[Bid], places: &[u16], product: u64) -> Option<Bid>
 fn bid_fault(
     products: &[Product],
     prices: &[PricePair],
-    demands: &[u64],
+    demands: &Row,
     last: Option<Bid>,
     place: u64,
     bid: &Bid,
@@ -149,7 +149,7 @@ fn bid_fault(
     if bid.quantity > products[product].cap {
         return Some(BidFault::OverCap(place));
     }
-    step_fault(last, demands[product], pair.clock.get(), place, bid)
+    step_fault(last, demands.get(product), pair.clock.get(), place, bid)
 }
 
 /// Whether a price is from the start price to the clock price.

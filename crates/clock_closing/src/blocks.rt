@@ -4,7 +4,7 @@ ghost use Rattle.clock_closing.specs.Blocks as rules;
 ghost use Rattle.clock_closing.specs.inside.Blocks.{most_zeros};
 
 use clock_device::NoMemory;
-use clock_terms::first_held;
+use clock_terms::Row;
 use std::alloc::Global;
 use std::marker::Model;
 
@@ -32,11 +32,7 @@ impl Model for Blocks {
 impl Blocks {
     /// The same numbers. None is above 1,000. The cells are made in a list that is lent, whatever it has, so that those that are
     /// kept take no more memory than they need.
-    pub(crate) fn of(
-        alloc: Global,
-        cells: &mut Vec<u16>,
-        demands: &[u64],
-    ) -> Result<Blocks, NoMemory>
+    pub(crate) fn of(alloc: Global, cells: &mut Vec<u16>, demands: &Row) -> Result<Blocks, NoMemory>
         requires { All (λ demand. demand ≤ most_supply) demands.now }
         ensures { IfOk result (λ blocks. blocks ≡ demands.now) }
     {
@@ -55,15 +51,15 @@ impl Blocks {
 }
 
 /// Makes the cells of numbers in place of those that a list has. None of the numbers is above 1,000.
-fn fill(cells: &mut Vec<u16>, demands: &[u64]) -> Result<(), NoMemory>
+fn fill(cells: &mut Vec<u16>, demands: &Row) -> Result<(), NoMemory>
     requires { All (λ demand. demand ≤ most_supply) demands.now }
     ensures { OnOk result (rules.numbers_of cells.new.items ≡ demands.now) }
 {
     cells.clear();
     let mut from = 0;
     'cells: while from < demands.len() {
-        let place = first_held(demands, from, last_place(from, demands.len()));
-        cells.push(cell_of((place - from) as u64, demands[place]))?;
+        let place = demands.first_held(from, last_place(from, demands.len()));
+        cells.push(cell_of((place - from) as u64, demands.get(place)))?;
         from = place + 1;
     }
     Ok(())

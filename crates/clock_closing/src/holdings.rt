@@ -4,7 +4,7 @@ ghost use Rattle.clock_closing.specs.OpenRound.{holding_at};
 
 use crate::slip::Slips;
 use clock_device::NoMemory;
-use clock_terms::{Amounts, Grid, Setup};
+use clock_terms::{Amounts, Grid, Row, Setup};
 use std::alloc::Global;
 use std::marker::Model;
 
@@ -59,7 +59,7 @@ impl<'a> Holdings<'a> {
     }
 
     /// A bidder's demand for each product, in blocks.
-    pub fn demands(&self, bidder: u32) -> &'a [u64]
+    pub fn demands(&self, bidder: u32) -> &'a Row
         requires { bidder < length self.now }
         ensures { result.now ≡ (holding_at self.now bidder).demands }
     {

@@ -8,7 +8,7 @@ ghost use Rattle.clock_sim.specs.ReportText as words;
 use crate::report::Report;
 use clock_device::{NoMemory, Text};
 use clock_posting::{Line, RoundSheet, sheet_lines};
-use clock_terms::{Bidder, Grid, Setup};
+use clock_terms::{Bidder, Grid, Row, Setup};
 use std::alloc::Global;
 
 /// The text of a report: the lines of each round's sheet, by rising round, then for each bidder the line
@@ -55,7 +55,7 @@ fn push_rounds(
 }
 
 /// What demands cost at the posted prices, in whole dollars.
-fn payment(lines: &[Line], demands: &[u64]) -> u64
+fn payment(lines: &[Line], demands: &Row) -> u64
     requires each { length demands.now ≡ length lines.now }
     requires few { length lines.now ≤ most_products }
     requires small { All (λ demand. demand ≤ most_supply) demands.now }
@@ -63,17 +63,17 @@ fn payment(lines: &[Line], demands: &[u64]) -> u64
 {
     let mut total: u64 = 0;
     for (product, line) in lines.iter().enumerate() {
-        total += line.posted.get() * demands[product];
+        total += line.posted.get() * demands.get(product);
     }
     total
 }
 
 /// Adds demands by product, each with a space behind it.
-fn push_demands(text: &mut Text, demands: &[u64]) -> Result<(), NoMemory>
+fn push_demands(text: &mut Text, demands: &Row) -> Result<(), NoMemory>
     ensures { OnOk result (text.new ≡ text.old ++ flat_map (λ demand. decimal demand ++ codes " ") demands.now) }
 {
-    for demand in demands {
-        text.push_number(*demand)?;
+    for product in 0..demands.len() {
+        text.push_number(demands.get(product))?;
         text.push(b' ')?;
     }
     Ok(())
@@ -84,7 +84,7 @@ fn push_won(
     text: &mut Text,
     lines: &[Line],
     bidder: &Bidder,
-    demands: &[u64],
+    demands: &Row,
 ) -> Result<(), NoMemory>
     requires each { length demands.now ≡ length lines.now }
     requires few { length lines.now ≤ most_products }

@@ -11,7 +11,7 @@ use clock_bids::{Bid, Own};
 use clock_device::NoMemory;
 use clock_posting::RoundSheet;
 use clock_replays::LimitLists;
-use clock_terms::{Product, first_held};
+use clock_terms::{Product, Row};
 
 /// The price at which a block leaves, where it does not stay up to the clock price.
 fn leaving_price(pair: &PriceRange, limit: u64) -> Option<u64>
@@ -195,7 +195,7 @@ fn push_priced(
 /// The first product from one on for which there may be bids, or their number where there is none: in the first round the
 /// product itself, and later the first that is held.
 #[inline(always)]
-fn next_product(round: u64, demands: &[u64], from: usize) -> usize
+fn next_product(round: u64, demands: &Row, from: usize) -> usize
     requires { from ≤ length demands.now }
     ensures least { from ≤ result }
     ensures most { result ≤ length demands.now }
@@ -205,7 +205,7 @@ fn next_product(round: u64, demands: &[u64], from: usize) -> usize
     if round == 1 {
         return from;
     }
-    first_held(demands, from, demands.len())
+    demands.first_held(from, demands.len())
 }
 
 /// Adds the bids for a product.
@@ -214,7 +214,7 @@ fn push_product(
     products: &[Product],
     last: Option<&RoundSheet>,
     round: u64,
-    demands: &[u64],
+    demands: &Row,
     limits: &LimitLists,
     product: usize,
 ) -> Result<(), NoMemory>
@@ -227,7 +227,7 @@ fn push_product(
 {
     let pair = price_range(products, last, product);
     let wanted = limits.list(product);
-    push_priced(bids, product as u64, round, &pair, demands[product], wanted)?;
+    push_priced(bids, product as u64, round, &pair, demands.get(product), wanted)?;
     Ok(())
 }
 

@@ -3,7 +3,7 @@ pub mod IncrementLaws
 pub mod FaultLaws
 pub mod DemandLaws
 pub mod RowLaws
-pub mod RowTotals
 mod Zeros
+mod Marks
 pub mod ActivityLaws
 pub mod Examples

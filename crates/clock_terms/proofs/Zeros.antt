@@ -1,28 +1,13 @@
--- Demands that are 0: read together, and passed over.
-use Rattle.std.proofs.Common.{◌≡◌, ℕ, zero, suc, ◌+◌, ◌*◌, ◌<◌, ◌≤◌, ◌-◌, ◌↔◌, List, [], ◌∷◌, length, drop, get_or, refl, ap, sym, ◌∙◌, arith, All}
+-- Demands that are 0 are passed over.
+use Rattle.std.proofs.Common.{◌≡◌, ℕ, zero, suc, ◌+◌, ◌*◌, ◌<◌, ◌≤◌, ◌-◌, List, [], ◌∷◌, length, drop, get_or, refl, ap, sym, ◌∙◌, arith, All}
 use Rattle.std.specs.Prelude.{zip}
-use Rattle.std.specs.Int.RustNames.{bit_or}
 use Rattle.std.specs.List.{AllWithin}
 use Rattle.std.proofs.lemmas.List.{get_or_default, get_or-drop, drop-drop, drop_more}
-use Rattle.std.proofs.lemmas.List.Elements.{AllWithin-more, AllWithin-upto}
 use Rattle.std.proofs.lemmas.List.Sums.{sum_by-cons}
-use Rattle.std.proofs.lemmas.Nat.{le_or_l, le_or_r, mul-le}
+use Rattle.std.proofs.lemmas.Nat.{mul-le}
 use Rattle.clock_terms.specs.declared.setup.Product.{Product}
 use Rattle.clock_terms.specs.Limits.{no_product, IsProduct, IsRow}
 use Rattle.clock_terms.specs.Eligibility.{activity}
-
--- no bit is set where the demands so far are 0, and the next one is 0 as well
-pub zeros_more : (row : List ℕ) (from step bits : ℕ) → (bits ≡ 0 ↔ AllWithin (λ demand. demand ≡ 0) row from (from + step))
-    → from + step < length row → bit_or bits (get_or row (from + step) 0) ≡ 0 ↔ AllWithin (λ demand. demand ≡ 0) row from (from + (step + 1))
-zeros_more row from step bits before inside =
-    let place = from + step in (
-      λ none k d low high.
-          AllWithin-more (λ demand. demand ≡ 0) row from place (before.0 (omega (arith, none, le_or_l bits (get_or row place 0))))
-          (λ d. get_or_default row place d 0 inside ∙ omega (arith, none, le_or_r bits (get_or row place 0))) k d low (omega (arith, high)),
-      λ all. ap (λ n. bit_or n (get_or row place 0))
-          (before.1 (AllWithin-upto (λ demand. demand ≡ 0) row from (from + (step + 1)) place (omega arith) all))
-          ∙ ap (λ n. bit_or 0 n) (all place 0 (omega arith) (omega arith)),
-    )
 
 -- no demands take no units
 no_numbers : (products : List Product) → activity products [] ≡ 0
@@ -65,20 +50,20 @@ module _ (products : List Product) (row : List ℕ) (place : ℕ) (one : Product
       ∙ sum_by-cons (λ (line : Product × ℕ). line.0.units * line.1) (get_or products place one, get_or row place 0)
       (zip (drop (place + 1) products) (drop (place + 1) row))
 
-  pub so_far_more : (total whole next : ℕ) → total + activity (drop place products) (drop place row) ≡ whole
+  pub so_far_more : (total whole next demand : ℕ) → demand ≡ get_or row place 0 → total + activity (drop place products) (drop place row) ≡ whole
       → place + 1 ≤ next → AllWithin (λ demand. demand ≡ 0) row (place + 1) next
-      → total + (get_or products place one).units * get_or row place 0 + activity (drop next products) (drop next row) ≡ whole
-  so_far_more total whole next before order none =
+      → total + (get_or products place one).units * demand + activity (drop next products) (drop next row) ≡ whole
+  so_far_more total whole next demand is before order none =
       let passed = activity-passed products row (place + 1) next order none in
-      omega (arith, before, passed, activity-at)
+      rw is (omega (arith, before, passed, activity-at))
 
-  pub small_more : (total next : ℕ) → All IsProduct products → IsRow products row → total ≤ 1000000000 * place → place + 1 ≤ next
-      → total + (get_or products place one).units * get_or row place 0 ≤ 1000000000 * next
-  small_more total next limits is before order =
+  pub small_more : (total next demand : ℕ) → demand ≡ get_or row place 0 → All IsProduct products → IsRow products row → total ≤ 1000000000 * place → place + 1 ≤ next
+      → total + (get_or products place one).units * demand ≤ 1000000000 * next
+  small_more total next demand read limits is before order =
       let within : place < length products = omega (arith, held, each) in
       let good : IsProduct (get_or products place no_product) = limits place no_product within in
       let units : (get_or products place one).units ≤ 1000000 =
       omega (arith, good.units.1, ap (λ (product : Product). product.units) (get_or_default products place one no_product within)) in
-      let demand : get_or row place 0 ≤ 1000 = omega (arith, is.capped place held, good.cap.1, good.supply.1) in
-      let taken : (get_or products place one).units * get_or row place 0 ≤ 1000000000 = mul-le _ _ 1000000 1000 units demand in
-      omega (arith, before, order, taken)
+      let few : get_or row place 0 ≤ 1000 = omega (arith, is.capped place held, good.cap.1, good.supply.1) in
+      let taken : (get_or products place one).units * get_or row place 0 ≤ 1000000000 = mul-le _ _ 1000000 1000 units few in
+      rw read (omega (arith, before, order, taken))

@@ -11,7 +11,7 @@ ghost use Rattle.clock_terms.specs.Limits.{
   most_units,
 };
 
-use crate::grid::first_held;
+use crate::row::Row;
 use crate::setup::{Product, Setup};
 
 /// The eligibility after a round, in bidding units: the smaller of the eligibility held and the least whole number of
@@ -29,30 +29,44 @@ pub fn next_eligibility(held: u64, activity: u64, requirement: u64) -> u64
     held.min((100 * activity + (requirement - 1)) / requirement)
 }
 
-/// What [`activity`] is of a set-up with these products, where the set-up itself is not at hand. Products that are not held are
-/// passed over.
-pub fn units_taken(products: &[Product], demands: &[u64]) -> u64
+/// The bidding units that a row of demands takes: the sum of units times demand, over the products of which a block is held.
+/// There is one demand for each product, at most its cap. It takes no memory.
+pub fn units_held(products: &[Product], row: &Row) -> u64
     requires limits { All IsProduct products.now }
     requires product_count { length products.now ≤ most_products }
-    requires row { IsRow products.now demands.now }
-    ensures exact { result ≡ eligibility.activity products.now demands.now }
+    requires row { IsRow products.now row.now }
+    ensures exact { result ≡ eligibility.activity products.now row.now }
     ensures most { result ≤ most_products * (most_units * most_supply) }
 {
-    let count = demands.len();
+    let count = row.len();
     let mut total: u64 = 0;
-    let mut place = first_held(demands, 0, count);
+    let mut place = row.first_held(0, count);
     'held: while place < count {
-        total += products[place].units * demands[place];
-        place = first_held(demands, place + 1, count);
+        total += products[place].units * row.get(place);
+        place = row.first_held(place + 1, count);
     }
     total
 }
 
-/// The bidding units that a row of demands takes: the sum of units times demand. There is one demand for each product,
-/// at most its cap. It takes no memory.
+/// The bidding units that demands take, as they stand in a document: the sum of units times demand. There is one demand for each
+/// product, at most its cap. It takes no memory.
 pub fn activity(setup: &Setup, demands: &[u64]) -> u64
     requires { IsRow setup.now.products demands.now }
     ensures { result ≡ eligibility.activity setup.now.products demands.now }
 {
     units_taken(setup.products.as_slice(), demands)
+}
+
+/// What [`activity`] is of a set-up with these products.
+fn units_taken(products: &[Product], demands: &[u64]) -> u64
+    requires limits { All IsProduct products.now }
+    requires product_count { length products.now ≤ most_products }
+    requires row { IsRow products.now demands.now }
+    ensures exact { result ≡ eligibility.activity products.now demands.now }
+{
+    let mut total: u64 = 0;
+    for (place, demand) in demands.iter().enumerate() {
+        total += products[place].units * *demand;
+    }
+    total
 }

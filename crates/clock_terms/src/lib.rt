@@ -8,11 +8,12 @@ mod grid;
 mod increments;
 mod limits;
 mod prices;
+mod row;
 mod setup;
 
 pub use change::{Change, Changes, Kind};
-pub use eligibility::{activity, next_eligibility, units_taken};
-pub use grid::{Amounts, Grid, first_held, row_at};
+pub use eligibility::{activity, next_eligibility, units_held};
+pub use grid::{Amounts, Grid, row_at};
 pub use increments::Increments;
 pub use limits::{
     FIRST_GRANULE, FIRST_LIMIT, LATEST_VERSION, LEAST_LIMIT, LEAST_REQUIREMENT, LONGEST_NAME,
@@ -20,4 +21,5 @@ pub use limits::{
     MOST_SUPPLY, MOST_UNITS, SHORTEST_TOKEN, is_within,
 };
 pub use prices::{OpeningPrices, PricePair, Prices};
+pub use row::Row;
 pub use setup::{Bidder, Bidders, Product, Products, Setup, products_copy};

@@ -9,12 +9,12 @@ ghost use Rattle.clock_views.specs.Values.{list_of, IsPage, Adds};
 ghost use Rattle.clock_views.specs.inside.Values.{item_text};
 
 use crate::pieces::{
-    push_blocks, push_comma_if, push_label, push_name, push_number, push_numbers, push_truth,
+    push_blocks, push_comma_if, push_label, push_name, push_number, push_row, push_truth,
 };
 use clock_bids::{Bid, Own, Sheet};
 use clock_device::{NoMemory, Text};
 use clock_house::Slip;
-use clock_terms::{Setup, activity};
+use clock_terms::{Setup, units_held};
 use std::alloc::Global;
 
 /// What a bidder holds before the current round. The bidder is one of the set-up's, and there is a
@@ -53,8 +53,8 @@ pub fn push_account_page(
     ensures { OnOk result (Adds (compact_text (account_value setup.now.products (bidder_at setup.now bidder).name own.entry.round
         (record { eligibility = own.entry.eligibility; demands = own.entry.demands.now }) ended)) text.old text.new) }
 {
-    push_number(text, b"{\"activity\":", activity(setup, own.demands))?;
-    push_numbers(text, b",\"demands\":", own.demands)?;
+    push_number(text, b"{\"activity\":", units_held(setup.products.as_slice(), own.demands))?;
+    push_row(text, b",\"demands\":", own.demands)?;
     push_number(text, b",\"eligibility\":", own.eligibility)?;
     push_truth(text, b",\"ended\":", ended)?;
     push_name(text, b",\"name\":", name_of(setup, bidder))?;

@@ -8,7 +8,7 @@ ghost use Rattle.clock_views.specs.Values.{list_of, IsPage, Adds};
 ghost use Rattle.clock_views.specs.inside.Values.{item_text};
 
 use crate::bidder::name_of;
-use crate::pieces::{push_comma_if, push_label, push_name, push_number, push_numbers, push_truth};
+use crate::pieces::{push_comma_if, push_label, push_name, push_number, push_row, push_truth};
 use clock_device::{NoMemory, Text};
 use clock_house::House;
 use clock_terms::Setup;
@@ -83,7 +83,7 @@ fn push_result<P>(text: &mut Text, house: &House<P>, bidder: u32) -> Result<(), 
 {
     let own = house.own(bidder);
     push_comma_if(text, bidder > 0)?;
-    push_numbers(text, b"{\"demands\":", own.demands)?;
+    push_row(text, b"{\"demands\":", own.demands)?;
     push_number(text, b",\"eligibility\":", own.eligibility)?;
     push_name(text, b",\"name\":", name_of(house.setup(), bidder))?;
     push_label(text, b"}")

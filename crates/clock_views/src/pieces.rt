@@ -10,6 +10,7 @@ ghost use Rattle.clock_views.specs.inside.Values.{AddsNumbers, item_text};
 
 use clock_device::{NoMemory, Text};
 use clock_house::{Blocks, blocks_in, zeros_in};
+use clock_terms::Row;
 
 /// Adds a label, as `{"bids":`, or a closing bracket.
 pub(crate) fn push_label(text: &mut Text, label: &[u8]) -> Result<(), NoMemory>
@@ -96,14 +97,14 @@ fn push_item(text: &mut Text, later: bool, number: u64) -> Result<(), NoMemory>
     text.push_number(number)
 }
 
-/// Adds a label and the array of numbers behind it.
-pub(crate) fn push_numbers(text: &mut Text, label: &[u8], numbers: &[u64]) -> Result<(), NoMemory>
-    ensures { OnOk result (Adds (label.now ++ compact_text (list_of whole numbers.now)) text.old text.new) }
+/// Adds a label and the array of demands behind it.
+pub(crate) fn push_row(text: &mut Text, label: &[u8], row: &Row) -> Result<(), NoMemory>
+    ensures { OnOk result (Adds (label.now ++ compact_text (list_of whole row.now)) text.old text.new) }
 {
     text.extend_from_slice(label)?;
     text.push(b'[')?;
-    for (i, number) in numbers.iter().enumerate() {
-        push_item(text, i > 0, *number)?;
+    for product in 0..row.len() {
+        push_item(text, product > 0, row.get(product))?;
     }
     text.push(b']')?;
     Ok(())

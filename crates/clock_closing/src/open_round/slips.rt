@@ -16,7 +16,7 @@ use crate::results::Results;
 use crate::slip::{Slip, Slips};
 use clock_device::NoMemory;
 use clock_posting::Posting;
-use clock_terms::{Grid, activity, next_eligibility};
+use clock_terms::{Grid, Row, next_eligibility, units_held};
 use std::alloc::Global;
 
 impl OpenRound<'_> {
@@ -64,7 +64,7 @@ impl OpenRound<'_> {
         alloc: Global,
         cells: &mut Vec<u16>,
         bidder: u32,
-        demands: &[u64],
+        demands: &Row,
     ) -> Result<Slip, NoMemory>
         requires bidder { bidder < length self.now.setup.bidders }
         requires row { IsRow self.now.setup.products demands.now }
@@ -74,7 +74,7 @@ impl OpenRound<'_> {
             self.now.before.standing.round (holding_at self.now.before.holdings bidder).eligibility demands.now) }
     {
         let setup = self.setup;
-        let used = activity(setup, demands);
+        let used = units_held(setup.products.as_slice(), demands);
         let held = self.holdings.eligibility(bidder);
         Ok(Slip {
             round: self.round,

@@ -1,7 +1,6 @@
-use Rattle.std.proofs.Common.{◌≡◌, length, ap, sym, subst, ◌∙◌}
+use Rattle.std.proofs.Common.{sym, subst}
 use Rattle.std.proofs.lemmas.Result.{IfOk-weaker}
 use Rattle.clock_terms.specs.Limits.{IsRow}
-use Rattle.clock_bids.specs.Sheet.{asked_demands}
 use Rattle.clock_closing.proofs.Steps.{known_bids, asked_row}
 use Rattle.clock_closing.proofs.open_round.OpenRound.asked.Goals as goal
 

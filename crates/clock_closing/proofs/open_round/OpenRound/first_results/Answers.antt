@@ -1,6 +1,6 @@
 use Rattle.std.proofs.Common.{◌≡◌, ap}
 use Rattle.std.proofs.lemmas.Result.{err_from_is_err_and}
-use Rattle.clock_terms.specs.Limits.{SetupFields, public_setup}
+use Rattle.clock_terms.specs.Limits.{public_setup}
 use Rattle.clock_posting.specs.Posting.{IsPosting, opening_posted}
 use Rattle.clock_closing.specs.OpenRound.{OpenRoundFields}
 use Rattle.clock_closing.specs.Closing.{asked_grid, first_outcome}

@@ -1,7 +1,6 @@
 use Rattle.std.proofs.Common.{◌≡◌, ◌≤◌, ap, sym, ◌∙◌, arith}
 use Rattle.clock_closing.specs.OpenRound.{OpenRoundFields}
 use Rattle.clock_closing.proofs.Outcomes.{outcome-first, outcome-later}
-use Rattle.clock_closing.proofs.Steps.{is_open}
 use Rattle.clock_closing.proofs.open_round.OpenRound.results.Goals as goal
 
 pub returns-then-self-eq1-clause-err : goal.returns-then-self-eq1-clause-err

@@ -1,0 +1,175 @@
+ghost use Rattle.std.specs.Prelude.{◌≡◌, ℕ, ◌+◌, ◌≤◌, ◌<◌, ◌≢◌, length, replicate, All, IfOk, slice_index, slice_set};
+ghost use Rattle.std.specs.List.{AllWithin};
+ghost use Rattle.std.specs.Int.{bit_at};
+ghost use Rattle.clock_terms.specs.Limits.{most_products, most_supply};
+
+use clock_device::NoMemory;
+use std::alloc::Global;
+use std::marker::Model;
+
+/// A bidder's demands, one for each product, in blocks. None is above 1,000. Contracts see the list of the demands, and
+/// nothing of how it is kept.
+///
+/// Most bidders hold few of the products. So each demand stands in two bytes, and a bit beside each tells whether it is held:
+/// a row is gone through from one product that is held to the next, 64 of the others at a step.
+#[derive(Drop)]
+pub struct Row {
+    demands: Vec<u16>,
+    marks: Vec<u64>,
+}
+
+impl Model for Row {
+    ghost use Rattle.std.specs.Prelude.{List, ℕ};
+    ghost use Rattle.clock_terms.specs.inside.Rows.{IsKeptRow};
+
+    ghost Value = { List ℕ };
+
+    ghost view = { λ r. r.demands.items };
+
+    ghost invariant = { λ r. IsKeptRow r.demands.items r.marks.items };
+}
+
+impl Row {
+    /// So many demands, each of which is 0. There are no more than products in a set-up.
+    pub fn zeros(alloc: Global, products: usize) -> Result<Row, NoMemory>
+        requires { products ≤ most_products }
+        ensures { IfOk result (λ row. row ≡ replicate products 0) }
+    {
+        Ok(Row {
+            demands: vec![in alloc; 0; products]?,
+            marks: vec![in alloc; 0; products / 64 + 1]?,
+        })
+    }
+
+    /// These demands.
+    pub fn of_numbers(alloc: Global, demands: &[u64]) -> Result<Row, NoMemory>
+        requires count { length demands.now ≤ most_products }
+        requires small { All (λ demand. demand ≤ most_supply) demands.now }
+        ensures { IfOk result (λ row. row ≡ demands.now) }
+    {
+        let mut row = Row::zeros(alloc, demands.len())?;
+        row.put(demands);
+        Ok(row)
+    }
+
+    /// Puts these demands in the place of those that the row has.
+    pub(crate) fn put(&mut self, demands: &[u64])
+        requires lengths { length demands.now ≡ length self.old }
+        requires small { All (λ demand. demand ≤ most_supply) demands.now }
+        ensures { self.new ≡ demands.now }
+    {
+        for (product, demand) in demands.iter().enumerate() {
+            self.set(product, *demand);
+        }
+    }
+
+    /// An equal row.
+    pub fn copy(&self, alloc: Global) -> Result<Row, NoMemory>
+        ensures { IfOk result (λ copy. copy ≡ self.now) }
+    {
+        Ok(Row {
+            demands: Vec::from_slice(alloc, self.demands.as_slice())?,
+            marks: Vec::from_slice(alloc, self.marks.as_slice())?,
+        })
+    }
+
+    /// How many demands there are.
+    pub fn len(&self) -> usize
+        ensures is { result ≡ length self.now }
+        ensures few { result ≤ most_products }
+    {
+        self.demands.len()
+    }
+
+    /// The demand for a product, in blocks. The product is one of the row's.
+    pub fn get(&self, product: usize) -> u64
+        requires { product < length self.now }
+        ensures is { result ≡ slice_index self.now product }
+        ensures small { result ≤ most_supply }
+    {
+        self.demands[product] as u64
+    }
+
+    /// Changes the demand for a product, and no other. The product is one of the row's, and the demand at most 1,000 blocks.
+    pub(crate) fn set(&mut self, product: usize, demand: u64)
+        requires product { product < length self.old }
+        requires small { demand ≤ most_supply }
+        ensures { self.new ≡ slice_set self.old product demand }
+    {
+        let word = self.marks[product / 64];
+        let bit = (product % 64) as u32;
+        self.marks[product / 64] = if demand > 0 {
+            marked(word, bit)
+        } else {
+            unmarked(word, bit)
+        };
+        self.demands[product] = demand as u16;
+    }
+
+    /// The first product from `from` on of which a block is held, or `until` where each one before that is not held.
+    pub fn first_held(&self, from: usize, until: usize) -> usize
+        requires order { from ≤ until }
+        requires within { until ≤ length self.now }
+        ensures least { from ≤ result }
+        ensures most { result ≤ until }
+        ensures passed { AllWithin (λ demand. demand ≡ 0) self.now from result }
+        ensures held { result < until → 0 < slice_index self.now result }
+    {
+        let mut place = self.next_marked(from, until);
+        'places: while place < until {
+            if self.demands[place] != 0 {
+                break;
+            }
+            place = self.next_marked(place + 1, until);
+        }
+        place
+    }
+
+    /// The first product from `from` on that has a mark, or `until` where there is none before that.
+    #[inline(always)]
+    fn next_marked(&self, from: usize, until: usize) -> usize
+        requires order { from ≤ until }
+        requires within { until ≤ length self.now }
+        ensures least { from ≤ result }
+        ensures most { result ≤ until }
+        ensures passed { AllWithin (λ demand. demand ≡ 0) self.now from result }
+    {
+        let mut place = from;
+        'words: while place < until {
+            let bit = place % 64;
+            let step = unmarked_from(self.marks[place / 64], bit);
+            place = until.min(place + step);
+            if bit + step < 64 {
+                break;
+            }
+        }
+        place
+    }
+}
+
+/// How many bits of a word of marks are not set from one on, up to the first that is or to the end of the word.
+#[inline(always)]
+fn unmarked_from(word: u64, bit: usize) -> usize
+    requires { bit < 64 }
+    ensures within { bit + result ≤ 64 }
+    ensures none { (step : ℕ) → step < result → bit_at word (bit + step) ≡ 0 }
+{
+    (64 - bit).min((word >> bit).trailing_zeros() as usize)
+}
+
+/// A word of marks with a mark more.
+fn marked(word: u64, bit: u32) -> u64
+    requires { bit < 64 }
+    ensures set { bit_at result bit ≡ 1 }
+    ensures kept { (other : ℕ) → bit_at word other ≡ 1 → bit_at result other ≡ 1 }
+{
+    word | (1u64 << bit)
+}
+
+/// A word of marks with a mark less.
+fn unmarked(word: u64, bit: u32) -> u64
+    requires { bit < 64 }
+    ensures { (other : ℕ) → other < 64 → other ≢ bit → bit_at word other ≡ 1 → bit_at result other ≡ 1 }
+{
+    word & !(1u64 << bit)
+}

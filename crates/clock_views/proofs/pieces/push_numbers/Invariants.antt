@@ -1,9 +1,0 @@
-use Rattle.std.proofs.Common.{◌≡◌, ◌++◌, drop, nat_lt, false}
-use Rattle.clock_views.specs.Values.{whole}
-use Rattle.clock_views.proofs.Lists.{rest_text}
-use Rattle.clock_views.proofs.pieces.push_numbers.Given as goal
-
--- with the other numbers it is the whole array
-abbrev pub invariant-loop-i : goal.invariant-loop-i
-invariant-loop-i l =
-    l.text ++ rest_text whole (nat_lt 0 l.i) (drop l.i l.numbers) ≡ l.initial.text ++ rest_text whole false l.numbers
