@@ -7,7 +7,7 @@ use Rattle.clock_setup.specs.OpeningDocument.{row_checks}
 use Rattle.clock_terms.proofs.FaultLaws.{turn_passed, turn_failed, turn_none}
 use Rattle.clock_setup.proofs.OpeningLaws.{zip_at}
 use Rattle.clock_terms.proofs.RowLaws.{length-rows_of}
-use Rattle.clock_terms.proofs.RowTotals.{row_here}
+use Rattle.clock_terms.proofs.RowLaws.{row_here}
 use Rattle.clock_setup.proofs.opening_checks.rows_fault.Goals as goal
 
 pub returns-in-Some-clause-fault : goal.returns-in-Some-clause-fault

@@ -1,3 +1,5 @@
+use Rattle.std.proofs.Common.{◌≡◌, ap, ◌∙◌}
+use Rattle.clock_terms.specs.Limits.{SetupFields}
 use Rattle.clock_house.specs.History.{bidder_at}
 use Rattle.clock_views.proofs.Pushes.{before_last, together_last}
 use Rattle.clock_views.proofs.Texts.{account_in_pieces}
@@ -5,10 +7,11 @@ use Rattle.clock_views.proofs.bidder.push_account_page.Goals as goal
 
 pub returns : goal.returns
 returns c =
+    let products : c.as_slice.result.now ≡ c.args.setup.now.products = c.as_slice.ensures ∙ ap (λ (s : SetupFields). s.products) c.setup.view_is in
     together_last c.push_label.result _ _ (account_in_pieces c.args.setup.now.products (bidder_at c.args.setup.now c.args.bidder).name c.args.own.round
     (record { eligibility = c.args.own.eligibility; demands = c.args.own.demands.now }) c.args.ended)
-    (before_last c.push_label.result _ _ (rw c.activity.ensures at c.in_ok-push_number.ensures)
-    (before_last c.push_label.result _ _ c.in_ok-push_numbers.ensures
+    (before_last c.push_label.result _ _ (rw (c.units_held.ensures.exact, products) at c.in_ok-push_number.ensures)
+    (before_last c.push_label.result _ _ c.in_ok-push_row.ensures
     (before_last c.push_label.result _ _ c.in_ok-push_number-2.ensures
     (before_last c.push_label.result _ _ c.in_ok-push_truth.ensures
     (before_last c.push_label.result _ _ (rw c.name_of.ensures.value at c.in_ok-push_name.ensures)

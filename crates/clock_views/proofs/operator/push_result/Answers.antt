@@ -8,6 +8,6 @@ pub returns : goal.returns
 returns g c =
     before_last c.push_label.result _ _ c.in_ok-push_comma_if.ensures
     (together_last c.push_label.result _ _ (result_in_pieces (bidder_at c.args.house.now.setup c.args.bidder).name (holding_in c.args.house.now c.args.bidder))
-    (before_last c.push_label.result _ _ (rw c.own-own.ensures.demands at c.in_ok-push_numbers.ensures)
+    (before_last c.push_label.result _ _ (rw c.own-own.ensures.demands at c.in_ok-push_row.ensures)
     (before_last c.push_label.result _ _ (rw c.own-own.ensures.eligibility at c.in_ok-push_number.ensures)
     (before_last c.push_label.result _ _ (rw (c.name_of.ensures.value, c.setup.ensures) at c.in_ok-push_name.ensures) c.push_label.ensures))))
