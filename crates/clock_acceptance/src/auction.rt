@@ -6,7 +6,7 @@ use clock_order::Tie;
 use clock_posting::sheet_lines;
 use clock_processor::{Plain, Processor};
 use clock_queue::Woken;
-use clock_setup::{Amounts, Increments, read_setup};
+use clock_setup::{Amounts, Increments, Row, read_setup};
 use std::alloc::{AllocError, Global};
 use std::fmt::Debug;
 use std::process::Abort;
@@ -215,6 +215,19 @@ fn see_lines<P: Processor>(
     Ok(())
 }
 
+/// Whether these are the numbers of a row.
+fn is_row(row: &Row, numbers: &[u64]) -> bool {
+    if row.len() != numbers.len() {
+        return false;
+    }
+    for (product, number) in numbers.iter().enumerate() {
+        if row.get(product) != *number {
+            return false;
+        }
+    }
+    true
+}
+
 /// Asserts what a bidder holds: its eligibility and its demands.
 fn see_held<P: Processor>(
     rt: &impl Abort,
@@ -226,7 +239,7 @@ fn see_held<P: Processor>(
     assert!(rt; (bidder as usize) < house.setup().bidders.as_slice().len());
     let own = house.own(bidder);
     assert_eq!(rt; own.eligibility, eligibility);
-    assert_eq!(rt; own.demands, demands);
+    assert!(rt; is_row(own.demands, demands));
     Ok(())
 }
 

@@ -11,7 +11,7 @@ use clock_device::NoMemory;
 use clock_money::Point;
 use clock_processor::{Board, Processor, Settled};
 use clock_setup::{Amounts, Grid, Product, Setup, read_setup};
-use clock_terms::{Change, Changes, Kind};
+use clock_terms::{Change, Changes, Kind, Row};
 use std::alloc::Global;
 use std::test::Fail;
 
@@ -89,7 +89,7 @@ fn are_requests(bidders: usize, products: usize, changes: &[Change]) -> bool
 }
 
 /// Whether a bidder's requests keep its demands within 0 and the caps.
-fn row_keeps_caps(products: &[Product], demands: &[u64], bidder: usize, changes: &[Change]) -> bool
+fn row_keeps_caps(products: &[Product], demands: &Row, bidder: usize, changes: &[Change]) -> bool
     requires row { length demands.now ≡ length products.now }
     requires count { length changes.now ≤ 100 }
     requires small { All (λ change. change.amount ≤ most_supply) changes.now }
@@ -99,7 +99,8 @@ fn row_keeps_caps(products: &[Product], demands: &[u64], bidder: usize, changes:
     for (i, product) in products.iter().enumerate() {
         let raised = asked(changes, Kind::Increase, bidder, i);
         let reduced = asked(changes, Kind::Reduction, bidder, i);
-        if raised > product.cap || demands[i] > product.cap - raised || reduced > demands[i] {
+        let held = demands.get(i);
+        if raised > product.cap || held > product.cap - raised || reduced > held {
             return false;
         }
     }
@@ -158,13 +159,21 @@ fn settle<P: Processor>(
     Ok(processor.settle(alloc, board, &changes)?)
 }
 
+/// Adds a bidder's demands.
+fn push_demands(demands: &mut Amounts, row: &Row) -> Result<(), NoMemory> {
+    for product in 0..row.len() {
+        demands.push(row.get(product))?;
+    }
+    Ok(())
+}
+
 /// The demands of all bidders, row by row.
 fn demands_of(alloc: Global, grid: &Grid, bidders: usize) -> Result<Amounts, NoMemory>
     requires { bidders ≤ length grid.now }
 {
     let mut demands = Amounts::new(alloc);
     for bidder in 0..bidders {
-        demands.extend_from_slice(grid.row(bidder))?;
+        push_demands(&mut demands, grid.row(bidder))?;
     }
     Ok(demands)
 }

@@ -11,7 +11,7 @@ use crate::prices::prices_text;
 use clock_device::Text;
 use clock_posting::{PostFault, post_first, sheet_lines};
 use clock_setup::{Increments, Opening, OpeningFault, Setup, SetupFault, read_opening, read_setup};
-use clock_sim::{Replay, ScriptFault, SimFault, read_replay, report_text, simulate};
+use clock_sim::{Replay, ScriptFault, SimFault, read_replay, replay_text};
 use clock_words::Job;
 use std::alloc::Global;
 
@@ -94,12 +94,8 @@ fn report_lines(alloc: Global, replay: &Replay) -> Result<Text, Fault>
     ensures ok { IfOk result (λ text. played (simulated replay.now) ≡ Ok text) }
     ensures err { IfErr result (λ fault. fault ≢ Fault.Memory → played (simulated replay.now) ≡ Err fault) }
 {
-    match simulate(alloc, replay) {
-        Ok(report) => {
-            let text = report_text(alloc, &report);
-            drop(report);
-            Ok(text?)
-        }
+    match replay_text(alloc, replay) {
+        Ok(text) => Ok(text),
         Err(SimFault::NoMemory) => Err(Fault::Memory),
         Err(fault) => Err(Fault::Simulation(fault)),
     }

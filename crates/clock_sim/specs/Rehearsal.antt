@@ -20,6 +20,7 @@ use Rattle.clock_sim.specs.declared.sim_fault.SimFault.TheVariants as faults
 use Rattle.clock_replays.specs.Replays.{ReplayFields}
 use Rattle.clock_sim.specs.Reports.{ReportFields}
 use Rattle.clock_sim.specs.FinalReport.{report_of}
+use Rattle.clock_sim.specs.ReportText.{report_text}
 use Rattle.clock_sim.specs.ScriptedRequests.{scripted_put, scripted_close}
 
 -- the closed rounds that the texts have made
@@ -77,3 +78,7 @@ rehearsed setup scripts (closing ∷ closings) texts =
 abbrev pub simulated : ReplayFields → Result ReportFields SimFault
 simulated replay =
     rehearsed replay.setup replay.scripts replay.closings [] >>= (λ texts. Ok (report_of replay.setup (rounds_after replay.setup texts)))
+
+-- the text of that report, or the fault
+abbrev pub played_text : ReplayFields → Result (List ℕ) SimFault
+played_text replay = simulated replay >>= (λ report. Ok (report_text report))

@@ -48,9 +48,10 @@ fn sheet_copy(alloc: Global, sheet: &RoundSheet) -> Result<RoundSheet, NoMemory>
 }
 
 /// The sheet of a closed round; rounds are numbered from 0 here.
-fn sheet_at<P>(house: &House<P>, round: u64) -> &RoundSheet
+pub(crate) fn sheet_at<P>(house: &House<P>, round: u64) -> &RoundSheet
     requires { round < length house.now.closed }
-    ensures { slice_get (map (λ closed. closed.sheet) (reverse house.now.closed)) round ≡ Some result.now }
+    ensures is { slice_get (map (λ closed. closed.sheet) (reverse house.now.closed)) round ≡ Some result.now }
+    ensures lines { length result.now.lines ≡ length house.now.setup.products }
 {
     house.law_of_house();
     match house.sheet(round + 1) {

@@ -7,6 +7,7 @@
 mod audit_lines;
 mod final_report;
 mod groups;
+mod house_text;
 mod product_pieces;
 mod report;
 mod report_lines;
@@ -28,4 +29,4 @@ pub use final_report::report_so_far;
 pub use report::{Report, RoundSheets};
 pub use report_lines::report_text;
 pub use sim_fault::SimFault;
-pub use simulation::{simulate, simulate_with};
+pub use simulation::{replay_text, simulate, simulate_with};

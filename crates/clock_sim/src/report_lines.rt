@@ -28,13 +28,23 @@ pub fn report_text(alloc: Global, report: &Report) -> Result<Text, NoMemory>
     let mut text = Text::new(alloc);
     push_rounds(alloc, &mut text, &report.setup, sheets)?;
     let lines = sheets[sheets.len() - 1].lines.as_slice();
-    push_wins(
-        &mut text,
-        lines,
-        report.setup.bidders.as_slice(),
-        &report.grid,
-    )?;
+    push_won_by_all(&mut text, &report.setup, lines, &report.grid)?;
     Ok(text)
+}
+
+/// Adds the lines of a set-up's bidders. There is a line for each product, and a row of the grid for each bidder.
+pub(crate) fn push_won_by_all(
+    text: &mut Text,
+    setup: &Setup,
+    lines: &[Line],
+    grid: &Grid,
+) -> Result<(), NoMemory>
+    requires lines { length lines.now ≡ length setup.now.products }
+    requires bidders { length grid.now ≡ length setup.now.bidders }
+    requires rows { All (IsRow setup.now.products) grid.now }
+    ensures { OnOk result (text.new ≡ text.old ++ flat_map (words.won_text lines.now) (zip setup.now.bidders grid.now)) }
+{
+    push_wins(text, lines, setup.bidders.as_slice(), grid)
 }
 
 /// Adds the lines of the rounds.

@@ -1,16 +1,19 @@
-ghost use Rattle.std.specs.Prelude.{◌≡◌, [], Ok, length, All, IfOk, IfErr};
+ghost use Rattle.std.specs.Prelude.{◌≡◌, [], Ok, true, length, All, IfOk, IfErr, OnOk};
 ghost use Rattle.clock_terms.specs.Faults.{IsRefusal};
+ghost use Rattle.clock_house.specs.House.{standing_in};
 ghost use Rattle.clock_front.specs.Fronts.{StandsForTexts};
 ghost use Rattle.clock_replays.specs.Replays.{IsScript, ReplayFields};
+ghost use Rattle.clock_sim.specs.FinalReport.{report_of};
 ghost use Rattle.clock_sim.specs.Rehearsal as rules;
 ghost use Rattle.clock_sim.specs.declared.sim_fault.SimFault.TheVariants as faults;
 
 use crate::final_report::final_report;
+use crate::house_text::final_text;
 use crate::report::Report;
 use crate::rounds::play;
 use crate::scripted::Requests;
 use crate::sim_fault::SimFault;
-use clock_device::NoMemory;
+use clock_device::{NoMemory, Text};
 use clock_front::{Front, Hub};
 use clock_processor::Processor;
 use clock_queue::Woken;
@@ -23,24 +26,78 @@ fn no_requests<P: Processor>(alloc: Global, hub: &Hub<P>) -> Result<Requests, No
     Requests::new(alloc, setup.products.as_slice().len())
 }
 
-/// Plays an auction before its first request.
-fn played<P: Processor>(
+/// A front and no connection yet, for an auction of a replay's set-up.
+fn hub_of<P: Processor>(
+    alloc: Global,
+    replay: &Replay,
+    processor: P,
+) -> Result<Hub<P>, NoMemory>
+    ensures first { IfOk result (λ hub. StandsForTexts [] hub.house) }
+    ensures same { IfOk result (λ hub. hub.house.setup ≡ replay.now.setup) }
+{
+    let setup = replay.setup.copy(alloc)?;
+    let front = Front::new(alloc, setup, processor)?;
+    Ok(Hub::new(alloc, front))
+}
+
+/// Plays an auction before its first request, to its end.
+fn play_out<P: Processor>(
     alloc: Global,
     hub: &mut Hub<P>,
     scripts: &[Script],
     closings: &[Closing],
-) -> Result<Report, SimFault>
+) -> Result<(), SimFault>
     requires first { StandsForTexts [] hub.old.house }
     requires each { length scripts.now ≡ length hub.old.house.setup.bidders }
     requires scripts { All (IsScript hub.old.house.setup.products) scripts.now }
     ensures ok { let replay : ReplayFields = record { setup = hub.old.house.setup; scripts = scripts.now; closings = closings.now } in
-        IfOk result (λ report. rules.simulated replay ≡ Ok report) }
+        OnOk result (rules.simulated replay ≡ Ok (report_of hub.new.house.setup hub.new.house.closed)) }
+    ensures ended { OnOk result ((standing_in hub.new.house).ended ≡ true) }
     ensures err { let replay : ReplayFields = record { setup = hub.old.house.setup; scripts = scripts.now; closings = closings.now } in
         IfErr result (IsRefusal faults.NoMemory (rules.simulated replay)) }
 {
     let mut requests = no_requests(alloc, hub)?;
-    play(alloc, hub, &mut requests, scripts, closings)?;
+    play(alloc, hub, &mut requests, scripts, closings)
+}
+
+/// Plays an auction before its first request, and makes its report.
+fn played<P: Processor>(
+    alloc: Global,
+    hub: &mut Hub<P>,
+    replay: &Replay,
+) -> Result<Report, SimFault>
+    requires first { StandsForTexts [] hub.old.house }
+    requires same { hub.old.house.setup ≡ replay.now.setup }
+    ensures ok { IfOk result (λ report. rules.simulated replay.now ≡ Ok report) }
+    ensures err { IfErr result (IsRefusal faults.NoMemory (rules.simulated replay.now)) }
+{
+    play_out(
+        alloc,
+        hub,
+        replay.scripts.as_slice(),
+        replay.closings.as_slice(),
+    )?;
     Ok(final_report(alloc, hub.front().house())?)
+}
+
+/// Plays an auction before its first request, and writes the text of its report.
+fn text_played<P: Processor>(
+    alloc: Global,
+    hub: &mut Hub<P>,
+    replay: &Replay,
+) -> Result<Text, SimFault>
+    requires first { StandsForTexts [] hub.old.house }
+    requires same { hub.old.house.setup ≡ replay.now.setup }
+    ensures ok { IfOk result (λ text. rules.played_text replay.now ≡ Ok text) }
+    ensures err { IfErr result (IsRefusal faults.NoMemory (rules.played_text replay.now)) }
+{
+    play_out(
+        alloc,
+        hub,
+        replay.scripts.as_slice(),
+        replay.closings.as_slice(),
+    )?;
+    Ok(final_text(alloc, hub.front().house())?)
 }
 
 /// Plays an auction as [`simulate`] does, with its rounds settled by a processor.
@@ -52,15 +109,8 @@ pub fn simulate_with<P: Processor + Drop>(
     ensures ok { IfOk result (λ report. rules.simulated replay.now ≡ Ok report) }
     ensures err { IfErr result (IsRefusal faults.NoMemory (rules.simulated replay.now)) }
 {
-    let setup = replay.setup.copy(alloc)?;
-    let front = Front::new(alloc, setup, processor)?;
-    let mut hub = Hub::new(alloc, front);
-    let report = played(
-        alloc,
-        &mut hub,
-        replay.scripts.as_slice(),
-        replay.closings.as_slice(),
-    );
+    let mut hub = hub_of(alloc, replay, processor)?;
+    let report = played(alloc, &mut hub, replay);
     // let go by a call: at the end of the scope it would be proved part by part
     drop(hub);
     report
@@ -78,4 +128,17 @@ pub fn simulate(alloc: Global, replay: &Replay) -> Result<Report, SimFault>
     ensures err { IfErr result (IsRefusal faults.NoMemory (rules.simulated replay.now)) }
 {
     simulate_with(alloc, replay, Woken)
+}
+
+/// The text of the report of [`simulate`], written from the auction that was played: no sheet is copied. The refusals are the
+/// same.
+pub fn replay_text(alloc: Global, replay: &Replay) -> Result<Text, SimFault>
+    ensures ok { IfOk result (λ text. rules.played_text replay.now ≡ Ok text) }
+    ensures err { IfErr result (IsRefusal faults.NoMemory (rules.played_text replay.now)) }
+{
+    let mut hub = hub_of(alloc, replay, Woken)?;
+    let text = text_played(alloc, &mut hub, replay);
+    // let go by a call, as above
+    drop(hub);
+    text
 }

@@ -1,7 +1,7 @@
 //! The changes that sheets of small auctions ask for.
 
 ghost use Rattle.std.specs.Prelude.{◌≡◌, ◌≤◌, ◌<◌, length, All, IsTrue};
-ghost use Rattle.clock_terms.specs.Limits.{IsRow};
+ghost use Rattle.clock_terms.specs.Limits.{IsRow, most_supply};
 
 use clock_bids::{
     Bid, BidFault, Change, Changes, Kind, Own, asked_demands, changes_of, check_sheet,
@@ -9,7 +9,7 @@ use clock_bids::{
 use clock_device::NoMemory;
 use clock_money::{Point, Price};
 use clock_setup::fixtures::{ONE_PRODUCT, TWO_PRODUCTS};
-use clock_setup::{PricePair, Prices, Product, Setup, read_setup};
+use clock_setup::{PricePair, Prices, Product, Row, Setup, read_setup};
 use std::alloc::Global;
 use std::process::Abort;
 use std::test::Fail;
@@ -18,18 +18,16 @@ use std::test::Fail;
 #[derive(Clone, Copy)]
 struct Round<'a> {
     document: &'a str,
-    own: Own<'a>,
+    eligibility: u64,
+    demands: &'a [u64],
 }
 
 /// A bidder with this eligibility and these demands.
 fn second<'a>(document: &'a str, eligibility: u64, demands: &'a [u64]) -> Round<'a> {
     Round {
         document,
-        own: Own {
-            round: 2,
-            eligibility,
-            demands,
-        },
+        eligibility,
+        demands,
     }
 }
 
@@ -84,14 +82,14 @@ fn prices_of(alloc: Global, setup: &Setup) -> Result<Prices, Fail> {
 }
 
 /// Whether there is a demand for each product, none above its cap.
-fn is_row(products: &[Product], demands: &[u64]) -> bool
+fn is_row(products: &[Product], demands: &Row) -> bool
     ensures { IsTrue result → IsRow products.now demands.now }
 {
     if demands.len() != products.len() {
         return false;
     }
     for (i, product) in products.iter().enumerate() {
-        if demands[i] > product.cap {
+        if demands.get(i) > product.cap {
             return false;
         }
     }
@@ -99,7 +97,7 @@ fn is_row(products: &[Product], demands: &[u64]) -> bool
 }
 
 /// Whether there is a pair of prices and a demand for each product.
-fn fits(setup: &Setup, prices: &Prices, demands: &[u64]) -> bool
+fn fits(setup: &Setup, prices: &Prices, demands: &Row) -> bool
     ensures prices { IsTrue result → length prices.now ≡ length setup.now.products }
     ensures row { IsTrue result → IsRow setup.now.products demands.now }
 {
@@ -123,6 +121,29 @@ fn are_known(setup: &Setup, bids: &[Bid]) -> bool
 {
     let products = setup.products.as_slice().len() as u64;
     bids.iter().all(|bid| bid.product < products)
+}
+
+/// Whether none of the demands is above 1,000 blocks.
+fn are_small(demands: &[u64]) -> bool
+    ensures { IsTrue result → All (λ demand. demand ≤ most_supply) demands.now }
+{
+    demands.iter().all(|demand| *demand <= 1000)
+}
+
+/// A bidder's demands, of two products at most.
+fn row_of(rt: &impl Abort, alloc: Global, demands: &[u64]) -> Result<Row, NoMemory> {
+    assert!(rt; demands.len() <= 2);
+    assert!(rt; are_small(demands));
+    Row::of_numbers(alloc, demands)
+}
+
+/// What a bidder holds in the second round.
+fn held<'a>(round: &Round, row: &'a Row) -> Own<'a> {
+    Own {
+        round: 2,
+        eligibility: round.eligibility,
+        demands: row,
+    }
 }
 
 /// The changes that the first bidder asks for by a sheet.
@@ -166,7 +187,8 @@ fn asks_for(
 ) -> Result<bool, Fail> {
     let setup = read_setup(alloc, round.document.as_bytes())?;
     let prices = prices_of(alloc, &setup)?;
-    let changes = asked_by(rt, alloc, &setup, &prices, round.own, bids)?;
+    let row = row_of(rt, alloc, round.demands)?;
+    let changes = asked_by(rt, alloc, &setup, &prices, held(round, &row), bids)?;
     Ok(changes.as_slice() == wanted)
 }
 
@@ -179,7 +201,8 @@ fn asks_without(
 ) -> Result<bool, Fail> {
     let setup = read_setup(alloc, round.document.as_bytes())?;
     let prices = prices_of(alloc, &setup)?;
-    let changes = asked_without(rt, alloc, &setup, &prices, round.own)?;
+    let row = row_of(rt, alloc, round.demands)?;
+    let changes = asked_without(rt, alloc, &setup, &prices, held(round, &row))?;
     Ok(changes.as_slice() == wanted)
 }
 

@@ -1,0 +1,49 @@
+//! The text of an auction's report, written from the auction itself: no sheet is copied.
+
+ghost use Rattle.std.specs.Prelude.{◌≡◌, ◌++◌, true, map, reverse, IfOk, OnOk};
+ghost use Rattle.std.specs.List.{flat_map};
+ghost use Rattle.clock_posting.specs.SheetText.{sheet_text};
+ghost use Rattle.clock_house.specs.House.{standing_in};
+ghost use Rattle.clock_sim.specs.FinalReport as rules;
+ghost use Rattle.clock_sim.specs.ReportText as words;
+
+use crate::final_report::sheet_at;
+use crate::report_lines::push_won_by_all;
+use clock_device::{NoMemory, Text};
+use clock_house::House;
+use clock_posting::sheet_lines;
+use std::alloc::Global;
+
+/// The text of the report of an auction that has ended.
+pub(crate) fn final_text<P>(alloc: Global, house: &House<P>) -> Result<Text, NoMemory>
+    requires { (standing_in house.now).ended ≡ true }
+    ensures { IfOk result (λ text. text ≡ words.report_text (rules.report_of house.now.setup house.now.closed)) }
+{
+    house.law_of_house();
+    let mut text = Text::new(alloc);
+    push_closed_rounds(alloc, &mut text, house)?;
+    let last = sheet_at(house, house.closed_rounds() - 1);
+    push_won_by_all(
+        &mut text,
+        house.setup(),
+        last.lines.as_slice(),
+        house.demands(),
+    )?;
+    Ok(text)
+}
+
+/// Adds the lines of the closed rounds.
+fn push_closed_rounds<P>(
+    alloc: Global,
+    text: &mut Text,
+    house: &House<P>,
+) -> Result<(), NoMemory>
+    ensures { OnOk result (text.new ≡ text.old ++ flat_map (sheet_text house.now.setup.products)
+        (map (λ closed. closed.sheet) (reverse house.now.closed))) }
+{
+    for round in 0..house.closed_rounds() {
+        let lines = sheet_lines(alloc, house.setup(), sheet_at(house, round))?;
+        text.extend_from_slice(lines.as_slice())?;
+    }
+    Ok(())
+}
