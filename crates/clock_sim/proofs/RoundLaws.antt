@@ -1,7 +1,7 @@
 -- The closed rounds that a house shows, by their number.
-use Rattle.std.proofs.Common.{◌≡◌, ℕ, zero, suc, ◌+◌, ◌<◌, ◌≤◌, List, [], ◌∷◌, ◌++◌, true, false, cond, length, map, take, Option, Some, None, refl}
+use Rattle.std.proofs.Common.{◌≡◌, ℕ, zero, suc, ◌+◌, ◌<◌, ◌≤◌, List, [], ◌∷◌, ◌++◌, true, false, cond, length, map, take, drop, Option, Some, None, refl}
 use Rattle.std.proofs.Common.{sym, ◌∙◌, ap, subst, add-one, All, arith}
-use Rattle.std.specs.Prelude.{reverse, slice_get, option_map}
+use Rattle.std.specs.Prelude.{reverse, slice_get, slice_index_or, option_map}
 use Rattle.std.proofs.lemmas.List.{reverse-append, length-reverse, length-map, map-append}
 use Rattle.std.specs.List.{range_with_len}
 use Rattle.std.proofs.lemmas.List.Elements.{All-nil, All-push}
@@ -93,6 +93,21 @@ take_suc (y ∷ ys) (suc n) x e = ap (λ zs. y ∷ zs) (take_suc ys n x e)
 -- one more of some items
 pub take_next : {A : Type 0} (xs : List A) (n : ℕ) (x : A) → slice_get xs n ≡ Some x → take (n + 1) xs ≡ take n xs ++ x ∷ []
 take_next xs n x e = ap (λ k. take k xs) (add-one n) ∙ take_suc xs n x e
+
+-- the items from one on
+pub drop_next : {A : Type 0} (xs : List A) (n : ℕ) (x : A) → slice_get xs n ≡ Some x → drop n xs ≡ x ∷ drop (n + 1) xs
+drop_next xs n x e = from_one xs n x e ∙ ap (λ k. x ∷ drop k xs) (sym (add-one n))
+  where
+    from_one : {A : Type 0} (xs : List A) (n : ℕ) (x : A) → slice_get xs n ≡ Some x → drop n xs ≡ x ∷ drop (suc n) xs
+    from_one [] n x e = absurd (cc)
+    from_one (y ∷ ys) zero x e = let same : y ≡ x = cc in ap (λ z. z ∷ ys) same
+    from_one (y ∷ ys) (suc n) x e = from_one ys n x e
+
+-- an item that is there
+pub index_got : {A : Type 0} (xs : List A) (n : ℕ) (x d : A) → slice_get xs n ≡ Some x → slice_index_or xs n d ≡ x
+index_got [] n x d e = absurd (cc)
+index_got (y ∷ ys) zero x d e = let same : y ≡ x = cc in same
+index_got (y ∷ ys) (suc n) x d e = index_got ys n x d e
 
 -- ---- what a report keeps
 

@@ -33,11 +33,7 @@ pub(crate) fn final_text<P>(alloc: Global, house: &House<P>) -> Result<Text, NoM
 }
 
 /// Adds the lines of the closed rounds.
-fn push_closed_rounds<P>(
-    alloc: Global,
-    text: &mut Text,
-    house: &House<P>,
-) -> Result<(), NoMemory>
+fn push_closed_rounds<P>(alloc: Global, text: &mut Text, house: &House<P>) -> Result<(), NoMemory>
     ensures { OnOk result (text.new ≡ text.old ++ flat_map (sheet_text house.now.setup.products)
         (map (λ closed. closed.sheet) (reverse house.now.closed))) }
 {

@@ -90,12 +90,7 @@ fn push_demands(text: &mut Text, demands: &Row) -> Result<(), NoMemory>
 }
 
 /// Adds the line of a bidder.
-fn push_won(
-    text: &mut Text,
-    lines: &[Line],
-    bidder: &Bidder,
-    demands: &Row,
-) -> Result<(), NoMemory>
+fn push_won(text: &mut Text, lines: &[Line], bidder: &Bidder, demands: &Row) -> Result<(), NoMemory>
     requires each { length demands.now ≡ length lines.now }
     requires few { length lines.now ≤ most_products }
     requires small { All (λ demand. demand ≤ most_supply) demands.now }

@@ -27,11 +27,7 @@ fn no_requests<P: Processor>(alloc: Global, hub: &Hub<P>) -> Result<Requests, No
 }
 
 /// A front and no connection yet, for an auction of a replay's set-up.
-fn hub_of<P: Processor>(
-    alloc: Global,
-    replay: &Replay,
-    processor: P,
-) -> Result<Hub<P>, NoMemory>
+fn hub_of<P: Processor>(alloc: Global, replay: &Replay, processor: P) -> Result<Hub<P>, NoMemory>
     ensures first { IfOk result (λ hub. StandsForTexts [] hub.house) }
     ensures same { IfOk result (λ hub. hub.house.setup ≡ replay.now.setup) }
 {
@@ -57,7 +53,8 @@ fn play_out<P: Processor>(
         IfErr result (IsRefusal faults.NoMemory (rules.simulated replay)) }
 {
     let mut requests = no_requests(alloc, hub)?;
-    play(alloc, hub, &mut requests, scripts, closings)
+    play(alloc, hub, &mut requests, scripts, closings)?;
+    Ok(())
 }
 
 /// Plays an auction before its first request, and makes its report.

@@ -227,7 +227,14 @@ fn push_product(
 {
     let pair = price_range(products, last, product);
     let wanted = limits.list(product);
-    push_priced(bids, product as u64, round, &pair, demands.get(product), wanted)?;
+    push_priced(
+        bids,
+        product as u64,
+        round,
+        &pair,
+        demands.get(product),
+        wanted,
+    )?;
     Ok(())
 }
 

@@ -12,7 +12,7 @@ pub loop-round-preserved : goal.loop-round-preserved
 loop-round-preserved g c =
     let all = map (λ (closed : ClosedRound). closed.sheet) (reverse c.args.house.now.closed) in
     let copy = c.in_ok-copy.copy in
-    let is : slice_get all c.loop-round.round ≡ Some copy = c.sheet_at.ensures ∙ ap Some (sym c.in_ok-copy.ensures.same) in
+    let is : slice_get all c.loop-round.round ≡ Some copy = c.sheet_at.ensures.is ∙ ap Some (sym c.in_ok-copy.ensures.same) in
     let P : RoundSheet → Type 0 = λ sheet. All IsPricedLine sheet.lines in
     record {
       same = c.in_ok-push.ensures.ok ∙ ap (λ (so_far : List RoundSheet). so_far ++ copy ∷ []) c.loop-round.invariant.same
