@@ -3,6 +3,7 @@ pub mod IncrementLaws
 pub mod FaultLaws
 pub mod DemandLaws
 pub mod RowLaws
+mod RowTotals
 mod Zeros
 mod Marks
 pub mod ActivityLaws

@@ -1,4 +1,4 @@
-ghost use Rattle.std.specs.Prelude.{◌≡◌, List, ℕ, ◌+◌, ◌*◌, ◌≤◌, ◌<◌, length, take, drop, All, IfOk, slice_set};
+ghost use Rattle.std.specs.Prelude.{◌≡◌, List, ℕ, ◌+◌, ◌*◌, ◌≤◌, ◌<◌, length, take, drop, All, IfOk, slice_index, slice_set};
 ghost use Rattle.clock_terms.specs.Limits.{most_bidders, most_products, most_supply};
 ghost use Rattle.clock_terms.specs.Demands.{total_of, demand_at, row_of, rows_of, with_demand, no_demands};
 
@@ -30,6 +30,21 @@ pub fn row_at(demands: &[u64], bidder: usize, products: usize) -> &[u64]
 {
     let start = demands_before(bidder, products);
     &demands[start..start + products]
+}
+
+/// Adds a row of demands to the products' totals.
+fn add_row(totals: &mut Amounts, row: &[u64])
+    requires lengths { length row.now ≡ length totals.old }
+    requires small { All (λ demand. demand ≤ most_supply) row.now }
+    requires few { All (λ total. total ≤ most_bidders * most_supply) totals.old }
+    ensures length { length totals.new ≡ length totals.old }
+    ensures sums { (product : ℕ) → product < length totals.old
+        → slice_index totals.new product ≡ slice_index totals.old product + slice_index row.now product }
+{
+    for (product, demand) in row.iter().enumerate() {
+        let total = totals.as_slice()[product] + *demand;
+        totals.set(product, total);
+    }
 }
 
 /// A row of demands for each bidder, and in it the demand in blocks for each product. Contracts see the list of rows,
@@ -73,12 +88,16 @@ impl Grid {
             (rows_of (length setup.now.bidders) (length setup.now.products) demands) }
         ensures { IfOk result (λ grid. grid ≡ rows_of (length setup.now.bidders) (length setup.now.products) demands) }
     {
-        let mut grid = Grid::zero(alloc, setup)?;
+        let bidders = setup.bidders.as_slice().len();
         let products = setup.products.as_slice().len();
-        for bidder in 0..setup.bidders.as_slice().len() {
-            grid.set_row(bidder, row_at(demands.as_slice(), bidder, products));
+        let mut totals = Amounts::zeros(alloc, products)?;
+        let mut rows = Vec::new(alloc);
+        for bidder in 0..bidders {
+            let row = row_at(demands.as_slice(), bidder, products);
+            add_row(&mut totals, row);
+            rows.push(Row::of_numbers(alloc, row)?)?;
         }
-        Ok(grid)
+        Ok(Grid { rows, totals })
     }
 
     /// An equal grid.

@@ -1,7 +1,8 @@
-ghost use Rattle.std.specs.Prelude.{◌≡◌, ℕ, ◌+◌, ◌≤◌, ◌<◌, ◌≢◌, length, replicate, All, IfOk, slice_index, slice_set};
+ghost use Rattle.std.specs.Prelude.{◌≡◌, ℕ, ◌+◌, ◌≤◌, ◌<◌, ◌*◌, ◌≢◌, length, replicate, All, IfOk, slice_index, slice_set};
 ghost use Rattle.std.specs.List.{AllWithin};
 ghost use Rattle.std.specs.Int.{bit_at};
 ghost use Rattle.clock_terms.specs.Limits.{most_products, most_supply};
+ghost use Rattle.clock_terms.specs.inside.Rows.{AreMarked};
 
 use clock_device::NoMemory;
 use std::alloc::Global;
@@ -47,20 +48,10 @@ impl Row {
         requires small { All (λ demand. demand ≤ most_supply) demands.now }
         ensures { IfOk result (λ row. row ≡ demands.now) }
     {
-        let mut row = Row::zeros(alloc, demands.len())?;
-        row.put(demands);
-        Ok(row)
-    }
-
-    /// Puts these demands in the place of those that the row has.
-    pub(crate) fn put(&mut self, demands: &[u64])
-        requires lengths { length demands.now ≡ length self.old }
-        requires small { All (λ demand. demand ≤ most_supply) demands.now }
-        ensures { self.new ≡ demands.now }
-    {
-        for (product, demand) in demands.iter().enumerate() {
-            self.set(product, *demand);
-        }
+        Ok(Row {
+            demands: short_numbers(alloc, demands)?,
+            marks: marks_of(alloc, demands)?,
+        })
     }
 
     /// An equal row.
@@ -145,6 +136,47 @@ impl Row {
         }
         place
     }
+}
+
+/// The same demands in two bytes each.
+fn short_numbers(alloc: Global, demands: &[u64]) -> Result<Vec<u16>, NoMemory>
+    requires { All (λ demand. demand ≤ most_supply) demands.now }
+    ensures { IfOk result (λ numbers. numbers.items ≡ demands.now) }
+{
+    let mut numbers = Vec::with_capacity(alloc, demands.len())?;
+    for demand in demands {
+        numbers.push(*demand as u16)?;
+    }
+    Ok(numbers)
+}
+
+/// The words of marks of demands, and one more where the last is full.
+fn marks_of(alloc: Global, demands: &[u64]) -> Result<Vec<u64>, NoMemory>
+    requires { length demands.now ≤ most_products }
+    ensures words { IfOk result (λ marks. length demands.now < 64 * length marks.items) }
+    ensures held { IfOk result (λ marks. AreMarked demands.now marks.items) }
+{
+    let words = demands.len() / 64 + 1;
+    let mut marks = Vec::with_capacity(alloc, words)?;
+    for word in 0..words {
+        marks.push(word_of(demands, word * 64))?;
+    }
+    Ok(marks)
+}
+
+/// The marks of the 64 demands from one on, or of as many as there are.
+fn word_of(demands: &[u64], from: usize) -> u64
+    requires { from ≤ length demands.now }
+    ensures { (bit : ℕ) → bit < 64 → 0 < slice_index demands.now (from + bit) → bit_at result bit ≡ 1 }
+{
+    let count = (demands.len() - from).min(64);
+    let mut word = 0;
+    for bit in 0..count {
+        if demands[from + bit] > 0 {
+            word = marked(word, bit as u32);
+        }
+    }
+    word
 }
 
 /// How many bits of a word of marks are not set from one on, up to the first that is or to the end of the word.
