@@ -5,7 +5,7 @@ use Rattle.json.specs.Token.{number}
 use Rattle.std.specs.Prelude.{decimal}
 use Rattle.clock_scan.proofs.LexLaws.{lex-digits, digit_is}
 use Rattle.clock_scan.proofs.CompactLaws.{one_then, comma_first}
-use Rattle.clock_scan.proofs.compact.digit_at.Goals as goal
+use Rattle.clock_scan.proofs.separated.digit_at.Goals as goal
 
 pub returns-clause-value : goal.returns-clause-value
 returns-clause-value c =
