@@ -12,14 +12,11 @@ use crate::stop::Stop;
 /// The number of one digit that stands there with a comma behind it.
 #[inline(always)]
 fn digit_at(bytes: &[u8], at: usize) -> Option<u64>
-    ensures room { IfSome result (λ _. at + 2 ≤ length bytes.now) }
+    requires { at + 2 ≤ length bytes.now }
     ensures small { IfSome result (λ n. n < 2 ^ 64) }
     ensures value { IfSome result (λ n. lex between (drop at bytes.now)
         ≡ token (number (decimal n)) ∷ comma ∷ lex between (drop (at + 2) bytes.now)) }
 {
-    if !has_room(bytes, at, 2) {
-        return None;
-    }
     let byte = bytes[at];
     if byte < b'0' || byte > b'9' {
         return None;
@@ -41,11 +38,11 @@ fn number_and_comma(bytes: &[u8], at: usize) -> Option<(u64, usize)>
     ensures value { IfSome result (λ r. lex between (drop at bytes.now)
         ≡ token (number (decimal r.0)) ∷ comma ∷ lex between (drop r.1 bytes.now)) }
 {
-    if let Some(n) = digit_at(bytes, at) {
-        return Some((n, at + 2));
-    }
     if !has_room(bytes, at, MOST_NUMBER) {
         return None;
+    }
+    if let Some(n) = digit_at(bytes, at) {
+        return Some((n, at + 2));
     }
     let (n, end) = digits_at(bytes, at)?;
     if bytes[end] != b',' {

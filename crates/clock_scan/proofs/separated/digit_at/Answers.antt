@@ -11,7 +11,7 @@ pub returns-clause-value : goal.returns-clause-value
 returns-clause-value c =
     let bytes = c.args.bytes.now in
     let at = c.args.at in
-    let room = c.has_room.ensures c.if-not-has_room.false in
+    let room = c.requires in
     let d = get_or bytes at 0 in
     let v = digit_is d c.if-byte-lt48.false c.if-byte-gt57.false in
     let rest = drop (at + 2) bytes in
