@@ -1,6 +1,6 @@
 //! The body of a sheet read byte by byte, where it has the shape that is asked for.
-ghost use Rattle.std.specs.Prelude.{◌≡◌, true, [], ◌<◌, length, Ok, IfSome, IfOk, OnOk};
-ghost use Rattle.clock_scan.specs.Reading.{whole, members_of, Reads};
+ghost use Rattle.std.specs.Prelude.{◌≡◌, true, [], ◌++◌, ◌<◌, List, length, map, Ok, IfSome, IfOk, OnOk};
+ghost use Rattle.clock_scan.specs.Reading.{whole, members_of, Reads, ReadsAll};
 ghost use Rattle.clock_scan.specs.inside.Reading.{is_field, with_field, AddsMember};
 ghost use Rattle.serde_json.specs.Data.{object};
 ghost use Rattle.clock_bodies.specs.Bodies as bodies;
@@ -111,20 +111,21 @@ pub fn next_bid(scan: &mut Scan<'_>) -> Option<Bid>
     found.bid()
 }
 
-/// The same, by several bytes at a time where it is written without white space and its keys in the order of their bytes.
-#[inline(always)]
-fn next_of(scan: &mut Scan<'_>) -> Option<Bid>
-    ensures value { IfSome result (λ bid. Reads 1 scan.old (bid_data bid) scan.new) }
-    ensures shorter { IfSome result (λ _. length scan.new < length scan.old) }
+/// The bids that are next, behind those of a list, as far as they are written without white space, their keys in the order of
+/// their bytes, and with a comma behind each. They are read by several bytes at a time.
+#[inline(never)]
+fn compact_bids(scan: &mut Scan<'_>, list: &mut Vec<Bid>) -> Result<(), Stop>
+    ensures { OnOk result ((bids : List Bid) × (list.new.items ≡ list.old.items ++ bids)
+        × ReadsAll 1 scan.old (map bid_data bids) scan.new) }
 {
-    if let Some(bid) = scan.compact_bid() {
-        return Some(Bid {
+    'bids: while let Some(bid) = scan.compact_bid() {
+        list.push(Bid {
             product: bid.product,
             quantity: bid.quantity,
             price: bid.price,
-        });
+        })?;
     }
-    next_bid(scan)
+    Ok(())
 }
 
 /// The list of bids that is next, with room for so many made at once.
@@ -137,11 +138,13 @@ fn bids(alloc: Global, scan: &mut Scan<'_>, room: usize) -> Result<Items<Bid>, S
         return Err(Stop::Unusual);
     }
     let mut list = Vec::with_capacity(alloc, room)?;
+    compact_bids(scan, &mut list)?;
     'items: while !scan.closes_array() {
-        let Some(next) = next_of(scan) else {
+        let Some(next) = next_bid(scan) else {
             return Err(Stop::Unusual);
         };
         list.push(next)?;
+        compact_bids(scan, &mut list)?;
     }
     Ok(Items::from_vec(list))
 }

@@ -1,5 +1,5 @@
 //! The limits of a sincere bidder, which are mostly none: all in one list.
-ghost use Rattle.std.specs.Prelude.{◌≡◌, ◌<◌, ◌≤◌, ◌∷◌, length, slice_index, IfOk, OnOk};
+ghost use Rattle.std.specs.Prelude.{◌≡◌, ◌<◌, ◌≤◌, ◌∷◌, ◌++◌, length, replicate, slice_index, IfOk, OnOk};
 ghost use Rattle.clock_scan.specs.Reading.{rows, Reads};
 ghost use Rattle.clock_terms.specs.Demands.{row_of};
 ghost use Rattle.clock_replays.specs.EndedRows.{rows_from};
@@ -118,7 +118,18 @@ impl LimitLists {
     }
 }
 
-/// The limits that are next.
+/// Adds the end of so many rows that all end there.
+#[inline(always)]
+fn push_ends(ends: &mut Vec<u32>, end: u32, count: usize) -> Result<(), Stop>
+    ensures { OnOk result (ends.new.items ≡ ends.old.items ++ replicate count end) }
+{
+    for _row in 0..count {
+        ends.push(end)?;
+    }
+    Ok(())
+}
+
+/// The limits that are next. Most are empty, and so all those are passed at once that follow a list.
 pub(crate) fn limit_lists(alloc: Global, scan: &mut Scan<'_>) -> Result<LimitLists, Stop>
     ensures value { IfOk result (λ limits. Reads 2 scan.old (rows limits) scan.new) }
     ensures shorter { OnOk result (length scan.new < length scan.old) }
@@ -129,10 +140,11 @@ pub(crate) fn limit_lists(alloc: Global, scan: &mut Scan<'_>) -> Result<LimitLis
     let mut ends = Vec::new(alloc);
     let mut prices = Vec::new(alloc);
     'items: while !scan.closes_array() {
-        let list = scan.numbers(alloc)?;
-        prices.extend_from_slice(list.as_slice())?;
+        scan.numbers_behind(&mut prices)?;
         let end = end_of(prices.as_slice().len())?;
         ends.push(end)?;
+        let empty = scan.empty_arrays();
+        push_ends(&mut ends, end, empty)?;
     }
     Ok(limits_in(alloc, ends.as_slice(), prices.as_slice())?)
 }

@@ -1,20 +1,20 @@
 -- Laws of bids that are written without white space.
-use Rattle.std.proofs.Common.{◌≡◌, ℕ, ◌+◌, ◌<◌, ◌≤◌, ◌^◌, true, List, ◌∷◌, ◌++◌, length, take, drop, get_or, decimal, codes, suc, ◌*◌, refl, sym, ap, ap₂, ◌∙◌, arith}
+use Rattle.std.proofs.Common.{◌≡◌, ℕ, ◌+◌, ◌<◌, ◌≤◌, ◌^◌, true, List, ◌∷◌, ◌++◌, length, take, drop, get_or, decimal, codes, [], replicate, zero, suc, ◌*◌, refl, sym, ap, ap₂, ◌∙◌, arith}
 use Rattle.std.proofs.Math.Nat.{pow-suc, pow-le-pow_right}
 use Rattle.std.proofs.lemmas.Bool.{false≢true}
 use Rattle.std.proofs.lemmas.List.{take-append-drop, drop-drop}
-use Rattle.json.specs.Token.{Token, key, begin_object, end_object, number, string}
+use Rattle.json.specs.Token.{Token, key, begin_object, end_object, begin_array, end_array, number, string}
 use Rattle.json.specs.Text.{content}
 use Rattle.json.specs.Word.{ends_word}
 use Rattle.json.specs.Lex as lexer
 use Rattle.json.specs.Lex.{Lexeme, Place, may_begin, token, comma, colon, lex, between, punctuate}
 use Rattle.serde_json.specs.Data.{no_members, put}
-use Rattle.clock_scan.specs.Reading.{whole, Reads}
+use Rattle.clock_scan.specs.Reading.{whole, numbers, Reads}
 use Rattle.clock_scan.specs.inside.Reading.{HasMembers}
 use Rattle.clock_scan.specs.Compact.{compact_bid}
 use Rattle.clock_scan.specs.declared.compact.CompactBid.{CompactBid}
 use Rattle.clock_scan.proofs.LexLaws.{at_byte}
-use Rattle.clock_scan.proofs.Steps.{number_reads, members_start, members_next, members_end}
+use Rattle.clock_scan.proofs.Steps.{number_reads, items_start, items_end, members_start, members_next, members_end}
 
 -- eight known bytes, and those behind them
 eight_then : (bytes word : List ℕ) (at : ℕ) → take 8 (drop at bytes) ≡ word → drop at bytes ≡ word ++ drop (at + 8) bytes
@@ -142,3 +142,38 @@ number_and_comma lexer.after_key ls rest s h is = absurd (false≢true h)
 pub comma_first : (rest : List ℕ) → lex between (44 ∷ rest) ≡ comma ∷ lex between rest
 unfolding lex
 comma_first rest = refl
+
+-- bytes that begin with a comma
+pub comma_stands : (bytes rest : List ℕ) → bytes ≡ 44 ∷ rest → (ends_word bytes ≡ true) × (lex between bytes ≡ comma ∷ lex between rest)
+unfolding lex
+comma_stands bytes rest is = (ap ends_word is, ap (lex between) is)
+
+-- a number and its comma, behind a comma, are read
+pub separated_reads : (ls rest : List Lexeme) (n : ℕ) → n < 2 ^ 64 → ls ≡ token (number (decimal n)) ∷ comma ∷ rest
+    → Reads 0 (punctuate lexer.after_comma ls) (whole n) (punctuate lexer.after_comma rest)
+separated_reads ls rest n small is = number_reads n _ _ small (number_and_comma lexer.after_comma ls rest (decimal n) refl is)
+
+-- bytes that are an empty list and its comma
+pub empty_at : (bytes : List ℕ) (at : ℕ) → at + 3 ≤ length bytes → get_or bytes at 0 ≡ 91 → get_or bytes (at + 1) 0 ≡ 93 → get_or bytes (at + 2) 0 ≡ 44
+    → lex between (drop at bytes) ≡ token begin_array ∷ token end_array ∷ comma ∷ lex between (drop (at + 3) bytes)
+unfolding lex
+empty_at bytes at room opens closes mark =
+    ap (lex between)
+    (one_then bytes at (at + 1) 91 (omega (arith, room)) opens (omega arith)
+    ∙ ap (λ rest. 91 ∷ rest) (one_then bytes (at + 1) (at + 2) 93 (omega (arith, room)) closes (omega arith)
+    ∙ ap (λ rest. 93 ∷ rest) (one_then bytes (at + 2) (at + 3) 44 (omega (arith, room)) mark (omega arith))))
+
+-- an empty list and its comma, behind a comma, are read
+pub empty_reads : (ls rest : List Lexeme) → ls ≡ token begin_array ∷ token end_array ∷ comma ∷ rest
+    → Reads 1 (punctuate lexer.after_comma ls) (numbers []) (punctuate lexer.after_comma rest)
+unfolding punctuate
+empty_reads ls rest is =
+    let new = punctuate lexer.after_comma rest in
+    items_end 0 _ (Token.end_array ∷ new) (Token.end_array ∷ new) new [] (ap (punctuate lexer.after_comma) is) (items_start 0 _) refl
+
+-- one more that is the same
+pub replicate_push : {A : Type 0} (n : ℕ) (x : A) → replicate (n + 1) x ≡ replicate n x ++ x ∷ []
+replicate_push zero x = refl
+replicate_push (suc n) x =
+    let next : suc n + 1 ≡ suc (n + 1) = omega arith in
+    ap (λ k. replicate k x) next ∙ ap (λ xs. x ∷ xs) (replicate_push n x)

@@ -1,7 +1,8 @@
 -- Laws of reading: a list item by item, an object member by member, and the whole text.
-use Rattle.std.proofs.Common.{◌≡◌, ℕ, suc, ◌-◌, ◌<◌, ◌≤◌, ◌^◌, true, List, [], ◌∷◌, ◌++◌, length, decimal, map, Option, Some, None, refl, sym, ap}
+use Rattle.std.proofs.Common.{◌≡◌, ℕ, zero, suc, ◌-◌, ◌<◌, ◌≤◌, ◌^◌, true, List, [], ◌∷◌, ◌++◌, length, decimal, map, replicate, Option, Some, None, refl, sym, ap}
 use Rattle.std.proofs.Common.{◌∙◌, subst, arith, Bool, false, not, ◌||◌, ◌+◌, drop, get_or}
 use Rattle.std.proofs.lemmas.Bool.{true≢false, false≢true}
+use Rattle.std.proofs.lemmas.List.{append-nil, append_assoc}
 use Rattle.json.specs.Token.{Token}
 use Rattle.json.specs.Lex.{lex, between, class, tokens, punctuate, fresh}
 use Rattle.json.specs.Align.{is_blank}
@@ -11,7 +12,7 @@ use Rattle.json.proofs.Grammar.{left, skip_value-shorter, value_is}
 use Rattle.serde_json.specs.Data.{Data, Items, item, array, object, string, null, Members, no_members, put}
 use Rattle.serde_json.specs.Read.{of_json, converted, read}
 use Rattle.serde_json.proofs.Numbers.{number_of-decimal}
-use Rattle.clock_scan.specs.Reading.{whole, items_before, items_of, Fields, members_of, Reads}
+use Rattle.clock_scan.specs.Reading.{whole, items_before, items_of, Fields, members_of, Reads, ReadsAll}
 use Rattle.clock_scan.specs.inside.Reading.{with_field, is_field, HasItems, HasMembers, AddsMember}
 use Rattle.clock_scan.proofs.Turns.{converted_some, item_read, items_over, member_read, members_over, object_read, array_read, last, last_read}
 use Rattle.clock_scan.proofs.FieldLaws.{put_in}
@@ -95,6 +96,10 @@ map-push : {A : Type 0} (f : A → Data) (xs : List A) (x : A) → map f (xs ++ 
 map-push f [] x = refl
 map-push f (y ∷ xs) x = ap (λ r. f y ∷ r) (map-push f xs x)
 
+map-append : {A : Type 0} (f : A → Data) (xs ys : List A) → map f (xs ++ ys) ≡ map f xs ++ map f ys
+map-append f [] ys = refl
+map-append f (x ∷ xs) ys = ap (λ r. f x ∷ r) (map-append f xs ys)
+
 -- one item more of a list of values of one kind
 pub items_push_next : {A : Type 0} (levels : ℕ) (data_of : A → Data) (start old new : List Token) (xs : List A) (x : A)
     → HasItems levels start (map data_of xs) old
@@ -111,6 +116,57 @@ items_end levels first start old new values opened has closed = λ depth enough.
     ∙ ap (parse_map (items_before values)) (items_over (json.value (depth - 1)) has.0 old new has.1 (ap after_end_array closed)) in
     subst (λ n. converted of_json (json.value n first) ≡ Some (array (items_of values), new)) less
     (array_read (depth - 1) first start new (items_of values) opened inside)
+
+-- ---- values one behind the other
+
+-- one value more
+pub all_next : (levels : ℕ) (old here new : List Token) (values : List Data) (d : Data) → ReadsAll levels old values here → Reads levels here d new
+    → ReadsAll levels old (values ++ d ∷ []) new
+unfolding ReadsAll
+all_next levels old here new [] d all reads = (new, subst (λ ts. Reads levels ts d new) all reads, refl)
+all_next levels old here new (value ∷ values) d all reads = (all.0, all.1, all_next levels all.0 here new values d all.2 reads)
+
+-- one more of one kind
+pub all_push_next : {A : Type 0} (levels : ℕ) (data_of : A → Data) (old here new : List Token) (xs : List A) (x : A)
+    → ReadsAll levels old (map data_of xs) here → Reads levels here (data_of x) new → ReadsAll levels old (map data_of (xs ++ x ∷ [])) new
+all_push_next levels data_of old here new xs x all reads =
+    subst (λ values. ReadsAll levels old values new) (sym (map-push data_of xs x)) (all_next levels old here new (map data_of xs) (data_of x) all reads)
+
+-- they take tokens
+pub all_shorter : (levels : ℕ) (old : List Token) (values : List Data) (new : List Token) → ReadsAll levels old values new → length new ≤ length old
+unfolding ReadsAll
+all_shorter levels old [] new all = omega (arith, ap length all)
+all_shorter levels old (d ∷ values) new all =
+    omega (arith, reads_shorter levels old d all.0 all.1, all_shorter levels all.0 values new all.2)
+
+-- all of them are items of the list that they stand in
+pub items_all : (levels : ℕ) (start old new : List Token) (values more : List Data) → HasItems levels start values old → ReadsAll levels old more new
+    → HasItems levels start (values ++ more) new
+unfolding ReadsAll
+items_all levels start old new values [] has all =
+    subst (λ list. HasItems levels start list new) (sym (append-nil values)) (subst (λ ts. HasItems levels start values ts) (sym all) has)
+items_all levels start old new values (d ∷ more) has all =
+    subst (λ list. HasItems levels start list new) (append_assoc values (d ∷ []) more)
+    (items_all levels start all.0 new (values ++ d ∷ []) more (items_next levels start old all.0 values d has all.1) all.2)
+
+-- all of them are of one kind
+pub items_push_all : {A : Type 0} (levels : ℕ) (data_of : A → Data) (start old new : List Token) (xs more : List A)
+    → HasItems levels start (map data_of xs) old → ReadsAll levels old (map data_of more) new → HasItems levels start (map data_of (xs ++ more)) new
+items_push_all levels data_of start old new xs more has all =
+    subst (λ values. HasItems levels start values new) (sym (map-append data_of xs more))
+    (items_all levels start old new (map data_of xs) (map data_of more) has all)
+
+map-replicate : {A : Type 0} (f : A → Data) (n : ℕ) (x : A) → map f (replicate n x) ≡ replicate n (f x)
+map-replicate f zero x = refl
+map-replicate f (suc n) x = ap (λ r. f x ∷ r) (map-replicate f n x)
+
+-- all of them are the same
+pub items_push_same : {A : Type 0} (levels : ℕ) (data_of : A → Data) (start old new : List Token) (xs : List A) (x : A) (count : ℕ)
+    → HasItems levels start (map data_of xs) old → ReadsAll levels old (replicate count (data_of x)) new
+    → HasItems levels start (map data_of (xs ++ replicate count x)) new
+items_push_same levels data_of start old new xs x count has all =
+    items_push_all levels data_of start old new xs (replicate count x) has
+    (subst (λ values. ReadsAll levels old values new) (sym (map-replicate data_of count x)) all)
 
 -- ---- objects
 

@@ -1,7 +1,7 @@
 -- Rows of numbers that stand in one list.
 --     cut lengths numbers      the list cut into rows of these lengths
 --     joined rows      the numbers of all rows, row by row
-use Rattle.std.specs.Prelude.{ℕ, ◌+◌, List, [], ◌∷◌, ◌++◌, take, drop}
+use Rattle.std.specs.Prelude.{ℕ, List, [], ◌∷◌, ◌++◌, take, drop}
 
 -- a list cut into rows of these lengths
 unfoldable pub cut : List ℕ → List ℕ → List (List ℕ)

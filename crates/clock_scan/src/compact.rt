@@ -27,7 +27,7 @@ fn has_eight(bytes: &[u8], at: usize, word: &[u8; 8]) -> bool
 
 /// Whether so many bytes stand from a place on.
 #[inline(always)]
-fn has_room(bytes: &[u8], at: usize, count: usize) -> bool
+pub(crate) fn has_room(bytes: &[u8], at: usize, count: usize) -> bool
     ensures { IsTrue result → at + count ≤ length bytes.now }
 {
     count <= bytes.len() && at <= bytes.len() - count
@@ -113,9 +113,9 @@ fn has_leading_zero(first: u8, count: usize) -> bool
 /// The number that stands there in at most sixteen digits, with no zero before them, and where they end. It is a number where
 /// its digits end a word.
 #[inline(always)]
-fn digits_at(bytes: &[u8], start: usize) -> Option<(u64, usize)>
+pub(crate) fn digits_at(bytes: &[u8], start: usize) -> Option<(u64, usize)>
     requires { start + 16 ≤ length bytes.now }
-    ensures few { IfSome result (λ r. r.1 ≤ start + 16) }
+    ensures few { IfSome result (λ r. (start < r.1) × (r.1 ≤ start + 16)) }
     ensures small { IfSome result (λ r. r.0 < 2 ^ 64) }
     ensures value { IfSome result (λ r. ends_word (drop r.1 bytes.now) ≡ true
         → lex between (drop start bytes.now) ≡ token (number (decimal r.0)) ∷ lex between (drop r.1 bytes.now)) }
@@ -184,25 +184,4 @@ pub(crate) fn compact_bid_at(bytes: &[u8], start: usize) -> Option<(CompactBid, 
         quantity,
     };
     Some((bid, behind_quantity + 2))
-}
-
-/// The number of one digit that stands there with a comma behind it.
-#[inline(always)]
-pub(crate) fn digit_at(bytes: &[u8], at: usize) -> Option<u64>
-    ensures room { IfSome result (λ _. at + 2 ≤ length bytes.now) }
-    ensures small { IfSome result (λ n. n < 2 ^ 64) }
-    ensures value { IfSome result (λ n. lex between (drop at bytes.now)
-        ≡ token (number (decimal n)) ∷ comma ∷ lex between (drop (at + 2) bytes.now)) }
-{
-    if !has_room(bytes, at, 2) {
-        return None;
-    }
-    let byte = bytes[at];
-    if byte < b'0' || byte > b'9' {
-        return None;
-    }
-    if bytes[at + 1] != b',' {
-        return None;
-    }
-    Some(byte as u64 - 48)
 }

@@ -7,6 +7,7 @@ mod lists;
 mod place;
 mod rows;
 mod scan;
+mod separated;
 mod stop;
 mod words;
 

@@ -14,16 +14,8 @@ impl<'a> Scan<'a> {
         ensures value { IfOk result (λ list. Reads 1 self.old (numbers list.items) self.new) }
         ensures shorter { OnOk result (length self.new < length self.old) }
     {
-        if !self.opens_array() {
-            return Err(Stop::Unusual);
-        }
         let mut list = Vec::new(alloc);
-        'items: while !self.closes_array() {
-            let Some(next) = self.number() else {
-                return Err(Stop::Unusual);
-            };
-            list.push(next)?;
-        }
+        self.numbers_behind(&mut list)?;
         Ok(list)
     }
 
@@ -44,7 +36,7 @@ impl<'a> Scan<'a> {
     }
 
     /// Reads a list of numbers as [`numbers`](Scan::numbers) does, behind those that are there.
-    fn numbers_behind(&mut self, list: &mut Vec<u64>) -> Result<(), Stop>
+    pub fn numbers_behind(&mut self, list: &mut Vec<u64>) -> Result<(), Stop>
         ensures value { OnOk result ((row : List ℕ) × (list.new.items ≡ list.old.items ++ row) × Reads 1 self.old (numbers row) self.new) }
         ensures shorter { OnOk result (length self.new < length self.old) }
     {
@@ -52,10 +44,11 @@ impl<'a> Scan<'a> {
             return Err(Stop::Unusual);
         }
         'items: while !self.closes_array() {
-            let Some(next) = self.short_number() else {
+            let Some(next) = self.number() else {
                 return Err(Stop::Unusual);
             };
             list.push(next)?;
+            self.further_numbers(list)?;
         }
         Ok(())
     }

@@ -1,4 +1,4 @@
-ghost use Rattle.std.specs.Prelude.{◌≡◌};
+ghost use Rattle.std.specs.Prelude.{◌≡◌, IsTrue};
 ghost use Rattle.json.specs.Lex.{may_begin, may_close};
 ghost use Rattle.clock_scan.specs.Left.{place_of};
 
@@ -25,5 +25,12 @@ impl Place {
         ensures { result ≡ may_close (place_of self) }
     {
         matches!(self, Place::Fresh | Place::AfterValue)
+    }
+    /// Whether a comma was right before.
+    #[inline(always)]
+    pub(crate) fn is_after_comma(self) -> bool
+        ensures { IsTrue result → self ≡ Place.AfterComma }
+    {
+        matches!(self, Place::AfterComma)
     }
 }

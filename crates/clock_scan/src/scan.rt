@@ -1,15 +1,17 @@
 //! A text read mark by mark.
-ghost use Rattle.std.specs.Prelude.{◌≡◌, ◌∷◌, [], ◌<◌, ◌^◌, length, IsTrue, IfSome, IfNone};
+ghost use Rattle.std.specs.Prelude.{◌≡◌, ◌∷◌, ◌++◌, [], ℕ, List, ◌<◌, length, map, replicate, IsTrue, IfSome, IfNone, OnOk};
 ghost use Rattle.std.specs.Bool.{MatchBool};
 ghost use Rattle.json.specs.Token.{begin_array, begin_object, end_array, end_object, key as key_token};
 ghost use Rattle.json.specs.Lex.{tokens};
 ghost use Rattle.serde_json.specs.Data.{null, string};
 ghost use Rattle.clock_scan.specs.Compact.{compact_bid};
 ghost use Rattle.clock_scan.specs.Left.{left};
-ghost use Rattle.clock_scan.specs.Reading.{whole, Reads};
+ghost use Rattle.clock_scan.specs.Reading.{whole, numbers, Reads, ReadsAll};
 
-use crate::compact::{CompactBid, compact_bid_at, digit_at};
+use crate::compact::{CompactBid, compact_bid_at};
 use crate::place::Place;
+use crate::separated::{after_empties, numbers_at};
+use crate::stop::Stop;
 use crate::words::{after_space, after_value, byte_at, ends_text, null_at, number_at, quoted};
 use std::marker::Model;
 
@@ -79,8 +81,11 @@ impl<'a> Scan<'a> {
     pub fn closes_object(&mut self) -> bool
         ensures { MatchBool result (self.old ≡ end_object ∷ self.new) (self.new ≡ self.old) }
     {
+        if !self.place.may_close() {
+            return false;
+        }
         let at = after_space(self.bytes, self.at);
-        if !self.place.may_close() || byte_at(self.bytes, at) != b'}' {
+        if byte_at(self.bytes, at) != b'}' {
             return false;
         }
         let (place, at) = after_value(self.bytes, at + 1);
@@ -94,8 +99,11 @@ impl<'a> Scan<'a> {
     pub fn closes_array(&mut self) -> bool
         ensures { MatchBool result (self.old ≡ end_array ∷ self.new) (self.new ≡ self.old) }
     {
+        if !self.place.may_close() {
+            return false;
+        }
         let at = after_space(self.bytes, self.at);
-        if !self.place.may_close() || byte_at(self.bytes, at) != b']' {
+        if byte_at(self.bytes, at) != b']' {
             return false;
         }
         let (place, at) = after_value(self.bytes, at + 1);
@@ -141,7 +149,7 @@ impl<'a> Scan<'a> {
     }
 
     /// Reads a bid that is written without white space, its keys in the order of their bytes, where a comma follows it.
-    #[inline(never)]
+    #[inline(always)]
     pub fn compact_bid(&mut self) -> Option<CompactBid>
         ensures value { IfSome result (λ bid. Reads 1 self.old (compact_bid bid) self.new) }
         ensures shorter { IfSome result (λ _. length self.new < length self.old) }
@@ -156,32 +164,32 @@ impl<'a> Scan<'a> {
         Some(bid)
     }
 
-    /// Reads a number of one digit, where a comma is right behind it.
+    /// Reads the numbers that are next, where each has a comma right behind it, behind those of a list.
     #[inline(always)]
-    fn digit(&mut self) -> Option<u64>
-        ensures value { IfSome result (λ n. Reads 0 self.old (whole n) self.new) }
-        ensures shorter { IfSome result (λ _. length self.new < length self.old) }
-        ensures same { IfNone result (self.new ≡ self.old) }
+    pub(crate) fn further_numbers(&mut self, list: &mut Vec<u64>) -> Result<(), Stop>
+        ensures { OnOk result ((row : List ℕ) × (list.new.items ≡ list.old.items ++ row)
+            × ReadsAll 0 self.old (map whole row) self.new) }
     {
-        if !self.place.may_begin() {
-            return None;
+        if !self.place.is_after_comma() {
+            return Ok(());
         }
-        let n = digit_at(self.bytes, self.at)?;
-        self.at += 2;
-        self.place = Place::AfterComma;
-        Some(n)
+        let end = numbers_at(self.bytes, self.at, list)?;
+        self.at = end;
+        Ok(())
     }
 
-    /// Reads a number as [`number`](Scan::number) does, one of a single digit in a few steps.
+    /// Passes the empty lists that are next, where each has a comma right behind it and one comma is before them, and tells
+    /// how many they are.
     #[inline(always)]
-    pub fn short_number(&mut self) -> Option<u64>
-        ensures value { IfSome result (λ n. Reads 0 self.old (whole n) self.new) }
-        ensures shorter { IfSome result (λ _. length self.new < length self.old) }
+    pub fn empty_arrays(&mut self) -> usize
+        ensures { ReadsAll 1 self.old (replicate result (numbers [])) self.new }
     {
-        if let Some(n) = self.digit() {
-            return Some(n);
+        if !self.place.is_after_comma() {
+            return 0;
         }
-        self.number()
+        let (count, at) = after_empties(self.bytes, self.at);
+        self.at = at;
+        count
     }
 
     /// Passes the word `null`.

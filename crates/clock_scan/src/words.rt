@@ -45,10 +45,14 @@ pub(crate) fn after_space(bytes: &[u8], start: usize) -> usize
     at
 }
 
-/// Whether a text has nothing but white space. It is then no JSON. Each byte is looked at, since a loop that may end early is slow.
+/// Whether a text has nothing but white space. It is then no JSON. Behind a first byte that is white space each one is looked
+/// at, since a loop that may end early is slow.
 pub fn is_blank(bytes: &[u8]) -> bool
     ensures { IsTrue result → read bytes.now ≡ None }
 {
+    if !bytes.is_empty() && !is_space(bytes[0]) {
+        return false;
+    }
     let mut has_other = false;
     for byte in bytes {
         has_other |= !is_space(*byte);

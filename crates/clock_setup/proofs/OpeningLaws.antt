@@ -1,24 +1,27 @@
 -- Laws of the checks of an opening document.
-use Rattle.std.proofs.Common.{◌≡◌, ℕ, ◌+◌, ◌<◌, ◌≤◌, All, ◌==◌, Bool, true, false, nat_le, if◌then◌else◌, List, [], ◌∷◌, ◌++◌, length, get_or, drop}
+use Rattle.std.proofs.Common.{◌≡◌, ℕ, ◌+◌, ◌*◌, ◌<◌, ◌≤◌, All, ◌==◌, Bool, true, false, nat_le, if◌then◌else◌, List, [], ◌∷◌, ◌++◌, length, get_or, drop}
 use Rattle.std.proofs.Common.{zip, Option, Some, None, Result, Ok, Err, IfOk, IfErr, ◌≢◌, refl, sym, ap, ◌∙◌, subst, arith}
 use Rattle.std.specs.List.{list_all, AllPass}
 use Rattle.std.proofs.lemmas.Bool.{and_parts, le-leb, lt-leb}
 use Rattle.std.proofs.lemmas.Bool.Decides.{nat_tests}
-use Rattle.std.proofs.lemmas.List.{get_or_default}
-use Rattle.std.proofs.lemmas.List.Sums.{AllPass-from_list_all}
+use Rattle.std.proofs.lemmas.List.{get_or_default, drop_all, drop_more}
+use Rattle.std.proofs.lemmas.List.Sums.{AllPass-from_list_all, sum_by-cons}
+use Rattle.std.proofs.lemmas.Nat.{mul-le}
 use Rattle.std.proofs.lemmas.Slice.Zip.{get_or-zip, length-zip}
 use Rattle.serde_json.specs.Data.{Data}
 use Rattle.clock_terms.specs.declared.setup.Product.{Product}
+use Rattle.clock_terms.specs.declared.setup.Bidder.{Bidder}
 use Rattle.clock_setup.specs.declared.opening.Opening.{Opening}
 use Rattle.clock_setup.specs.declared.opening.OpeningFault.{OpeningFault}
-use Rattle.clock_setup.specs.declared.opening.OpeningFault.TheVariants.{Shape, Demand, Increment, NoMemory}
+use Rattle.clock_setup.specs.declared.opening.OpeningFault.TheVariants.{Shape, Demand, Activity, Increment, NoMemory}
 use Rattle.clock_terms.specs.Demands.{IsGrid}
+use Rattle.clock_terms.specs.Eligibility.{activity}
 use Rattle.clock_terms.specs.Faults.{IsRefusal, first_fault, in_turn, unless, or_fault}
 use Rattle.clock_terms.specs.Limits.{SetupFields, IsProduct, IsRow, is_within, cap_of, no_product, most_supply, least_increment, most_increment}
 use Rattle.clock_setup.specs.SetupDocument.{setup_of}
 use Rattle.clock_setup.specs.OpeningShape.{OpeningParts, parts_of}
 use Rattle.clock_setup.specs.OpeningDocument.{has_counts, demand_checks, row_checks, opening_checks, in_opening, opening_of}
-use Rattle.clock_terms.proofs.FaultLaws.{turn_passed, turn_failed, turn_none}
+use Rattle.clock_terms.proofs.FaultLaws.{passed, failed, turn_passed, turn_failed, turn_none}
 
 -- a pair of two lists
 pub zip_at : {A B : Type 0} (ks : List A) (vs : List B) (i : ℕ) (a : A) (b : B) → i < length ks → i < length vs → a ≡ get_or ks i a → b ≡ get_or vs i b
@@ -69,6 +72,60 @@ demands_end number products row i h = turn_none (demand_checks number) (zip prod
 pub within_cap : (products : List Product) (i : ℕ) (d : Product) (demand : ℕ) → i < length products → demand ≤ (get_or products i d).cap
     → demand ≤ cap_of products i
 within_cap products i d demand h within = subst (λ n. demand ≤ n) (ap (λ (p : Product). p.cap) (get_or_default products i d no_product h)) within
+
+no_demands : (products : List Product) → activity products [] ≡ 0
+no_demands [] = refl
+no_demands (product ∷ products) = refl
+
+-- the units that a product takes, and what those behind it take
+pub activity-at : (products : List Product) (row : List ℕ) (place : ℕ) (one : Product) → place < length row → length row ≡ length products
+    → activity (drop place products) (drop place row)
+    ≡ (get_or products place one).units * get_or row place 0 + activity (drop (place + 1) products) (drop (place + 1) row)
+activity-at products row place one held each =
+    ap (λ list. activity list (drop place row)) (drop_more products place one (omega (arith, held, each)))
+    ∙ ap (λ list. activity (get_or products place one ∷ drop (place + 1) products) list) (drop_more row place 0 held)
+    ∙ sum_by-cons (λ (line : Product × ℕ). line.0.units * line.1) (get_or products place one, get_or row place 0)
+    (zip (drop (place + 1) products) (drop (place + 1) row))
+
+-- behind the row nothing is taken
+pub activity-end : (products : List Product) (row : List ℕ) (place : ℕ) → length row ≤ place → activity (drop place products) (drop place row) ≡ 0
+activity-end products row place past =
+    ap (λ list. activity (drop place products) list) (drop_all place row past) ∙ no_demands (drop place products)
+
+-- a demand within its cap takes few units
+pub units_small : (products : List Product) (row : List ℕ) (place : ℕ) (one : Product) → place < length row → length row ≡ length products
+    → All IsProduct products → get_or row place 0 ≤ (get_or products place one).cap
+    → (get_or products place one).units * get_or row place 0 ≤ 1000000000
+units_small products row place one held each limits within =
+    let good : IsProduct (get_or products place one) = limits place one (omega (arith, held, each)) in
+    let demand : get_or row place 0 ≤ 1000 = omega (arith, within, good.cap.1, good.supply.1) in
+    let units : (get_or products place one).units ≤ 1000000 = omega (arith, good.units.1) in
+    mul-le _ _ 1000000 1000 units demand
+
+-- a row whose demands fail
+pub row_failed : (products : List Product) (number : ℕ) (bidder : Bidder) (row : List ℕ) (fault : OpeningFault)
+    → first_fault (in_turn (demand_checks number) 0 (zip products row)) ≡ Some fault
+    → first_fault (row_checks products number (bidder, row)) ≡ Some fault
+unfolding row_checks
+row_failed products number bidder row fault h = failed (in_turn (demand_checks number) 0 (zip products row)) _ fault h
+
+-- a row whose activity fails
+pub row_above : (products : List Product) (number : ℕ) (bidder : Bidder) (row : List ℕ)
+    → first_fault (in_turn (demand_checks number) 0 (zip products row)) ≡ None → bidder.eligibility < activity products row
+    → first_fault (row_checks products number (bidder, row)) ≡ Some (Activity number)
+unfolding row_checks
+row_above products number bidder row h above =
+    passed (in_turn (demand_checks number) 0 (zip products row)) _ h
+    ∙ ap (λ (b : Bool). first_fault ((Activity number, b) ∷ [])) (lt-leb (activity products row) bidder.eligibility above)
+
+-- a row that passes
+pub row_passed : (products : List Product) (number : ℕ) (bidder : Bidder) (row : List ℕ)
+    → first_fault (in_turn (demand_checks number) 0 (zip products row)) ≡ None → activity products row ≤ bidder.eligibility
+    → first_fault (row_checks products number (bidder, row)) ≡ None
+unfolding row_checks
+row_passed products number bidder row h within =
+    passed (in_turn (demand_checks number) 0 (zip products row)) _ h
+    ∙ ap (λ (b : Bool). first_fault ((Activity number, b) ∷ [])) (le-leb (activity products row) bidder.eligibility within)
 
 -- ---- the whole document
 

@@ -1,8 +1,9 @@
 ghost use Rattle.std.specs.Prelude.{◌≡◌, ◌≢◌, ◌*◌, ◌≤◌, ◌++◌, ◌∷◌, [], None, Some, length, zip, All, IfOk, IfErr, IfNone};
 ghost use Rattle.serde_json.specs.Data.{Data};
 ghost use Rattle.clock_terms.specs.Demands.{rows_of, IsGrid};
+ghost use Rattle.clock_terms.specs.Eligibility.{activity};
 ghost use Rattle.clock_terms.specs.Faults.{first_fault, in_turn};
-ghost use Rattle.clock_terms.specs.Limits.{IsRow, IsWithin, is_within, least_increment, most_increment, most_supply};
+ghost use Rattle.clock_terms.specs.Limits.{IsProduct, IsRow, IsWithin, is_within, least_increment, most_increment, most_products, most_supply};
 ghost use Rattle.clock_setup.specs.OpeningDocument as document;
 ghost use Rattle.clock_setup.specs.OpeningDocument.{demand_checks, row_checks, opening_checks};
 
@@ -10,7 +11,7 @@ use crate::fault::SetupFault;
 use crate::opening::OpeningFault;
 use clock_money::{LEAST_INCREMENT, MOST_INCREMENT};
 use clock_scan::FlatRows;
-use clock_terms::{Amounts, Bidder, Grid, Product, Setup, activity, is_within, row_at};
+use clock_terms::{Amounts, Bidder, Grid, Product, Setup, is_within, row_at};
 use std::alloc::Global;
 
 /// Whether there is a row for each bidder, and in each row a number for each product.
@@ -21,37 +22,44 @@ fn has_counts(setup: &Setup, demands: &FlatRows) -> bool
         && demands.has_lengths(setup.products.as_slice().len())
 }
 
-/// The least product of which a bidder demands more than its cap.
-#[tactic(auto, using(clock_terms::proofs::FaultLaws::fault_steps), unfolding(crate::specs::OpeningDocument::demand_checks))]
-fn demand_fault(number: u64, products: &[Product], row: &[u64]) -> Option<OpeningFault>
-    requires { length row.now ≡ length products.now }
-    ensures fault { result ≡ first_fault (in_turn (demand_checks number) 0 (zip products.now row.now)) }
-    ensures capped { IfNone result (IsRow products.now row.now) }
-    ensures held { result ≢ Some (OpeningFault.Setup SetupFault.NoMemory) }
+/// The bidding units that a row of demands takes, or the least product of which a bidder demands more than its cap. Each demand
+/// is looked at once, those that are 0 as well, since a branch for them is mostly guessed wrong where many are held.
+fn units_within(number: u64, products: &[Product], row: &[u64]) -> Result<u64, OpeningFault>
+    requires limits { All IsProduct products.now }
+    requires few { length products.now ≤ most_products }
+    requires row { length row.now ≡ length products.now }
+    ensures units { IfOk result (λ units. units ≡ activity products.now row.now) }
+    ensures capped { IfOk result (λ _. IsRow products.now row.now) }
+    ensures passed { IfOk result (λ _. first_fault (in_turn (demand_checks number) 0 (zip products.now row.now)) ≡ None) }
+    ensures fault { IfErr result (λ fault. first_fault (in_turn (demand_checks number) 0 (zip products.now row.now)) ≡ Some fault) }
+    ensures held { IfErr result (λ fault. fault ≢ OpeningFault.Setup SetupFault.NoMemory) }
 {
+    let mut units = 0u64;
     for (product, demand) in row.iter().enumerate() {
         if *demand > products[product].cap {
-            return Some(OpeningFault::Demand(number, product as u64));
+            return Err(OpeningFault::Demand(number, product as u64));
         }
+        units += products[product].units * *demand;
     }
-    None
+    Ok(units)
 }
 
 /// The first fault of a bidder's row.
-#[tactic(auto, using(clock_terms::proofs::FaultLaws::fault_lists), unfolding(crate::specs::OpeningDocument::row_checks))]
 fn row_fault(number: u64, setup: &Setup, bidder: &Bidder, row: &[u64]) -> Option<OpeningFault>
     requires { length row.now ≡ length setup.now.products }
     ensures fault { result ≡ first_fault (row_checks setup.now.products number (bidder.now, row.now)) }
     ensures small { IfNone result (All (λ demand. demand ≤ most_supply) row.now) }
     ensures held { result ≢ Some (OpeningFault.Setup SetupFault.NoMemory) }
 {
-    if let Some(fault) = demand_fault(number, setup.products.as_slice(), row) {
-        return Some(fault);
+    match units_within(number, setup.products.as_slice(), row) {
+        Err(fault) => Some(fault),
+        Ok(units) => {
+            if units > bidder.eligibility {
+                return Some(OpeningFault::Activity(number));
+            }
+            None
+        }
     }
-    if activity(setup, row) > bidder.eligibility {
-        return Some(OpeningFault::Activity(number));
-    }
-    None
 }
 
 /// The first fault of the rows that stand in one list.

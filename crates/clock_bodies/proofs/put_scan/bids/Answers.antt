@@ -1,27 +1,49 @@
-use Rattle.std.proofs.Common.{◌≡◌, ◌∷◌, length, map, sym, ap, subst, arith}
+use Rattle.std.proofs.Common.{◌≡◌, ◌∷◌, ◌++◌, [], length, map, sym, ap, subst, ◌∙◌, arith}
 use Rattle.json.specs.Token.{Token}
 use Rattle.clock_scan.specs.Reading.{Reads}
 use Rattle.clock_scan.specs.inside.Reading.{HasItems}
-use Rattle.clock_scan.proofs.Steps.{items_start, items_end, items_push_next}
+use Rattle.clock_scan.proofs.Steps.{all_shorter, items_start, items_end, items_push_next, items_push_all}
 use Rattle.clock_bodies.specs.QuickBodies.{bid_data, bids_data}
 use Rattle.clock_bodies.proofs.put_scan.bids.Goals as goal
 
 pub items-init : goal.items-init
 items-init c =
     let start = c.opens_array.new.self in
-    (subst (λ list. HasItems 1 start (map bid_data list) start) (sym c.in_ok-list.ensures.items) (items_start 1 start), omega arith)
+    let here = c.compact_bids.new.scan in
+    let more = c.in_ok-compact_bids.ensures in
+    let same = more.1 ∙ ap (λ known. known ++ more.0) c.in_ok-list.ensures.items in (
+      start,
+      c.opens_array.ensures (grind arith),
+      subst (λ list. HasItems 1 start (map bid_data list) here) (sym same)
+          (items_push_all 1 bid_data start start here [] more.0 (items_start 1 start) more.2),
+      omega (arith, all_shorter 1 start (map bid_data more.0) here more.2),
+    )
 
 pub items-preserved : goal.items-preserved
 items-preserved c =
     let l = c.items in
-    let start = c.opens_array.new.self in
+    let start = l.invariant.0 in
     let same : c.closes_array.new.self ≡ l.scan = grind arith in
     let next = c.in-Some.next in
-    let reads : Reads 1 l.scan (bid_data next) c.next_of.new.scan = subst (λ ts. Reads 1 ts (bid_data next) c.next_of.new.scan) same c.in-Some.ensures.value in (
-      subst (λ list. HasItems 1 start (map bid_data list) c.next_of.new.scan) (sym c.in_ok-push.ensures.items)
-          (items_push_next 1 bid_data start l.scan c.next_of.new.scan l.list.items next l.invariant.0 reads),
-      omega (arith, l.invariant.1, c.in-Some.ensures.shorter, ap length same),
+    let here = c.next_bid.new.scan in
+    let new = c.compact_bids-in-items.new.scan in
+    let more = c.in_ok-compact_bids-2.ensures in
+    let reads : Reads 1 l.scan (bid_data next) here = subst (λ ts. Reads 1 ts (bid_data next) here) same c.in-Some.ensures.value in
+    let list = more.1 ∙ ap (λ known. known ++ more.0) c.in_ok-push.ensures.items in (
+      start,
+      l.invariant.1,
+      subst (λ list. HasItems 1 start (map bid_data list) new) (sym list)
+          (items_push_all 1 bid_data start here new (l.list.items ++ next ∷ []) more.0
+          (items_push_next 1 bid_data start l.scan here l.list.items next l.invariant.2 reads) more.2),
+      omega (arith, l.invariant.3, c.in-Some.ensures.shorter, ap length same, all_shorter 1 here (map bid_data more.0) new more.2),
     )
+
+pub items-smaller : goal.items-smaller
+items-smaller c =
+    let here = c.next_bid.new.scan in
+    let more = c.in_ok-compact_bids-2.ensures in
+    let same : c.closes_array.new.self ≡ c.items.scan = grind arith in
+    omega (arith, c.in-Some.ensures.shorter, ap length same, all_shorter 1 here (map bid_data more.0) c.compact_bids-in-items.new.scan more.2)
 
 pub returns-clause-value : goal.returns-clause-value
 returns-clause-value c =
@@ -30,4 +52,10 @@ returns-clause-value c =
     let new = c.closes_array.new.self in
     let closed : l.scan ≡ Token.end_array ∷ new = grind arith in
     subst (λ list. Reads 2 old (bids_data list) new) (sym c.from_vec.ensures)
-    (items_end 1 old c.opens_array.new.self l.scan new (map bid_data l.list.items) (c.opens_array.ensures (grind arith)) l.invariant.0 closed)
+    (items_end 1 old l.invariant.0 l.scan new (map bid_data l.list.items) l.invariant.1 l.invariant.2 closed)
+
+pub returns-clause-shorter : goal.returns-clause-shorter
+returns-clause-shorter c =
+    let l = c.items in
+    let closed : l.scan ≡ Token.end_array ∷ c.closes_array.new.self = grind arith in
+    omega (arith, l.invariant.3, ap length l.invariant.1, ap length closed)

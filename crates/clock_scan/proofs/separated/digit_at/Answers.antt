@@ -5,13 +5,13 @@ use Rattle.json.specs.Token.{number}
 use Rattle.std.specs.Prelude.{decimal}
 use Rattle.clock_scan.proofs.LexLaws.{lex-digits, digit_is}
 use Rattle.clock_scan.proofs.CompactLaws.{one_then, comma_first}
-use Rattle.clock_scan.proofs.compact.digit_at.Goals as goal
+use Rattle.clock_scan.proofs.separated.digit_at.Goals as goal
 
 pub returns-clause-value : goal.returns-clause-value
 returns-clause-value c =
     let bytes = c.args.bytes.now in
     let at = c.args.at in
-    let room = c.has_room.ensures c.if-not-has_room.false in
+    let room = c.requires in
     let d = get_or bytes at 0 in
     let v = digit_is d c.if-byte-lt48.false c.if-byte-gt57.false in
     let rest = drop (at + 2) bytes in
