@@ -1,9 +1,8 @@
 -- The router's walk over its rows finds the row that fits a path, and the rows of the table are the paths of the pages.
-use Rattle.std.proofs.Common.{◌≡◌, ◌≢◌, ℕ, zero, suc, ◌-◌, Bool, true, false, cond, not, List, [], ◌∷◌, ◌++◌, length, take, drop, map, nat_eq}
-use Rattle.std.proofs.Common.{Option, Some, None, refl, sym, ◌∙◌, ap, subst, arith, eqb-true, eq-eqb, ne_eqb, codes}
+use Rattle.std.proofs.Common.{◌≡◌, ℕ, zero, suc, ◌-◌, Bool, true, false, cond, not, List, [], ◌∷◌, ◌++◌, length, drop, nat_eq}
+use Rattle.std.proofs.Common.{Option, Some, None, refl, sym, ◌∙◌, ap, subst, arith, eqb-true, eq-eqb}
 use Rattle.std.specs.Prelude.{option_map, find, ◌==◌, ◌&&◌, ◌||◌, ltb, nat_lt}
 use Rattle.std.specs.List.{starts_with, list_any, list_all}
-use Rattle.std.specs.Cmp.Lexicographic.{pointwise}
 use Rattle.std.proofs.lemmas.Bool.{and_parts}
 use Rattle.std.proofs.lemmas.Bool.Decides.{nat_tests}
 use Rattle.matchit.specs.Rows.{RowsOf, param_token, catch_all_token}
@@ -12,7 +11,6 @@ use Rattle.matchit.specs.Router.{RouteOf}
 use Rattle.matchit.specs.Route.{scan}
 use Rattle.matchit.proofs.ParamLemmas.{one_less}
 use Rattle.clock_http.specs.declared.routes.Page.{Page}
-use Rattle.clock_http.specs.declared.routes.Page.TheVariants.{Status, Products, Sheet, Account, Bids, Slip, Close, Results}
 use Rattle.clock_http.specs.Heads.{same_bytes}
 use Rattle.clock_http.specs.Routes.{paths, is_path, is_segment, last_segment}
 use Rattle.clock_http.specs.inside.Routing.{table}

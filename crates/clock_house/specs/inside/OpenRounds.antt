@@ -2,7 +2,7 @@
 --     open_round setup auction, open_round_in house      that of an auction, and that of a house
 --     no_slip      the slip past the end of a list
 --     grid_after round      the demands after a closed round
-use Rattle.std.specs.Prelude.{ℕ, List, [], Option}
+use Rattle.std.specs.Prelude.{ℕ, List, []}
 use Rattle.clock_terms.specs.Limits.{SetupFields}
 use Rattle.clock_closing.specs.declared.slip.Slip.{Slip}
 use Rattle.clock_closing.specs.OpenRound.{OpenRound}
