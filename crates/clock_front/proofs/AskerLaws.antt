@@ -8,7 +8,7 @@ use Rattle.clock_terms.specs.declared.setup.Bidder.{Bidder as BidderRow}
 use Rattle.clock_terms.specs.Limits.{SetupFields}
 use Rattle.clock_house.specs.History.{bidder_at}
 use Rattle.clock_http.specs.Heads.{same_bytes}
-use Rattle.clock_front.specs.Views.{has_token}
+use Rattle.std.specs.Option.{option_map_or}
 use Rattle.clock_front.specs.declared.tokens.Asker.TheVariants.{Operator, Bidder}
 use Rattle.clock_front.specs.Askers.{bidder_tokens, holder, asker, HasOwnTokens}
 
@@ -74,7 +74,7 @@ module _ (setup : SetupFields) (tokens : HasOwnTokens setup) where
       (token_at b (omega (arith, smaller, lt)) ∙ e ∙ sym (token_at d lt))
 
   -- the bidder whose token was sent is the asker
-  pub asker_own : (b : ℕ) → b < length setup.bidders → (token : Option (List ℕ)) → has_token (bidder_at setup b).token token ≡ true
+  pub asker_own : (b : ℕ) → b < length setup.bidders → (token : Option (List ℕ)) → option_map_or (same_bytes (bidder_at setup b).token) token false ≡ true
       → asker setup token ≡ Bidder b
   asker_own b lt None h = absurd cc
   asker_own b lt (Some token) h =
@@ -95,6 +95,6 @@ other_if false setup b token not_mine e =
     let yes : same_bytes (bidder_at setup b).token token ≡ true = again (bidder_at setup b).token token (sym mine) in
     cc
 
-pub asker_other : (setup : SetupFields) (b : ℕ) (token : Option (List ℕ)) → has_token (bidder_at setup b).token token ≡ false → asker setup token ≡ Bidder b → ⊥
+pub asker_other : (setup : SetupFields) (b : ℕ) (token : Option (List ℕ)) → option_map_or (same_bytes (bidder_at setup b).token) token false ≡ false → asker setup token ≡ Bidder b → ⊥
 asker_other setup b None h e = cc
 asker_other setup b (Some token) h e = other_if (same_bytes token setup.operator) setup b token h e

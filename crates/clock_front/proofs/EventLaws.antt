@@ -18,8 +18,8 @@ use Rattle.clock_front.specs.declared.events.EventReply.{EventReply}
 use Rattle.clock_front.specs.Pieces.{Numbered, completed, after, and_then, requests_from, requests_of}
 use Rattle.clock_front.specs.Hubs.{ConnectionFields}
 use Rattle.clock_front.specs.inside.NumberedHubs.{Stands, HasCompleted}
-use Rattle.clock_front.specs.Headline.{numbers_of, numbers_of_requests, texts_of, answers_of, IsEventRun}
-use Rattle.clock_front.specs.inside.EventRuns.{kept}
+use Rattle.clock_front.specs.Headline.{IsEventRun}
+use Rattle.clock_front.specs.inside.EventRuns.{kept, numbers_of, numbers_of_requests, texts_of, answers_of}
 
 -- a run over events on its way, after so many of them: the requests that are done are answered, and they and those of the
 -- other events are all

@@ -15,8 +15,8 @@ use Rattle.clock_views.specs.Refusals.{alone}
 use Rattle.clock_views.specs.RefusalPage.{refusal_bytes}
 use Rattle.clock_views.proofs.Codes.{refusal_in_bytes}
 use Rattle.clock_http.specs.Replies.{Answer, reply_bytes}
-use Rattle.clock_front.specs.FixedReplies.{refusal_of, cut_short}
-use Rattle.clock_front.specs.inside.FixedReplies.{is_fixed}
+use Rattle.clock_front.specs.FixedReplies.{cut_short}
+use Rattle.clock_front.specs.inside.FixedReplies.{refusal_of, is_fixed}
 use Rattle.clock_front.specs.Requests.{Ask, Request, ask_of, ask_by_route, request_of}
 use Rattle.clock_http.specs.Routes.{page_of}
 use Rattle.clock_front.specs.declared.tokens.Asker.{Asker}

@@ -4,7 +4,7 @@ mod TokenLaws
 mod OutcomeLaws
 mod FrontLaws
 mod ChangeLaws
-mod RunLaws
+pub mod RunLaws
 mod ConnectionLaws
 mod NumberedLaws
 mod EventLaws

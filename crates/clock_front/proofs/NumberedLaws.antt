@@ -10,9 +10,9 @@ use Rattle.std.proofs.lemmas.List.Sums.{sum_by_push, sum_by-set}
 use Rattle.clock_front.specs.declared.connections.Conn.{Conn}
 use Rattle.clock_front.specs.declared.fed.Fed.TheVariants.{More, Reply}
 use Rattle.clock_http.specs.Replies.{Answer}
-use Rattle.clock_front.specs.Pieces.{Numbered, text_at, opened, most_connections, if_standing}
+use Rattle.clock_front.specs.Pieces.{Numbered, text_at, most_connections}
 use Rattle.clock_front.specs.Hubs.{ConnectionFields, HubFields, text_of, standing_count, is_full, KeepsOthers, IsConnected, IsTaken, IsGone, IsFed, IsAnswered}
-use Rattle.clock_front.specs.inside.NumberedHubs.{conn_at, text_of_made, Stands}
+use Rattle.clock_front.specs.inside.NumberedHubs.{opened, if_standing, conn_at, text_of_made, Stands}
 
 -- ---- a connection is asked for
 

@@ -18,7 +18,7 @@ use Rattle.clock_front.specs.Private.{IsPrivateReply}
 use Rattle.clock_front.specs.inside.Private.{IsToldByView, IsToldAsker}
 use Rattle.clock_http.specs.Replies.{Answer}
 use Rattle.clock_front.specs.Requests.{Ask, request_of, put}
-use Rattle.clock_front.specs.Views.{bidder_outcome}
+use Rattle.clock_front.specs.inside.Known.{known_outcome}
 use Rattle.clock_bodies.specs.declared.put_body.PutBody.{PutBody}
 use Rattle.clock_front.specs.declared.tokens.Asker.{Asker}
 use Rattle.clock_front.specs.declared.tokens.Asker.TheVariants.{Nobody, Operator, Bidder}
@@ -69,7 +69,7 @@ if_told_by_view (Err e) house bidder ask lt is = tt
 pub accepted_by_view : (house : HouseFields) (bidder : ℕ) (sent : PutBody) (bids : List Bid) (answer : Answer) → bids ≡ sent.bids
     → ToView house bidder (λ view. seen_put_fault (public_setup house.setup) (bidder_at house.setup bidder) view sent.round bids ≡ None)
     → answer ≡ answer_of (put_outcome sent None) → IsToldByView house bidder (put (Ok sent)) answer
-unfolding bidder_outcome
+unfolding known_outcome
 accepted_by_view house bidder sent bids answer same seen is =
     λ commands stands.
     let judged : List Bid → Option PutFault = seen_put_fault (public_setup house.setup) (bidder_at house.setup bidder)
@@ -79,7 +79,7 @@ accepted_by_view house bidder sent bids answer same seen is =
 refused_answer : (house : HouseFields) (bidder : ℕ) (sent : PutBody) (bids : List Bid) (fault : PutFault) (answer : Answer) → bids ≡ sent.bids
     → ToView house bidder (λ view. seen_put_fault (public_setup house.setup) (bidder_at house.setup bidder) view sent.round bids ≡ Some fault)
     → answer ≡ answer_of (refused (shown_put fault)) → IsToldByView house bidder (put (Ok sent)) answer
-unfolding bidder_outcome
+unfolding known_outcome
 refused_answer house bidder sent bids fault answer same seen is =
     λ commands stands.
     let judged : List Bid → Option PutFault = seen_put_fault (public_setup house.setup) (bidder_at house.setup bidder)

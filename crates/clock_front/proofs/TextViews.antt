@@ -33,8 +33,8 @@ use Rattle.clock_front.specs.Requests as ask
 use Rattle.clock_bodies.specs.CloseBodies.{in_version}
 use Rattle.clock_front.specs.Outcomes.{done, answer_of, page_or_no_round, close_command, outcome, command_of}
 use Rattle.clock_front.specs.Fronts.{text_command, commands_of, house_after}
-use Rattle.clock_front.specs.Views.{SeenText, own, accepted_close, is_own, closings_of, seen_of_text, text_view, sheet_put, typed_view, Known}
-use Rattle.clock_front.specs.Views.{known_from, bidder_outcome, answer}
+use Rattle.clock_front.specs.Views.{SeenText, own, accepted_close, is_own, closings_of, seen_of_text, text_view, sheet_put, typed_view, bidder_outcome, answer}
+use Rattle.clock_front.specs.inside.Known.{Known, known_from, known_outcome}
 use Rattle.clock_front.specs.inside.Isolation.{IsAnsweredFromView, IsIsolated}
 use Rattle.clock_front.proofs.AskerLaws.{asker_own, asker_other}
 
@@ -131,9 +131,9 @@ module _ (setup : PublicSetup) (row : Bidder) (standing_now : Standing) (held : 
   same_sheet (Some n) = ap (λ found. page_or_no_round (option_map (λ (one_seen : RoundSheet × Slip). sheet_value setup one_seen.0) found)) (alike n)
 
   pub same_rounds : (asked : Ask) →
-      bidder_outcome setup row (record { standing = standing_now; holding = held; in_force = in_force; rounds = one }) asked
-      ≡ bidder_outcome setup row (record { standing = standing_now; holding = held; in_force = in_force; rounds = two }) asked
-  unfolding bidder_outcome
+      known_outcome setup row (record { standing = standing_now; holding = held; in_force = in_force; rounds = one }) asked
+      ≡ known_outcome setup row (record { standing = standing_now; holding = held; in_force = in_force; rounds = two }) asked
+  unfolding known_outcome
   same_rounds (ask.slip segment) = same_slip (plain_number segment)
   same_rounds (ask.sheet segment) = same_sheet (plain_number segment)
   same_rounds (ask.turned_away why) = refl
@@ -185,9 +185,9 @@ module _ (setup : SetupFields) (b : ℕ) (lt : b < length setup.bidders) (comman
   own_sheet : slice_index_or (for_each_bidder setup (sheet_in_force setup (history setup commands))) b None ≡ sheet_in_force setup (history setup commands) b
   own_sheet = get_or-map-range_with_len (sheet_in_force setup (history setup commands)) 0 (length setup.bidders) b b None lt (zero-add b)
 
-  pub told_of_known : (asked : Ask) → outcome (house_after setup commands) (who.Bidder b) asked ≡ bidder_outcome
+  pub told_of_known : (asked : Ask) → outcome (house_after setup commands) (who.Bidder b) asked ≡ known_outcome
       (public_setup setup) (bidder_at setup b) known_in asked
-  unfolding bidder_outcome
+  unfolding known_outcome
   told_of_known (ask.slip segment) = ap page_or_no_round (named_slip (plain_number segment))
   told_of_known (ask.sheet segment) = ap page_or_no_round (named_sheet (plain_number segment))
   told_of_known ask.bids = ap (λ sheet. done (bids_value (standing setup.products (history setup commands).closed).round sheet)) own_sheet
@@ -204,23 +204,23 @@ module _ (setup : SetupFields) (b : ℕ) (lt : b < length setup.bidders) (comman
   -- what is known in the run is what the view tells
   pub told_of_view : (asked : Ask) →
       outcome (house_after setup commands) (who.Bidder b) asked
-      ≡ bidder_outcome (public_setup setup) (bidder_at setup b) (known_from (public_setup setup) (bidder_at setup b) (view_of setup b commands)) asked
+      ≡ known_outcome (public_setup setup) (bidder_at setup b) (known_from (public_setup setup) (bidder_at setup b) (view_of setup b commands)) asked
   told_of_view asked =
       let is : IsSeen setup b commands = seen setup b commands in
       let public = public_setup setup in
       let row = bidder_at setup b in
       let view = view_of setup b commands in
       told_of_known asked
-      ∙ ap (λ s. bidder_outcome public row (record { standing = s; holding = known_in.holding; in_force = known_in.in_force; rounds = known_in.rounds }) asked)
+      ∙ ap (λ s. known_outcome public row (record { standing = s; holding = known_in.holding; in_force = known_in.in_force; rounds = known_in.rounds }) asked)
       is.standing
-      ∙ ap (λ h. bidder_outcome public row (record {
+      ∙ ap (λ h. known_outcome public row (record {
         standing = seen_standing public view;
         holding = h;
         in_force =
             known_in.in_force;
         rounds = known_in.rounds;
       }) asked) is.holding
-      ∙ ap (λ f. bidder_outcome public row (record {
+      ∙ ap (λ f. known_outcome public row (record {
         standing = seen_standing public view;
         holding = seen_holding public row view;
         in_force = f;
@@ -229,6 +229,23 @@ module _ (setup : SetupFields) (b : ℕ) (lt : b < length setup.bidders) (comman
       ∙ same_rounds public row (seen_standing public view) (seen_holding public row view) (seen_in_force public row view) known_in.rounds
       (λ n. seen_round n view) is.rounds asked
 
+-- what is told by what the view tells is told by the view
+told_by_known : (setup : PublicSetup) (row : Bidder) (view : List Seen) (asked : Ask) →
+    known_outcome setup row (known_from setup row view) asked ≡ bidder_outcome setup row view asked
+unfolding known_outcome bidder_outcome
+told_by_known setup row view (ask.turned_away why) = refl
+told_by_known setup row view (ask.no_method page) = refl
+told_by_known setup row view ask.status = refl
+told_by_known setup row view ask.products = refl
+told_by_known setup row view (ask.sheet segment) = refl
+told_by_known setup row view ask.account = refl
+told_by_known setup row view ask.bids = refl
+told_by_known setup row view (ask.put (Ok body)) = refl
+told_by_known setup row view (ask.put (Err fault)) = refl
+told_by_known setup row view (ask.slip segment) = refl
+told_by_known setup row view (ask.close body) = refl
+told_by_known setup row view ask.results = refl
+
 -- ---- the headline
 
 pub answered_from_view : IsAnsweredFromView
@@ -236,8 +253,9 @@ answered_from_view setup b past text tokens lt is =
     ap (λ author. answer_of (outcome (house_after setup (commands_of setup past)) author (request_of text).ask))
     (asker_own setup tokens b lt (request_of text).token is)
     ∙ ap answer_of (told_of_view setup b lt (commands_of setup past) (request_of text).ask)
-    ∙ ap (λ view. answer_of (bidder_outcome (public_setup setup) (bidder_at setup b) (known_from (public_setup setup) (bidder_at setup b) view)
+    ∙ ap (λ view. answer_of (known_outcome (public_setup setup) (bidder_at setup b) (known_from (public_setup setup) (bidder_at setup b) view)
     (request_of text).ask)) (sym (typed_view-text_view setup b tokens lt past))
+    ∙ ap answer_of (told_by_known (public_setup setup) (bidder_at setup b) (typed_view (text_view setup b past)) (request_of text).ask)
 
 pub isolated : IsIsolated
 isolated one two b d past other_past text tokens other_tokens lb ld alike is =

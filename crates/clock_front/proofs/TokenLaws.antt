@@ -10,9 +10,9 @@ use Rattle.indexmap.specs.IndexMap.{insert_entry}
 use Rattle.clock_terms.specs.declared.setup.Bidder.{Bidder as BidderRow}
 use Rattle.clock_terms.specs.Limits.{SetupFields}
 use Rattle.clock_http.specs.Heads.{same_bytes}
-use Rattle.clock_front.specs.Askers.{holder, bidder_tokens, asker, asker_by}
+use Rattle.clock_front.specs.Askers.{holder, bidder_tokens, asker}
 use Rattle.clock_front.specs.inside.Askers.{IsKnown}
-use Rattle.clock_front.specs.inside.HeldTokens.{found}
+use Rattle.clock_front.specs.inside.HeldTokens.{found, asker_by}
 use Rattle.clock_front.specs.declared.tokens.Asker.{Asker}
 use Rattle.clock_front.specs.declared.tokens.Asker.TheVariants.{Nobody, Operator, Bidder}
 

@@ -58,23 +58,8 @@ pub record IsRun (setup : SetupFields) (texts : List (List ℕ)) (answers : List
   pub runs : Runs setup [] texts answers end
   pub sound : IsSound setup (history setup (commands_of setup end))
 
--- the number of each request's connection
-abbrev pub numbers_of_requests : List (ℕ × List ℕ) → List ℕ
-numbers_of_requests requests = map (λ request. request.0) requests
-
--- the text of each request
-abbrev pub texts_of : List (ℕ × List ℕ) → List (List ℕ)
-texts_of requests = map (λ request. request.1) requests
-
--- the number of the connection that each reply is for
-abbrev pub numbers_of : List EventReply → List ℕ
-numbers_of replies = map (λ one. one.number) replies
-
--- the replies without these numbers
-abbrev pub answers_of : List EventReply → List Answer
-answers_of replies = map (λ one. one.reply) replies
-
--- the replies are a run over the texts of the requests that the events are, in the order in which these are complete
+-- the replies are a run over the texts of the requests that the events are, in the order in which these are complete, and
+-- each reply has the number of its request's connection
 pub record IsEventRun (setup : SetupFields) (events : List Event) (replies : List EventReply) : Type 0 where
-  pub numbers : numbers_of replies ≡ numbers_of_requests (requests_of events)
-  pub run : IsRun setup (texts_of (requests_of events)) (answers_of replies)
+  pub numbers : map (λ one. one.number) replies ≡ map (λ request. request.0) (requests_of events)
+  pub run : IsRun setup (map (λ request. request.1) (requests_of events)) (map (λ one. one.reply) replies)

@@ -118,13 +118,10 @@ told house asker (asked.slip segment) =
 told house asker (asked.close body) = to_operator asker (close_to house (in_version house.setup.version body))
 told house asker asked.results = to_operator asker (done (results_value house))
 
--- the same house: room for further rounds shows nowhere
-abbrev pub without_room : HouseFields → HouseFields
-without_room house = record { setup = house.setup; closed = house.closed; sheets = house.sheets; spare = 0 }
-
--- what an asker is told
+-- what an asker is told: the room that a house has for further rounds shows nowhere
 abbrev pub outcome : HouseFields → Asker → Ask → Outcome
-outcome house asker ask = told (without_room house) asker ask
+outcome house asker ask =
+    told (record { setup = house.setup; closed = house.closed; sheets = house.sheets; spare = 0 }) asker ask
 
 -- ---- the command that a request is
 

@@ -21,28 +21,22 @@ Numbered = List (Option (List ℕ))
 abbrev pub text_at : Numbered → ℕ → Option (List ℕ)
 text_at numbered number = slice_index_or numbered number None
 
--- a connection that is asked for stands with no bytes, unless too many stand already
-abbrev pub opened : Numbered → Option (List ℕ)
-opened numbered = if nat_lt (count_by is_some numbered) most_connections then Some [] else None
-
--- a request that is complete with a text, under its number
-abbrev pub if_complete : ℕ → List ℕ → Option (ℕ × List ℕ)
-if_complete number text = if needs_more text then None else Some (number, text)
-
--- a text that is not complete stands
-abbrev pub if_standing : List ℕ → Option (List ℕ)
-if_standing text = if needs_more text then Some text else None
-
 -- the request that an event completes: a piece the one that needs no more with it, and the end of input any that stands
 abbrev pub completed : Numbered → Event → Option (ℕ × List ℕ)
 completed numbered Connect = None
-completed numbered (Piece number piece) = option_and_then (λ text. if_complete number (text ++ piece)) (text_at numbered number)
+completed numbered (Piece number piece) =
+    option_and_then (λ text. if needs_more (text ++ piece) then None else Some (number, text ++ piece))
+    (text_at numbered number)
 completed numbered (Finish number) = option_map (λ text. (number, text)) (text_at numbered number)
 
--- the connections after an event
+-- the connections after an event: one that is asked for stands with no bytes, unless too many stand already, and a text
+-- stands until it is complete
 abbrev pub after : Numbered → Event → Numbered
-after numbered Connect = numbered ++ opened numbered ∷ []
-after numbered (Piece number piece) = slice_set numbered number (option_and_then (λ text. if_standing (text ++ piece)) (text_at numbered number))
+after numbered Connect =
+    numbered ++ (if nat_lt (count_by is_some numbered) most_connections then Some [] else None) ∷ []
+after numbered (Piece number piece) = slice_set numbered number
+    (option_and_then (λ text. if needs_more (text ++ piece) then Some (text ++ piece) else None)
+    (text_at numbered number))
 after numbered (Finish number) = slice_set numbered number None
 
 abbrev pub and_then : Option (ℕ × List ℕ) → List (ℕ × List ℕ) → List (ℕ × List ℕ)

@@ -3,17 +3,16 @@
 --     SeenText      an own request, or an accepted closing as the round's sheet and the bidder's slip
 --     text_view setup bidder past      the run, the newest first, with every request struck out that is not the bidder's own,
 --         but each accepted closing stands as sheet and own slip
---     Known      what a bidder knows of the auction
---     bidder_outcome setup row known ask      what a bidder is told: no rival, and no number of bidders, is an argument
+--     bidder_outcome setup row view ask      what a bidder is told by its sheets and closings: no rival, and no number
+--         of bidders, is an argument
 --     answer setup row view text      the reply to an own request, by the public set-up, the bidder's row and its view
-use Rattle.std.specs.Prelude.{ℕ, Bool, false, List, [], ◌∷◌, ◌++◌, if◌then◌else◌, Option, Some, None, option_map, option_and_then, Ok, Err}
+use Rattle.std.specs.Prelude.{ℕ, Bool, false, List, [], ◌∷◌, ◌++◌, if◌then◌else◌, Option, option_map, option_and_then, Ok, Err}
+use Rattle.std.specs.Option.{option_map_or}
 use Rattle.clock_terms.specs.declared.setup.Bidder.{Bidder}
 use Rattle.clock_terms.specs.Limits.{SetupFields, PublicSetup}
-use Rattle.clock_bids.specs.declared.sheet.Bid.{Bid}
-use Rattle.clock_bids.specs.Holding.{Holding}
 use Rattle.clock_posting.specs.declared.sheet.RoundSheet.{RoundSheet}
 use Rattle.clock_closing.specs.declared.slip.Slip.{Slip}
-use Rattle.clock_house.specs.Standing.{Standing, put_fault}
+use Rattle.clock_house.specs.Standing.{put_fault}
 use Rattle.clock_house.specs.History.{history, bidder_at}
 use Rattle.clock_house.specs.View.{Seen, seen_of, seen_standing, seen_holding, seen_in_force, seen_round}
 use Rattle.clock_house.specs.View as typed
@@ -29,14 +28,9 @@ use Rattle.clock_front.specs.Requests as asked
 use Rattle.clock_front.specs.Outcomes.{Outcome, done, refused, not_allowed, answer_of, body_code, page_or_no_round, put_outcome}
 use Rattle.clock_front.specs.Fronts.{text_command, commands_of}
 
--- the token is the bidder's
-abbrev pub has_token : List ℕ → Option (List ℕ) → Bool
-has_token token None = false
-has_token token (Some sent) = same_bytes token sent
-
--- the request is the bidder's own, on whatever route, also where it is refused behind its head
+-- the request is the bidder's own, by its token, on whatever route, also where it is refused behind its head
 abbrev pub is_own : Bidder → List ℕ → Bool
-is_own row text = has_token row.token (request_of text).token
+is_own row text = option_map_or (same_bytes row.token) (request_of text).token false
 
 -- ---- what a bidder sees
 
@@ -62,8 +56,6 @@ abbrev pub text_view : SetupFields → ℕ → List (List ℕ) → List SeenText
 text_view setup bidder [] = []
 text_view setup bidder (text ∷ past) = seen_of_text setup bidder past text ++ text_view setup bidder past
 
--- ---- what a bidder knows by it
-
 -- a sheet, where an own request puts one
 abbrev pub sheet_put : Ask → List Seen
 sheet_put (asked.put (Ok body)) = typed.own_put body.round body.bids ∷ []
@@ -75,47 +67,34 @@ typed_view [] = []
 typed_view (own text ∷ earlier) = sheet_put (request_of text).ask ++ typed_view earlier
 typed_view (accepted_close sheet slip ∷ earlier) = typed.accepted_close sheet slip ∷ typed_view earlier
 
--- where the auction stands, what the bidder holds, its sheet in force, and of each closed round the sheet and its own slip
-pub record Known : Type 0 where
-  pub standing : Standing
-  pub holding : Holding
-  pub in_force : Option (List Bid)
-  pub rounds : ℕ → Option (RoundSheet × Slip)
-
--- what a bidder knows by its view
-abbrev pub known_from : PublicSetup → Bidder → List Seen → Known
-known_from setup row view = record {
-  standing = seen_standing setup view;
-  holding = seen_holding setup row view;
-  in_force = seen_in_force setup row view;
-  rounds = λ n. seen_round n view;
-}
-
 -- ---- what a bidder is told
 
 -- the closed round that a segment of a path names
-abbrev pub known_round : Known → List ℕ → Option (RoundSheet × Slip)
-known_round known segment = option_and_then known.rounds (plain_number segment)
+abbrev pub round_of_segment : List Seen → List ℕ → Option (RoundSheet × Slip)
+round_of_segment view segment = option_and_then (λ n. seen_round n view) (plain_number segment)
 
 -- pages of everyone and its own, and the answers to its sheets; the operator's pages are not for it
-unfoldable pub bidder_outcome : PublicSetup → Bidder → Known → Ask → Outcome
-bidder_outcome setup row known (asked.turned_away why) = refused (alone why)
-bidder_outcome setup row known (asked.no_method page) = not_allowed page
-bidder_outcome setup row known asked.status = done (status_value setup known.standing.round known.standing.ended)
-bidder_outcome setup row known asked.products = done (products_value setup)
-bidder_outcome setup row known (asked.sheet segment) =
-    page_or_no_round (option_map (λ seen. sheet_value setup seen.0) (known_round known segment))
-bidder_outcome setup row known asked.account =
-    done (account_value setup.products row.name known.standing.round known.holding known.standing.ended)
-bidder_outcome setup row known asked.bids = done (bids_value known.standing.round known.in_force)
-bidder_outcome setup row known (asked.put (Err fault)) = refused (alone (body_code fault))
-bidder_outcome setup row known (asked.put (Ok body)) =
-    put_outcome body (put_fault setup known.standing known.holding body.round body.bids)
-bidder_outcome setup row known (asked.slip segment) =
-    page_or_no_round (option_map (λ seen. slip_value seen.1) (known_round known segment))
-bidder_outcome setup row known (asked.close body) = refused (alone code.Role)
-bidder_outcome setup row known asked.results = refused (alone code.Role)
+unfoldable pub bidder_outcome : PublicSetup → Bidder → List Seen → Ask → Outcome
+bidder_outcome setup row view (asked.turned_away why) = refused (alone why)
+bidder_outcome setup row view (asked.no_method page) = not_allowed page
+bidder_outcome setup row view asked.status =
+    done (status_value setup (seen_standing setup view).round (seen_standing setup view).ended)
+bidder_outcome setup row view asked.products = done (products_value setup)
+bidder_outcome setup row view (asked.sheet segment) =
+    page_or_no_round (option_map (λ seen. sheet_value setup seen.0) (round_of_segment view segment))
+bidder_outcome setup row view asked.account = done
+    (account_value setup.products row.name (seen_standing setup view).round (seen_holding setup row view)
+    (seen_standing setup view).ended)
+bidder_outcome setup row view asked.bids =
+    done (bids_value (seen_standing setup view).round (seen_in_force setup row view))
+bidder_outcome setup row view (asked.put (Err fault)) = refused (alone (body_code fault))
+bidder_outcome setup row view (asked.put (Ok body)) =
+    put_outcome body (put_fault setup (seen_standing setup view) (seen_holding setup row view) body.round body.bids)
+bidder_outcome setup row view (asked.slip segment) =
+    page_or_no_round (option_map (λ seen. slip_value seen.1) (round_of_segment view segment))
+bidder_outcome setup row view (asked.close body) = refused (alone code.Role)
+bidder_outcome setup row view asked.results = refused (alone code.Role)
 
 -- the reply to an own request
 abbrev pub answer : PublicSetup → Bidder → List SeenText → List ℕ → Answer
-answer setup row view text = answer_of (bidder_outcome setup row (known_from setup row (typed_view view)) (request_of text).ask)
+answer setup row view text = answer_of (bidder_outcome setup row (typed_view view) (request_of text).ask)

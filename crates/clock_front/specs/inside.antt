@@ -10,3 +10,5 @@ pub mod NumberedHubs
 pub mod ShownAsked
 pub mod TokenTable
 pub mod Isolation
+pub mod Roomless
+pub mod Known

@@ -2,7 +2,8 @@
 //! want of memory.
 
 ghost use Rattle.std.specs.Prelude.{◌≡◌, IsTrue};
-ghost use Rattle.clock_front.specs.FixedReplies.{refusal_of, no_memory};
+ghost use Rattle.clock_front.specs.FixedReplies.{no_memory};
+ghost use Rattle.clock_front.specs.inside.FixedReplies.{refusal_of};
 ghost use Rattle.clock_front.specs.inside.FixedReplies.{is_fixed};
 
 use clock_http::Reply;

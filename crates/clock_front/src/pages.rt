@@ -2,7 +2,8 @@
 
 ghost use Rattle.std.specs.Prelude.{◌≡◌, ◌<◌, length, Some, None, IfOk};
 ghost use Rattle.clock_front.specs.declared.tokens.Asker.TheVariants as who;
-ghost use Rattle.clock_front.specs.Outcomes.{answer_of, not_allowed as told_not_allowed, refused, told, without_room};
+ghost use Rattle.clock_front.specs.Outcomes.{answer_of, not_allowed as told_not_allowed, refused, told};
+ghost use Rattle.clock_front.specs.inside.Roomless.{without_room};
 ghost use Rattle.clock_front.specs.inside.Private.{IsToldByView};
 ghost use Rattle.clock_front.specs.Requests as asked;
 

@@ -2,7 +2,7 @@ ghost use Rattle.std.specs.Prelude.{◌≡◌, ◌≤◌, ℕ, List, [], length,
 ghost use Rattle.clock_front.specs.Askers as askers;
 ghost use Rattle.clock_front.specs.inside.Askers.{IsKnown};
 ghost use Rattle.clock_terms.specs.Limits.{SetupFields};
-ghost use Rattle.clock_front.specs.inside.HeldTokens.{found};
+ghost use Rattle.clock_front.specs.inside.HeldTokens.{asker_by, found, tokens_of};
 ghost use Rattle.clock_http.specs.Heads.{same_bytes};
 ghost use Rattle.clock_http.specs.Shown.{shown_bytes};
 
@@ -53,7 +53,7 @@ fn add_bidders(alloc: Global, holders: &mut Holders, bidders: &[Bidder]) -> Resu
 /// The tokens of a set-up.
 fn holders_of(alloc: Global, setup: &Setup) -> Result<Holders, NoMemory>
     ensures { IfOk result (λ holders. (token : List ℕ) → found holders.entries token
-        ≡ askers.holder (askers.tokens_of setup.now) token) }
+        ≡ askers.holder (tokens_of setup.now) token) }
 {
     let mut holders = IndexMap::new(alloc);
     add_bidders(alloc, &mut holders, setup.bidders.as_slice())?;
@@ -64,7 +64,7 @@ fn holders_of(alloc: Global, setup: &Setup) -> Result<Holders, NoMemory>
 
 /// Whose a token is, or the missing one.
 fn holder_of(holders: &Holders, token: Option<&[u8]>) -> Asker
-    ensures { result ≡ askers.asker_by (found holders.now.entries) (shown_bytes token.entry) }
+    ensures { result ≡ asker_by (found holders.now.entries) (shown_bytes token.entry) }
 {
     match token {
         Some(token) => holders.get(token).copied().unwrap_or(Asker::Nobody),

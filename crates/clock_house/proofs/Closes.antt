@@ -16,7 +16,8 @@ use Rattle.clock_closing.specs.Closing.{closing, closing_now}
 use Rattle.clock_house.specs.History.{ClosedRound, history, standing, closing_of, after_closing, for_each_bidder, sheet_in_force}
 use Rattle.clock_house.specs.House.{HouseFields, StandsFor, IsFollowedBy, StandsStill, IsUnchanged, HasClosed, AnswersClose, ToHistory}
 use Rattle.clock_house.specs.Standing.{Standing}
-use Rattle.clock_house.specs.House.{standing_in, open_round_in, closing_in}
+use Rattle.clock_house.specs.House.{standing_in, closing_in}
+use Rattle.clock_house.specs.inside.OpenRounds.{open_round_in}
 use Rattle.clock_closing.specs.Prepared.{Answers}
 use Rattle.clock_house.specs.Prepared.{PreparedClosing, FitsClosing}
 use Rattle.clock_closing.proofs.Closings.{IsClosing, closing_passed}

@@ -14,7 +14,8 @@ use Rattle.clock_closing.specs.declared.fault.CloseFault.TheVariants as close_fa
 use Rattle.clock_house.specs.Command.{Command, put, close}
 use Rattle.clock_house.specs.Standing.{put_fault}
 use Rattle.clock_closing.specs.Closing.{settlement, requests}
-use Rattle.clock_house.specs.History.{history, Auction, ClosedRound, closing_of, open_round, standing, holding, sheet_in_force}
+use Rattle.clock_house.specs.History.{history, Auction, ClosedRound, closing_of, standing, holding, sheet_in_force}
+use Rattle.clock_house.specs.inside.OpenRounds.{open_round}
 
 abbrev bid : ℕ → ℕ → ℕ → Bid
 bid product quantity price = record { product = product; quantity = quantity; price = price }

@@ -8,7 +8,8 @@ use Rattle.clock_terms.specs.Limits.{SetupFields, public_setup}
 use Rattle.clock_order.specs.declared.ties.Tie.{Tie}
 use Rattle.clock_closing.specs.declared.fault.CloseFault.{CloseFault}
 use Rattle.clock_house.specs.Command.{Command, put, close, other}
-use Rattle.clock_house.specs.History.{ClosedRound, Auction, standing, open_round, closing_of, after_closing, history}
+use Rattle.clock_house.specs.History.{ClosedRound, Auction, standing, closing_of, after_closing, history}
+use Rattle.clock_house.specs.inside.OpenRounds.{open_round}
 use Rattle.clock_house.specs.Laws.{AreNumbered}
 use Rattle.clock_closing.proofs.Closings.{IsClosing, closing_passed}
 

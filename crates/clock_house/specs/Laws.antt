@@ -22,14 +22,11 @@ AreNumbered bidders products [] = Unit {0}
 AreNumbered bidders products (round ∷ rounds) =
     (round.sheet.round ≡ suc (length rounds)) × (length round.slips ≡ bidders) × (length round.sheet.lines ≡ products) × AreNumbered bidders products rounds
 
--- the demands after a closed round
-abbrev pub grid_after : ClosedRound → List (List ℕ)
-grid_after round = demands_of round.slips
-
 -- a product whose total was at supply after the earlier round is at supply after the later one
 abbrev pub StaysSupplied : List Product → ClosedRound → ClosedRound → Type 0
 StaysSupplied products later earlier =
-    (product : ℕ) → supply_of products product ≤ total_of (grid_after earlier) product → supply_of products product ≤ total_of (grid_after later) product
+    (product : ℕ) → supply_of products product ≤ total_of (demands_of earlier.slips) product
+    → supply_of products product ≤ total_of (demands_of later.slips) product
 
 -- bidders within their limits, prices in order, rounds in order, no product that was sold out comes free again, and at most as many rounds as highest
 -- prices together allow, and two

@@ -8,7 +8,8 @@ use Rattle.clock_http.specs.Replies.{reply_bytes}
 use Rattle.clock_http.specs.Decimals.{plain_number}
 use Rattle.matchit.specs.Route.{scan}
 use Rattle.matchit.specs.Seek.{seek, param_step}
-use Rattle.clock_http.specs.Routes.{has_method, last_segment, page_at, table}
+use Rattle.clock_http.specs.Routes.{has_method, last_segment}
+use Rattle.clock_http.specs.inside.Routing.{page_at, table}
 
 pages : List Page
 pages = Status ∷ Products ∷ Sheet ∷ Account ∷ Bids ∷ Slip ∷ Close ∷ Results ∷ []

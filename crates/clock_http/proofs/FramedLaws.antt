@@ -1,6 +1,6 @@
 -- By which codes a text is refused, and whose request a whole text is.
 use Rattle.std.proofs.Common.{◌≡◌, ℕ, ◌+◌, cond, List, [], ◌∷◌, length, take, Option, Some, None, Ok, Err, Result}
-use Rattle.std.proofs.Common.{◌∙◌, ap, subst, inl, inr}
+use Rattle.std.proofs.Common.{◌∙◌, ap, sym, subst, inl, inr}
 use Rattle.std.specs.Prelude.{nat_lt, codes}
 use Rattle.std.specs.Str.Parse.{digits_value}
 use Rattle.httparse.specs.Grammar.{RequestHead}
@@ -9,12 +9,14 @@ use Rattle.clock_http.specs.declared.code.Code.TheVariants.{LongHead, BadHead, C
 use Rattle.clock_http.specs.Scans.{head_length, is_loose}
 use Rattle.clock_http.specs.Heads.{head_of}
 use Rattle.clock_http.specs.Decimals.{is_number}
-use Rattle.clock_http.specs.HeaderLines.{Pairs, pairs_of, values_of, length_from, within_limit, unless_coded, body_length, body_limit}
-use Rattle.clock_http.specs.Framing.{head_limit, or_bad_head, ended_head, Head, kept, and_length, length_read, head_with_length, Known, unended}
+use Rattle.clock_http.specs.HeaderLines.{pairs_of, values_of, length_from, within_limit, unless_coded, body_length, body_limit}
+use Rattle.clock_http.specs.Framing.{head_limit, or_bad_head, ended_head, Head, kept, and_length, length_read, Known, unended}
 use Rattle.clock_http.specs.Framing.{waiting, complete, refused, known_with_head, known_with_end, known}
-use Rattle.clock_http.specs.Framing.{refusal, whole, framing, ok_head, ended_at, head_in}
+use Rattle.clock_http.specs.Framing.{refusal, whole, framing, ok_head, head_in}
 use Rattle.clock_http.specs.inside.Framed.{framed}
-use Rattle.clock_http.proofs.Prefixes.{cond_cases, framed_is}
+use Rattle.clock_http.specs.inside.HeadFields.{Pairs}
+use Rattle.clock_http.specs.inside.HeadParts.{head_with_length, ended_at}
+use Rattle.clock_http.proofs.Prefixes.{cond_cases, framed_is, head_is}
 
 -- ---- a text is refused by one of five codes
 
@@ -141,7 +143,7 @@ whole_of (complete h n b) text head body e = (let same : h ≡ head = cc in (n, 
 
 -- a whole text has its head
 pub whole_head : (text : List ℕ) (head : Head) (body : List ℕ) → framing text ≡ whole head body → head_in text ≡ Some head
-unfolding known head_in
+unfolding known
 whole_head text head body e =
     let is = whole_of (known text) text head body (framed_is text ∙ e) in
-    end_head (head_length (take head_limit text)) text head is.0 is.1 is.2
+    sym (head_is text) ∙ end_head (head_length (take head_limit text)) text head is.0 is.1 is.2

@@ -16,7 +16,8 @@ use Rattle.httparse.specs.Ascii.{colon}
 use Rattle.httparse.specs.Grammar.{LineEnd, crlf, lf, print_end, print_blank, print_version, Field, print_field, IsField, print_section, RequestHead}
 use Rattle.httparse.specs.Grammar.{print_request, IsRequestHead, ReadsRequest, is_token_byte, is_uri_byte, is_value_byte, is_token, IsToken}
 use Rattle.httparse.proofs.GrammarLemmas.{print_request-append, cons-append}
-use Rattle.clock_http.specs.Heads.{same_bytes, onto_first, lines_of, word, after_word, field_of, head_from, is_field, is_head, head_of}
+use Rattle.clock_http.specs.Heads.{same_bytes, onto_first, lines_of, word, after_word, field_of, head_from, is_head, head_of}
+use Rattle.clock_http.specs.inside.HeadTests.{is_field}
 use Rattle.clock_http.specs.Scans.{line_ends, has_bare_line_feed, is_loose}
 use Rattle.clock_http.specs.FramingLaws.{IsHeadOfGrammar}
 

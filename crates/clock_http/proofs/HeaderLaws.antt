@@ -10,8 +10,8 @@ use Rattle.httparse.specs.declared.spans.HeaderSpan.{HeaderSpan}
 use Rattle.httparse.specs.Spans.{header_bytes, span_bytes, IsWithin}
 use Rattle.clock_http.specs.Heads.{same_bytes}
 use Rattle.clock_http.specs.declared.headers.Lines.{Lines}
-use Rattle.clock_http.specs.HeaderLines.{Pairs, is_named, values_of, bearer, token_from}
-use Rattle.clock_http.specs.inside.HeadFields.{AreLinesOf}
+use Rattle.clock_http.specs.HeaderLines.{is_named, values_of, bearer, token_from}
+use Rattle.clock_http.specs.inside.HeadFields.{Pairs, AreLinesOf}
 
 pub named : (a b : List ℕ) (r : Bool) → IsTrue r ↔ (a ≡ b) → same_bytes a b ≡ r
 named a b true h = (bytes_decides a b).1 (h.0 refl)

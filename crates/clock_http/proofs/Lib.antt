@@ -6,6 +6,7 @@ mod HeaderLaws
 mod TextLaws
 pub mod ProgressLaws
 pub mod FramedLaws
+mod RoutePages
 mod RouteLaws
 mod ReplyLaws
 mod Examples

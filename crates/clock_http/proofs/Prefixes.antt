@@ -1,7 +1,7 @@
 -- A decided text stays decided, and what is known of a text follows from what is known of its beginning.
 use Rattle.std.proofs.Common.{◌≡◌, ℕ, ◌+◌, ◌≤◌, ◌⊎◌, suc, Bool, true, false, cond, List, [], ◌∷◌, ◌++◌, length, take, drop, Option, Some}
 use Rattle.std.proofs.Common.{None, Ok, Err, Result, refl, sym, ◌∙◌, ap, arith, inl, inr, zero, length-append, length-drop}
-use Rattle.std.specs.Prelude.{option_map, nat_eq, nat_lt, if◌then◌else◌}
+use Rattle.std.specs.Prelude.{option_map, option_and_then, nat_eq, nat_lt, if◌then◌else◌}
 use Rattle.std.specs.List.{starts_with}
 use Rattle.std.specs.Cmp.Lexicographic.{as_long, pointwise}
 use Rattle.std.proofs.lemmas.Bool.Decides.{nat_tests}
@@ -9,8 +9,10 @@ use Rattle.std.proofs.lemmas.List.{take-append-le, drop-append-le, length-take}
 use Rattle.std.proofs.Math.Seq.{take-nil}
 use Rattle.clock_http.specs.declared.code.Code.{Code}
 use Rattle.clock_http.specs.declared.code.Code.TheVariants.{LongHead}
-use Rattle.clock_http.specs.Scans.{empty_line, head_length}
-use Rattle.clock_http.specs.Framing.{ended_at, ok_head, ended_head, head_in, head_limit, head_with_length, Head, Known, unended, waiting}
+use Rattle.clock_http.specs.Scans.{head_length}
+use Rattle.clock_http.specs.inside.HeadTests.{empty_line}
+use Rattle.clock_http.specs.inside.HeadParts.{head_with_length, ended_at}
+use Rattle.clock_http.specs.Framing.{ok_head, ended_head, head_in, head_limit, Head, Known, unended, waiting}
 use Rattle.clock_http.specs.Framing.{complete, refused, known_with_body, known_with_head, known_with_end, known, advanced, is_incomplete}
 use Rattle.clock_http.specs.Framing.{incomplete, refusal, whole, framed_at, framed_head, framing}
 use Rattle.clock_http.specs.inside.Framed.{framed}
@@ -189,7 +191,18 @@ ended_at-append text more (Some n) e d =
     ap (λ o. ended_at o (text ++ more)) (end-append text more n e)
     ∙ ap (λ front. ok_head (ended_head front)) (take-append-le n text more le)
 
+ended_is : (o : Option ℕ) (text : List ℕ) → ended_at o text ≡ option_and_then (λ n. ok_head (ended_head (take n text))) o
+ended_is None text = refl
+ended_is (Some n) text = refl
+
+-- the whole head that a text has, by where it ends
+pub head_is : (text : List ℕ) → ended_at (head_length (take head_limit text)) text ≡ head_in text
+unfolding head_in
+head_is text = ended_is (head_length (take head_limit text)) text
+
 -- a decided text keeps its head
 pub one_head : HasOneHead
-unfolding known head_in
-one_head text more d = ended_at-append text more (head_length (take head_limit text)) refl (ap is_incomplete (framed_is text) ∙ d)
+unfolding known
+one_head text more d =
+    sym (head_is (text ++ more)) ∙ ended_at-append text more (head_length (take head_limit text)) refl (ap is_incomplete (framed_is text) ∙ d)
+    ∙ head_is text

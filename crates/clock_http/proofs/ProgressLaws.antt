@@ -13,7 +13,8 @@ use Rattle.clock_http.specs.declared.head.EndedHead.{EndedHead}
 use Rattle.clock_http.specs.declared.progress.Progress.{Progress}
 use Rattle.clock_http.specs.declared.progress.Progress.TheVariants as so_far
 use Rattle.clock_http.specs.Scans.{head_length}
-use Rattle.clock_http.specs.Framing.{head_limit, Head, head_with_length, Known, unended, waiting, complete, refused, known_with_body}
+use Rattle.clock_http.specs.inside.HeadParts.{head_with_length}
+use Rattle.clock_http.specs.Framing.{head_limit, Head, Known, unended, waiting, complete, refused, known_with_body}
 use Rattle.clock_http.specs.Framing.{known_with_head, known_with_end, known, advanced, whole, framing, is_incomplete, needs_more}
 use Rattle.clock_http.specs.Shown.{shown_ended, IsHeadWithin, IsRequestWithin, IsSomeWithin, Knows, KnowsOfStart}
 use Rattle.clock_http.specs.inside.Followed.{Waits, WaitsBelow}

@@ -1,7 +1,7 @@
 -- What inserts make, and what a look-up finds.
 use Rattle.std.proofs.Common.{◌≡◌, ◌≢◌, ℕ, ◌-◌, ◌<◌, ◌≤◌, Bool, true, false, cond, not, List, length, get_or, take, drop}
 use Rattle.std.proofs.Common.{Option, None, Result, Ok, Err, refl, sym, ◌∙◌, ap, arith}
-use Rattle.std.specs.Prelude.{option_map, ◌==◌}
+use Rattle.std.specs.Prelude.{option_map, find, ◌==◌}
 use Rattle.std.specs.List.{suffix_len}
 use Rattle.std.proofs.lemmas.List.{take_rest}
 use Rattle.std.proofs.lemmas.List.Sums.{suffix_len_is}
@@ -13,7 +13,9 @@ use Rattle.matchit.specs.Route.{Scan}
 use Rattle.matchit.specs.Seek.{first}
 use Rattle.matchit.specs.declared.error.InsertError.{InsertError}
 use Rattle.clock_http.specs.declared.routes.Page.{Page}
-use Rattle.clock_http.specs.Routes.{Table, with_scan, table, page_of, last_segment}
+use Rattle.clock_http.specs.Routes.{paths, is_path, page_of, last_segment}
+use Rattle.clock_http.specs.inside.Routing.{Table, with_scan, table}
+use Rattle.clock_http.proofs.RoutePages.{walk_is}
 
 pub added : (r : Result Scan InsertError) (page : Page) (old new : Table) (done : Unit {0}) → InsertsRead r page old new (Ok done) → new ≡ with_scan r page old
 added (Ok s) page old new done h = h.1
@@ -24,15 +26,16 @@ pub page_found : (path : List ℕ) (routes : Table) (o : Option (RouteOf Page)) 
 unfolding page_of
 page_found path routes o text is found =
     ap (option_map (λ r. r.value)) (sym found ∙ ap (λ t. first t path) is)
-    ∙ sym (ap (λ t. cond t (option_map (λ r. r.value) (first table path)) None) (is_utf8-from_IsUtf8 path text))
+    ∙ walk_is path
+    ∙ sym (ap (λ t. cond t (option_map (λ row. row.1) (find (λ row. is_path row.0 path) paths)) None) (is_utf8-from_IsUtf8 path text))
 
 pub no_page : (path : List ℕ) → (IsUtf8 path → ⊥) → None ≡ page_of path
 unfolding page_of
 no_page path not_text = by (is_utf8 path) refl
   where
-    by : (t : Bool) → is_utf8 path ≡ t → None ≡ cond (is_utf8 path) (option_map (λ r. r.value) (first table path)) None
+    by : (t : Bool) → is_utf8 path ≡ t → None ≡ cond (is_utf8 path) (option_map (λ row. row.1) (find (λ row. is_path row.0 path) paths)) None
     by true e = absurd (not_text (IsUtf8-from_is_utf8 path e))
-    by false e = sym (ap (λ t. cond t (option_map (λ r. r.value) (first table path)) None) e)
+    by false e = sym (ap (λ t. cond t (option_map (λ row. row.1) (find (λ row. is_path row.0 path) paths)) None) e)
 
 pub page_seen : (path text : List ℕ) (routes : Table) (o : Option (RouteOf Page)) → text ≡ path → IsUtf8 path → routes ≡ table
     → first routes text ≡ o → option_map (λ r. r.value) o ≡ page_of path

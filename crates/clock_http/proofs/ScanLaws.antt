@@ -6,7 +6,8 @@ use Rattle.std.specs.List.{starts_with}
 use Rattle.std.proofs.Math.Seq.{drop-cons}
 use Rattle.std.specs.Cmp.Lexicographic.{pointwise}
 use Rattle.std.proofs.lemmas.List.{take_all, take-append-le}
-use Rattle.clock_http.specs.Scans.{empty_line, head_length}
+use Rattle.clock_http.specs.Scans.{head_length}
+use Rattle.clock_http.specs.inside.HeadTests.{empty_line}
 
 pub at_start : (o : Option ℕ) → o ≡ option_map (λ k. 0 + k) o
 at_start None = refl

@@ -20,7 +20,8 @@ use Rattle.clock_http.specs.declared.code.Code.{Code}
 use Rattle.clock_http.specs.declared.code.Code.TheVariants.{LongHead, BadHead}
 use Rattle.clock_http.specs.Scans.{line_ends, is_loose}
 use Rattle.clock_http.specs.HeaderLines.{pairs_of, body_length, token_of}
-use Rattle.clock_http.specs.Framing.{ended_head, or_bad_head, Head, path_of_target, head_with_length, length_read, and_length}
+use Rattle.clock_http.specs.Framing.{ended_head, or_bad_head, Head, length_read, and_length}
+use Rattle.clock_http.specs.inside.HeadParts.{path_of_target, head_with_length}
 use Rattle.clock_http.proofs.HeadLaws.{head_of_reads, found_of_reads, append_none}
 
 pub before_some : (p : ℕ → Bool) (xs : List ℕ) (i : ℕ) → Some i ≡ position p xs → take i xs ≡ take (position_or_len p xs) xs

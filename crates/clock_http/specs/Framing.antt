@@ -7,7 +7,7 @@
 --     known text      what is kept of a text so far: nothing but its length, its head while its body still comes, all, or a refusal
 --     advanced known text      what is known of a longer text, by what was known of its beginning
 -- The order of the refusals is this server's own. They are looked at only once a head has ended, or where it is too long.
-use Rattle.std.specs.Prelude.{◌≡◌, ℕ, ◌+◌, ◌-◌, Bool, true, false, List, length, take, drop, if◌then◌else◌, ◌==◌, nat_lt, Option, Some, None, Result}
+use Rattle.std.specs.Prelude.{◌≡◌, ℕ, ◌+◌, ◌-◌, Bool, true, false, List, length, take, drop, if◌then◌else◌, ◌==◌, nat_lt, Option, Some, None, option_and_then, Result}
 use Rattle.std.specs.Prelude.{Ok, Err}
 use Rattle.std.specs.List.{before_first}
 use Rattle.httparse.specs.Grammar.{RequestHead}
@@ -40,18 +40,11 @@ pub record Head : Type 0 where
   pub path : List ℕ
   pub token : Option (List ℕ)
 
--- b'?'
-abbrev pub question_mark : ℕ
-question_mark = 63
-
--- the path is the target up to the first question mark
-abbrev pub path_of_target : List ℕ → List ℕ
-path_of_target target = before_first (λ b. b == question_mark) target
-
+-- the path is the target up to the first question mark, whose byte is 63
 abbrev pub kept : RequestHead → Head
 kept head = record {
   method = head.method;
-  path = path_of_target head.target;
+  path = before_first (λ b. b == 63) head.target;
   token = token_of (pairs_of head);
 }
 
@@ -60,13 +53,10 @@ abbrev pub and_length : RequestHead → Result ℕ Code → Result (Head × ℕ)
 and_length head (Err fault) = Err fault
 and_length head (Ok n) = Ok (kept head, n)
 
+-- what an ended head says of itself and of its body
 abbrev pub length_read : Result RequestHead Code → Result (Head × ℕ) Code
 length_read (Err fault) = Err fault
 length_read (Ok head) = and_length head (body_length (pairs_of head))
-
--- what an ended head says of itself and of its body
-abbrev pub head_with_length : List ℕ → Result (Head × ℕ) Code
-head_with_length bytes = length_read (ended_head bytes)
 
 -- ---- what the text is
 
@@ -83,7 +73,7 @@ framed_head n text (Ok read) = if nat_lt (length text) (n + read.1) then incompl
 -- the head has ended after n bytes, or has not, and may still do so
 abbrev pub framed_at : Option ℕ → List ℕ → Framing
 framed_at None text = if nat_lt (length text) head_limit then incomplete else refusal LongHead
-framed_at (Some n) text = framed_head n text (head_with_length (take n text))
+framed_at (Some n) text = framed_head n text (length_read (ended_head (take n text)))
 
 unfoldable pub framing : List ℕ → Framing
 framing text = framed_at (head_length (take head_limit text)) text
@@ -107,13 +97,9 @@ abbrev pub ok_head : Result RequestHead Code → Option Head
 ok_head (Err fault) = None
 ok_head (Ok head) = Some (kept head)
 
-abbrev pub ended_at : Option ℕ → List ℕ → Option Head
-ended_at None text = None
-ended_at (Some n) text = ok_head (ended_head (take n text))
-
 -- the whole head that a text has
 unfoldable pub head_in : List ℕ → Option Head
-head_in text = ended_at (head_length (take head_limit text)) text
+head_in text = option_and_then (λ n. ok_head (ended_head (take n text))) (head_length (take head_limit text))
 
 -- ---- what is known of a text so far
 
@@ -135,7 +121,7 @@ known_with_head count n (Ok read) = known_with_body count read.0 n read.1
 
 abbrev pub known_with_end : Option ℕ → List ℕ → Known
 known_with_end None text = if nat_lt (length text) head_limit then unended (length text) else refused LongHead
-known_with_end (Some n) text = known_with_head (length text) n (head_with_length (take n text))
+known_with_end (Some n) text = known_with_head (length text) n (length_read (ended_head (take n text)))
 
 -- what is known of a text
 unfoldable pub known : List ℕ → Known

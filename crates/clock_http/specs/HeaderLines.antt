@@ -19,10 +19,7 @@ abbrev pub body_limit : ℕ
 body_limit = 1048576
 
 -- a name and a value for each header line
-abbrev pub Pairs : Type 0
-Pairs = List (List ℕ × List ℕ)
-
-abbrev pub pairs_of : RequestHead → Pairs
+abbrev pub pairs_of : RequestHead → List (List ℕ × List ℕ)
 pairs_of head = map name_and_value head.fields
 
 -- the names are the same but for the case of their letters
@@ -30,7 +27,7 @@ abbrev pub is_named : List ℕ → List ℕ × List ℕ → Bool
 is_named name pair = same_bytes (map to_ascii_lowercase pair.0) (map to_ascii_lowercase name)
 
 -- the values of the lines of one name, in their order
-abbrev pub values_of : List ℕ → Pairs → List (List ℕ)
+abbrev pub values_of : List ℕ → List (List ℕ × List ℕ) → List (List ℕ)
 values_of name pairs = map (λ pair. pair.1) (filter (is_named name) pairs)
 
 -- the number that one or more digits write; without a line it is 0, and two lines are refused also where they are equal
@@ -49,7 +46,7 @@ unless_coded [] n = n
 unless_coded (value ∷ more) n = Err Coding
 
 -- how long the body is
-abbrev pub body_length : Pairs → Result ℕ Code
+abbrev pub body_length : List (List ℕ × List ℕ) → Result ℕ Code
 body_length pairs =
     unless_coded (values_of (codes "transfer-encoding") pairs) (within_limit (length_from (values_of (codes "content-length") pairs)))
 
@@ -68,5 +65,5 @@ token_from [] = None
 token_from (value ∷ []) = bearer value
 token_from (value ∷ (other ∷ more)) = None
 
-abbrev pub token_of : Pairs → Option (List ℕ)
+abbrev pub token_of : List (List ℕ × List ℕ) → Option (List ℕ)
 token_of pairs = token_from (values_of (codes "authorization") pairs)

@@ -16,10 +16,6 @@ pub record Answer : Type 0 where
   pub code : Code
   pub bytes : List ℕ
 
--- the words behind the status
-abbrev pub reason_of : Code → List ℕ
-reason_of code = unwrap_or (reason_phrase (status_of code)) []
-
 -- the methods that a page has, where another was asked for
 abbrev pub allow_line : Option Page → List ℕ
 allow_line None = []
@@ -30,17 +26,9 @@ abbrev pub challenge_line : Code → List ℕ
 challenge_line Token = codes "www-authenticate: Bearer\r\n"
 challenge_line _ = []
 
--- the status line, with what follows it
-abbrev pub status_line : Code → List ℕ → List ℕ
-status_line code rest =
-    codes "HTTP/1.1 " ++ (decimal (status_of code) ++ (codes " " ++ (reason_of code ++ (codes "\r\n" ++ rest))))
-
--- the header lines, an empty line and the page
-abbrev pub lines_and_page : Code → Option Page → List ℕ → List ℕ
-lines_and_page code allowed page =
-    allow_line allowed ++ (codes "connection: close\r\ncontent-length: " ++ (decimal (length page)
-    ++ (codes "\r\ncontent-type: application/json\r\n" ++ (challenge_line code ++ codes "\r\n" ++ page))))
-
--- a whole reply
+-- a whole reply: the status line with the words of its status, the header lines, an empty line and the page
 unfoldable pub reply_bytes : Code → Option Page → List ℕ → List ℕ
-reply_bytes code allowed page = status_line code (lines_and_page code allowed page)
+reply_bytes code allowed page =
+    codes "HTTP/1.1 " ++ (decimal (status_of code) ++ (codes " " ++ (unwrap_or (reason_phrase (status_of code)) []
+    ++ (codes "\r\n" ++ (allow_line allowed ++ (codes "connection: close\r\ncontent-length: " ++ (decimal (length page)
+    ++ (codes "\r\ncontent-type: application/json\r\n" ++ (challenge_line code ++ codes "\r\n" ++ page)))))))))

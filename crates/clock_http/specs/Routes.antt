@@ -1,57 +1,42 @@
 -- Which page a path names, and by which methods a page is asked for.
---     table      the eight routes, in the order in which matchit keeps them
+--     paths      the texts of the paths with their pages
+--     is_path text path      the path is this text, or one more segment stands behind it
 --     page_of path      the page that a path names
---     last_segment path      what stands for `{n}` in a path that has a route with it
+--     last_segment path      what stands behind the last slash of a path
 --     methods page      the methods of a page, in the order in which they are told
 -- (Own routes. A path is compared byte by byte: no escape is undone, and no slash is added or dropped.)
-use Rattle.std.specs.Prelude.{ℕ, Bool, List, [], ◌∷◌, ◌++◌, if◌then◌else◌, ◌==◌, Option}
-use Rattle.std.specs.Prelude.{None, option_map, Result, Ok, Err, codes}
-use Rattle.std.specs.List.{after_last, list_any}
+use Rattle.std.specs.Prelude.{ℕ, Bool, List, [], ◌∷◌, ◌++◌, ◌&&◌, not, length, drop, find, nat_eq, nat_lt, if◌then◌else◌, ◌==◌, Option}
+use Rattle.std.specs.Prelude.{None, option_map, codes}
+use Rattle.std.specs.List.{after_last, list_any, starts_with}
 use Rattle.std.specs.Str.{is_utf8}
-use Rattle.matchit.specs.Rows.{RowsOf}
-use Rattle.matchit.specs.Order.{placed}
-use Rattle.matchit.specs.Router.{RouteOf, route_from}
-use Rattle.matchit.specs.Route.{Scan, parse_route}
-use Rattle.matchit.specs.Seek.{first}
-use Rattle.matchit.specs.declared.error.InsertError.{InsertError}
 use Rattle.clock_http.specs.Heads.{same_bytes}
 use Rattle.clock_http.specs.declared.routes.Page.{Page}
 use Rattle.clock_http.specs.declared.routes.Page.TheVariants.{Status, Products, Sheet, Account, Bids, Slip, Close, Results}
 
-abbrev pub Table : Type 0
-Table = RowsOf (RouteOf Page)
+-- what stands behind the last slash
+abbrev pub last_segment : List ℕ → List ℕ
+last_segment path = after_last (λ b. b == 47) path
 
-abbrev pub with_scan : Result Scan InsertError → Page → Table → Table
-with_scan (Err e) page routes = routes
-with_scan (Ok s) page routes = placed (s.pattern, route_from s page) routes
+-- the texts of the paths with their pages; where a text ends with a slash, one more segment stands behind it
+abbrev pub paths : List (List ℕ × Page)
+paths =
+    (codes "/v1/close", Close) ∷ (codes "/v1/me/bids", Bids) ∷ (codes "/v1/me/rounds/", Slip)
+    ∷ (codes "/v1/me", Account) ∷ (codes "/v1/products", Products) ∷ (codes "/v1/results", Results)
+    ∷ (codes "/v1/rounds/", Sheet) ∷ (codes "/v1/status", Status) ∷ []
 
--- the table with one more route, in its place
-abbrev pub with_route : List ℕ → Page → Table → Table
-with_route text page routes = with_scan (parse_route text) page routes
+-- one segment, which is not empty
+abbrev pub is_segment : List ℕ → Bool
+is_segment rest = nat_lt 0 (length rest) && not (list_any (λ b. b == 47) rest)
 
--- the routes of all pages
-unfoldable pub table : Table
-table =
-    with_route (codes "/v1/results") Results
-    (with_route (codes "/v1/close") Close
-    (with_route (codes "/v1/me/rounds/{n}") Slip
-    (with_route (codes "/v1/me/bids") Bids
-    (with_route (codes "/v1/me") Account
-    (with_route (codes "/v1/rounds/{n}") Sheet
-    (with_route (codes "/v1/products") Products
-    (with_route (codes "/v1/status") Status [])))))))
-
--- the page of the route that a path has
-abbrev pub page_at : List ℕ → Option Page
-page_at path = option_map (λ r. r.value) (first table path)
+-- the path is this text, or where the text ends with a slash, this text and one more segment
+abbrev pub is_path : List ℕ → List ℕ → Bool
+is_path text path =
+    if length (last_segment text) == 0 then starts_with nat_eq path text && is_segment (drop (length text) path)
+    else same_bytes text path
 
 -- the page of a path, if it is text and has one
 unfoldable pub page_of : List ℕ → Option Page
-page_of path = if is_utf8 path then page_at path else None
-
--- the last segment of a path
-abbrev pub last_segment : List ℕ → List ℕ
-last_segment path = after_last (λ b. b == 47) path
+page_of path = if is_utf8 path then option_map (λ row. row.1) (find (λ row. is_path row.0 path) paths) else None
 
 -- the methods that a page has
 abbrev pub methods : Page → List (List ℕ)

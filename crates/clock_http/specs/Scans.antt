@@ -8,15 +8,11 @@ use Rattle.std.specs.Prelude.{option_map}
 use Rattle.std.specs.List.{starts_with}
 use Rattle.httparse.specs.Ascii.{carriage_return, line_feed, crlf_bytes}
 
--- the end of a line and an empty line: CR LF CR LF
-abbrev pub empty_line : List ℕ
-empty_line = 13 ∷ 10 ∷ 13 ∷ 10 ∷ []
-
 -- how many bytes there are up to and with the first CR LF CR LF
 abbrev pub head_length : List ℕ → Option ℕ
 head_length [] = None
 head_length (b ∷ rest) =
-    if starts_with nat_eq (b ∷ rest) empty_line then Some 4 else option_map suc (head_length rest)
+    if starts_with nat_eq (b ∷ rest) (13 ∷ 10 ∷ 13 ∷ 10 ∷ []) then Some 4 else option_map suc (head_length rest)
 
 -- how often CR LF stands in the bytes
 abbrev pub line_ends : List ℕ → ℕ

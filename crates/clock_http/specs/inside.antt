@@ -2,3 +2,7 @@
 pub mod Followed
 pub mod Framed
 pub mod HeadFields
+pub mod HeadParts
+pub mod HeadTests
+pub mod ReplyLines
+pub mod Routing

@@ -9,9 +9,9 @@
 ghost use Rattle.std.specs.Prelude.{◌≡◌, ◌+◌, ◌≤◌, ◌<◌, ◌++◌, ℕ, List, [], ◌∷◌, length, map, drop, All, IfSome, option_map};
 ghost use Rattle.httparse.specs.Spans.{IsHeaderWithin, IsWithin, header_bytes, span_bytes};
 ghost use Rattle.clock_http.specs.HeaderLines as lines;
-ghost use Rattle.clock_http.specs.HeaderLines.{Pairs, length_from, within_limit, skip_spaces};
+ghost use Rattle.clock_http.specs.HeaderLines.{length_from, within_limit, skip_spaces};
 ghost use Rattle.clock_http.specs.Shown.{IsSomeWithin};
-ghost use Rattle.clock_http.specs.inside.HeadFields.{AreLinesOf, AreFieldsOf};
+ghost use Rattle.clock_http.specs.inside.HeadFields.{Pairs, AreLinesOf, AreFieldsOf};
 
 use crate::code::Code;
 use crate::decimal::{is_number, number};

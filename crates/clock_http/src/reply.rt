@@ -1,5 +1,6 @@
 ghost use Rattle.std.specs.Prelude.{◌≡◌, ◌≤◌, ◌++◌, drop, length, codes};
-ghost use Rattle.clock_http.specs.Replies.{allow_line, challenge_line, reason_of, status_line, lines_and_page, reply_bytes};
+ghost use Rattle.clock_http.specs.Replies.{allow_line, challenge_line, reply_bytes};
+ghost use Rattle.clock_http.specs.inside.ReplyLines.{reason_of, status_line, lines_and_page};
 
 use crate::code::Code;
 use crate::head_room::{HEAD_ROOM, put_before};

@@ -1,6 +1,7 @@
 ghost use Rattle.std.specs.Prelude.{◌≡◌, ◌≤◌, ◌+◌, ◌-◌, ◌*◌, ◌^◌, [], IfOk, OnOk, MatchOption, Some, None, codes};
 ghost use Rattle.clock_http.specs.Heads.{same_bytes};
 ghost use Rattle.clock_http.specs.Routes as spec;
+ghost use Rattle.clock_http.specs.inside.Routing as routing;
 
 use clock_device::NoMemory;
 use http::Method;
@@ -31,7 +32,7 @@ pub enum Page {
 /// Adds the routes of all pages to a router with none.
 fn add_routes(router: &mut Router<Page>) -> Result<(), InsertError>
     requires { router.old ≡ [] }
-    ensures { OnOk result (router.new ≡ spec.table) }
+    ensures { OnOk result (router.new ≡ routing.table) }
 {
     router.insert("/v1/status", Page::Status)?;
     router.insert("/v1/products", Page::Products)?;
@@ -46,7 +47,7 @@ fn add_routes(router: &mut Router<Page>) -> Result<(), InsertError>
 
 /// The routes of all pages.
 fn router(alloc: Global) -> Result<Router<Page>, InsertError>
-    ensures { IfOk result (λ router. router ≡ spec.table) }
+    ensures { IfOk result (λ router. router ≡ routing.table) }
 {
     let mut router = Router::new(alloc);
     add_routes(&mut router)?;
@@ -80,7 +81,7 @@ impl Page {
 
 /// The page that a path names by the routes of all pages.
 fn page_at(router: &Router<Page>, path: &[u8]) -> Option<Page>
-    requires { router.now ≡ spec.table }
+    requires { router.now ≡ routing.table }
     ensures { result ≡ spec.page_of path.now }
 {
     let Ok(text) = std::str::from_utf8(path) else {
@@ -96,7 +97,7 @@ fn page_at(router: &Router<Page>, path: &[u8]) -> Option<Page>
 #[derive(Drop)]
 pub struct Routes {
     router: Router<Page>,
-    ghost routed: { router ≡ spec.table },
+    ghost routed: { router ≡ routing.table },
 }
 
 impl Routes {

@@ -17,7 +17,8 @@ use Rattle.clock_front.specs.declared.tokens.Asker.{Asker}
 use Rattle.clock_front.specs.declared.tokens.Asker.TheVariants.{Nobody, Operator, Bidder}
 use Rattle.clock_front.specs.Requests.{Ask}
 use Rattle.clock_front.specs.Requests as asked
-use Rattle.clock_front.specs.Outcomes.{answer_of, outcome, command_of, put_outcome, close_outcome, close_to, without_room, close_command}
+use Rattle.clock_front.specs.Outcomes.{answer_of, outcome, command_of, put_outcome, close_outcome, close_to, close_command}
+use Rattle.clock_front.specs.inside.Roomless.{without_room}
 use Rattle.clock_http.specs.declared.routes.Page.{Page}
 use Rattle.clock_http.specs.declared.routes.Page.TheVariants.{Status, Products, Sheet, Account, Bids, Slip, Close, Results}
 use Rattle.clock_http.specs.Framing.{Framing, Head, framing, incomplete, refusal, whole}

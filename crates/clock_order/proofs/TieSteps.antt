@@ -10,7 +10,8 @@ use Rattle.clock_order.specs.declared.ties.Tie.{Tie}
 use Rattle.clock_order.specs.declared.ties.TieFault.{TieFault}
 use Rattle.clock_order.specs.declared.ties.TieFault.TheVariants.{Range, Repeated}
 use Rattle.clock_order.specs.Entries.{tie_of}
-use Rattle.clock_order.specs.Ties.{is_tie_of, is_in_range, is_new, tie_checks, checks_of_ties}
+use Rattle.clock_order.specs.Ties.{is_tie_of, tie_checks}
+use Rattle.clock_order.specs.inside.TieTests.{is_in_range, is_new, checks_of_ties}
 use Rattle.clock_order.proofs.Listed.{is_key, list_any-entries}
 
 -- the entry at place i

@@ -1,4 +1,3 @@
-mod Right
 mod Walking
 mod Served
 mod Ends

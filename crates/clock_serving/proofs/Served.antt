@@ -17,7 +17,7 @@ use Rattle.clock_keeping.specs.Serving.{WritesReply}
 use Rattle.clock_serving.specs.Exchanges.{Exchange}
 use Rattle.clock_serving.specs.Serving.{AreServed, KeepsText, RepliesTo, Walks}
 use Rattle.clock_serving.specs.inside.Served.{IsServed}
-use Rattle.clock_serving.proofs.Right.{right}
+use Rattle.clock_front.proofs.RunLaws.{right}
 use Rattle.clock_serving.proofs.Walking.{all_behind, walks_on}
 
 take_all : {A : Type 0} (xs : List A) → take (length xs) xs ≡ xs

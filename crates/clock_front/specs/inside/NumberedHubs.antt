@@ -1,13 +1,23 @@
 -- A hub whose connections have numbers.
+--     opened numbered, if_standing text      a connection after it was asked for, and after a piece
 --     Stands numbered connections conns      the connections by number are those of the hub
 --     HasCompleted request old new told      the request that an event completes is answered
-use Rattle.std.specs.Prelude.{◌≡◌, ◌<◌, ◌≤◌, ℕ, List, length, Option, Some, None, is_some, count_by, slice_index_or}
+use Rattle.std.specs.Prelude.{◌≡◌, ◌<◌, ◌≤◌, ℕ, List, [], length, Option, Some, None, is_some, count_by, slice_index_or, nat_lt, if◌then◌else◌}
+use Rattle.clock_http.specs.Framing.{needs_more}
 use Rattle.clock_house.specs.House.{HouseFields}
 use Rattle.clock_front.specs.Fronts.{AnswersText}
 use Rattle.clock_front.specs.declared.connections.Conn.{Conn}
 use Rattle.clock_front.specs.declared.events.EventReply.{EventReply}
-use Rattle.clock_front.specs.Pieces.{Numbered, text_at}
+use Rattle.clock_front.specs.Pieces.{Numbered, text_at, most_connections}
 use Rattle.clock_front.specs.Hubs.{ConnectionFields, text_of, standing_count}
+
+-- a connection that is asked for stands with no bytes, unless too many stand already
+abbrev pub opened : Numbered → Option (List ℕ)
+opened numbered = if nat_lt (count_by is_some numbered) most_connections then Some [] else None
+
+-- a text that is not complete stands
+abbrev pub if_standing : List ℕ → Option (List ℕ)
+if_standing text = if needs_more text then Some text else None
 
 -- the connection of a number, where it was made
 abbrev pub conn_at : List (Option Conn) → ℕ → Option Conn

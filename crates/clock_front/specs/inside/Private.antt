@@ -8,14 +8,14 @@ use Rattle.clock_house.specs.House.{HouseFields, ToView}
 use Rattle.clock_http.specs.Replies.{Answer}
 use Rattle.clock_front.specs.Requests.{Ask}
 use Rattle.clock_front.specs.Outcomes.{answer_of}
-use Rattle.clock_front.specs.Views.{known_from, bidder_outcome}
+use Rattle.clock_front.specs.inside.Known.{known_from, known_outcome}
 use Rattle.clock_front.specs.declared.tokens.Asker.{Asker}
 use Rattle.clock_front.specs.declared.tokens.Asker.TheVariants.{Nobody, Operator, Bidder}
 
 -- the answer to a bidder is what its view tells, with the public set-up and its own row, whichever commands the house stands for
 abbrev pub IsToldByView : HouseFields → ℕ → Ask → Answer → Type 0
 IsToldByView house bidder ask answer = ToView house bidder (λ view. answer
-    ≡ answer_of (bidder_outcome (public_setup house.setup) (bidder_at house.setup bidder)
+    ≡ answer_of (known_outcome (public_setup house.setup) (bidder_at house.setup bidder)
     (known_from (public_setup house.setup) (bidder_at house.setup bidder) view) ask))
 
 -- the same of an asker; of nobody and of the operator it says nothing

@@ -2,8 +2,8 @@
 --     IsTableOf setup tokens      the table tells of each token whose it is
 use Rattle.std.specs.Prelude.{◌≡◌, ℕ, List}
 use Rattle.clock_terms.specs.Limits.{SetupFields}
-use Rattle.clock_front.specs.Askers.{holder, tokens_of}
-use Rattle.clock_front.specs.inside.HeldTokens.{found}
+use Rattle.clock_front.specs.Askers.{holder}
+use Rattle.clock_front.specs.inside.HeldTokens.{found, tokens_of}
 use Rattle.clock_front.specs.declared.tokens.Tokens.{Tokens}
 
 -- the table tells of each token whose it is

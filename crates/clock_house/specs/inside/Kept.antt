@@ -5,7 +5,8 @@ use Rattle.clock_terms.specs.declared.prices.PricePair.{PricePair}
 use Rattle.clock_terms.specs.Limits.{IsSetup}
 use Rattle.clock_closing.specs.inside.OpenRound.{grid_of}
 use Rattle.clock_house.specs.Command.{Command}
-use Rattle.clock_house.specs.House.{HouseFields, StandsFor, standing_in, open_round_in}
+use Rattle.clock_house.specs.House.{HouseFields, StandsFor, standing_in}
+use Rattle.clock_house.specs.inside.OpenRounds.{open_round_in}
 
 -- a house of a set-up stands for some list of commands, and what it keeps for quick reading is what its closed rounds say; at the end there are no
 -- prices

@@ -4,9 +4,9 @@ ghost use Rattle.std.specs.Prelude.{◌≡◌, ◌<◌, ◌≤◌, ◌-◌, ℕ,
 ghost use Rattle.clock_terms.specs.Limits.{SetupFields, IsSetup, public_setup};
 ghost use Rattle.clock_bids.specs.Holding.{holding_of};
 ghost use Rattle.clock_house.specs.Command.{Command, other};
-ghost use Rattle.clock_house.specs.History.{history, bidder_at, for_each_bidder, slip_of, round_at};
+ghost use Rattle.clock_house.specs.History.{history, bidder_at, for_each_bidder, slip_of, round_at, round_to_close};
 ghost use Rattle.clock_house.specs.View.{IsSeen, seen_standing, seen_holding, seen_in_force, seen_round};
-ghost use Rattle.clock_house.specs.House.{standing_in, holding_in, open_round_in, IsFollowedBy, StandsFor, ToView};
+ghost use Rattle.clock_house.specs.House.{standing_in, holding_in, IsFollowedBy, StandsFor, ToView};
 ghost use Rattle.clock_house.specs.Laws.{IsSound, IsWithinLimits, HasSoundPrices, IsOpen, most_rounds};
 
 use crate::house::House;
@@ -135,7 +135,7 @@ impl<P> House<P> {
         ensures priced { (standing_in self.now).ended ≡ false →
             HasSoundPrices self.now.setup.products (standing_in self.now) }
         ensures going { (standing_in self.now).ended ≡ false → IsOpen (public_setup self.now.setup)
-            (open_round_in self.now) }
+            (round_to_close self.now.setup self.now.closed self.now.sheets) }
         ensures sheets { length self.now.sheets ≡ length self.now.setup.bidders }
         ensures rounds { length self.now.closed ≤ most_rounds }
         ensures others { IsFollowedBy other self.now self.now }

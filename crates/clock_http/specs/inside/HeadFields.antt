@@ -1,4 +1,5 @@
 -- What the parts of a head show of its text while they are looked for.
+--     Pairs      a name and a value for each header line
 --     AreLinesOf text name pairs lines      so many lines have a name, and the value of the last one stands there
 --     AreFieldsOf text pairs fields      each name's lines are those among all
 --     shown_read text result      an ended head with its body's length, or why it is refused
@@ -8,9 +9,13 @@ use Rattle.clock_http.specs.declared.code.Code.{Code}
 use Rattle.clock_http.specs.declared.head.EndedHead.{EndedHead}
 use Rattle.clock_http.specs.declared.headers.Lines.{Lines}
 use Rattle.clock_http.specs.declared.headers.Fields.{Fields}
-use Rattle.clock_http.specs.HeaderLines.{Pairs, values_of}
+use Rattle.clock_http.specs.HeaderLines.{values_of}
 use Rattle.clock_http.specs.Framing.{Head}
 use Rattle.clock_http.specs.Shown.{shown_ended}
+
+-- a name and a value for each header line
+abbrev pub Pairs : Type 0
+Pairs = List (List ℕ × List ℕ)
 
 -- so many lines have a name, and the value of the last one stands there
 pub record AreLinesOf (text name : List ℕ) (pairs : Pairs) (lines : Lines) : Type 0 where

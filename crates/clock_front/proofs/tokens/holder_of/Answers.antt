@@ -1,7 +1,6 @@
 use Rattle.std.proofs.Common.{Option, ap, sym, ◌∙◌}
 use Rattle.std.specs.Prelude.{unwrap_or}
-use Rattle.clock_front.specs.Askers.{asker_by}
-use Rattle.clock_front.specs.inside.HeldTokens.{found}
+use Rattle.clock_front.specs.inside.HeldTokens.{asker_by, found}
 use Rattle.clock_http.specs.Shown.{shown_bytes}
 use Rattle.clock_front.specs.declared.tokens.Asker.{Asker}
 use Rattle.clock_front.specs.declared.tokens.Asker.TheVariants.{Nobody}

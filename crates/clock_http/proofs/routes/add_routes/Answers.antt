@@ -1,6 +1,6 @@
 use Rattle.std.proofs.Common.{codes, ◌∙◌, ap}
 use Rattle.clock_http.specs.declared.routes.Page.TheVariants.{Status, Products, Sheet, Account, Bids, Slip, Close, Results}
-use Rattle.clock_http.specs.Routes.{with_route, table}
+use Rattle.clock_http.specs.inside.Routing.{with_route, table}
 use Rattle.clock_http.proofs.RouteLaws.{added}
 use Rattle.clock_http.proofs.routes.add_routes.Goals as goal
 

@@ -1,7 +1,7 @@
 use Rattle.std.proofs.Common.{◌≡◌, true, false, drop, sym, ◌∙◌, ap}
 use Rattle.std.specs.Prelude.{nat_eq}
 use Rattle.std.specs.List.{starts_with}
-use Rattle.clock_http.specs.Scans.{empty_line}
+use Rattle.clock_http.specs.inside.HeadTests.{empty_line}
 use Rattle.clock_http.proofs.ScanLaws.{goes_on, stops, tail}
 use Rattle.clock_http.proofs.scan.head_length.Goals as goal
 

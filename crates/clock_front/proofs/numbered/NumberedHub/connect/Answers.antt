@@ -1,8 +1,7 @@
 use Rattle.std.proofs.Common.{◌++◌, [], ◌∷◌, Option, None, sym, subst}
 use Rattle.clock_front.specs.declared.connections.Conn.{Conn}
-use Rattle.clock_front.specs.Pieces.{opened}
 use Rattle.clock_front.specs.Hubs.{HubFields, IsConnectFault}
-use Rattle.clock_front.specs.inside.NumberedHubs.{Stands}
+use Rattle.clock_front.specs.inside.NumberedHubs.{opened, Stands}
 use Rattle.clock_front.proofs.NumberedLaws.{then_ok, connected_stands, refused_stands}
 use Rattle.clock_front.proofs.numbered.NumberedHub.connect.Goals as goal
 use Rattle.clock_front.proofs.numbered.NumberedHub.connect.Goals.{in-Ok, in-Err-Full}

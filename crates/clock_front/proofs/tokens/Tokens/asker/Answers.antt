@@ -1,7 +1,7 @@
 use Rattle.std.proofs.Common.{length, subst, sym, ◌∙◌}
-use Rattle.clock_front.specs.Askers.{holder, tokens_of}
+use Rattle.clock_front.specs.Askers.{holder}
 use Rattle.clock_front.specs.inside.Askers.{IsKnown}
-use Rattle.clock_front.specs.inside.HeldTokens.{found}
+use Rattle.clock_front.specs.inside.HeldTokens.{found, tokens_of}
 use Rattle.clock_http.specs.Shown.{shown_bytes}
 use Rattle.clock_front.proofs.TokenLaws.{asker_known, asker_same}
 use Rattle.clock_front.proofs.tokens.Tokens.asker.Goals as goal

@@ -1,5 +1,6 @@
 use Rattle.std.proofs.Common.{List, ℕ, ap, ◌∙◌}
-use Rattle.clock_http.specs.Replies.{Answer, status_line, reply_bytes}
+use Rattle.clock_http.specs.Replies.{Answer, reply_bytes}
+use Rattle.clock_http.specs.inside.ReplyLines.{status_line}
 use Rattle.clock_http.proofs.reply.Reply.written.Goals as goal
 
 pub returns : goal.returns

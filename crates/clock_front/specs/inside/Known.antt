@@ -1,0 +1,60 @@
+-- What a bidder knows of the auction by its view, and what it is told by that.
+--     Known      what a bidder knows
+--     known_from setup row view      what it knows by its view
+--     known_outcome setup row known ask      what it is told
+use Rattle.std.specs.Prelude.{ℕ, List, Option, option_map, option_and_then, Ok, Err}
+use Rattle.clock_terms.specs.declared.setup.Bidder.{Bidder}
+use Rattle.clock_terms.specs.Limits.{PublicSetup}
+use Rattle.clock_bids.specs.declared.sheet.Bid.{Bid}
+use Rattle.clock_bids.specs.Holding.{Holding}
+use Rattle.clock_posting.specs.declared.sheet.RoundSheet.{RoundSheet}
+use Rattle.clock_closing.specs.declared.slip.Slip.{Slip}
+use Rattle.clock_house.specs.Standing.{Standing, put_fault}
+use Rattle.clock_house.specs.View.{Seen, seen_standing, seen_holding, seen_in_force, seen_round}
+use Rattle.clock_http.specs.declared.code.Code.TheVariants as code
+use Rattle.clock_views.specs.Refusals.{alone}
+use Rattle.clock_views.specs.PublicPages.{status_value, products_value, sheet_value}
+use Rattle.clock_views.specs.BidderPages.{account_value, bids_value, slip_value}
+use Rattle.clock_http.specs.Decimals.{plain_number}
+use Rattle.clock_front.specs.Requests.{Ask}
+use Rattle.clock_front.specs.Requests as asked
+use Rattle.clock_front.specs.Outcomes.{Outcome, done, refused, not_allowed, body_code, page_or_no_round, put_outcome}
+
+-- where the auction stands, what the bidder holds, its sheet in force, and of each closed round the sheet and its own slip
+pub record Known : Type 0 where
+  pub standing : Standing
+  pub holding : Holding
+  pub in_force : Option (List Bid)
+  pub rounds : ℕ → Option (RoundSheet × Slip)
+
+-- what a bidder knows by its view
+abbrev pub known_from : PublicSetup → Bidder → List Seen → Known
+known_from setup row view = record {
+  standing = seen_standing setup view;
+  holding = seen_holding setup row view;
+  in_force = seen_in_force setup row view;
+  rounds = λ n. seen_round n view;
+}
+
+-- the closed round that a segment of a path names
+abbrev pub known_round : Known → List ℕ → Option (RoundSheet × Slip)
+known_round known segment = option_and_then known.rounds (plain_number segment)
+
+-- pages of everyone and its own, and the answers to its sheets; the operator's pages are not for it
+unfoldable pub known_outcome : PublicSetup → Bidder → Known → Ask → Outcome
+known_outcome setup row known (asked.turned_away why) = refused (alone why)
+known_outcome setup row known (asked.no_method page) = not_allowed page
+known_outcome setup row known asked.status = done (status_value setup known.standing.round known.standing.ended)
+known_outcome setup row known asked.products = done (products_value setup)
+known_outcome setup row known (asked.sheet segment) =
+    page_or_no_round (option_map (λ seen. sheet_value setup seen.0) (known_round known segment))
+known_outcome setup row known asked.account =
+    done (account_value setup.products row.name known.standing.round known.holding known.standing.ended)
+known_outcome setup row known asked.bids = done (bids_value known.standing.round known.in_force)
+known_outcome setup row known (asked.put (Err fault)) = refused (alone (body_code fault))
+known_outcome setup row known (asked.put (Ok body)) =
+    put_outcome body (put_fault setup known.standing known.holding body.round body.bids)
+known_outcome setup row known (asked.slip segment) =
+    page_or_no_round (option_map (λ seen. slip_value seen.1) (known_round known segment))
+known_outcome setup row known (asked.close body) = refused (alone code.Role)
+known_outcome setup row known asked.results = refused (alone code.Role)
