@@ -98,7 +98,24 @@ impl Row {
     }
 
     /// The first product from `from` on of which a block is held, or `until` where each one before that is not held.
+    #[inline(always)]
     pub fn first_held(&self, from: usize, until: usize) -> usize
+        requires order { from ≤ until }
+        requires within { until ≤ length self.now }
+        ensures least { from ≤ result }
+        ensures most { result ≤ until }
+        ensures passed { AllWithin (λ demand. demand ≡ 0) self.now from result }
+        ensures held { result < until → 0 < slice_index self.now result }
+    {
+        if from < until && self.demands[from] != 0 {
+            return from;
+        }
+        self.next_held(from, until)
+    }
+
+    /// The same where the first one is most often not held: a function of its own, since the step above stands in loops.
+    #[inline(never)]
+    fn next_held(&self, from: usize, until: usize) -> usize
         requires order { from ≤ until }
         requires within { until ≤ length self.now }
         ensures least { from ≤ result }
