@@ -118,14 +118,15 @@ impl LimitLists {
     }
 }
 
-/// Adds the end of so many rows that all end there.
+/// Adds the end of so many rows that all end there. More than can be counted have no room.
 #[inline(always)]
 fn push_ends(ends: &mut Vec<u32>, end: u32, count: usize) -> Result<(), Stop>
     ensures { OnOk result (ends.new.items ≡ ends.old.items ++ replicate count end) }
 {
-    for _row in 0..count {
-        ends.push(end)?;
-    }
+    let Some(after) = ends.as_slice().len().checked_add(count) else {
+        return Err(Stop::NoMemory);
+    };
+    ends.resize(after, end)?;
     Ok(())
 }
 

@@ -38,8 +38,13 @@ items-preserved c =
           (items_push_same 1 numbers start here new (before ++ row ∷ []) [] count
           (items_push_next 1 numbers start l.scan here before row l.invariant.0 reads) c.empty_arrays-empty.ensures),
       subst (λ lasts. AreEnds 0 lasts (length after)) (sym ends) more.1,
-      omega (arith, l.invariant.2, c.in_ok-numbers_behind.ensures.shorter, ap length same,
-      all_shorter 1 here (replicate count (numbers [])) new c.empty_arrays-empty.ensures),
+      omega (
+        arith,
+        l.invariant.2,
+        c.in_ok-numbers_behind.ensures.shorter,
+        ap length same,
+        all_shorter 1 here (replicate count (numbers [])) new c.empty_arrays-empty.ensures,
+      ),
     )
 
 pub items-smaller : goal.items-smaller
@@ -47,8 +52,12 @@ items-smaller c =
     let here = c.numbers_behind.new.self in
     let count = c.empty_arrays-empty.result in
     let same : c.closes_array.new.self ≡ c.items.scan = grind arith in
-    omega (arith, c.in_ok-numbers_behind.ensures.shorter, ap length same,
-    all_shorter 1 here (replicate count (numbers [])) c.empty_arrays-empty.new.self c.empty_arrays-empty.ensures)
+    omega (
+      arith,
+      c.in_ok-numbers_behind.ensures.shorter,
+      ap length same,
+      all_shorter 1 here (replicate count (numbers [])) c.empty_arrays-empty.new.self c.empty_arrays-empty.ensures,
+    )
 
 pub returns-clause-value : goal.returns-clause-value
 returns-clause-value c =
