@@ -9,6 +9,7 @@ pub mod HeldTokens
 pub mod NumberedHubs
 pub mod ShownAsked
 pub mod TokenTable
+pub mod KeptPage
 pub mod Isolation
 pub mod Roomless
 pub mod Known

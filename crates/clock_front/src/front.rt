@@ -13,6 +13,7 @@ ghost use Rattle.clock_http.specs.Routes.{page_of};
 ghost use Rattle.clock_http.specs.Shown.{Knows, shown_head, shown_bytes};
 ghost use Rattle.clock_front.specs.inside.ShownAsked.{shown_asked};
 ghost use Rattle.clock_front.specs.inside.TokenTable.{IsTableOf};
+ghost use Rattle.clock_front.specs.inside.KeptPage.{IsProductsPage};
 
 use crate::asked::{Asked, asked_of};
 use crate::changes::{close, put};
@@ -20,12 +21,12 @@ use crate::fixed_replies::{fixed_reply, no_memory_reply};
 use crate::pages::{not_allowed, refusal};
 use crate::telling::{bidder_of, operator_of, tell};
 use crate::tokens::{Asker, Tokens};
-use clock_device::NoMemory;
+use clock_device::{NoMemory, Text};
 use clock_house::House;
 use clock_http::{Framing, Head, Progress, Reply, Routes};
 use clock_processor::Processor;
 use clock_terms::Setup;
-use clock_views::{Code, Refusal};
+use clock_views::{Code, Refusal, products_page};
 use std::alloc::Global;
 use std::marker::Model;
 
@@ -39,34 +40,38 @@ pub struct Front<P> {
     house: House<P>,
     routes: Routes,
     tokens: Tokens,
+    products: Text,
 }
 
 impl<P> Model for Front<P> {
     ghost use Rattle.clock_house.specs.House.{HouseFields};
     ghost use Rattle.clock_front.specs.inside.TokenTable.{IsTableOf};
+    ghost use Rattle.clock_front.specs.inside.KeptPage.{IsProductsPage};
 
     ghost Value = { HouseFields };
 
     ghost view = { λ f. f.house };
 
-    ghost invariant = { λ f. IsTableOf f.house.setup f.tokens };
+    ghost invariant = { λ f. IsTableOf f.house.setup f.tokens × IsProductsPage f.house.setup f.products };
 }
 
 /// What an asker asks for is told or done, or it is told why not.
 fn answer_asked<P: Processor>(
     alloc: Global,
     house: &mut House<P>,
+    products: &[u8],
     asker: Asker,
     what: Asked<'_>,
 ) -> Result<Reply, NoMemory>
-    requires { IsKnown (length house.old.setup.bidders) asker }
+    requires known { IsKnown (length house.old.setup.bidders) asker }
+    requires page { IsProductsPage house.old.setup products.now }
     ensures reply { IfOk result (λ reply. reply ≡ answer_of (outcome house.old asker (shown_asked what.entry))) }
     ensures followed { OnOk result (IsFollowedBy (command_of house.old.setup asker (shown_asked what.entry)) house.old house.new) }
     ensures still { OnErr result (StandsStill house.old house.new) }
 {
     house.law_of_house();
     match what {
-        Asked::Read(what) => tell(alloc, house, asker, what),
+        Asked::Read(what) => tell(alloc, house, products, asker, what),
         Asked::Put(body) => match bidder_of(asker) {
             Ok(bidder) => put(alloc, house, bidder, body),
             Err(away) => refusal(alloc, away),
@@ -83,11 +88,13 @@ fn answer_head<P: Processor>(
     alloc: Global,
     house: &mut House<P>,
     routes: &Routes,
+    products: &[u8],
     asker: Asker,
     head: &Head<'_>,
     body: &[u8],
 ) -> Result<Reply, NoMemory>
-    requires { IsKnown (length house.old.setup.bidders) asker }
+    requires known { IsKnown (length house.old.setup.bidders) asker }
+    requires page { IsProductsPage house.old.setup products.now }
     ensures reply { IfOk result (λ reply. reply
         ≡ answer_of (outcome house.old asker (ask_by_route (page_of head.now.path.now) (shown_head head.now) body.now))) }
     ensures private { IfOk result (IsToldAsker house.old asker (ask_by_route (page_of head.now.path.now) (shown_head head.now) body.now)) }
@@ -102,16 +109,18 @@ fn answer_head<P: Processor>(
     if !page.has_method(head.method) {
         return not_allowed(alloc, page);
     }
-    answer_asked(alloc, house, asker, asked_of(page, head, body))
+    answer_asked(alloc, house, products, asker, asked_of(page, head, body))
 }
 
-/// Whose the tokens of a set-up are, and the routes of all pages.
-fn tables(alloc: Global, setup: &Setup) -> Result<(Tokens, Routes), NoMemory>
-    ensures { IfOk result (λ both. IsTableOf setup.now both.0) }
+/// Whose the tokens of a set-up are, the routes of all pages, and the page of products, which never changes.
+fn tables(alloc: Global, setup: &Setup) -> Result<(Tokens, Routes, Text), NoMemory>
+    ensures tokens { IfOk result (λ all. IsTableOf setup.now all.0) }
+    ensures page { IfOk result (λ all. IsProductsPage setup.now all.2) }
 {
     let tokens = Tokens::new(alloc, setup)?;
     let routes = Routes::new(alloc)?;
-    Ok((tokens, routes))
+    let products = products_page(alloc, setup)?;
+    Ok((tokens, routes, products))
 }
 
 impl<P: Processor> Front<P> {
@@ -122,11 +131,12 @@ impl<P: Processor> Front<P> {
     {
         let house = House::new(alloc, setup, processor)?;
         match tables(alloc, house.setup()) {
-            Ok((tokens, routes)) => Ok(Front {
+            Ok((tokens, routes, products)) => Ok(Front {
                 alloc,
                 house,
                 routes,
                 tokens,
+                products,
             }),
             Err(refused) => {
                 drop(house);
@@ -156,6 +166,7 @@ impl<P: Processor> Front<P> {
                     self.alloc,
                     &mut self.house,
                     &self.routes,
+                    self.products.as_slice(),
                     asker,
                     &head,
                     body,

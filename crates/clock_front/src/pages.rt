@@ -2,7 +2,10 @@
 
 ghost use Rattle.std.specs.Prelude.{◌≡◌, ◌<◌, length, Some, None, IfOk};
 ghost use Rattle.clock_front.specs.declared.tokens.Asker.TheVariants as who;
-ghost use Rattle.clock_front.specs.Outcomes.{answer_of, not_allowed as told_not_allowed, refused, told};
+ghost use Rattle.clock_front.specs.Outcomes.{answer_of, done, not_allowed as told_not_allowed, refused, told};
+ghost use Rattle.clock_front.specs.inside.KeptPage.{IsProductsPage};
+ghost use Rattle.clock_terms.specs.Limits.{SetupFields, public_setup};
+ghost use Rattle.clock_views.specs.PublicPages.{products_value};
 ghost use Rattle.clock_front.specs.inside.Roomless.{without_room};
 ghost use Rattle.clock_front.specs.inside.Private.{IsToldByView};
 ghost use Rattle.clock_front.specs.Requests as asked;
@@ -11,8 +14,8 @@ use clock_device::NoMemory;
 use clock_house::House;
 use clock_http::{Page, Reply, plain_number, text_with_room};
 use clock_views::{
-    Code, Refusal, push_account_page, push_bids_page, push_products_page, push_refusal_page,
-    push_results_page, push_sheet_page, push_slip_page, push_status_page,
+    Code, Refusal, push_account_page, push_bids_page, push_refusal_page, push_results_page,
+    push_sheet_page, push_slip_page, push_status_page,
 };
 use std::alloc::Global;
 
@@ -43,12 +46,13 @@ pub(crate) fn status<P>(alloc: Global, house: &House<P>) -> Result<Reply, NoMemo
     Ok(Reply::written(Code::Done, None, text))
 }
 
-/// What is auctioned.
-pub(crate) fn products<P>(alloc: Global, house: &House<P>) -> Result<Reply, NoMemory>
-    ensures { IfOk result (λ reply. reply ≡ answer_of (told house.now who.Nobody asked.products)) }
+/// What is auctioned: a page that is at hand, since it never changes.
+pub(crate) fn products(alloc: Global, page: &[u8]) -> Result<Reply, NoMemory>
+    ensures { IfOk result (λ reply. (setup : SetupFields) → IsProductsPage setup page.now
+        → reply ≡ answer_of (done (products_value (public_setup setup)))) }
 {
     let mut text = text_with_room(alloc)?;
-    push_products_page(&mut text, house.setup())?;
+    text.extend_from_slice(page)?;
     Ok(Reply::written(Code::Done, None, text))
 }
 

@@ -4,6 +4,7 @@ ghost use Rattle.std.specs.Prelude.{◌≡◌, ◌<◌, ℕ, length, IfOk, IfErr
 ghost use Rattle.clock_front.specs.inside.Askers.{IsKnown};
 ghost use Rattle.clock_front.specs.Outcomes.{Outcome, answer_of, outcome, refused, to_bidder, to_operator};
 ghost use Rattle.clock_front.specs.inside.ShownAsked.{shown_reading};
+ghost use Rattle.clock_front.specs.inside.KeptPage.{IsProductsPage};
 
 use crate::asked::Reading;
 use crate::pages::{account, bids, products, refusal, results, sheet, slip, status};
@@ -40,19 +41,21 @@ pub(crate) fn operator_of(asker: Asker) -> Result<(), Refusal>
     }
 }
 
-/// The reply to what an asker asks to be told.
+/// The reply to what an asker asks to be told. The page of products is at hand.
 pub(crate) fn tell<P>(
     alloc: Global,
     house: &House<P>,
+    page: &[u8],
     asker: Asker,
     what: Reading<'_>,
 ) -> Result<Reply, NoMemory>
-    requires { IsKnown (length house.now.setup.bidders) asker }
+    requires page { IsProductsPage house.now.setup page.now }
+    requires known { IsKnown (length house.now.setup.bidders) asker }
     ensures { IfOk result (λ reply. reply ≡ answer_of (outcome house.now asker (shown_reading what.entry))) }
 {
     match what {
         Reading::Status => status(alloc, house),
-        Reading::Products => products(alloc, house),
+        Reading::Products => products(alloc, page),
         Reading::Sheet(segment) => sheet(alloc, house, segment),
         Reading::Account => match bidder_of(asker) {
             Ok(bidder) => account(alloc, house, bidder),

@@ -1,12 +1,10 @@
-use Rattle.std.proofs.Common.{ap, ◌∙◌, None}
-use Rattle.clock_terms.specs.Limits.{SetupFields, public_setup}
-use Rattle.clock_http.specs.declared.code.Code.TheVariants.{Done}
+use Rattle.std.proofs.Common.{◌++◌, List, ℕ, ap, ◌∙◌}
+use Rattle.clock_terms.specs.Limits.{public_setup}
 use Rattle.clock_views.specs.PublicPages.{products_value}
-use Rattle.clock_front.specs.Outcomes.{with_page}
 use Rattle.clock_front.proofs.PageLaws.{written_page}
 use Rattle.clock_front.proofs.pages.products.Goals as goal
 
 pub returns : goal.returns
-returns g c =
-    written_page _ _ _ _ _ _ c.written.ensures c.in_ok-text.ensures c.in_ok-push_products_page.ensures
-    ∙ ap (λ (setup : SetupFields). with_page Done None (products_value (public_setup setup))) c.setup.ensures
+returns c setup page =
+    written_page _ _ _ _ _ (products_value (public_setup setup)) c.written.ensures c.in_ok-text.ensures
+    (record { is = c.in_ok-extend_from_slice.ensures.ok ∙ ap (λ (piece : List ℕ). c.in_ok-text.text ++ piece) page })

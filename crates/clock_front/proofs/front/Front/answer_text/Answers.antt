@@ -62,7 +62,7 @@ returns-in-Whole-clause-reply g c =
     let text = c.args.text.now in
     let head = shown_head c.in-Whole.head in
     let ask = ask_by_route (page_of head.path) head c.in-Whole.body.now in
-    let table = subst (λ (h : HouseFields). IsTableOf h.setup c.self.inside.tokens) c.self.view_is c.self.invariant in
+    let table = subst (λ (h : HouseFields). IsTableOf h.setup c.self.inside.tokens) c.self.view_is c.self.invariant.0 in
     told_as c.answer_head.result _ _
     (ap (λ (h : HouseFields). answer_of (outcome h c.asker-asker.result ask)) c.self.view_is
     ∙ ap (λ (who : Asker). answer_of (outcome house who ask)) (c.asker-asker.ensures.shown house.setup table)
@@ -77,7 +77,7 @@ returns-in-Whole-clause-followed g c =
     let head = shown_head c.in-Whole.head in
     let ask = ask_by_route (page_of head.path) head c.in-Whole.body.now in
     let new = c.answer_head.new.house in
-    let table = subst (λ (h : HouseFields). IsTableOf h.setup c.self.inside.tokens) c.self.view_is c.self.invariant in
+    let table = subst (λ (h : HouseFields). IsTableOf h.setup c.self.inside.tokens) c.self.view_is c.self.invariant.0 in
     let same = ap (λ (who : Asker). command_of house.setup who ask) (c.asker-asker.ensures.shown house.setup table)
     ∙ ap (λ (request : Request). command_of house.setup (asker house.setup request.token) request.ask)
     (whole_request text head c.in-Whole.body.now c.in-Whole.ensures) in
