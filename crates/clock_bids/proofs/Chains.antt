@@ -11,7 +11,8 @@ use Rattle.clock_terms.specs.Faults.{first_fault}
 use Rattle.clock_bids.specs.declared.sheet.Bid.{Bid}
 use Rattle.clock_bids.specs.declared.sheet.BidFault.{BidFault}
 use Rattle.clock_bids.specs.declared.sheet.BidFault.TheVariants.{PriceOrder, MixedDirection, KeepPrice}
-use Rattle.clock_bids.specs.Sheet.{last_quantity, is_above_prices, keeps_direction, is_kept_at_clock}
+use Rattle.clock_bids.specs.inside.Parts.{is_above_prices}
+use Rattle.clock_bids.specs.Sheet.{last_quantity, keeps_direction, is_kept_at_clock}
 use Rattle.clock_bids.specs.inside.Chains.{Climbs, Falls, Moves, up, down, kept, RisesFrom, IsInRange, IsGoodChain, last_after, last_of, is_step_on, step_checks}
 
 -- the last bid has the last quantity

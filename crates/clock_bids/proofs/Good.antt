@@ -19,8 +19,9 @@ use Rattle.clock_bids.specs.declared.sheet.Bid.{Bid}
 use Rattle.clock_bids.specs.declared.sheet.BidFault.{BidFault}
 use Rattle.clock_bids.specs.declared.sheet.BidFault.TheVariants.{TooMany, UnknownProduct, PriceRange, OverCap, OverActivity}
 use Rattle.clock_bids.specs.Holding.{Holding, activity_limit}
-use Rattle.clock_bids.specs.Sheet.{chain_of, last_quantity, asked_demands, most_bids, is_for_product, is_in_prices, is_within_cap}
-use Rattle.clock_bids.specs.Sheet.{bid_checks, checks_of_bids, is_within_limit, sheet_fault, IsGoodSheet}
+use Rattle.clock_bids.specs.inside.Parts.{is_for_product, is_within_cap, is_in_prices, checks_of_bids}
+use Rattle.clock_bids.specs.Sheet.{chain_of, last_quantity, asked_demands, most_bids}
+use Rattle.clock_bids.specs.Sheet.{bid_checks, is_within_limit, sheet_fault, IsGoodSheet}
 use Rattle.clock_bids.specs.inside.Chains.{IsInRange, IsGoodChain, AreGoodChains, up, last_of, last_bids, step_checks, checks_by_last}
 use Rattle.clock_bids.proofs.Chains.{passes, chain_checks, good_chain-push, checks_by_last_of}
 use Rattle.clock_bids.proofs.Tables.{no_bid, chain_of-own, chain_of-other, last_bids-more, length-asked_demands}

@@ -15,7 +15,8 @@ use Rattle.clock_terms.specs.declared.change.Change.{Change}
 use Rattle.clock_terms.specs.declared.change.Kind.{Kind}
 use Rattle.clock_terms.specs.declared.change.Kind.TheVariants.{Increase, Reduction}
 use Rattle.clock_bids.specs.Sheet.{last_quantity}
-use Rattle.clock_bids.specs.Changes.{distance, change_to, Link, links_from, changes_of_chain, drop_to_zero, changes_of_product}
+use Rattle.clock_bids.specs.inside.Parts.{distance, drop_to_zero, changes_of_chain}
+use Rattle.clock_bids.specs.Changes.{change_to, Link, links_from, changes_of_product}
 use Rattle.clock_bids.specs.inside.Chains.{Climbs, Falls, Moves, up, down, kept, IsInRange, IsGoodChain}
 use Rattle.clock_bids.proofs.Chains.{climbs-le, falls-le}
 

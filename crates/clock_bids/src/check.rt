@@ -4,7 +4,8 @@ ghost use Rattle.clock_terms.specs.Faults.{first_fault, IsFirstFault};
 ghost use Rattle.clock_terms.specs.Eligibility as eligibilities;
 ghost use Rattle.clock_bids.specs.Holding as rules;
 ghost use Rattle.clock_bids.specs.Holding.{holding_of};
-ghost use Rattle.clock_bids.specs.Sheet.{IsGoodSheet, asked_demands, most_bids, sheet_fault, checks_of_bids};
+ghost use Rattle.clock_bids.specs.inside.Parts.{checks_of_bids};
+ghost use Rattle.clock_bids.specs.Sheet.{IsGoodSheet, asked_demands, most_bids, sheet_fault};
 ghost use Rattle.clock_bids.specs.inside.Chains.{bid_at, checks_by_last, quantity_of, step_checks};
 
 use crate::sheet::{Bid, BidFault, Own, Sheet};

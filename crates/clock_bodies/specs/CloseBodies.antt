@@ -17,15 +17,12 @@ use Rattle.clock_bodies.specs.Bodies.{meant_by}
 
 -- three numbers
 abbrev pub tie_from : Items → Option Tie
-tie_from no_items = None
-tie_from (item a no_items) = None
-tie_from (item a (item b no_items)) = None
 tie_from (item a (item b (item c no_items))) = do
   bidder ← number_from a
   product ← number_from b
   number ← number_from c
   Some (record { bidder = bidder; product = product; number = number })
-tie_from (item a (item b (item c (item d items)))) = None
+tie_from _ = None
 
 -- [BIDDER,PRODUCT,NUMBER]
 abbrev pub tie_of : Data → Option Tie

@@ -18,9 +18,10 @@ use Rattle.clock_order.specs.declared.ties.Tie.{Tie}
 use Rattle.clock_processor.specs.Board.{IsWithinEligibility}
 use Rattle.clock_processor.proofs.Supply.{settled_supplied}
 use Rattle.clock_posting.specs.declared.sheet.Line.{Line}
-use Rattle.clock_posting.specs.Posting.{has_ended, opening_posted, first_at_limit, next_price, next_prices, price_limit_fault}
-use Rattle.clock_posting.specs.Posting.{sheet_line, lines_of_round, next_pair, IsBetween, IsRising, IsAtClock}
-use Rattle.clock_posting.specs.PostedPrice.{posted_prices, IsPriceRange, IsWithinPrices}
+use Rattle.clock_posting.specs.inside.Parts.{first_at_limit, lines_of_round, IsPriceRange}
+use Rattle.clock_posting.specs.Posting.{has_ended, opening_posted, next_price, next_prices, price_limit_fault}
+use Rattle.clock_posting.specs.Posting.{sheet_line, next_pair, IsBetween, IsRising, IsAtClock}
+use Rattle.clock_posting.specs.PostedPrice.{posted_prices, IsWithinPrices}
 use Rattle.clock_posting.proofs.Ranges.{all_in_range}
 use Rattle.clock_posting.proofs.Laws.{lines_between, lines_show, opening_between, opening_dollars}
 use Rattle.clock_posting.proofs.Posted.{length-posted_prices, posted_between, posted_dollars, some_at_clock}

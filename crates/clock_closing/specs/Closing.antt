@@ -7,7 +7,6 @@
 --     closing_now round increments ties      the same of a closing of the current round
 use Rattle.std.specs.Prelude.{ℕ, List, ◌∷◌, ◌++◌, Bool, not, ◌==◌, if◌then◌else◌, Result, length, map, flat_map}
 use Rattle.clock_terms.specs.declared.setup.Product.{Product}
-use Rattle.clock_terms.specs.declared.prices.PricePair.{PricePair}
 use Rattle.clock_terms.specs.declared.increments.Increments.{Increments}
 use Rattle.clock_terms.specs.Limits.{PublicSetup, public_setup}
 use Rattle.clock_terms.specs.Increments.{are_increments}
@@ -58,16 +57,13 @@ pub record Outcome : Type 0 where
 abbrev pub first_outcome : List Product → OpenRound → Outcome
 first_outcome products now = record { grid = asked_grid products now; posted = opening_posted products }
 
--- the demands that a settling leaves, and the posted prices
-abbrev pub settled_outcome : List Product → List PricePair → List Change → Progress → Outcome
-settled_outcome products prices changes end = record {
-  grid = end.grid;
-  posted = posted_prices products prices changes end.left end.grid;
-}
-
--- in a later round the requests are settled
+-- in a later round the requests are settled: the demands that this leaves, and the posted prices
 abbrev pub later_outcome : List Product → OpenRound → List Change → Outcome
-later_outcome products now changes = settled_outcome products now.standing.prices changes (settlement products now changes)
+later_outcome products now changes = record {
+  grid = (settlement products now changes).grid;
+  posted = posted_prices products now.standing.prices changes (settlement products now changes).left
+      (settlement products now changes).grid;
+}
 
 -- the demands and the posted prices of the current round
 abbrev pub outcome : List Product → OpenRound → List Tie → Outcome
@@ -96,20 +92,14 @@ closed_round setup now increments result = record {
   slips = slips_after setup now result.grid;
 }
 
--- an outcome posts nothing where the auction would go on and a product can have no next clock price
-abbrev pub outcome_checks : List Product → Increments → Outcome → List (CloseFault × Bool)
-outcome_checks products increments result =
-    fault_check close_faults.PriceLimit (price_limit_fault products result.grid result.posted increments)
-
--- the auction goes on, the round is the current one, there is an increment of 1 to 50 percent for each product, the tie numbers have no fault, and no
--- next clock price would be too high
+-- the auction goes on, the round is the current one, increments and ties are good, and no next clock price is too high
 abbrev pub closing_checks : PublicSetup → OpenRound → ℕ → Increments → List Tie → Outcome → List (CloseFault × Bool)
 closing_checks setup now round increments ties result =
     (close_faults.Ended, not now.standing.ended)
     ∷ (close_faults.WrongRound now.standing.round, round == now.standing.round)
     ∷ (close_faults.Increment, are_increments (length setup.products) increments)
     ∷ fault_check close_faults.Tie (tie_fault (length now.holdings) (length setup.products) ties)
-    ++ outcome_checks setup.products increments result
+    ++ fault_check close_faults.PriceLimit (price_limit_fault setup.products result.grid result.posted increments)
 
 -- the round that a closing adds, or its first fault
 abbrev pub closing : PublicSetup → OpenRound → ℕ → Increments → List Tie → Result ClosedRound CloseFault

@@ -16,7 +16,6 @@ use Rattle.clock_terms.specs.Eligibility.{activity}
 use Rattle.clock_bids.specs.declared.sheet.Bid.{Bid}
 use Rattle.clock_bids.specs.Sheet.{IsGoodSheet}
 use Rattle.clock_posting.specs.Posting.{IsRising}
-use Rattle.clock_posting.specs.PostedPrice.{IsPriceRange}
 use Rattle.clock_closing.specs.Standing.{Standing}
 use Rattle.clock_closing.specs.Holdings.{Holding}
 
@@ -44,12 +43,11 @@ pub record IsWithinLimits (products : List Product) (holding : Holding) : Type 0
   pub within : activity products holding.demands ≤ holding.eligibility
   pub most : holding.eligibility ≤ most_eligibility
 
--- a round from 1 on, a pair of prices for each product, in order, at start prices from 1 to 10^12, and from round 2 on the clock price above the
--- start price; from then on some start price has risen in each round, so that the rounds are bounded
+-- a round from 1 on, with prices in order; from round 2 on they rise, and each round has raised some start price
 pub record HasSoundPrices (products : List Product) (now : Standing) : Type 0 where
   pub numbered : 1 ≤ now.round
   pub pairs : length now.prices ≡ length products
-  pub ordered : All IsPriceRange now.prices
+  pub ordered : All (λ pair. pair.start ≤ pair.clock) now.prices
   pub positive : All (λ pair. 1 ≤ pair.start) now.prices
   pub highest : All (λ pair. pair.start ≤ highest_price) now.prices
   pub rising : 2 ≤ now.round → All IsRising now.prices
@@ -78,8 +76,7 @@ open_at round prices holdings sheets = record {
   sheets = sheets;
 }
 
--- the auction goes on, its round is in order, there are a holding and a sheet or none for each bidder of the set-up, and the first round is at the
--- opening prices
+-- a round in order that goes on, a holding and a sheet or none for each bidder, and in round 1 the opening prices
 pub record IsOpenRound (round : OpenRoundFields) : Type 0 where
   pub going : round.before.standing.ended ≡ false
   pub holdings : length round.before.holdings ≡ length round.setup.bidders

@@ -41,8 +41,7 @@ pub record IsRight (setup : SetupFields) (past : List (List ℕ)) (text : List �
   pub is : one ≡ reply setup past text
   pub private : (bidder : ℕ) → bidder < length setup.bidders → is_own (bidder_at setup bidder) text ≡ true → IsPrivate setup bidder past text one
 
--- one reply for each text, in order: that of want of memory, and then the text is struck out, and was not refused at its head
--- or length; or the right one after the texts that were replied to before it. At the end the texts that were replied to stand, the newest first
+-- each text is struck out for want of memory or has the right reply; at the end stand those replied to, newest first
 abbrev pub Runs : SetupFields → List (List ℕ) → List (List ℕ) → List Answer → List (List ℕ) → Type 0
 Runs setup past [] [] end = end ≡ past
 Runs setup past [] (one ∷ answers) end = ⊥
@@ -51,15 +50,13 @@ Runs setup past (text ∷ texts) (one ∷ answers) end =
     (IsStruckOut text one × Runs setup past texts answers end)
     ⊎ (IsRight setup past text one × Runs setup (text ∷ past) texts answers end)
 
--- the texts that were replied to, the replies, and the auction that these texts have made: bidders within their limits,
--- prices in order, and no product that was sold out comes free again
+-- the replies to the texts from the beginning on, and the auction that those replied to have made, which is sound
 pub record IsRun (setup : SetupFields) (texts : List (List ℕ)) (answers : List Answer) : Type 0 where
   pub end : List (List ℕ)
   pub runs : Runs setup [] texts answers end
   pub sound : IsSound setup (history setup (commands_of setup end))
 
--- the replies are a run over the texts of the requests that the events are, in the order in which these are complete, and
--- each reply has the number of its request's connection
+-- a run over the texts of the requests that the events complete, in that order, each with its connection's number
 pub record IsEventRun (setup : SetupFields) (events : List Event) (replies : List EventReply) : Type 0 where
   pub numbers : map (λ one. one.number) replies ≡ map (λ request. request.0) (requests_of events)
   pub run : IsRun setup (map (λ request. request.1) (requests_of events)) (map (λ one. one.reply) replies)

@@ -29,8 +29,7 @@ completed numbered (Piece number piece) =
     (text_at numbered number)
 completed numbered (Finish number) = option_map (λ text. (number, text)) (text_at numbered number)
 
--- the connections after an event: one that is asked for stands with no bytes, unless too many stand already, and a text
--- stands until it is complete
+-- the connections after an event: a new one has no bytes, unless too many stand, and a text stands until it is complete
 abbrev pub after : Numbered → Event → Numbered
 after numbered Connect =
     numbered ++ (if nat_lt (count_by is_some numbered) most_connections then Some [] else None) ∷ []

@@ -17,8 +17,7 @@ use Rattle.clock_bodies.specs.declared.put_body.PutBody.{PutBody}
 use Rattle.clock_bodies.specs.declared.close_body.CloseBody.{CloseBody}
 use Rattle.clock_bodies.specs.declared.body_fault.BodyFault.{BodyFault}
 
--- a text that no page answers, or a page by a method that it has not; a page; a sheet or a closing, whose body is looked at
--- only once the sender may send it
+-- no page, or not by this method; a page; a sheet or closing, whose body is looked at once its sender may send it
 pub data Ask : Type 0 where
   turned_away : Code → Ask
   no_method : Page → Ask

@@ -28,8 +28,7 @@ StaysSupplied products later earlier =
     (product : ℕ) → supply_of products product ≤ total_of (demands_of earlier.slips) product
     → supply_of products product ≤ total_of (demands_of later.slips) product
 
--- bidders within their limits, prices in order, rounds in order, no product that was sold out comes free again, and at most as many rounds as highest
--- prices together allow, and two
+-- rounds in order, bidders within limits, prices in order, no product sold out comes free again, and bounded rounds
 pub record IsSound (setup : SetupFields) (auction : Auction) : Type 0 where
   pub numbered : AreNumbered (length setup.bidders) (length setup.products) auction.closed
   pub within : (bidder : ℕ) → bidder < length setup.bidders → IsWithinLimits setup.products (holding setup auction.closed bidder)

@@ -1,6 +1,5 @@
 -- Numbers written in decimal digits.
 --     is_number text      one or more digits
---     is_plain_number text      digits without leading zeros
 --     plain_number text      the number that they write, if it has at most 64 bits
 use Rattle.std.specs.Prelude.{ℕ, ◌^◌, ◌&&◌, ◌||◌, not, Bool, List, length, slice_index, if◌then◌else◌, nat_lt, ◌==◌, Option, Some, None}
 use Rattle.std.specs.List.{list_all}
@@ -12,11 +11,8 @@ use Rattle.httparse.specs.Ascii.{digit_zero}
 abbrev pub is_number : List ℕ → Bool
 is_number text = nat_lt 0 (length text) && list_all is_ascii_digit text
 
--- digits of which the first is no 0, unless it is the only one
-abbrev pub is_plain_number : List ℕ → Bool
-is_plain_number text = is_number text && (length text == 1 || not (slice_index text 0 == digit_zero))
-
--- the number that they write, if it has at most 64 bits
+-- the number that they write, if the first is no 0, unless it is the only one, and it has at most 64 bits
 abbrev pub plain_number : List ℕ → Option ℕ
 plain_number text =
-    if is_plain_number text && nat_lt (digits_value 10 text) (2 ^ 64) then Some (digits_value 10 text) else None
+    if (is_number text && (length text == 1 || not (slice_index text 0 == digit_zero))) && nat_lt (digits_value 10 text) (2 ^ 64)
+    then Some (digits_value 10 text) else None

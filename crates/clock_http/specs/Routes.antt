@@ -40,14 +40,9 @@ page_of path = if is_utf8 path then option_map (λ row. row.1) (find (λ row. is
 
 -- the methods that a page has
 abbrev pub methods : Page → List (List ℕ)
-methods Status = codes "GET" ∷ []
-methods Products = codes "GET" ∷ []
-methods Sheet = codes "GET" ∷ []
-methods Account = codes "GET" ∷ []
 methods Bids = codes "GET" ∷ codes "PUT" ∷ []
-methods Slip = codes "GET" ∷ []
 methods Close = codes "POST" ∷ []
-methods Results = codes "GET" ∷ []
+methods _ = codes "GET" ∷ []
 
 -- one of a page's methods
 abbrev pub has_method : Page → List ℕ → Bool

@@ -6,3 +6,4 @@ pub mod HeadParts
 pub mod HeadTests
 pub mod ReplyLines
 pub mod Routing
+pub mod PlainNumbers

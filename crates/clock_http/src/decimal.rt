@@ -6,6 +6,7 @@ ghost use Rattle.std.specs.List.{list_all};
 ghost use Rattle.std.specs.Option.{SomeIff};
 ghost use Rattle.std.specs.Str.Parse.{digits_value};
 ghost use Rattle.clock_http.specs.Decimals as spec;
+ghost use Rattle.clock_http.specs.inside.PlainNumbers.{is_plain_number};
 
 /// Whether all bytes are digits.
 fn all_digits(text: &[u8]) -> bool
@@ -34,7 +35,7 @@ pub(crate) fn number(digits: &[u8]) -> Option<u64>
 
 /// Whether these are digits of which the first is no 0, unless it is the only one.
 fn is_plain_number(text: &[u8]) -> bool
-    ensures { result ≡ spec.is_plain_number text.now }
+    ensures { result ≡ is_plain_number text.now }
 {
     is_number(text) && (text.len() == 1 || text[0] != b'0')
 }

@@ -13,7 +13,8 @@ use Rattle.clock_terms.specs.Limits.{IsProduct, no_product}
 use Rattle.clock_terms.specs.Increments.{AreIncrements}
 use Rattle.clock_terms.specs.Prices.{prices_at, opening_prices}
 use Rattle.clock_posting.specs.declared.posting.Posting.{Posting}
-use Rattle.clock_posting.specs.Posting.{has_ended, next_clock, opening_posted, next_prices, sheet_line, lines_of_round}
+use Rattle.clock_posting.specs.inside.Parts.{lines_of_round}
+use Rattle.clock_posting.specs.Posting.{has_ended, next_clock, opening_posted, next_prices, sheet_line}
 use Rattle.clock_posting.specs.Posting.{next_pair, IsBetween, IsRising, IsPosting, IsConsistent}
 use Rattle.clock_posting.specs.inside.RoundEnd.{HasClocks, IsRoundEnd}
 use Rattle.clock_posting.proofs.Ranges.{all_in_range}

@@ -13,7 +13,8 @@ use Rattle.clock_terms.specs.declared.prices.PricePair.{PricePair}
 use Rattle.clock_terms.specs.Limits.{IsProduct, granule_of, no_product}
 use Rattle.clock_terms.specs.Increments.{AreIncrements, increment_at}
 use Rattle.clock_terms.proofs.IncrementLaws.{increment_within}
-use Rattle.clock_posting.specs.Posting.{first_at_limit, next_clock, next_price, next_prices, IsRising}
+use Rattle.clock_posting.specs.inside.Parts.{first_at_limit}
+use Rattle.clock_posting.specs.Posting.{next_clock, next_price, next_prices, IsRising}
 use Rattle.clock_posting.proofs.Ranges.{all_in_range}
 
 -- where there is no first number that passes, none passes

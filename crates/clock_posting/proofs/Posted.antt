@@ -13,8 +13,9 @@ use Rattle.clock_terms.specs.Limits.{IsProduct}
 use Rattle.clock_terms.specs.Prices.{prices_at}
 use Rattle.clock_terms.specs.declared.change.Change.{Change}
 use Rattle.clock_posting.specs.declared.posting.Posting.{Posting}
-use Rattle.clock_posting.specs.Posting.{has_excess, has_ended, next_prices, sheet_line, lines_of_round, IsBetween, IsAtClock, IsPosting}
-use Rattle.clock_posting.specs.PostedPrice.{is_applied_reduction, applied_prices, highest_or, posted_price, posted_prices, IsWithinPrices, IsPriceRange}
+use Rattle.clock_posting.specs.inside.Parts.{lines_of_round, applied_prices, IsPriceRange}
+use Rattle.clock_posting.specs.Posting.{has_excess, has_ended, next_prices, sheet_line, IsBetween, IsAtClock, IsPosting}
+use Rattle.clock_posting.specs.PostedPrice.{is_applied_reduction, highest_or, posted_price, posted_prices, IsWithinPrices}
 use Rattle.clock_posting.specs.inside.RoundEnd.{IsRoundEnd}
 use Rattle.clock_posting.proofs.Ranges.{all_in_range, some_in_range}
 use Rattle.clock_posting.proofs.Laws.{some_if_going_on}

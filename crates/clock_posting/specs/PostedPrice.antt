@@ -1,5 +1,4 @@
 -- The posted prices of a round after the first.
---     applied_prices changes left product      the prices of the product's reductions of which a part was applied
 --     posted_prices products prices changes left grid      the posted price of each product
 --     IsWithinPrices prices change      the change is made at a price of its product
 use Rattle.std.specs.Prelude.{ℕ, ◌≤◌, ◌<◌, List, [], ◌∷◌, Bool, true, false, ◌&&◌, ◌==◌, nat_lt, if◌then◌else◌, length, map, max, filter, fold, zip}
@@ -21,22 +20,17 @@ abbrev pub is_applied_reduction : ℕ → Change → ℕ → Bool
 is_applied_reduction product change left =
     is_reduction change.kind && (change.product == product) && nat_lt left change.amount
 
--- the prices of the reductions of a product of which a part was applied
-abbrev pub applied_prices : List Change → List ℕ → ℕ → List ℕ
-applied_prices changes left product =
-    map (λ line. line.0.price) (filter (λ line. is_applied_reduction product line.0 line.1) (zip changes left))
-
 -- the highest of some prices, or another price where there are none
 abbrev pub highest_or : ℕ → List ℕ → ℕ
 highest_or other [] = other
 highest_or other (price ∷ prices) = fold max price prices
 
--- the clock price where there is excess demand, otherwise the start price where no reduction was applied, otherwise the highest price of an applied
--- one (own rule)
+-- the clock price at excess demand, else the highest price of an applied reduction, else the start price (own rule)
 abbrev pub posted_price : List Product → List PricePair → List Change → List ℕ → List (List ℕ) → ℕ → ℕ
 posted_price products prices changes left grid product =
     if has_excess products grid product then (prices_at prices product).clock
-    else highest_or (prices_at prices product).start (applied_prices changes left product)
+    else highest_or (prices_at prices product).start
+    (map (λ line. line.0.price) (filter (λ line. is_applied_reduction product line.0 line.1) (zip changes left)))
 
 -- the posted price of each product
 abbrev pub posted_prices : List Product → List PricePair → List Change → List ℕ → List (List ℕ) → List ℕ
@@ -48,7 +42,3 @@ pub record IsWithinPrices (prices : List PricePair) (change : Change) : Type 0 w
   pub product : change.product < length prices
   pub from_start : (prices_at prices change.product).start ≤ change.price
   pub to_clock : change.price ≤ (prices_at prices change.product).clock
-
--- the start price is not above the clock price
-abbrev pub IsPriceRange : PricePair → Type 0
-IsPriceRange pair = pair.start ≤ pair.clock

@@ -2,6 +2,7 @@ ghost use Rattle.std.specs.Prelude.{◌≡◌, ◌<◌, ◌≤◌, ℕ, length, 
 ghost use Rattle.clock_terms.specs.Prices.{prices_at};
 ghost use Rattle.clock_posting.specs.Posting.{opening_posted};
 ghost use Rattle.clock_posting.specs.PostedPrice as rules;
+ghost use Rattle.clock_posting.specs.inside.Parts.{applied_prices};
 
 use clock_device::{Items, NoMemory};
 use clock_money::Price;
@@ -56,7 +57,7 @@ fn reduced_prices(
     ensures lengths { IfOk result (λ highest. length highest ≡ length prices.now) }
     ensures price { IfOk result (λ highest. (p : ℕ) → p < length prices.now → slice_index highest p
         ≡ rules.highest_or (prices_at prices.now p).start
-        (rules.applied_prices changes.now left.now p)) }
+        (applied_prices changes.now left.now p)) }
 {
     let mut highest = start_prices(alloc, prices)?;
     for (i, change) in changes.iter().enumerate() {

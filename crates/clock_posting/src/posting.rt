@@ -3,7 +3,7 @@ ghost use Rattle.clock_terms.specs.Demands.{IsGrid};
 ghost use Rattle.clock_terms.specs.Faults.{IsFirstFault};
 ghost use Rattle.clock_terms.specs.Increments.{AreIncrements};
 ghost use Rattle.clock_terms.specs.Prices.{opening_prices};
-ghost use Rattle.clock_posting.specs.PostedPrice.{IsPriceRange, IsWithinPrices, posted_prices};
+ghost use Rattle.clock_posting.specs.PostedPrice.{IsWithinPrices, posted_prices};
 ghost use Rattle.clock_posting.specs.Posting as rules;
 
 use crate::fault::PostFault;
@@ -88,7 +88,7 @@ pub fn post(
     requires increments { AreIncrements (length setup.now.products) increments.now }
     requires grid { IsGrid (length setup.now.bidders) (length setup.now.products) settled.now.grid }
     requires prices { length prices.now ≡ length setup.now.products }
-    requires ordered { All IsPriceRange prices.now }
+    requires ordered { All (λ pair. pair.start ≤ pair.clock) prices.now }
     requires changes { All (IsWithinPrices prices.now) changes.now }
     requires left { length settled.now.left ≡ length changes.now }
 

@@ -4,6 +4,7 @@ ghost use Rattle.clock_terms.specs.Increments.{AreIncrements};
 ghost use Rattle.clock_terms.specs.Limits.{IsProduct};
 ghost use Rattle.clock_posting.specs.Posting as rules;
 ghost use Rattle.clock_posting.specs.inside.RoundEnd.{IsRoundEnd, HasClocks};
+ghost use Rattle.clock_posting.specs.inside.Parts.{first_at_limit, lines_of_round};
 
 use crate::fault::PostFault;
 use crate::posting::Posting;
@@ -75,7 +76,7 @@ impl RoundEnd<'_> {
         requires next { next.now ≡ rules.prices_after self.now.products.now self.now.grid.now self.now.posted.now self.now.increments.now }
         requires clocks { IfSome next.now (HasClocks self.now.products.now self.now.increments.now self.now.posted.now) }
         ensures count { IfOk result (λ lines. length lines ≡ length self.now.products.now) }
-        ensures exact { IfOk result (λ lines. lines ≡ rules.lines_of_round self.now.products.now self.now.prices.now self.now.grid.now
+        ensures exact { IfOk result (λ lines. lines ≡ lines_of_round self.now.products.now self.now.prices.now self.now.grid.now
             self.now.posted.now self.now.increments.now) }
     {
         // Each closed round keeps its lines, so they have no more room than they take.
@@ -147,9 +148,9 @@ fn next_prices(
     ensures ok { IfOk result (λ next. next ≡ rules.next_prices products.now increments.now posted.now) }
     ensures clocks { IfOk result (HasClocks products.now increments.now posted.now) }
     ensures rising { IfOk result (All rules.IsRising) }
-    ensures possible { IfOk result (λ _. rules.first_at_limit products.now increments.now posted.now ≡ None) }
+    ensures possible { IfOk result (λ _. first_at_limit products.now increments.now posted.now ≡ None) }
     ensures err { IfErr result (IsFirstFault PostFault.NoMemory
-        (rules.post_fault (rules.first_at_limit products.now increments.now posted.now))) }
+        (rules.post_fault (first_at_limit products.now increments.now posted.now))) }
 {
     let mut next = Prices::new(alloc);
     for product in 0..products.len() {

@@ -13,8 +13,7 @@ use Rattle.clock_bids.specs.Holding.{Holding}
 use Rattle.clock_closing.specs.declared.slip.Slip.{Slip}
 use Rattle.clock_views.specs.Values.{whole, list_of, object_of}
 
--- the activity, demands and eligibility that the bidder holds, whether the auction has ended, the
--- bidder's name, and the current round
+-- the activity, demands and eligibility that it holds, whether the auction has ended, its name, and the current round
 unfoldable pub account_value : List Product → List ℕ → ℕ → Holding → Bool → Data
 account_value products name round held ended = object_of (
     ("activity", whole (activity products held.demands)) ∷

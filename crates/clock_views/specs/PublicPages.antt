@@ -30,8 +30,7 @@ status_bytes setup round ended =
 abbrev pub from_version_2 : ℕ → ℕ → Option ℕ
 from_version_2 version n = if nat_le 2 version then Some n else None
 
--- the most blocks that one bidder may demand, from version 2 on the granule, the name, the opening
--- price, how many blocks there are, and the bidding units of one
+-- a bidder's most blocks, from version 2 on the granule, the name, the opening price, all blocks, and the units of each
 unfoldable pub product_value : ℕ → Product → Data
 product_value version product = object_of (
     ("cap", whole product.cap) ∷
@@ -49,8 +48,7 @@ products_value setup = object_of (
     ("requirement", whole setup.requirement) ∷
     ("version", whole setup.version) ∷ [])
 
--- the clock price, the demand where it is told, the product's name, the next clock price where there
--- is one, the posted price, and the start price
+-- the clock price, the demand where told, the name, the next clock price where there is one, the posted and start price
 unfoldable pub line_value : Product → Line → Data
 line_value product line = object_of (
     ("clock", whole line.clock) ∷

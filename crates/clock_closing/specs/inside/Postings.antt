@@ -12,7 +12,10 @@ use Rattle.clock_order.specs.declared.ties.Tie.{Tie}
 use Rattle.clock_closing.specs.declared.fault.CloseFault.{CloseFault}
 use Rattle.clock_closing.specs.declared.results.Results.{Results}
 use Rattle.clock_closing.specs.OpenRound.{OpenRound, bidder_numbers}
-use Rattle.clock_closing.specs.Closing.{ClosedRound, Outcome, requests_of, outcome, outcome_checks, closed_round}
+use Rattle.clock_posting.specs.Posting.{price_limit_fault}
+use Rattle.clock_closing.specs.declared.fault.CloseFault.TheVariants as close_faults
+use Rattle.clock_closing.specs.Faults.{fault_check}
+use Rattle.clock_closing.specs.Closing.{ClosedRound, Outcome, requests_of, outcome, closed_round}
 use Rattle.clock_closing.specs.Results.{AreConsistent}
 
 -- all bidders' requests, in any order
@@ -22,7 +25,8 @@ AreRequests now list = IsPermutation (flat_map (requests_of now) (bidder_numbers
 -- the round that an outcome adds, or the product that has no next clock price
 abbrev pub posted : PublicSetup → OpenRound → Increments → Outcome → Result ClosedRound CloseFault
 posted setup now increments result =
-    unless (first_fault (outcome_checks setup.products increments result)) (closed_round setup now increments result)
+    unless (first_fault (fault_check close_faults.PriceLimit (price_limit_fault setup.products result.grid result.posted increments)))
+    (closed_round setup now increments result)
 
 -- the same of the outcome of the current round
 abbrev pub posted_now : PublicSetup → OpenRound → Increments → List Tie → Result ClosedRound CloseFault

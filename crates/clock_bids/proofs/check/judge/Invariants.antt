@@ -1,7 +1,8 @@
 use Rattle.std.proofs.Common.{◌≡◌, ◌≤◌, ◌*◌, length, map, take, drop}
 use Rattle.clock_terms.specs.Faults.{first_fault, in_turn}
 use Rattle.clock_terms.specs.Eligibility.{activity}
-use Rattle.clock_bids.specs.Sheet.{asked_demands, bid_checks, checks_of_bids}
+use Rattle.clock_bids.specs.inside.Parts.{checks_of_bids}
+use Rattle.clock_bids.specs.Sheet.{asked_demands, bid_checks}
 use Rattle.clock_bids.specs.inside.Chains.{AreGoodChains, bid_at, last_bids}
 use Rattle.clock_bids.proofs.check.judge.Given as goal
 

@@ -1,6 +1,7 @@
 use Rattle.std.proofs.Common.{◌≡◌, ◌<◌, ◌≤◌, ℕ, length, get_or}
 use Rattle.clock_terms.specs.Prices.{prices_at}
-use Rattle.clock_posting.specs.PostedPrice.{posted_price, highest_or, applied_prices}
+use Rattle.clock_posting.specs.inside.Parts.{applied_prices}
+use Rattle.clock_posting.specs.PostedPrice.{posted_price, highest_or}
 use Rattle.clock_posting.proofs.posted_prices.posted_prices.Given as goal
 
 -- the posted prices so far, and the prices of applied reductions of the other products

@@ -2,7 +2,7 @@ use Rattle.std.proofs.Common.{◌≡◌, get_or, ◌∙◌, arith}
 use Rattle.std.specs.Prelude.{fold, max}
 use Rattle.std.proofs.lemmas.List.{drop_all}
 use Rattle.clock_terms.specs.Prices.{prices_at}
-use Rattle.clock_posting.specs.PostedPrice.{applied_prices}
+use Rattle.clock_posting.specs.inside.Parts.{applied_prices}
 use Rattle.clock_posting.proofs.Posted.{applied_from_start, fold_is_highest}
 use Rattle.clock_posting.proofs.posted_prices.reduced_prices.Goals as goal
 

@@ -1,7 +1,7 @@
 use Rattle.std.proofs.Common.{◌≡◌, ◌<◌, ℕ, length, get_or, drop}
 use Rattle.std.specs.Prelude.{fold, max}
 use Rattle.clock_terms.specs.Prices.{prices_at}
-use Rattle.clock_posting.specs.PostedPrice.{applied_prices}
+use Rattle.clock_posting.specs.inside.Parts.{applied_prices}
 use Rattle.clock_posting.proofs.posted_prices.reduced_prices.Given as goal
 
 -- with the other changes each price becomes the highest of the start price and all applied ones

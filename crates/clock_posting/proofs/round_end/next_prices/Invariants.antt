@@ -1,7 +1,8 @@
 use Rattle.std.proofs.Common.{◌≡◌, ◌-◌, Some, length, map}
 use Rattle.std.specs.Prelude.{is_none, All}
 use Rattle.std.specs.List.{position_from, range_with_len}
-use Rattle.clock_posting.specs.Posting.{next_clock, next_price, first_at_limit, IsRising}
+use Rattle.clock_posting.specs.inside.Parts.{first_at_limit}
+use Rattle.clock_posting.specs.Posting.{next_clock, next_price, IsRising}
 use Rattle.clock_posting.proofs.round_end.next_prices.Given as goal
 
 -- the prices so far are the products' next ones and rise, and the first product that can't have any is among the others

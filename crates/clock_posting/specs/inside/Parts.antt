@@ -1,0 +1,33 @@
+-- Parts of a posting that proofs and private functions name.
+--     first_at_limit products increments posted      the first product that can have no next clock price
+--     lines_of_round products prices grid posted increments      a line for each product
+--     IsPriceRange pair      the start price is not above the clock price
+--     applied_prices changes left product      the prices of the product's reductions of which a part was applied
+use Rattle.std.specs.Prelude.{ℕ, ◌≤◌, List, Option, is_none, length, map, filter, zip}
+use Rattle.std.specs.List.{range_with_len, position_from}
+use Rattle.clock_terms.specs.declared.increments.Increments.{Increments}
+use Rattle.clock_terms.specs.declared.setup.Product.{Product}
+use Rattle.clock_terms.specs.declared.prices.PricePair.{PricePair}
+use Rattle.clock_terms.specs.declared.change.Change.{Change}
+use Rattle.clock_posting.specs.declared.sheet.Line.{Line}
+use Rattle.clock_posting.specs.Posting.{next_clock, sheet_line}
+use Rattle.clock_posting.specs.PostedPrice.{is_applied_reduction}
+
+-- the first product that can have no next clock price
+abbrev pub first_at_limit : List Product → Increments → List ℕ → Option ℕ
+first_at_limit products increments posted =
+    position_from (λ product. is_none (next_clock products increments posted product)) 0 (range_with_len 0 (length products))
+
+-- a line for each product
+abbrev pub lines_of_round : List Product → List PricePair → List (List ℕ) → List ℕ → Increments → List Line
+lines_of_round products prices grid posted increments =
+    map (sheet_line products prices grid posted increments) (range_with_len 0 (length products))
+
+-- the prices of the reductions of a product of which a part was applied
+abbrev pub applied_prices : List Change → List ℕ → ℕ → List ℕ
+applied_prices changes left product =
+    map (λ line. line.0.price) (filter (λ line. is_applied_reduction product line.0 line.1) (zip changes left))
+
+-- the start price is not above the clock price
+abbrev pub IsPriceRange : PricePair → Type 0
+IsPriceRange pair = pair.start ≤ pair.clock
