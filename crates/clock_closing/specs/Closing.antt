@@ -2,10 +2,9 @@
 --     requests round ties      all bidders' requests, in the order of processing
 --     outcome products round ties      the demands and the posted prices after the round
 --     closed_round setup round increments outcome      the sheet and the slips of the round
---     closing_checks setup round number increments ties outcome      what a closing is checked for, in turn
 --     closing setup round number increments ties      the round that a closing adds, or its first fault
 --     closing_now round increments ties      the same of a closing of the current round
-use Rattle.std.specs.Prelude.{ℕ, List, ◌∷◌, ◌++◌, Bool, not, ◌==◌, if◌then◌else◌, Result, length, map, flat_map}
+use Rattle.std.specs.Prelude.{ℕ, List, ◌∷◌, ◌++◌, not, ◌==◌, if◌then◌else◌, Result, length, map, flat_map}
 use Rattle.clock_terms.specs.declared.setup.Product.{Product}
 use Rattle.clock_terms.specs.declared.increments.Increments.{Increments}
 use Rattle.clock_terms.specs.Limits.{PublicSetup, public_setup}
@@ -92,20 +91,16 @@ closed_round setup now increments result = record {
   slips = slips_after setup now result.grid;
 }
 
--- the auction goes on, the round is the current one, increments and ties are good, and no next clock price is too high
-abbrev pub closing_checks : PublicSetup → OpenRound → ℕ → Increments → List Tie → Outcome → List (CloseFault × Bool)
-closing_checks setup now round increments ties result =
-    (close_faults.Ended, not now.standing.ended)
+-- the round that a closing adds, or the first fault: ended, another round, bad increments or ties, a price too high
+abbrev pub closing : PublicSetup → OpenRound → ℕ → Increments → List Tie → Result ClosedRound CloseFault
+closing setup now round increments ties =
+    let result = outcome setup.products now ties in
+    unless (first_fault ((close_faults.Ended, not now.standing.ended)
     ∷ (close_faults.WrongRound now.standing.round, round == now.standing.round)
     ∷ (close_faults.Increment, are_increments (length setup.products) increments)
     ∷ fault_check close_faults.Tie (tie_fault (length now.holdings) (length setup.products) ties)
-    ++ fault_check close_faults.PriceLimit (price_limit_fault setup.products result.grid result.posted increments)
-
--- the round that a closing adds, or its first fault
-abbrev pub closing : PublicSetup → OpenRound → ℕ → Increments → List Tie → Result ClosedRound CloseFault
-closing setup now round increments ties =
-    unless (first_fault (closing_checks setup now round increments ties (outcome setup.products now ties)))
-    (closed_round setup now increments (outcome setup.products now ties))
+    ++ fault_check close_faults.PriceLimit (price_limit_fault setup.products result.grid result.posted increments)))
+    (closed_round setup now increments result)
 
 -- the round that the closing of an open round adds, or its first fault
 abbrev pub closing_now : OpenRoundFields → Increments → List Tie → Result ClosedRound CloseFault

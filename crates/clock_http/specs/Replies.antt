@@ -3,13 +3,14 @@
 --     reply_bytes code allowed page      a reply: its status, the methods of the page that was asked for, and its text
 --     Answer      a code and the bytes of its reply
 use Rattle.std.specs.Prelude.{ℕ, List, [], ◌++◌, length, Option, Some, None, codes, decimal}
+use Rattle.std.specs.List.{join_by}
 use Rattle.std.specs.Option.{unwrap_or}
 use Rattle.http.specs.StatusCode.{reason_phrase}
 use Rattle.clock_http.specs.declared.code.Code.{Code}
 use Rattle.clock_http.specs.declared.code.Code.TheVariants.{Token}
 use Rattle.clock_http.specs.Codes.{status_of}
 use Rattle.clock_http.specs.declared.routes.Page.{Page}
-use Rattle.clock_http.specs.Routes.{methods, methods_line}
+use Rattle.clock_http.specs.Routes.{methods}
 
 -- what is answered
 pub record Answer : Type 0 where
@@ -19,7 +20,7 @@ pub record Answer : Type 0 where
 -- the methods that a page has, where another was asked for
 abbrev pub allow_line : Option Page → List ℕ
 allow_line None = []
-allow_line (Some page) = codes "allow: " ++ (methods_line (methods page) ++ codes "\r\n")
+allow_line (Some page) = codes "allow: " ++ (join_by (λ method. method) (codes ", ") (methods page) ++ codes "\r\n")
 
 -- a token is asked for
 abbrev pub challenge_line : Code → List ℕ

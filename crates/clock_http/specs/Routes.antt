@@ -5,7 +5,7 @@
 --     last_segment path      what stands behind the last slash of a path
 --     methods page      the methods of a page, in the order in which they are told
 -- (Own routes. A path is compared byte by byte: no escape is undone, and no slash is added or dropped.)
-use Rattle.std.specs.Prelude.{ℕ, Bool, List, [], ◌∷◌, ◌++◌, ◌&&◌, not, length, drop, find, nat_eq, nat_lt, if◌then◌else◌, ◌==◌, Option}
+use Rattle.std.specs.Prelude.{ℕ, Bool, List, [], ◌∷◌, ◌&&◌, not, length, drop, find, nat_eq, nat_lt, if◌then◌else◌, ◌==◌, Option}
 use Rattle.std.specs.Prelude.{None, option_map, codes}
 use Rattle.std.specs.List.{after_last, list_any, starts_with}
 use Rattle.std.specs.Str.{is_utf8}
@@ -40,16 +40,15 @@ page_of path = if is_utf8 path then option_map (λ row. row.1) (find (λ row. is
 
 -- the methods that a page has
 abbrev pub methods : Page → List (List ℕ)
+methods Status = codes "GET" ∷ []
+methods Products = codes "GET" ∷ []
+methods Sheet = codes "GET" ∷ []
+methods Account = codes "GET" ∷ []
 methods Bids = codes "GET" ∷ codes "PUT" ∷ []
+methods Slip = codes "GET" ∷ []
 methods Close = codes "POST" ∷ []
-methods _ = codes "GET" ∷ []
+methods Results = codes "GET" ∷ []
 
 -- one of a page's methods
 abbrev pub has_method : Page → List ℕ → Bool
 has_method page method = list_any (λ m. same_bytes m method) (methods page)
-
--- the methods as a line tells them
-abbrev pub methods_line : List (List ℕ) → List ℕ
-methods_line [] = []
-methods_line (method ∷ []) = method
-methods_line (method ∷ (next ∷ rest)) = method ++ (codes ", " ++ methods_line (next ∷ rest))

@@ -107,48 +107,16 @@ impl Row {
         ensures passed { AllWithin (λ demand. demand ≡ 0) self.now from result }
         ensures held { result < until → 0 < slice_index self.now result }
     {
-        if from < until && self.demands[from] != 0 {
-            return from;
-        }
-        self.next_held(from, until)
-    }
-
-    /// The same where the first one is most often not held: a function of its own, since the step above stands in loops.
-    #[inline(never)]
-    fn next_held(&self, from: usize, until: usize) -> usize
-        requires order { from ≤ until }
-        requires within { until ≤ length self.now }
-        ensures least { from ≤ result }
-        ensures most { result ≤ until }
-        ensures passed { AllWithin (λ demand. demand ≡ 0) self.now from result }
-        ensures held { result < until → 0 < slice_index self.now result }
-    {
-        let mut place = self.next_marked(from, until);
-        'places: while place < until {
-            if self.demands[place] != 0 {
-                break;
-            }
-            place = self.next_marked(place + 1, until);
-        }
-        place
-    }
-
-    /// The first product from `from` on that has a mark, or `until` where there is none before that.
-    #[inline(always)]
-    fn next_marked(&self, from: usize, until: usize) -> usize
-        requires order { from ≤ until }
-        requires within { until ≤ length self.now }
-        ensures least { from ≤ result }
-        ensures most { result ≤ until }
-        ensures passed { AllWithin (λ demand. demand ≡ 0) self.now from result }
-    {
         let mut place = from;
-        'words: while place < until {
+        'places: while place < until {
             let bit = place % 64;
             let step = unmarked_from(self.marks[place / 64], bit);
             place = until.min(place + step);
             if bit + step < 64 {
-                break;
+                if place == until || self.demands[place] != 0 {
+                    break;
+                }
+                place += 1;
             }
         }
         place

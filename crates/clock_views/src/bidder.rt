@@ -53,7 +53,11 @@ pub fn push_account_page(
     ensures { OnOk result (Adds (compact_text (account_value setup.now.products (bidder_at setup.now bidder).name own.entry.round
         (record { eligibility = own.entry.eligibility; demands = own.entry.demands.now }) ended)) text.old text.new) }
 {
-    push_number(text, b"{\"activity\":", units_held(setup.products.as_slice(), own.demands))?;
+    push_number(
+        text,
+        b"{\"activity\":",
+        units_held(setup.products.as_slice(), own.demands),
+    )?;
     push_row(text, b",\"demands\":", own.demands)?;
     push_number(text, b",\"eligibility\":", own.eligibility)?;
     push_truth(text, b",\"ended\":", ended)?;

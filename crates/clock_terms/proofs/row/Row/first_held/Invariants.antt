@@ -1,6 +1,6 @@
 use Rattle.std.proofs.Common.{◌≡◌, ◌≤◌, ◌-◌}
 use Rattle.std.specs.List.{AllWithin}
-use Rattle.clock_terms.proofs.row.Row.next_held.Given as goal
+use Rattle.clock_terms.proofs.row.Row.first_held.Given as goal
 
 -- the demands up to the place are 0
 abbrev pub invariant-places : goal.invariant-places
