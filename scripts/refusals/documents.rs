@@ -3,7 +3,9 @@ use crate::record::Record;
 use crate::steering::watched;
 use clock_device::NoMemory;
 use clock_setup::{Opening, OpeningFault, Setup, SetupFault, read_opening, read_setup};
-use clock_sim::{Replay, Report, ScriptFault, SimFault, read_replay, report_text, simulate};
+use clock_sim::{
+    Replay, Report, ScriptFault, SimFault, read_replay, replay_text, report_text, simulate,
+};
 use clock_views::products_page;
 use std::alloc::Global;
 
@@ -81,4 +83,18 @@ pub fn play_simulation(alloc: Global, record: &mut Record, document: &[u8]) -> a
         first => return show_report(alloc, record, &first?),
     }
     show_report(alloc, record, &simulate(alloc, &replay)?)
+}
+
+/// Plays the replay of a document and writes its report at once, again where there was no memory.
+pub fn play_replay_text(
+    alloc: Global,
+    record: &mut Record,
+    document: &[u8],
+) -> anyhow::Result<()> {
+    let replay = read_replay(alloc, document)?;
+    match watched(|| replay_text(alloc, &replay)) {
+        Err(SimFault::NoMemory) => record.refuse(true),
+        first => return record.push_bytes(first?.as_slice()),
+    }
+    record.push_bytes(replay_text(alloc, &replay)?.as_slice())
 }
