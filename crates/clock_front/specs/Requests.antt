@@ -1,7 +1,6 @@
 -- What a text asks for, whoever sent it and whatever stands.
 --     Ask      what is asked for
 --     ask_of framing      what a framed text asks for; one that needs more at its end was cut short
---     page_asked ask      the page that is asked for, where its path and method are good
 --     request_of text      the token of a text and what it asks for
 use Rattle.std.specs.Prelude.{ℕ, List, if◌then◌else◌, Option, Some, None, option_and_then, Result, codes}
 use Rattle.clock_http.specs.declared.code.Code.{Code}
@@ -17,7 +16,7 @@ use Rattle.clock_bodies.specs.declared.put_body.PutBody.{PutBody}
 use Rattle.clock_bodies.specs.declared.close_body.CloseBody.{CloseBody}
 use Rattle.clock_bodies.specs.declared.body_fault.BodyFault.{BodyFault}
 
--- no page, or not by this method; a page; a sheet or closing, whose body is looked at once its sender may send it
+-- refused by its framing or path; not by this method; a page; a sheet or closing, judged only if its sender may send it
 pub data Ask : Type 0 where
   turned_away : Code → Ask
   no_method : Page → Ask

@@ -1,6 +1,6 @@
 -- Which page a path names, and by which methods a page is asked for.
 --     paths      the texts of the paths with their pages
---     is_path text path      the path is this text, or one more segment stands behind it
+--     is_path text path      the path is this text, or where that ends with a slash, this and one more segment
 --     page_of path      the page that a path names
 --     last_segment path      what stands behind the last slash of a path
 --     methods page      the methods of a page, in the order in which they are told

@@ -4,7 +4,7 @@
 --     after_puts setup bidder scripts texts      the bidders from this one on put their sheets
 --     after_close setup closing texts      the round is closed
 --     rehearsed setup scripts closings texts      all requests until the end, or the first fault
---     simulated replay      the report of these requests, or the first fault
+--     simulated replay, played_text replay      the report of these requests or its text, or the first fault
 use Rattle.std.specs.Prelude.{ℕ, ◌+◌, List, [], ◌∷◌, Option, Some, None, Result, Ok, Err, if◌then◌else◌}
 use Rattle.clock_terms.specs.Limits.{SetupFields}
 use Rattle.clock_terms.specs.Faults.{◌>>=◌}
