@@ -92,9 +92,10 @@ pub fn play_replay_text(
     document: &[u8],
 ) -> anyhow::Result<()> {
     let replay = read_replay(alloc, document)?;
-    match watched(|| replay_text(alloc, &replay)) {
+    match watched(|| replay_text(alloc, replay)) {
         Err(SimFault::NoMemory) => record.refuse(true),
         first => return record.push_bytes(first?.as_slice()),
     }
-    record.push_bytes(replay_text(alloc, &replay)?.as_slice())
+    let again = read_replay(alloc, document)?;
+    record.push_bytes(replay_text(alloc, again)?.as_slice())
 }

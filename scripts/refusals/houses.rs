@@ -6,25 +6,25 @@ use clock_front::{CloseBody, PutBody, read_close, read_put};
 use clock_house::{CloseFault, House, PutFault};
 use clock_processor::Processor;
 use clock_setup::read_setup;
-use clock_views::{push_bids_page, push_sheet_page, push_slip_page, results_page};
+use clock_views::{bids_page, results_page, sheet_page, slip_page};
 use std::alloc::Global;
 
 /// Adds what is told of a bidder: its sheet in force, and its slips.
-fn tell_bidder<P>(told: &mut Text, house: &House<P>, bidder: u32) -> anyhow::Result<()> {
-    push_bids_page(told, house.round(), house.bids(bidder))?;
+fn tell_bidder<P>(alloc: Global, told: &mut Text, house: &House<P>, bidder: u32) -> anyhow::Result<()> {
+    told.extend_from_slice(bids_page(alloc, house.round(), house.bids(bidder))?.as_slice())?;
     for round in 0..house.round().saturating_add(2) {
         if let Some(slip) = house.slip(bidder, round) {
-            push_slip_page(told, slip)?;
+            told.extend_from_slice(slip_page(alloc, slip)?.as_slice())?;
         }
     }
     Ok(())
 }
 
 /// Adds the sheets of the closed rounds.
-fn tell_rounds<P>(told: &mut Text, house: &House<P>) -> anyhow::Result<()> {
+fn tell_rounds<P>(alloc: Global, told: &mut Text, house: &House<P>) -> anyhow::Result<()> {
     for round in 0..house.round().saturating_add(2) {
         if let Some(sheet) = house.sheet(round) {
-            push_sheet_page(told, house.setup(), sheet)?;
+            told.extend_from_slice(sheet_page(alloc, house.setup(), sheet)?.as_slice())?;
         }
     }
     Ok(())
@@ -33,9 +33,9 @@ fn tell_rounds<P>(told: &mut Text, house: &House<P>) -> anyhow::Result<()> {
 /// All that the reading calls of a house tell.
 pub fn told_by<P>(alloc: Global, house: &House<P>) -> anyhow::Result<Text> {
     let mut told = results_page(alloc, house)?;
-    tell_rounds(&mut told, house)?;
+    tell_rounds(alloc, &mut told, house)?;
     for bidder in 0..house.setup().bidders.as_slice().len() {
-        tell_bidder(&mut told, house, bidder as u32)?;
+        tell_bidder(alloc, &mut told, house, bidder as u32)?;
     }
     Ok(told)
 }

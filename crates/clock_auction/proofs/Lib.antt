@@ -1,4 +1,4 @@
 mod Reading
-mod Outcomes
+mod RunEndings
 mod Limited
 mod AuditLaws

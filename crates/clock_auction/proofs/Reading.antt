@@ -26,12 +26,12 @@ module _ (before mid : Option (List ℕ)) (document : List ℕ) (calls interrupt
   pub stopped : (cause : Fault) → reading.has_failed ≡ (failed || is_input_fault {A = Bool} (Err cause))
       → (document_after : List ℕ) → IsStepOf mid reading.after document document_after (Err cause) → IsReadingOf reading (Err cause)
   stopped fault.Input fails document_after step =
-      inl ((document ++ [], took_at_last [] step, rw append-nil few), fails ∙ rw unfailed refl)
+      inl (document ++ [], (took_at_last [] step, rw append-nil few), fails ∙ rw unfailed refl)
   stopped fault.LongInput fails document_after step =
       let long : length document + length step.0 ≡ most_bytes + 1 = rw length-append at step.2 in
       ((document ++ step.0, took step.0 0 step.1 (rw length-append (omega (arith, long))), step.2), fails ∙ rw unfailed refl)
   stopped fault.Memory fails document_after step =
-      ((document ++ step.0, took_at_last step.0 step.1, step.2), fails ∙ rw unfailed refl)
+      (document ++ step.0, (took_at_last step.0 step.1, step.2), fails ∙ rw unfailed refl)
   stopped (fault.Setup inner) fails document_after step = absurd step
   stopped (fault.Opening inner) fails document_after step = absurd step
   stopped (fault.Script inner) fails document_after step = absurd step

@@ -1,5 +1,5 @@
 -- What a job answers to a document: the text that it prints, or the document's fault. (Own formats.)
---     answer_of job document     the answer
+--     answer_to job document     the answer
 use Rattle.std.specs.Prelude.{ℕ, List, Option, Some, None, Result, Ok, Err}
 use Rattle.clock_terms.specs.Limits.{SetupFields}
 use Rattle.clock_terms.specs.Prices.{opening_prices}
@@ -64,7 +64,7 @@ replay_lines_of (Ok replay) = played (simulated replay)
 replay_lines_of (Err inner) = Err (fault.Script inner)
 
 -- what the job answers to the document
-abbrev pub answer_of : Job → List ℕ → Result (List ℕ) Fault
-answer_of (job.Prices increment) document = prices_of increment (document_setup document)
-answer_of job.Opening document = opening_lines_of (document_opening document)
-answer_of job.Replay document = replay_lines_of (document_replay document)
+abbrev pub answer_to : Job → List ℕ → Result (List ℕ) Fault
+answer_to (job.Prices increment) document = prices_of increment (document_setup document)
+answer_to job.Opening document = opening_lines_of (document_opening document)
+answer_to job.Replay document = replay_lines_of (document_replay document)

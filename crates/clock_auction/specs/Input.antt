@@ -1,13 +1,12 @@
 -- How much of the input is read, and how reading ends. Own limits: 64 MiB, in a hundred million reads.
 --     Takes     these bytes were read, and what each read was for
 --     ReadsWhole     all bytes that there were are the document
---     TakesUpTo     so many bytes were read at most
---     HasFailedRead, RunsOutOfReads     the two causes of the fault `input`
+--     TakesUpTo     no more bytes were read than the program reads
 --     ReadsTooMuch     one byte more than the program reads was taken
 --     IsReadingOf     how reading ended, by its result
 use Rattle.std.specs.Prelude.{◌≡◌, ◌≤◌, ◌⊎◌, ◌+◌, ℕ, List, length, true, false, Result, Ok, Err}
 use Rattle.clock_device.specs.Streams.{HasRead, IsReadOut}
-use Rattle.clock_device.specs.Readings.{Reading}
+use Rattle.clock_device.specs.Readings.{Reading, HasFailedRead, RunsOutOfReads}
 use Rattle.clock_auction.specs.declared.fault.Fault.{Fault}
 use Rattle.clock_auction.specs.declared.fault.Fault.TheVariants as fault
 
@@ -16,8 +15,8 @@ abbrev pub most_bytes : ℕ
 most_bytes = 67108864
 
 -- in how many reads at most
-abbrev pub most_reads : ℕ
-most_reads = 100000000
+abbrev pub most_document_reads : ℕ
+most_document_reads = 100000000
 
 -- these bytes were read, and each read took one of them at least or was interrupted, but for so many other reads
 pub record Takes (reading : Reading) (others : ℕ) (bytes : List ℕ) : Type 0 where
@@ -32,26 +31,20 @@ pub record ReadsWhole (reading : Reading) (document : List ℕ) : Type 0 where
   pub unfailed : reading.has_failed ≡ false
 
 -- no more bytes were taken than the program reads
-abbrev pub TakesUpTo : ℕ → Reading → Type 0
-TakesUpTo others reading = (bytes : List ℕ) × Takes reading others bytes × (length bytes ≤ most_bytes)
-
--- a read failed, and it was the only one that neither took a byte nor was interrupted
-abbrev pub HasFailedRead : Reading → Type 0
-HasFailedRead reading = TakesUpTo 1 reading × (reading.has_failed ≡ true)
-
--- bytes and interruptions used all reads up
-abbrev pub RunsOutOfReads : Reading → Type 0
-RunsOutOfReads reading = TakesUpTo 0 reading × (reading.calls ≡ most_reads) × (reading.has_failed ≡ false)
+abbrev pub TakesUpTo : ℕ → Reading → List ℕ → Type 0
+TakesUpTo others reading bytes = Takes reading others bytes × (length bytes ≤ most_bytes)
 
 -- one byte more than the program reads was taken
 abbrev pub ReadsTooMuch : Reading → Type 0
 ReadsTooMuch reading = (bytes : List ℕ) × Takes reading 0 bytes × (length bytes ≡ most_bytes + 1)
 
--- how reading ends: with the document; where a read failed, or all reads were made; with one byte too many; or for want
--- of memory. An interrupted read is none of these, so it is tried again.
+-- how reading ends: with the document; where a read failed, the only one that neither took a byte nor was interrupted, or bytes and
+-- interruptions used all reads up; with one byte too many; or for want of memory. An interrupted read is none of these, so it is
+-- tried again.
 abbrev pub IsReadingOf : Reading → Result (List ℕ) Fault → Type 0
 IsReadingOf reading (Ok document) = ReadsWhole reading document
-IsReadingOf reading (Err fault.Input) = HasFailedRead reading ⊎ RunsOutOfReads reading
+IsReadingOf reading (Err fault.Input) =
+    HasFailedRead (TakesUpTo 1 reading) reading ⊎ RunsOutOfReads (TakesUpTo 0 reading) most_document_reads reading
 IsReadingOf reading (Err fault.LongInput) = ReadsTooMuch reading × (reading.has_failed ≡ false)
-IsReadingOf reading (Err fault.Memory) = TakesUpTo 1 reading × (reading.has_failed ≡ false)
+IsReadingOf reading (Err fault.Memory) = (bytes : List ℕ) × TakesUpTo 1 reading bytes × (reading.has_failed ≡ false)
 IsReadingOf reading (Err other) = ⊥

@@ -1,5 +1,4 @@
 pub mod Input
-pub mod Output
 pub mod PriceLines
 pub mod FaultLines
 pub mod Answers

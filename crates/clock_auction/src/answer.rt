@@ -2,7 +2,7 @@ ghost use Rattle.std.specs.Prelude.{◌≡◌, ◌≢◌, ◌≤◌, Ok, Err, le
 ghost use Rattle.clock_terms.specs.Demands.{IsGrid};
 ghost use Rattle.clock_terms.specs.Increments.{IsIncrement};
 ghost use Rattle.clock_setup.specs.SetupDocument.{document_setup};
-ghost use Rattle.clock_auction.specs.Answers.{answer_of, first_round, played, read_in};
+ghost use Rattle.clock_auction.specs.Answers.{answer_to, first_round, played, read_in};
 ghost use Rattle.clock_sim.specs.Rehearsal.{simulated};
 ghost use Rattle.clock_words.specs.Words.{IsJob};
 
@@ -16,14 +16,14 @@ use clock_words::Job;
 use std::alloc::Global;
 
 /// What the job prints of the document, or the document's fault.
-pub fn answer(alloc: Global, job: Job, document: &[u8]) -> Result<Text, Fault>
+pub fn answer(alloc: Global, job: Job, document: Text) -> Result<Text, Fault>
     requires { IsJob job }
-    ensures ok { IfOk result (λ text. answer_of job document.now ≡ Ok text) }
-    ensures err { IfErr result (λ fault. fault ≢ Fault.Memory → answer_of job document.now ≡ Err fault) }
+    ensures ok { IfOk result (λ text. answer_to job document ≡ Ok text) }
+    ensures err { IfErr result (λ fault. fault ≢ Fault.Memory → answer_to job document ≡ Err fault) }
 {
     match job {
-        Job::Prices(increment) => prices_answer(alloc, increment, document),
-        Job::Opening => opening_answer(alloc, document),
+        Job::Prices(increment) => prices_answer(alloc, increment, document.as_slice()),
+        Job::Opening => opening_answer(alloc, document.as_slice()),
         Job::Replay => replay_answer(alloc, document),
     }
 }
@@ -42,9 +42,9 @@ pub fn setup_in(alloc: Global, document: &[u8]) -> Result<Setup, Fault>
 
 fn prices_answer(alloc: Global, increment: u64, document: &[u8]) -> Result<Text, Fault>
     requires { IsJob (Job.Prices increment) }
-    ensures ok { IfOk result (λ text. answer_of (Job.Prices increment) document.now ≡ Ok text) }
+    ensures ok { IfOk result (λ text. answer_to (Job.Prices increment) document.now ≡ Ok text) }
     ensures err { IfErr result (λ fault. fault ≢ Fault.Memory
-        → answer_of (Job.Prices increment) document.now ≡ Err fault) }
+        → answer_to (Job.Prices increment) document.now ≡ Err fault) }
 {
     let setup = setup_in(alloc, document)?;
     let text = prices_text(alloc, &setup, increment);
@@ -74,9 +74,9 @@ fn first_lines(alloc: Global, opening: &Opening) -> Result<Text, Fault>
 }
 
 fn opening_answer(alloc: Global, document: &[u8]) -> Result<Text, Fault>
-    ensures ok { IfOk result (λ text. answer_of Job.Opening document.now ≡ Ok text) }
+    ensures ok { IfOk result (λ text. answer_to Job.Opening document.now ≡ Ok text) }
     ensures err { IfErr result (λ fault. fault ≢ Fault.Memory
-        → answer_of Job.Opening document.now ≡ Err fault) }
+        → answer_to Job.Opening document.now ≡ Err fault) }
 {
     match read_opening(alloc, document) {
         Ok(opening) => {
@@ -90,9 +90,9 @@ fn opening_answer(alloc: Global, document: &[u8]) -> Result<Text, Fault>
 }
 
 /// The report of a replay, or why it did not come to its end.
-fn report_lines(alloc: Global, replay: &Replay) -> Result<Text, Fault>
-    ensures ok { IfOk result (λ text. played (simulated replay.now) ≡ Ok text) }
-    ensures err { IfErr result (λ fault. fault ≢ Fault.Memory → played (simulated replay.now) ≡ Err fault) }
+fn report_lines(alloc: Global, replay: Replay) -> Result<Text, Fault>
+    ensures ok { IfOk result (λ text. played (simulated replay) ≡ Ok text) }
+    ensures err { IfErr result (λ fault. fault ≢ Fault.Memory → played (simulated replay) ≡ Err fault) }
 {
     match replay_text(alloc, replay) {
         Ok(text) => Ok(text),
@@ -101,17 +101,16 @@ fn report_lines(alloc: Global, replay: &Replay) -> Result<Text, Fault>
     }
 }
 
-fn replay_answer(alloc: Global, document: &[u8]) -> Result<Text, Fault>
-    ensures ok { IfOk result (λ text. answer_of Job.Replay document.now ≡ Ok text) }
+/// The report of the replay that a document means, which is let go before the auction is played.
+fn replay_answer(alloc: Global, document: Text) -> Result<Text, Fault>
+    ensures ok { IfOk result (λ text. answer_to Job.Replay document ≡ Ok text) }
     ensures err { IfErr result (λ fault. fault ≢ Fault.Memory
-        → answer_of Job.Replay document.now ≡ Err fault) }
+        → answer_to Job.Replay document ≡ Err fault) }
 {
-    match read_replay(alloc, document) {
-        Ok(replay) => {
-            let lines = report_lines(alloc, &replay);
-            drop(replay);
-            lines
-        }
+    let read = read_replay(alloc, document.as_slice());
+    drop(document);
+    match read {
+        Ok(replay) => report_lines(alloc, replay),
         Err(ScriptFault::NoMemory) => Err(Fault::Memory),
         Err(fault) => Err(Fault::Script(fault)),
     }

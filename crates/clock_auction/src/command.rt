@@ -1,7 +1,7 @@
 ghost use Rattle.std.specs.Prelude.{◌≡◌, ◌≤◌, map};
 ghost use Rattle.clock_device.specs.Calls.{IsUnread, IsUnused};
 ghost use Rattle.clock_auction.specs.FaultLines.{fault_line};
-ghost use Rattle.clock_auction.specs.Input.{most_reads};
+ghost use Rattle.clock_auction.specs.Input.{most_document_reads};
 ghost use Rattle.clock_auction.specs.Run.{ComesTo, IsRunOf, Shows};
 ghost use Rattle.clock_words.specs.Words.{IsJob, job_of};
 
@@ -39,7 +39,7 @@ pub fn command<R: Source, W: Sink, F: Sink>(
     requires unread { IsUnread (R.calls reader.old) (R.interruptions reader.old) (R.has_failed reader.old) }
     requires unwritten { IsUnused (W.calls writer.old) (W.has_failed writer.old) }
     requires unshown { IsUnused (F.calls faults.old) (F.has_failed faults.old) }
-    ensures outcome { ComesTo (job_of (map (λ word. word.now) words.entry.now))
+    ensures ending { ComesTo (job_of (map (λ word. word.now) words.entry.now))
         (record {
           before = R.bytes_left reader.old;
           after = R.bytes_left reader.new;
@@ -50,7 +50,7 @@ pub fn command<R: Source, W: Sink, F: Sink>(
         (record { before = W.bytes_taken writer.old; after = W.bytes_taken writer.new; calls = W.calls writer.new; has_failed = W.has_failed writer.new })
         (record { before = F.bytes_taken faults.old; after = F.bytes_taken faults.new; calls = F.calls faults.new; has_failed = F.has_failed faults.new })
         result }
-    ensures reads { R.calls reader.new ≤ most_reads }
+    ensures reads { R.calls reader.new ≤ most_document_reads }
 {
     match job_asked(alloc, words) {
         Ok(Some(job)) => match run(alloc, job, reader, writer) {
@@ -99,10 +99,10 @@ fn run<R: Source, W: Sink>(
         })
         (record { before = W.bytes_taken writer.old; after = W.bytes_taken writer.new; calls = W.calls writer.new; has_failed = W.has_failed writer.new })
         result }
-    ensures reads { R.calls reader.new ≤ most_reads }
+    ensures reads { R.calls reader.new ≤ most_document_reads }
 {
     let document = read_all(alloc, reader)?;
-    let text = answer(alloc, job, document.as_slice())?;
+    let text = answer(alloc, job, document)?;
     match write_all(writer, text.as_slice()) {
         Ok(()) => Ok(()),
         Err(_) => Err(Fault::Output),

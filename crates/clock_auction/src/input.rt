@@ -1,7 +1,7 @@
 ghost use Rattle.std.specs.Prelude.{◌≡◌, ◌≤◌, ◌<◌, ◌+◌, ◌||◌, false, length, IfOk};
 ghost use Rattle.clock_device.specs.Calls.{IsUnread, count_after};
 ghost use Rattle.clock_device.specs.inside.Readings.{GrowsByOneAtMost};
-ghost use Rattle.clock_auction.specs.Input.{IsReadingOf, most_bytes, most_reads};
+ghost use Rattle.clock_auction.specs.Input.{IsReadingOf, most_bytes, most_document_reads};
 ghost use Rattle.clock_auction.specs.inside.Input.{IsStepOf, is_input_fault};
 
 use crate::fault::Fault;
@@ -29,7 +29,7 @@ pub fn read_all<R: Source>(alloc: Global, reader: &mut R) -> Result<Text, Fault>
           has_failed = R.has_failed reader.new;
         })
         result }
-    ensures calls { R.calls reader.new ≤ most_reads }
+    ensures calls { R.calls reader.new ≤ most_document_reads }
 {
     let mut piece = room_for_read(alloc, PIECE)?;
     let mut document = Text::new(alloc);
@@ -50,7 +50,7 @@ fn read_more<R: Source>(
 ) -> Result<bool, Fault>
     requires room { 0 < length piece.old }
     requires few { length document.old ≤ most_bytes }
-    requires uncounted { R.interruptions reader.old < most_reads }
+    requires uncounted { R.interruptions reader.old < most_document_reads }
     ensures step { IsStepOf (R.bytes_left reader.old) (R.bytes_left reader.new) document.old document.new result }
     ensures used { IfOk result (λ ended. ended ≡ false
         → length document.old + R.interruptions reader.old < length document.new + R.interruptions reader.new) }

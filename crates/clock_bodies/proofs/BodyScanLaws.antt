@@ -12,7 +12,7 @@ use Rattle.clock_terms.specs.declared.increments.Increments.{Increments}
 use Rattle.clock_terms.specs.declared.increments.Increments.TheVariants.{Single, PerProduct}
 use Rattle.clock_scan.specs.Reading.{whole, numbers, items_of, Fields, Reads}
 use Rattle.clock_scan.specs.inside.Reading.{is_field, with_field, AddsMember}
-use Rattle.clock_scan.specs.declared.stop.Stop.{Stop}
+use Rattle.clock_scan.specs.declared.stop.ScanStop.{ScanStop}
 use Rattle.clock_scan.proofs.Steps.{adds_member, items_start, items_next, items_end, text_is}
 use Rattle.clock_bids.specs.declared.sheet.Bid.{Bid}
 use Rattle.clock_order.specs.declared.ties.Tie.{Tie}
@@ -81,7 +81,7 @@ close_means round (PerProduct increments) ties =
 
 -- ---- what the bytes mean
 
-pub put_meant : (text : List ℕ) (ts : List Token) (found : Result PutBody Stop) → IsUtf8 text → ts ≡ tokens text
+pub put_meant : (text : List ℕ) (ts : List Token) (found : Result PutBody ScanStop) → IsUtf8 text → ts ≡ tokens text
     → IfOk found (λ body. Reads 3 ts (put_data body) []) → IfOk found (λ body. put_body text ≡ Ok body)
 unfolding put_body
 put_meant text ts (Err stop) utf8 is reads = tt
@@ -89,7 +89,7 @@ put_meant text ts (Ok body) utf8 is reads =
     ap (meant_by put_of) (json_value text (put_data body) utf8 (text_is 3 text ts [] (put_data body) (omega arith) is reads refl))
     ∙ ap (or_fault Shape) (put_means body)
 
-pub close_meant : (text : List ℕ) (ts : List Token) (found : Result CloseBody Stop) → IsUtf8 text → ts ≡ tokens text
+pub close_meant : (text : List ℕ) (ts : List Token) (found : Result CloseBody ScanStop) → IsUtf8 text → ts ≡ tokens text
     → IfOk found (λ body. Reads 3 ts (close_data body) []) → IfOk found (λ body. close_body text ≡ Ok body)
 unfolding close_body
 close_meant text ts (Err stop) utf8 is reads = tt

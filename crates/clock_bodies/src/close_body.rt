@@ -8,7 +8,7 @@ use crate::body_fault::BodyFault;
 use crate::close_scan::close_by_bytes;
 use clock_device::Items;
 use clock_order::Tie;
-use clock_scan::Stop;
+use clock_scan::ScanStop;
 use clock_setup::members::{has_members, items_at, number_at, numbers_of, read_value};
 use clock_terms::Increments;
 use serde_json::Value;
@@ -107,8 +107,8 @@ pub fn read_close(alloc: Global, bytes: &[u8]) -> Result<CloseBody, BodyFault>
 {
     match close_by_bytes(alloc, bytes) {
         Ok(body) => Ok(body),
-        Err(Stop::NoMemory) => Err(BodyFault::NoMemory),
-        Err(Stop::Unusual) => close_by_tree(alloc, bytes),
+        Err(ScanStop::NoMemory) => Err(BodyFault::NoMemory),
+        Err(ScanStop::Unusual) => close_by_tree(alloc, bytes),
     }
 }
 

@@ -10,7 +10,7 @@ ghost use Rattle.clock_bodies.specs.inside.QuickBodies.{close_fields, close_data
 use crate::close_body::CloseBody;
 use clock_device::Items;
 use clock_order::Tie;
-use clock_scan::{Scan, Stop, is_key, is_text};
+use clock_scan::{Scan, ScanStop, is_key, is_text};
 use clock_terms::Increments;
 use std::alloc::Global;
 
@@ -63,17 +63,17 @@ pub fn next_tie(scan: &mut Scan<'_>) -> Option<Tie>
 }
 
 /// The list of tie numbers that is next, with room for so many made at once.
-fn ties(alloc: Global, scan: &mut Scan<'_>, room: usize) -> Result<Items<Tie>, Stop>
+fn ties(alloc: Global, scan: &mut Scan<'_>, room: usize) -> Result<Items<Tie>, ScanStop>
     ensures value { IfOk result (λ ties. Reads 2 scan.old (ties_data ties) scan.new) }
     ensures shorter { OnOk result (length scan.new < length scan.old) }
 {
     if !scan.opens_array() {
-        return Err(Stop::Unusual);
+        return Err(ScanStop::Unusual);
     }
     let mut list = Vec::with_capacity(alloc, room)?;
     'items: while !scan.closes_array() {
         let Some(next) = next_tie(scan) else {
-            return Err(Stop::Unusual);
+            return Err(ScanStop::Unusual);
         };
         list.push(next)?;
     }
@@ -82,12 +82,12 @@ fn ties(alloc: Global, scan: &mut Scan<'_>, room: usize) -> Result<Items<Tie>, S
 
 impl FoundClose {
     /// Reads the member that is next.
-    fn read_member(&mut self, alloc: Global, scan: &mut Scan<'_>, room: usize) -> Result<(), Stop>
+    fn read_member(&mut self, alloc: Global, scan: &mut Scan<'_>, room: usize) -> Result<(), ScanStop>
         ensures value { OnOk result (AddsMember 2 scan.old (close_fields self.old) scan.new (close_fields self.new)) }
         ensures shorter { OnOk result (length scan.new < length scan.old) }
     {
         let Some(key) = scan.key() else {
-            return Err(Stop::Unusual);
+            return Err(ScanStop::Unusual);
         };
         if is_key(key, "ties") {
             let ties = ties(alloc, scan, room)?;
@@ -100,7 +100,7 @@ impl FoundClose {
             return Ok(());
         }
         let Some(number) = scan.number() else {
-            return Err(Stop::Unusual);
+            return Err(ScanStop::Unusual);
         };
         if is_key(key, "increment") {
             self.increment = Some(number);
@@ -110,7 +110,7 @@ impl FoundClose {
             self.round = Some(number);
             return Ok(());
         }
-        Err(Stop::Unusual)
+        Err(ScanStop::Unusual)
     }
 
     /// The closing, where all of it was found.
@@ -127,11 +127,11 @@ impl FoundClose {
 }
 
 /// The closing that is next, where nothing follows it.
-fn close(alloc: Global, scan: &mut Scan<'_>, room: usize) -> Result<CloseBody, Stop>
+fn close(alloc: Global, scan: &mut Scan<'_>, room: usize) -> Result<CloseBody, ScanStop>
     ensures { IfOk result (λ body. Reads 3 scan.old (close_data body) []) }
 {
     if !scan.opens_object() {
-        return Err(Stop::Unusual);
+        return Err(ScanStop::Unusual);
     }
     let mut found = FoundClose {
         increment: None,
@@ -143,20 +143,20 @@ fn close(alloc: Global, scan: &mut Scan<'_>, room: usize) -> Result<CloseBody, S
         found.read_member(alloc, scan, room)?;
     }
     if !scan.ends() {
-        return Err(Stop::Unusual);
+        return Err(ScanStop::Unusual);
     }
     let Some(body) = found.body() else {
-        return Err(Stop::Unusual);
+        return Err(ScanStop::Unusual);
     };
     Ok(body)
 }
 
 /// What the body of a closing means, where it is read byte by byte.
-pub(crate) fn close_by_bytes(alloc: Global, bytes: &[u8]) -> Result<CloseBody, Stop>
+pub(crate) fn close_by_bytes(alloc: Global, bytes: &[u8]) -> Result<CloseBody, ScanStop>
     ensures { IfOk result (λ body. bodies.close_body bytes.now ≡ Ok body) }
 {
     if !is_text(bytes) {
-        return Err(Stop::Unusual);
+        return Err(ScanStop::Unusual);
     }
     let mut scan = Scan::new(bytes);
     close(alloc, &mut scan, bytes.len() / SHORT_TIE)

@@ -8,7 +8,7 @@ use crate::body_fault::BodyFault;
 use crate::put_scan::put_by_bytes;
 use clock_bids::Bid;
 use clock_device::Items;
-use clock_scan::Stop;
+use clock_scan::ScanStop;
 use clock_setup::members::{has_members, items_at, number_at, read_value};
 use serde_json::Value;
 use std::alloc::Global;
@@ -88,7 +88,7 @@ pub fn read_put(alloc: Global, bytes: &[u8]) -> Result<PutBody, BodyFault>
 {
     match put_by_bytes(alloc, bytes) {
         Ok(body) => Ok(body),
-        Err(Stop::NoMemory) => Err(BodyFault::NoMemory),
-        Err(Stop::Unusual) => put_by_tree(alloc, bytes),
+        Err(ScanStop::NoMemory) => Err(BodyFault::NoMemory),
+        Err(ScanStop::Unusual) => put_by_tree(alloc, bytes),
     }
 }

@@ -10,7 +10,7 @@ ghost use Rattle.clock_bodies.specs.inside.QuickBodies.{put_fields, put_data};
 use crate::put_body::PutBody;
 use clock_bids::Bid;
 use clock_device::Items;
-use clock_scan::{Scan, Stop, is_key, is_text};
+use clock_scan::{Scan, ScanStop, is_key, is_text};
 use std::alloc::Global;
 
 /// How many bytes a bid and its comma take at least.
@@ -114,7 +114,7 @@ pub fn next_bid(scan: &mut Scan<'_>) -> Option<Bid>
 /// The bids that are next, behind those of a list, as far as they are written without white space, their keys in the order of
 /// their bytes, and with a comma behind each. They are read by several bytes at a time.
 #[inline(never)]
-fn compact_bids(scan: &mut Scan<'_>, list: &mut Vec<Bid>) -> Result<(), Stop>
+fn compact_bids(scan: &mut Scan<'_>, list: &mut Vec<Bid>) -> Result<(), ScanStop>
     ensures { OnOk result ((bids : List Bid) × (list.new.items ≡ list.old.items ++ bids)
         × ReadsAll 1 scan.old (map bid_data bids) scan.new) }
 {
@@ -130,18 +130,18 @@ fn compact_bids(scan: &mut Scan<'_>, list: &mut Vec<Bid>) -> Result<(), Stop>
 
 /// The list of bids that is next, with room for so many made at once.
 #[inline(never)]
-fn bids(alloc: Global, scan: &mut Scan<'_>, room: usize) -> Result<Items<Bid>, Stop>
+fn bids(alloc: Global, scan: &mut Scan<'_>, room: usize) -> Result<Items<Bid>, ScanStop>
     ensures value { IfOk result (λ bids. Reads 2 scan.old (bids_data bids) scan.new) }
     ensures shorter { OnOk result (length scan.new < length scan.old) }
 {
     if !scan.opens_array() {
-        return Err(Stop::Unusual);
+        return Err(ScanStop::Unusual);
     }
     let mut list = Vec::with_capacity(alloc, room)?;
     compact_bids(scan, &mut list)?;
     'items: while !scan.closes_array() {
         let Some(next) = next_bid(scan) else {
-            return Err(Stop::Unusual);
+            return Err(ScanStop::Unusual);
         };
         list.push(next)?;
         compact_bids(scan, &mut list)?;
@@ -151,16 +151,16 @@ fn bids(alloc: Global, scan: &mut Scan<'_>, room: usize) -> Result<Items<Bid>, S
 
 impl FoundPut {
     /// Reads the member that is next.
-    fn read_member(&mut self, alloc: Global, scan: &mut Scan<'_>, room: usize) -> Result<(), Stop>
+    fn read_member(&mut self, alloc: Global, scan: &mut Scan<'_>, room: usize) -> Result<(), ScanStop>
         ensures value { OnOk result (AddsMember 2 scan.old (put_fields self.old) scan.new (put_fields self.new)) }
         ensures shorter { OnOk result (length scan.new < length scan.old) }
     {
         let Some(key) = scan.key() else {
-            return Err(Stop::Unusual);
+            return Err(ScanStop::Unusual);
         };
         if is_key(key, "round") {
             let Some(round) = scan.number() else {
-                return Err(Stop::Unusual);
+                return Err(ScanStop::Unusual);
             };
             self.round = Some(round);
             return Ok(());
@@ -170,7 +170,7 @@ impl FoundPut {
             self.bids = Some(bids);
             return Ok(());
         }
-        Err(Stop::Unusual)
+        Err(ScanStop::Unusual)
     }
 
     /// The sheet, where all of it was found.
@@ -185,11 +185,11 @@ impl FoundPut {
 }
 
 /// The sheet that is next, where nothing follows it.
-fn put(alloc: Global, scan: &mut Scan<'_>, room: usize) -> Result<PutBody, Stop>
+fn put(alloc: Global, scan: &mut Scan<'_>, room: usize) -> Result<PutBody, ScanStop>
     ensures { IfOk result (λ body. Reads 3 scan.old (put_data body) []) }
 {
     if !scan.opens_object() {
-        return Err(Stop::Unusual);
+        return Err(ScanStop::Unusual);
     }
     let mut found = FoundPut {
         round: None,
@@ -199,20 +199,20 @@ fn put(alloc: Global, scan: &mut Scan<'_>, room: usize) -> Result<PutBody, Stop>
         found.read_member(alloc, scan, room)?;
     }
     if !scan.ends() {
-        return Err(Stop::Unusual);
+        return Err(ScanStop::Unusual);
     }
     let Some(body) = found.body() else {
-        return Err(Stop::Unusual);
+        return Err(ScanStop::Unusual);
     };
     Ok(body)
 }
 
 /// What the body of a sheet means, where it is read byte by byte.
-pub(crate) fn put_by_bytes(alloc: Global, bytes: &[u8]) -> Result<PutBody, Stop>
+pub(crate) fn put_by_bytes(alloc: Global, bytes: &[u8]) -> Result<PutBody, ScanStop>
     ensures { IfOk result (λ body. bodies.put_body bytes.now ≡ Ok body) }
 {
     if !is_text(bytes) {
-        return Err(Stop::Unusual);
+        return Err(ScanStop::Unusual);
     }
     let mut scan = Scan::new(bytes);
     put(alloc, &mut scan, bytes.len() / LEAST_BID)

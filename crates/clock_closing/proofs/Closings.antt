@@ -13,17 +13,17 @@ use Rattle.clock_closing.specs.declared.fault.CloseFault.{CloseFault}
 use Rattle.clock_closing.specs.declared.fault.CloseFault.TheVariants as close_faults
 use Rattle.clock_closing.specs.Faults.{fault_check}
 use Rattle.clock_closing.specs.OpenRound.{OpenRound}
-use Rattle.clock_closing.specs.Closing.{ClosedRound, outcome, closed_round, closing}
+use Rattle.clock_closing.specs.Closing.{ClosedRound, round_result, closed_round, closing}
 
 -- the auction goes on, the round is the current one, increment and tie numbers have no fault, no next clock price is too high, and the round is that
--- of the outcome
+-- of the result
 pub record IsClosing (setup : PublicSetup) (now : OpenRound) (round : ℕ) (increments : Increments) (ties : List Tie) (closed : ClosedRound) : Type 0 where
   pub going : now.standing.ended ≡ false
   pub current : (round == now.standing.round) ≡ true
   pub within : are_increments (length setup.products) increments ≡ true
   pub fair : tie_fault (length now.holdings) (length setup.products) ties ≡ None
-  pub possible : price_limit_fault setup.products (outcome setup.products now ties).grid (outcome setup.products now ties).posted increments ≡ None
-  pub made : closed ≡ closed_round setup now increments (outcome setup.products now ties)
+  pub possible : price_limit_fault setup.products (round_result setup.products now ties).grid (round_result setup.products now ties).posted increments ≡ None
+  pub made : closed ≡ closed_round setup now increments (round_result setup.products now ties)
 
 -- the checks of a closing
 abbrev pub checks : Bool → Bool → Bool → ℕ → Option TieFault → Option ℕ → List (CloseFault × Bool)
@@ -50,10 +50,10 @@ pub closing_passed : (setup : PublicSetup) (now : OpenRound) (round : ℕ) (incr
 closing_passed setup now round increments ties closed e =
     let tests : Passed now.standing.ended (round == now.standing.round) (are_increments (length setup.products) increments)
     (tie_fault (length now.holdings) (length setup.products) ties)
-    (price_limit_fault setup.products (outcome setup.products now ties).grid (outcome setup.products now ties).posted increments)
-    (closed_round setup now increments (outcome setup.products now ties)) closed
+    (price_limit_fault setup.products (round_result setup.products now ties).grid (round_result setup.products now ties).posted increments)
+    (closed_round setup now increments (round_result setup.products now ties)) closed
     = passed now.standing.ended (round == now.standing.round) (are_increments (length setup.products) increments) now.standing.round
     (tie_fault (length now.holdings) (length setup.products) ties)
-    (price_limit_fault setup.products (outcome setup.products now ties).grid (outcome setup.products now ties).posted increments)
-    (closed_round setup now increments (outcome setup.products now ties)) closed e in
+    (price_limit_fault setup.products (round_result setup.products now ties).grid (round_result setup.products now ties).posted increments)
+    (closed_round setup now increments (round_result setup.products now ties)) closed e in
     record { going = tests.0; current = tests.1; within = tests.2; fair = tests.3; possible = tests.4; made = tests.5 }

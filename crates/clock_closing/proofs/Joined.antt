@@ -9,29 +9,29 @@ use Rattle.clock_device.proofs.Pairs.{AllPairs-append}
 use Rattle.clock_terms.specs.declared.change.Change.{Change}
 use Rattle.clock_terms.specs.Requests.{AreApart}
 
-module _ (requests_of : ℕ → List Change) (bidders : ℕ) where
+module _ (requests_by : ℕ → List Change) (bidders : ℕ) where
   -- what holds of each bidder's requests holds of all
-  pub all_joined : (P : Change → Type 0) (a n : ℕ) → ((bidder : ℕ) → a ≤ bidder → bidder < bidders → All P (requests_of bidder)) → a + n ≤ bidders →
-      All P (flat_map requests_of (range_with_len a n))
+  pub all_joined : (P : Change → Type 0) (a n : ℕ) → ((bidder : ℕ) → a ≤ bidder → bidder < bidders → All P (requests_by bidder)) → a + n ≤ bidders →
+      All P (flat_map requests_by (range_with_len a n))
   all_joined P a zero each within = All-nil P
   all_joined P a (suc n) each within =
-      All-append P (requests_of a) (flat_map requests_of (range_with_len (a + 1) n)) (each a (omega arith) (omega (arith, within)))
+      All-append P (requests_by a) (flat_map requests_by (range_with_len (a + 1) n)) (each a (omega arith) (omega (arith, within)))
       (all_joined P (a + 1) n (λ bidder from to. each bidder (omega (arith, from)) to) (omega (arith, within)))
 
   -- no two have one bidder, product and place
-  pub apart_joined : ((bidder : ℕ) → bidder < bidders → All (λ (change : Change). change.bidder ≡ bidder) (requests_of bidder)) →
-      ((bidder : ℕ) → bidder < bidders → AllPairs AreApart (requests_of bidder)) →
-      (a n : ℕ) → a + n ≤ bidders → AllPairs AreApart (flat_map requests_of (range_with_len a n))
+  pub apart_joined : ((bidder : ℕ) → bidder < bidders → All (λ (change : Change). change.bidder ≡ bidder) (requests_by bidder)) →
+      ((bidder : ℕ) → bidder < bidders → AllPairs AreApart (requests_by bidder)) →
+      (a n : ℕ) → a + n ≤ bidders → AllPairs AreApart (flat_map requests_by (range_with_len a n))
   apart_joined own apart a zero within = λ i j d before in_range. absurd (omega (arith, in_range))
   apart_joined own apart a (suc n) within =
-      let rest : List Change = flat_map requests_of (range_with_len (a + 1) n) in
+      let rest : List Change = flat_map requests_by (range_with_len (a + 1) n) in
       let later : All (λ (change : Change). a + 1 ≤ change.bidder) rest
       = all_joined (λ (change : Change). a + 1 ≤ change.bidder) (a + 1) n
       (λ bidder from to. All-weaker (λ (change : Change). change.bidder ≡ bidder) (λ (change : Change). a + 1 ≤ change.bidder)
-      (λ change is. omega (arith, is, from)) (requests_of bidder) (own bidder to))
+      (λ change is. omega (arith, is, from)) (requests_by bidder) (own bidder to))
       (omega (arith, within)) in
-      let mine : All (λ (change : Change). change.bidder ≡ a) (requests_of a) = own a (omega (arith, within)) in
-      AllPairs-append AreApart (requests_of a) rest (apart a (omega (arith, within))) (apart_joined own apart (a + 1) n (omega (arith, within)))
+      let mine : All (λ (change : Change). change.bidder ≡ a) (requests_by a) = own a (omega (arith, within)) in
+      AllPairs-append AreApart (requests_by a) rest (apart a (omega (arith, within))) (apart_joined own apart (a + 1) n (omega (arith, within)))
       (λ i d i_in j e j_in bidder product place. omega (arith, mine i d i_in, later j e j_in, bidder))
 
 -- a range is longer by its next number

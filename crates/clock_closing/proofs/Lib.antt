@@ -3,7 +3,7 @@ pub mod Joined
 pub mod OpenRounds
 pub mod Sums
 pub mod Eligible
-pub mod Outcomes
+pub mod RoundResults
 pub mod Filled
 pub mod Posts
 mod Cells

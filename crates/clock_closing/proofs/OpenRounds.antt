@@ -1,4 +1,4 @@
--- An open round that is in order can be settled, and its outcome is in order again.
+-- An open round that is in order can be settled, and its result is in order again.
 use Rattle.std.proofs.Common.{◌≡◌, ℕ, ◌*◌, ◌/◌, ◌<◌, ◌≤◌, List, [], cond, ap, sym, subst, ◌∙◌, arith, get_or, length, All, eq-eqb}
 use Rattle.std.specs.Prelude.{flat_map, IsPermutation}
 use Rattle.std.specs.List.{AllPairs}
@@ -20,7 +20,7 @@ use Rattle.clock_posting.specs.PostedPrice.{IsWithinPrices}
 use Rattle.clock_closing.specs.Holdings.{Holding}
 use Rattle.clock_closing.specs.OpenRound.{OpenRound, IsOpen, holding_at, bids_at, bidder_numbers}
 use Rattle.clock_closing.specs.inside.OpenRound.{eligibilities_of, grid_of}
-use Rattle.clock_closing.specs.Closing.{requests_of, asked_grid, settlement}
+use Rattle.clock_closing.specs.Closing.{requests_by, asked_grid, settlement}
 use Rattle.clock_closing.proofs.Joined.{all_joined, apart_joined}
 use Rattle.clock_bids.proofs.Good.{good_sheet_row, good_sheet_activity}
 use Rattle.clock_bids.proofs.GoodChanges.{good_sheet_changes}
@@ -71,38 +71,38 @@ module _ (setup : PublicSetup) (now : OpenRound) (sound : IsOpen setup now) wher
 
   -- a bidder's requests in a later round
   pub changes_at : 2 ≤ now.standing.round → (bidder : ℕ) → bidder < length now.holdings →
-      AreChangesOf setup.products now.standing.prices (holding_at now.holdings bidder).demands bidder (requests_of now bidder)
+      AreChangesOf setup.products now.standing.prices (holding_at now.holdings bidder).demands bidder (requests_by now bidder)
   changes_at later bidder lt =
       good_sheet_changes setup now.standing.round now.standing.prices (holding_at now.holdings bidder) bidder (bids_at now.sheets bidder)
       sound.few_products sound.limits sound.priced.pairs (sound.priced.rising later) (sound.within bidder lt).row (sound.good bidder lt)
 
   abbrev pub all_requests : List Change
-  all_requests = flat_map (requests_of now) (bidder_numbers now)
+  all_requests = flat_map (requests_by now) (bidder_numbers now)
 
   -- no two requests have one bidder, product and place
   pub own_places : 2 ≤ now.standing.round → AllPairs AreApart all_requests
   own_places later =
-      apart_joined (requests_of now) (length now.holdings)
+      apart_joined (requests_by now) (length now.holdings)
       (λ bidder lt. All-weaker (IsChangeOf setup.products now.standing.prices bidder) (λ (change : Change). change.bidder ≡ bidder) (λ change is. is.bidder)
-      (requests_of now bidder) (changes_at later bidder lt).all)
+      (requests_by now bidder) (changes_at later bidder lt).all)
       (λ bidder lt. (changes_at later bidder lt).apart) 0 (length now.holdings) (omega arith)
 
   -- each is made at a price of its product
   pub priced_requests : 2 ≤ now.standing.round → All (IsWithinPrices now.standing.prices) all_requests
   priced_requests later =
-      all_joined (requests_of now) (length now.holdings) (IsWithinPrices now.standing.prices) 0 (length now.holdings)
+      all_joined (requests_by now) (length now.holdings) (IsWithinPrices now.standing.prices) 0 (length now.holdings)
       (λ bidder from lt. All-weaker (IsChangeOf setup.products now.standing.prices bidder) (IsWithinPrices now.standing.prices)
       (λ change is. record { product = omega (arith, is.product, sound.priced.pairs); from_start = is.from_start; to_clock = is.to_clock })
-      (requests_of now bidder) (changes_at later bidder lt).all)
+      (requests_by now bidder) (changes_at later bidder lt).all)
       (omega arith)
 
   -- in whatever order, they can be settled
   pub can_settle : 2 ≤ now.standing.round → (list : List Change) → IsPermutation all_requests list →
       CanSettle (new_board setup.products (eligibilities_of now) (grid_of now)) list
   can_settle later list same =
-      can_settle_all setup.products now.standing.prices (eligibilities_of now) (grid_of now) (requests_of now) (length now.holdings) sound.few_bidders
+      can_settle_all setup.products now.standing.prices (eligibilities_of now) (grid_of now) (requests_by now) (length now.holdings) sound.few_bidders
       (length-map now.holdings _) (length-map now.holdings _)
-      (λ bidder lt. subst (λ (row : List ℕ). AreChangesOf setup.products now.standing.prices row bidder (requests_of now bidder))
+      (λ bidder lt. subst (λ (row : List ℕ). AreChangesOf setup.products now.standing.prices row bidder (requests_by now bidder))
       (sym (demands_at bidder lt)) (changes_at later bidder lt))
       list same
 

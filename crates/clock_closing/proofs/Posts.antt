@@ -23,12 +23,12 @@ use Rattle.clock_closing.specs.declared.results.Results.{Results}
 use Rattle.clock_closing.specs.Faults.{fault_check}
 use Rattle.clock_closing.specs.ToldFaults.{told_of_post, told_of_tie}
 use Rattle.clock_closing.specs.OpenRound.{OpenRound}
-use Rattle.clock_closing.specs.Closing.{ClosedRound, Outcome, outcome, closed_round, closing, slips_after}
+use Rattle.clock_closing.specs.Closing.{ClosedRound, RoundResult, round_result, closed_round, closing, slips_after}
 use Rattle.clock_closing.specs.Results.{AreConsistent, demands_of}
 use Rattle.clock_closing.specs.inside.Postings.{AreResults}
 use Rattle.clock_closing.proofs.Closings.{checks}
 
-module _ (setup : PublicSetup) (now : OpenRound) (increments : Increments) (result : Outcome) where
+module _ (setup : PublicSetup) (now : OpenRound) (increments : Increments) (result : RoundResult) where
   -- the closing by what is found of the next clock prices
   abbrev by_limit : Option ℕ → Result ClosedRound CloseFault
   by_limit limit = unless (first_fault (fault_check close_faults.PriceLimit limit)) (closed_round setup now increments result)
@@ -78,8 +78,8 @@ module _ (setup : PublicSetup) (now : OpenRound) (round : ℕ) (increments : Inc
   abbrev by_tests : Bool → Bool → Bool → Option TieFault → Result ClosedRound CloseFault
   by_tests ended current within tied =
       unless (first_fault (checks ended current within now.standing.round tied
-      (price_limit_fault setup.products (outcome setup.products now ties).grid (outcome setup.products now ties).posted increments)))
-      (closed_round setup now increments (outcome setup.products now ties))
+      (price_limit_fault setup.products (round_result setup.products now ties).grid (round_result setup.products now ties).posted increments)))
+      (closed_round setup now increments (round_result setup.products now ties))
 
   -- a closing that passes the checks before the tie numbers
   closes-tied : now.standing.ended ≡ false → round ≡ now.standing.round → are_increments (length setup.products) increments ≡ true → (tied : Option TieFault) →

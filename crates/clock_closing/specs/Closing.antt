@@ -1,7 +1,7 @@
 -- The closing of a round, from what is known before it.
 --     requests round ties      all bidders' requests, in the order of processing
---     outcome products round ties      the demands and the posted prices after the round
---     closed_round setup round increments outcome      the sheet and the slips of the round
+--     round_result products round ties      the demands and the posted prices after the round
+--     closed_round setup round increments result      the sheet and the slips of the round
 --     closing setup round number increments ties      the round that a closing adds, or its first fault
 --     closing_now round increments ties      the same of a closing of the current round
 use Rattle.std.specs.Prelude.{ℕ, List, ◌∷◌, ◌++◌, not, ◌==◌, if◌then◌else◌, Result, length, map, flat_map}
@@ -34,13 +34,13 @@ asked_grid products now =
     map (λ bidder. asked_demands (length products) (bids_at now.sheets bidder)) (bidder_numbers now)
 
 -- the requests that a bidder's sheet in force stands for
-abbrev pub requests_of : OpenRound → ℕ → List Change
-requests_of now bidder =
+abbrev pub requests_by : OpenRound → ℕ → List Change
+requests_by now bidder =
     changes_of_sheet now.standing.prices (holding_at now.holdings bidder).demands bidder (bids_at now.sheets bidder)
 
 -- all bidders' requests, in the order of processing
 abbrev pub requests : OpenRound → List Tie → List Change
-requests now ties = processing_list ties (flat_map (requests_of now) (bidder_numbers now))
+requests now ties = processing_list ties (flat_map (requests_by now) (bidder_numbers now))
 
 -- what the settling of the requests comes to
 abbrev pub settlement : List Product → OpenRound → List Change → Progress
@@ -48,26 +48,26 @@ settlement products now changes =
     settled products (map (λ holding. holding.eligibility) now.holdings) changes (map (λ holding. holding.demands) now.holdings)
 
 -- the demands and the posted prices of a round
-pub record Outcome : Type 0 where
+pub record RoundResult : Type 0 where
   pub grid : List (List ℕ)
   pub posted : List ℕ
 
 -- in the first round the sheets' quantities stand as demands, at the opening prices
-abbrev pub first_outcome : List Product → OpenRound → Outcome
-first_outcome products now = record { grid = asked_grid products now; posted = opening_posted products }
+abbrev pub first_result : List Product → OpenRound → RoundResult
+first_result products now = record { grid = asked_grid products now; posted = opening_posted products }
 
 -- in a later round the requests are settled: the demands that this leaves, and the posted prices
-abbrev pub later_outcome : List Product → OpenRound → List Change → Outcome
-later_outcome products now changes = record {
+abbrev pub later_result : List Product → OpenRound → List Change → RoundResult
+later_result products now changes = record {
   grid = (settlement products now changes).grid;
   posted = posted_prices products now.standing.prices changes (settlement products now changes).left
       (settlement products now changes).grid;
 }
 
 -- the demands and the posted prices of the current round
-abbrev pub outcome : List Product → OpenRound → List Tie → Outcome
-outcome products now ties =
-    if now.standing.round == 1 then first_outcome products now else later_outcome products now (requests now ties)
+abbrev pub round_result : List Product → OpenRound → List Tie → RoundResult
+round_result products now ties =
+    if now.standing.round == 1 then first_result products now else later_result products now (requests now ties)
 
 -- a bidder's slip: its activity, its next eligibility and its demands after the round
 abbrev pub slip_after : PublicSetup → ℕ → ℕ → List ℕ → Slip
@@ -85,7 +85,7 @@ slips_after setup now grid =
     (bidder_numbers now)
 
 -- the sheet and the slips of the round
-abbrev pub closed_round : PublicSetup → OpenRound → Increments → Outcome → ClosedRound
+abbrev pub closed_round : PublicSetup → OpenRound → Increments → RoundResult → ClosedRound
 closed_round setup now increments result = record {
   sheet = round_sheet now.standing.round setup.products now.standing.prices result.grid result.posted increments;
   slips = slips_after setup now result.grid;
@@ -94,7 +94,7 @@ closed_round setup now increments result = record {
 -- the round that a closing adds, or the first fault: ended, another round, bad increments or ties, a price too high
 abbrev pub closing : PublicSetup → OpenRound → ℕ → Increments → List Tie → Result ClosedRound CloseFault
 closing setup now round increments ties =
-    let result = outcome setup.products now ties in
+    let result = round_result setup.products now ties in
     unless (first_fault ((close_faults.Ended, not now.standing.ended)
     ∷ (close_faults.WrongRound now.standing.round, round == now.standing.round)
     ∷ (close_faults.Increment, are_increments (length setup.products) increments)

@@ -3,6 +3,7 @@ pub mod Calls
 pub mod Decimal
 pub mod Streams
 pub mod Readings
+pub mod Writings
 pub mod SourceState
 pub mod SinkState
 pub mod inside

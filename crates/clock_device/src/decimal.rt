@@ -1,7 +1,8 @@
-ghost use Rattle.std.specs.Prelude.{◌≡◌, ◌++◌, ◌||◌, List, ℕ, decimal, OnOk, OnErr, is_err};
+ghost use Rattle.std.specs.Prelude.{◌≡◌, ◌++◌, ◌+◌, ◌≤◌, ◌||◌, List, ℕ, decimal, OnOk, OnErr, is_err};
 ghost use Rattle.clock_device.specs.Decimal.{number_or_dash};
 ghost use Rattle.clock_device.specs.Streams.{WritesText};
 
+use crate::bounded::Bounded;
 use crate::items::Items;
 use crate::no_memory::NoMemory;
 use crate::stream::{Failed, Sink, write_all};
@@ -26,6 +27,18 @@ impl Items<u8> {
             Some(number) => self.push_number(number),
             None => self.push(b'-'),
         }
+    }
+}
+
+impl Bounded<u8> {
+    /// Adds a number in plain decimal, which has 20 digits at most. There is room for these.
+    pub fn push_number(&mut self, number: u64)
+        requires { 20 ≤ self.old.room }
+        ensures items { self.new.items ≡ self.old.items ++ decimal number }
+        ensures room { self.old.room ≤ self.new.room + 20 }
+    {
+        let mut digits = Buffer::new();
+        self.extend_from_slice(digits.format(number).as_bytes());
     }
 }
 

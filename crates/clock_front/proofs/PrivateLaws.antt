@@ -1,6 +1,6 @@
 -- What a right answer tells, it tells by the bidder's view alone.
 use Rattle.std.proofs.Common.{◌≡◌, ◌≢◌, ℕ, ◌<◌, List, length, Option, Some, None, Result, Ok, Err, sym, ◌∙◌, ap}
-use Rattle.std.specs.Prelude.{IfOk, OnOk}
+use Rattle.std.specs.Prelude.{IfOk, IfErr, OnOk}
 use Rattle.clock_terms.specs.Limits.{IsSetup, public_setup}
 use Rattle.clock_terms.specs.Faults.{IsFirstFault}
 use Rattle.clock_bids.specs.declared.sheet.Bid.{Bid}
@@ -15,16 +15,19 @@ use Rattle.clock_front.specs.inside.Askers.{IsKnown}
 use Rattle.clock_front.specs.Fronts.{commands_of}
 use Rattle.clock_front.specs.Outcomes.{outcome, answer_of, put_outcome, refused}
 use Rattle.clock_front.specs.Private.{IsPrivateReply}
+use Rattle.clock_front.specs.Rooms.{IsPrivateWant, IsWantOf, room_of}
+use Rattle.clock_front.specs.declared.unanswered.Unanswered.{Unanswered}
+use Rattle.clock_front.specs.declared.unanswered.Unanswered.TheVariants.{Room}
 use Rattle.clock_front.specs.inside.Private.{IsToldByView, IsToldAsker}
 use Rattle.clock_http.specs.Replies.{Answer}
 use Rattle.clock_front.specs.Requests.{Ask, request_of, put}
-use Rattle.clock_front.specs.inside.Known.{known_outcome}
+use Rattle.clock_front.specs.inside.Knowledge.{known_outcome}
 use Rattle.clock_bodies.specs.declared.put_body.PutBody.{PutBody}
 use Rattle.clock_front.specs.declared.tokens.Asker.{Asker}
 use Rattle.clock_front.specs.declared.tokens.Asker.TheVariants.{Nobody, Operator, Bidder}
 use Rattle.clock_front.proofs.FrontLaws.{outcome_after}
 use Rattle.clock_front.proofs.RunLaws.{right}
-use Rattle.clock_front.proofs.TextViews.{told_of_view}
+use Rattle.clock_front.proofs.TextViews.{told_from_view, told_of_view}
 
 -- what is told to a bidder is what its view tells
 pub told_by_view : (house : HouseFields) (bidder : ℕ) (ask : Ask) (answer : Answer) → bidder < length house.setup.bidders
@@ -62,6 +65,26 @@ pub if_told_by_view : {N : Type 0} (told : Result Answer N) (house : HouseFields
     → IfOk told (λ reply. reply ≡ answer_of (outcome house (Bidder bidder) ask)) → IfOk told (IsToldByView house bidder ask)
 if_told_by_view (Ok reply) house bidder ask lt is = told_by_view house bidder ask reply lt is
 if_told_by_view (Err e) house bidder ask lt is = tt
+
+-- ---- what want of memory tells
+
+pub want_as : {T : Type 0} (told : Result T Unanswered) (P Q : Unanswered → Type 0) → ((why : Unanswered) → P why → Q why) → IfErr told P → IfErr told Q
+want_as (Ok done) P Q goes is = tt
+want_as (Err why) P Q goes is = goes why is
+
+-- the room that a bidder's own text wants is told by its view
+private_want : (house : HouseFields) (text : List ℕ) (why : Unanswered) → IsSetup house.setup → IsWantOf text house why → IsPrivateWant text house why
+private_want house text why limits want =
+    λ texts bidder stands lt own reading.
+    want reading
+    ∙ ap (λ told. Room (room_of (request_of text).ask told))
+    (outcome_after house (commands_of house.setup texts) (asker house.setup (request_of text).token) (request_of text).ask stands
+    ∙ told_from_view house.setup bidder texts text limits.tokens lt own)
+
+pub if_private_want : {T : Type 0} (told : Result T Unanswered) (house : HouseFields) (text : List ℕ) → IsSetup house.setup
+    → IfErr told (IsWantOf text house) → IfErr told (IsPrivateWant text house)
+if_private_want told house text limits =
+    want_as told (IsWantOf text house) (IsPrivateWant text house) (λ why want. private_want house text why limits want)
 
 -- ---- a sheet is judged by what the bidder sees
 

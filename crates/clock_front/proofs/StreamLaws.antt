@@ -7,8 +7,9 @@ use Rattle.clock_front.specs.Fronts.{AnswersText, IsStruckOut, StandsForTexts}
 use Rattle.clock_front.specs.Private.{IsPrivateReply}
 use Rattle.clock_http.specs.Replies.{Answer}
 use Rattle.clock_device.specs.Readings.{Reading}
+use Rattle.clock_device.specs.Writings.{Writing}
 use Rattle.clock_front.specs.Arrivals.{HasArrived}
-use Rattle.clock_front.specs.Streamed.{Writing, HasServed, IsAnswerTo, IsServed}
+use Rattle.clock_front.specs.Streamed.{HasServed, IsAnswerTo, IsServed}
 use Rattle.clock_front.specs.declared.stream_fault.StreamFault.TheVariants as fault
 
 -- the text that was read was answered
@@ -26,8 +27,8 @@ module _ (reading : Reading) (writing : Writing) (old new : HouseFields) where
   served_all answer code bytes failed is told same written unfailed fails = (
     answer,
     is,
+    sym told,
     record {
-      told = sym told;
       bytes = subst (λ (b : List ℕ). HasWritten writing.before writing.after b) same written;
       unfailed = fails ∙ rw unfailed refl;
     },
@@ -40,8 +41,8 @@ module _ (reading : Reading) (writing : Writing) (old new : HouseFields) where
   served_front answer code bytes failed is told same written unfailed fails = (
     answer,
     is,
+    sym told,
     record {
-      told = sym told;
       bytes = subst (λ (b : List ℕ). HasWrittenFront writing.before writing.after b) same written;
       failed = fails ∙ rw unfailed refl;
     },

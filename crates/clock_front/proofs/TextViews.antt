@@ -33,8 +33,8 @@ use Rattle.clock_front.specs.Requests as ask
 use Rattle.clock_bodies.specs.CloseBodies.{in_version}
 use Rattle.clock_front.specs.Outcomes.{done, answer_of, page_or_no_round, close_command, outcome, command_of}
 use Rattle.clock_front.specs.Fronts.{text_command, commands_of, house_after}
-use Rattle.clock_front.specs.Views.{SeenText, own, accepted_close, is_own, closings_of, seen_of_text, text_view, sheet_put, typed_view, bidder_outcome, answer}
-use Rattle.clock_front.specs.inside.Known.{Known, known_from, known_outcome}
+use Rattle.clock_front.specs.Views.{SeenText, own, seen_close, is_own, closings_of, seen_of_text, text_view, sheet_put, typed_view, bidder_outcome, answer}
+use Rattle.clock_front.specs.inside.Knowledge.{Knowledge, known_from, known_outcome}
 use Rattle.clock_front.specs.inside.Isolation.{IsAnsweredFromView, IsIsolated}
 use Rattle.clock_front.proofs.AskerLaws.{asker_own, asker_other}
 
@@ -44,7 +44,7 @@ typed_view-append [] back = refl
 typed_view-append (own text ∷ front) back =
     ap (λ rest. sheet_put (request_of text).ask ++ rest) (typed_view-append front back)
     ∙ sym (append_assoc (sheet_put (request_of text).ask) (typed_view front) (typed_view back))
-typed_view-append (accepted_close sheet slip ∷ front) back = ap (λ rest. typed.accepted_close sheet slip ∷ rest) (typed_view-append front back)
+typed_view-append (seen_close sheet slip ∷ front) back = ap (λ rest. typed.accepted_close sheet slip ∷ rest) (typed_view-append front back)
 
 -- an own request is seen as the sheet that it puts
 own_put_seen : (setup : SetupFields) (b : ℕ) (auction : Auction) (round : ℕ) (sent : PutBody) →
@@ -150,7 +150,7 @@ module _ (setup : PublicSetup) (row : Bidder) (standing_now : Standing) (held : 
 -- ---- what a bidder is told in the whole run
 module _ (setup : SetupFields) (b : ℕ) (lt : b < length setup.bidders) (commands : List Command) where
   -- what it knows after the whole list
-  abbrev pub known_in : Known
+  abbrev pub known_in : Knowledge
   known_in = record {
     standing = standing setup.products (history setup commands).closed;
     holding = holding setup (history setup commands).closed b;
@@ -248,14 +248,21 @@ told_by_known setup row view ask.results = refl
 
 -- ---- the headline
 
-pub answered_from_view : IsAnsweredFromView
-answered_from_view setup b past text tokens lt is =
-    ap (λ author. answer_of (outcome (house_after setup (commands_of setup past)) author (request_of text).ask))
+-- what is told of an own request is told by the view
+pub told_from_view : (setup : SetupFields) (b : ℕ) (past : List (List ℕ)) (text : List ℕ) → HasOwnTokens setup → b < length setup.bidders
+    → is_own (bidder_at setup b) text ≡ true
+    → outcome (house_after setup (commands_of setup past)) (asker setup (request_of text).token) (request_of text).ask
+    ≡ bidder_outcome (public_setup setup) (bidder_at setup b) (typed_view (text_view setup b past)) (request_of text).ask
+told_from_view setup b past text tokens lt is =
+    ap (λ author. outcome (house_after setup (commands_of setup past)) author (request_of text).ask)
     (asker_own setup tokens b lt (request_of text).token is)
-    ∙ ap answer_of (told_of_view setup b lt (commands_of setup past) (request_of text).ask)
-    ∙ ap (λ view. answer_of (known_outcome (public_setup setup) (bidder_at setup b) (known_from (public_setup setup) (bidder_at setup b) view)
-    (request_of text).ask)) (sym (typed_view-text_view setup b tokens lt past))
-    ∙ ap answer_of (told_by_known (public_setup setup) (bidder_at setup b) (typed_view (text_view setup b past)) (request_of text).ask)
+    ∙ told_of_view setup b lt (commands_of setup past) (request_of text).ask
+    ∙ ap (λ view. known_outcome (public_setup setup) (bidder_at setup b) (known_from (public_setup setup) (bidder_at setup b) view)
+    (request_of text).ask) (sym (typed_view-text_view setup b tokens lt past))
+    ∙ told_by_known (public_setup setup) (bidder_at setup b) (typed_view (text_view setup b past)) (request_of text).ask
+
+pub answered_from_view : IsAnsweredFromView
+answered_from_view setup b past text tokens lt is = ap answer_of (told_from_view setup b past text tokens lt is)
 
 pub isolated : IsIsolated
 isolated one two b d past other_past text tokens other_tokens lb ld alike is =

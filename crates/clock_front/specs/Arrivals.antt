@@ -1,19 +1,19 @@
 -- How the bytes of a request come out of a source. Own limit: 2,000,000 reads.
 --     IsReadByNeed reading front last      bytes that still needed more were read, and then these by the last read
 --     HasArrived reading text      the text was read: it is decided, or the input ended behind it
---     HasFailedRead, RunsOutOfReads      the two ways in which a request is not read
+--     IsNotRead reading      no request was read: a read failed, or all were made
 --     HasNoRoom      bytes were read, and there was no memory for them
 --     EndsArrival reading result      how reading a request ends
 use Rattle.std.specs.Prelude.{◌≡◌, ◌≤◌, ◌⊎◌, ◌+◌, ◌++◌, ℕ, List, [], length, Option, true, false, Result, Ok, Err}
 use Rattle.clock_device.specs.Streams.{HasRead, IsReadOut}
-use Rattle.clock_device.specs.Readings.{Reading}
+use Rattle.clock_device.specs.Readings.{Reading, HasFailedRead, RunsOutOfReads}
 use Rattle.clock_http.specs.Framing.{needs_more, IsDecided}
 use Rattle.clock_front.specs.declared.reading.Unread.{Unread}
 use Rattle.clock_front.specs.declared.reading.Unread.TheVariants as unread
 
 -- how many reads are made at most
-abbrev pub most_reads : ℕ
-most_reads = 2000000
+abbrev pub most_request_reads : ℕ
+most_request_reads = 2000000
 
 -- every read was needed: the bytes that came before the last read still needed more, and each read but the last took one of
 -- them at least or was interrupted
@@ -37,20 +37,16 @@ pub record Arrives (reading : Reading) (text front last : List ℕ) : Type 0 whe
 abbrev pub HasArrived : Reading → List ℕ → Type 0
 HasArrived reading text = (front : List ℕ) × (last : List ℕ) × Arrives reading text front last
 
--- bytes that still needed more were read, and the last read failed
-abbrev pub HasFailedRead : Reading → Type 0
-HasFailedRead reading = (text : List ℕ) × IsReadByNeed reading text [] × (reading.has_failed ≡ true)
-
--- bytes that still needed more were read, and these and interruptions used all reads up
-pub record UsesAllReads (reading : Reading) (text : List ℕ) : Type 0 where
+-- bytes that still need more were read, and these and interruptions used the reads up
+pub record UsesReads (reading : Reading) (text : List ℕ) : Type 0 where
   pub read : HasRead reading.before reading.after text
   pub needed : needs_more text ≡ true
   pub used : reading.calls ≤ length text + reading.interruptions
-  pub all : reading.calls ≡ most_reads
-  pub unfailed : reading.has_failed ≡ false
 
-abbrev pub RunsOutOfReads : Reading → Type 0
-RunsOutOfReads reading = (text : List ℕ) × UsesAllReads reading text
+-- no request was read: bytes that still needed more came, and then a read failed; or all reads were made
+abbrev pub IsNotRead : Reading → Type 0
+IsNotRead reading =
+    HasFailedRead (λ text. IsReadByNeed reading text []) reading ⊎ RunsOutOfReads (UsesReads reading) most_request_reads reading
 
 -- there was no memory for the bytes, or for those that the last read brought
 abbrev pub HasNoRoom : Reading → Type 0
@@ -60,5 +56,5 @@ HasNoRoom reading = (front : List ℕ) × (last : List ℕ) × IsReadByNeed read
 -- read is none of these, so it is tried again
 abbrev pub EndsArrival : Reading → Result (List ℕ) Unread → Type 0
 EndsArrival reading (Ok text) = HasArrived reading text
-EndsArrival reading (Err unread.Read) = HasFailedRead reading ⊎ RunsOutOfReads reading
+EndsArrival reading (Err unread.Read) = IsNotRead reading
 EndsArrival reading (Err unread.Memory) = HasNoRoom reading

@@ -21,13 +21,13 @@ use Rattle.clock_http.specs.Framing.{needs_more}
 use Rattle.clock_front.specs.Pieces.{most_connections}
 
 -- a connection that stands: its serial number, and the bytes that have come over it
-pub record Standing : Type 0 where
+pub record OpenConnection : Type 0 where
   pub serial : ℕ
   pub text : List ℕ
 
 -- the connections in their slots, and the serial number of the next
 pub record ConnectionFields : Type 0 where
-  pub slots : List (Option Standing)
+  pub slots : List (Option OpenConnection)
   pub next : ℕ
 
 -- the house of the front, and the connections
@@ -36,11 +36,11 @@ pub record HubFields : Type 0 where
   pub connections : ConnectionFields
 
 -- the text in a slot, if it is that of the connection of this serial number
-abbrev pub text_with : ℕ → Option Standing → Option (List ℕ)
+abbrev pub text_with : ℕ → Option OpenConnection → Option (List ℕ)
 text_with serial None = None
 text_with serial (Some standing) = if standing.serial == serial then Some standing.text else None
 
-abbrev pub slot_of : ConnectionFields → ℕ → Option Standing
+abbrev pub slot_of : ConnectionFields → ℕ → Option OpenConnection
 slot_of connections slot = slice_index_or connections.slots slot None
 
 -- the bytes that have come over a connection that stands

@@ -10,4 +10,5 @@ pub mod Streamed
 pub mod Views
 pub mod Headline
 pub mod Private
+pub mod Rooms
 pub mod inside

@@ -37,13 +37,13 @@ is_own row text = option_map_or (same_bytes row.token) (request_of text).token f
 -- an own request, or an accepted closing
 pub data SeenText : Type 0 where
   own : List ℕ → SeenText
-  accepted_close : RoundSheet → Slip → SeenText
+  seen_close : RoundSheet → Slip → SeenText
 
 -- of what others do a bidder sees the accepted closings
 abbrev pub closings_of : List Seen → List SeenText
 closings_of [] = []
 closings_of (typed.own_put round bids ∷ rest) = closings_of rest
-closings_of (typed.accepted_close sheet slip ∷ rest) = accepted_close sheet slip ∷ closings_of rest
+closings_of (typed.accepted_close sheet slip ∷ rest) = seen_close sheet slip ∷ closings_of rest
 
 -- what the bidder sees of one text, after the texts of the past
 abbrev pub seen_of_text : SetupFields → ℕ → List (List ℕ) → List ℕ → List SeenText
@@ -65,7 +65,7 @@ sheet_put _ = []
 abbrev pub typed_view : List SeenText → List Seen
 typed_view [] = []
 typed_view (own text ∷ earlier) = sheet_put (request_of text).ask ++ typed_view earlier
-typed_view (accepted_close sheet slip ∷ earlier) = typed.accepted_close sheet slip ∷ typed_view earlier
+typed_view (seen_close sheet slip ∷ earlier) = typed.accepted_close sheet slip ∷ typed_view earlier
 
 -- ---- what a bidder is told
 

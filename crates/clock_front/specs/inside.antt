@@ -12,4 +12,4 @@ pub mod TokenTable
 pub mod KeptPage
 pub mod Isolation
 pub mod Roomless
-pub mod Known
+pub mod Knowledge

@@ -12,22 +12,31 @@ ghost use Rattle.clock_front.specs.inside.Private.{IsToldByView};
 ghost use Rattle.clock_front.specs.Requests as asked;
 ghost use Rattle.clock_views.specs.OperatorPages.{closed_value};
 
-use crate::pages::refusal;
+use crate::pages::{refusal, written};
 use clock_bodies::{BodyFault, CloseBody, PutBody, is_of_version, read_close, read_put};
 use clock_device::NoMemory;
 use clock_house::{CloseFault, House, PutFault};
 use clock_http::{Reply, text_with_room};
 use clock_processor::Processor;
-use clock_views::{Code, Refusal, push_accepted_page, push_closed_page};
+use clock_views::{
+    Code, Refusal, accepted_room, closed_room, push_accepted_page, push_closed_page,
+};
 use std::alloc::Global;
+
+/// A refusal of a change.
+fn refused(alloc: Global, why: Refusal) -> Result<Reply, NoMemory>
+    ensures { IfOk result (λ reply. reply ≡ answer_of (told.refused why)) }
+{
+    Ok(refusal(alloc, why)?)
+}
 
 /// That a sheet was accepted.
 fn accepted(alloc: Global, sheet: &PutBody) -> Result<Reply, NoMemory>
     ensures { IfOk result (λ reply. reply ≡ answer_of (told.put_outcome sheet.now None)) }
 {
-    let mut text = text_with_room(alloc)?;
-    push_accepted_page(&mut text, sheet.round, sheet.bids.as_slice().len() as u64)?;
-    Ok(Reply::written(Code::Done, None, text))
+    let mut text = text_with_room(alloc, accepted_room())?;
+    push_accepted_page(&mut text, sheet.round, sheet.bids.as_slice().len() as u64);
+    Ok(written(Code::Done, None, text))
 }
 
 /// Why a sheet is not put in force.
@@ -37,9 +46,9 @@ fn put_refusal(alloc: Global, fault: PutFault) -> Result<Reply, NoMemory>
 {
     match fault {
         PutFault::NoMemory => Err(NoMemory),
-        PutFault::Ended => refusal(alloc, Refusal::from(PutFault::Ended)),
-        PutFault::WrongRound(round) => refusal(alloc, Refusal::from(PutFault::WrongRound(round))),
-        PutFault::Bid(fault) => refusal(alloc, Refusal::from(PutFault::Bid(fault))),
+        PutFault::Ended => refused(alloc, Refusal::from(PutFault::Ended)),
+        PutFault::WrongRound(round) => refused(alloc, Refusal::from(PutFault::WrongRound(round))),
+        PutFault::Bid(fault) => refused(alloc, Refusal::from(PutFault::Bid(fault))),
     }
 }
 
@@ -82,8 +91,8 @@ pub(crate) fn put<P: Processor>(
     house.law_of_house();
     match read_put(alloc, body) {
         Ok(sheet) => put_sheet(alloc, house, bidder, sheet),
-        Err(BodyFault::NotJson) => refusal(alloc, Refusal::alone(Code::BadJson)),
-        Err(BodyFault::Shape) => refusal(alloc, Refusal::alone(Code::Shape)),
+        Err(BodyFault::NotJson) => refused(alloc, Refusal::alone(Code::BadJson)),
+        Err(BodyFault::Shape) => refused(alloc, Refusal::alone(Code::Shape)),
         Err(BodyFault::NoMemory) => Err(NoMemory),
     }
 }
@@ -92,9 +101,9 @@ pub(crate) fn put<P: Processor>(
 fn closed(alloc: Global, round: u64, ended: bool) -> Result<Reply, NoMemory>
     ensures { IfOk result (λ reply. reply ≡ answer_of (told.done (closed_value round ended))) }
 {
-    let mut text = text_with_room(alloc)?;
-    push_closed_page(&mut text, round, ended)?;
-    Ok(Reply::written(Code::Done, None, text))
+    let mut text = text_with_room(alloc, closed_room())?;
+    push_closed_page(&mut text, round, ended);
+    Ok(written(Code::Done, None, text))
 }
 
 /// Why a round is not closed.
@@ -104,14 +113,14 @@ fn close_refusal(alloc: Global, fault: CloseFault) -> Result<Reply, NoMemory>
 {
     match fault {
         CloseFault::NoMemory => Err(NoMemory),
-        CloseFault::Ended => refusal(alloc, Refusal::from(CloseFault::Ended)),
-        CloseFault::WrongRound(round) => refusal(
+        CloseFault::Ended => refused(alloc, Refusal::from(CloseFault::Ended)),
+        CloseFault::WrongRound(round) => refused(
             alloc,
             Refusal::from(CloseFault::WrongRound(round)),
         ),
-        CloseFault::Increment => refusal(alloc, Refusal::from(CloseFault::Increment)),
-        CloseFault::Tie(fault) => refusal(alloc, Refusal::from(CloseFault::Tie(fault))),
-        CloseFault::PriceLimit(product) => refusal(
+        CloseFault::Increment => refused(alloc, Refusal::from(CloseFault::Increment)),
+        CloseFault::Tie(fault) => refused(alloc, Refusal::from(CloseFault::Tie(fault))),
+        CloseFault::PriceLimit(product) => refused(
             alloc,
             Refusal::from(CloseFault::PriceLimit(product)),
         ),
@@ -161,11 +170,11 @@ pub(crate) fn close<P: Processor>(
             if is_of_version(house.setup().version, &closing.increments) {
                 close_round(alloc, house, &closing)
             } else {
-                refusal(alloc, Refusal::alone(Code::Shape))
+                refused(alloc, Refusal::alone(Code::Shape))
             }
         }
-        Err(BodyFault::NotJson) => refusal(alloc, Refusal::alone(Code::BadJson)),
-        Err(BodyFault::Shape) => refusal(alloc, Refusal::alone(Code::Shape)),
+        Err(BodyFault::NotJson) => refused(alloc, Refusal::alone(Code::BadJson)),
+        Err(BodyFault::Shape) => refused(alloc, Refusal::alone(Code::Shape)),
         Err(BodyFault::NoMemory) => Err(NoMemory),
     }
 }

@@ -31,9 +31,9 @@ pub struct Partial {
 }
 
 impl Model for Partial {
-    ghost use Rattle.clock_front.specs.Hubs.{Standing};
+    ghost use Rattle.clock_front.specs.Hubs.{OpenConnection};
 
-    ghost Value = { Standing };
+    ghost Value = { OpenConnection };
 
     ghost view = { λ p. record { serial = p.serial; text = p.request } };
 }

@@ -1,11 +1,13 @@
-ghost use Rattle.std.specs.Prelude.{◌≡◌, ◌⊎◌, true, [], length, IfOk, IsOk, OnOk, OnErr};
+ghost use Rattle.std.specs.Prelude.{◌≡◌, ◌⊎◌, true, [], length, IfOk, IfErr, IsOk, OnOk, OnErr};
 ghost use Rattle.clock_house.specs.House.{IsFollowedBy, StandsStill};
 ghost use Rattle.clock_http.specs.declared.code.Code.{Code as ReplyCode};
 ghost use Rattle.clock_front.specs.Askers.{asker as asker_with};
 ghost use Rattle.clock_front.specs.inside.Askers.{IsKnown};
 ghost use Rattle.clock_http.specs.Framing.{framing as framing_of, needs_more, refusal as refusal_of};
 ghost use Rattle.clock_front.specs.Fronts.{AnswersText, IsCutShort, IsDoneBy, IsStruckOut, StandsForTexts};
-ghost use Rattle.clock_front.specs.Outcomes.{answer_of, outcome, command_of};
+ghost use Rattle.clock_front.specs.Outcomes.{answer_of, outcome, command_of, not_allowed as told_not_allowed, refused};
+ghost use Rattle.clock_front.specs.Rooms.{IsPrivateWant, IsWantOf, WantsRoom, refusal_room};
+ghost use Rattle.clock_front.specs.declared.unanswered.Unanswered.TheVariants as unanswered;
 ghost use Rattle.clock_front.specs.Private.{IsPrivateReply};
 ghost use Rattle.clock_front.specs.inside.Private.{IsToldAsker};
 ghost use Rattle.clock_front.specs.Requests.{ask_by_route, request_of};
@@ -21,9 +23,10 @@ use crate::fixed_replies::{fixed_reply, no_memory_reply};
 use crate::pages::{not_allowed, refusal};
 use crate::telling::{bidder_of, operator_of, tell};
 use crate::tokens::{Asker, Tokens};
+use crate::unanswered::Unanswered;
 use clock_device::{NoMemory, Text};
 use clock_house::House;
-use clock_http::{Framing, Head, Progress, Reply, Routes};
+use clock_http::{Framing, Head, Page, Progress, Reply, Routes};
 use clock_processor::Processor;
 use clock_terms::Setup;
 use clock_views::{Code, Refusal, products_page};
@@ -40,6 +43,7 @@ pub struct Front<P> {
     house: House<P>,
     routes: Routes,
     tokens: Tokens,
+    /// The page of products, which never changes.
     products: Text,
 }
 
@@ -55,6 +59,22 @@ impl<P> Model for Front<P> {
     ghost invariant = { λ f. IsTableOf f.house.setup f.tokens × IsProductsPage f.house.setup f.products };
 }
 
+/// The refusal of a request that changes nothing.
+fn turn_away(alloc: Global, why: Refusal) -> Result<Reply, Unanswered>
+    ensures reply { IfOk result (λ reply. reply ≡ answer_of (refused why)) }
+    ensures wanted { IfErr result (λ wanted. wanted ≡ unanswered.Room refusal_room) }
+{
+    Ok(refusal(alloc, why)?)
+}
+
+/// The refusal of a method that the page has not.
+fn refuse_method(alloc: Global, page: Page) -> Result<Reply, Unanswered>
+    ensures reply { IfOk result (λ reply. reply ≡ answer_of (told_not_allowed page)) }
+    ensures wanted { IfErr result (λ wanted. wanted ≡ unanswered.Room refusal_room) }
+{
+    Ok(not_allowed(alloc, page)?)
+}
+
 /// What an asker asks for is told or done, or it is told why not.
 fn answer_asked<P: Processor>(
     alloc: Global,
@@ -62,23 +82,24 @@ fn answer_asked<P: Processor>(
     products: &[u8],
     asker: Asker,
     what: Asked<'_>,
-) -> Result<Reply, NoMemory>
+) -> Result<Reply, Unanswered>
     requires known { IsKnown (length house.old.setup.bidders) asker }
     requires page { IsProductsPage house.old.setup products.now }
     ensures reply { IfOk result (λ reply. reply ≡ answer_of (outcome house.old asker (shown_asked what.entry))) }
+    ensures wanted { IfErr result (WantsRoom (shown_asked what.entry) (outcome house.old asker (shown_asked what.entry))) }
     ensures followed { OnOk result (IsFollowedBy (command_of house.old.setup asker (shown_asked what.entry)) house.old house.new) }
     ensures still { OnErr result (StandsStill house.old house.new) }
 {
     house.law_of_house();
     match what {
-        Asked::Read(what) => tell(alloc, house, products, asker, what),
+        Asked::Read(what) => Ok(tell(alloc, house, products, asker, what)?),
         Asked::Put(body) => match bidder_of(asker) {
-            Ok(bidder) => put(alloc, house, bidder, body),
-            Err(away) => refusal(alloc, away),
+            Ok(bidder) => Ok(put(alloc, house, bidder, body)?),
+            Err(away) => turn_away(alloc, away),
         },
         Asked::Close(body) => match operator_of(asker) {
-            Ok(()) => close(alloc, house, body),
-            Err(away) => refusal(alloc, away),
+            Ok(()) => Ok(close(alloc, house, body)?),
+            Err(away) => turn_away(alloc, away),
         },
     }
 }
@@ -92,11 +113,13 @@ fn answer_head<P: Processor>(
     asker: Asker,
     head: &Head<'_>,
     body: &[u8],
-) -> Result<Reply, NoMemory>
+) -> Result<Reply, Unanswered>
     requires known { IsKnown (length house.old.setup.bidders) asker }
     requires page { IsProductsPage house.old.setup products.now }
     ensures reply { IfOk result (λ reply. reply
         ≡ answer_of (outcome house.old asker (ask_by_route (page_of head.now.path.now) (shown_head head.now) body.now))) }
+    ensures wanted { IfErr result (WantsRoom (ask_by_route (page_of head.now.path.now) (shown_head head.now) body.now)
+        (outcome house.old asker (ask_by_route (page_of head.now.path.now) (shown_head head.now) body.now))) }
     ensures private { IfOk result (IsToldAsker house.old asker (ask_by_route (page_of head.now.path.now) (shown_head head.now) body.now)) }
     ensures followed { OnOk result (IsFollowedBy
         (command_of house.old.setup asker (ask_by_route (page_of head.now.path.now) (shown_head head.now) body.now)) house.old house.new) }
@@ -104,10 +127,10 @@ fn answer_head<P: Processor>(
 {
     house.law_of_house();
     let Some(page) = routes.page_of(head.path) else {
-        return refusal(alloc, Refusal::alone(Code::NoPage));
+        return turn_away(alloc, Refusal::alone(Code::NoPage));
     };
     if !page.has_method(head.method) {
-        return not_allowed(alloc, page);
+        return refuse_method(alloc, page);
     }
     answer_asked(alloc, house, products, asker, asked_of(page, head, body))
 }
@@ -145,8 +168,10 @@ impl<P: Processor> Front<P> {
         }
     }
 
-    /// The reply to a text of which this is known, where there is memory for it.
-    fn answer_text(&mut self, text: &[u8], progress: Progress) -> Result<Reply, NoMemory>
+    /// The reply to a text of which this is known, where there is memory for it; otherwise what was refused, and nothing has
+    /// changed. A text that changes nothing takes memory once, for its reply, and how much follows from the right reply alone: so
+    /// for a bidder's own text it follows from its view, and that there is none tells it of no rival.
+    pub fn try_answer(&mut self, text: &[u8], progress: Progress) -> Result<Reply, Unanswered>
         requires { Knows text.now progress }
         ensures reply { IfOk result (λ reply. reply
             ≡ answer_of (outcome self.old (asker_with self.old.setup (request_of text.now).token) (request_of text.now).ask)) }
@@ -154,11 +179,13 @@ impl<P: Processor> Front<P> {
             (command_of self.old.setup (asker_with self.old.setup (request_of text.now).token) (request_of text.now).ask) self.old self.new) }
         ensures still { OnErr result (StandsStill self.old self.new) }
         ensures private { IfOk result (IsPrivateReply text.now self.old) }
+        ensures wanted { IfErr result (IsWantOf text.now self.old) }
+        ensures wanted_privately { IfErr result (IsPrivateWant text.now self.old) }
         ensures refused { (code : ReplyCode) → framing_of text.now ≡ refusal_of code → IsOk result }
     {
         self.house.law_of_house();
         match progress.framing(text) {
-            Framing::NeedMore => refusal(self.alloc, Refusal::alone(Code::CutShort)),
+            Framing::NeedMore => turn_away(self.alloc, Refusal::alone(Code::CutShort)),
             Framing::Refused(code) => Ok(fixed_reply(code)),
             Framing::Whole { head, body } => {
                 let asker = self.tokens.asker(head.token);
@@ -186,7 +213,7 @@ impl<P: Processor> Front<P> {
         ensures refused { (code : ReplyCode) → framing_of text.now ≡ refusal_of code → result.code ≡ code }
         ensures cut_short { needs_more text.now ≡ true → IsCutShort result }
     {
-        match self.answer_text(text, progress) {
+        match self.try_answer(text, progress) {
             Ok(reply) => reply,
             Err(_) => no_memory_reply(),
         }

@@ -24,6 +24,7 @@ mod stream;
 mod stream_fault;
 mod telling;
 mod tokens;
+mod unanswered;
 
 pub use clock_bodies::{BodyFault, CloseBody, PutBody, read_close, read_put};
 pub use clock_http::{Arriving, EndedHead, Framing, Head, Page, Progress, Reply, frame};
@@ -38,3 +39,4 @@ pub use reading::{Unread, read_request};
 pub use runs::{Replies, run};
 pub use stream::serve_stream;
 pub use stream_fault::StreamFault;
+pub use unanswered::Unanswered;

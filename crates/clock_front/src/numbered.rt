@@ -52,7 +52,8 @@ impl<P: Processor> NumberedHub<P> {
         let conn = match self.hub.connect() {
             Ok(conn) => Some(conn),
             Err(HubFault::Full) => None,
-            Err(_) => return Err(NoMemory),
+            Err(HubFault::Unknown) => None,
+            Err(HubFault::NoMemory) => return Err(NoMemory),
         };
         self.conns.push(conn)
     }

@@ -2,7 +2,7 @@ ghost use Rattle.std.specs.Prelude.{◌≡◌, ◌≤◌, ◌<◌, ◌+◌, ◌|
 ghost use Rattle.clock_device.specs.Calls.{IsUnread, count_after};
 ghost use Rattle.clock_http.specs.Framing.{needs_more};
 ghost use Rattle.clock_device.specs.inside.Readings.{GrowsByOneAtMost};
-ghost use Rattle.clock_front.specs.Arrivals.{most_reads, EndsArrival};
+ghost use Rattle.clock_front.specs.Arrivals.{most_request_reads, EndsArrival};
 ghost use Rattle.clock_front.specs.inside.Arrivals.{IsStepOf, is_read_fault};
 
 use clock_device::{NoMemory, Source, Stop, room_for_read};
@@ -53,7 +53,7 @@ fn read_once<R: Source>(
 ) -> Result<bool, Unread>
     requires room { 0 < length piece.old }
     requires needed { needs_more request.old ≡ true }
-    requires uncounted { R.interruptions source.old < most_reads }
+    requires uncounted { R.interruptions source.old < most_request_reads }
     ensures step { IsStepOf (R.bytes_left source.old) (R.bytes_left source.new) request.old request.new result }
     ensures used { result ≡ Ok false
         → length request.old + R.interruptions source.old < length request.new + R.interruptions source.new }
@@ -83,7 +83,7 @@ pub fn read_request<R: Source>(alloc: Global, source: &mut R) -> Result<Arriving
           has_failed = R.has_failed source.new;
         })
         result }
-    ensures calls { R.calls source.new ≤ most_reads }
+    ensures calls { R.calls source.new ≤ most_request_reads }
 {
     let mut piece = room_for_read(alloc, PIECE)?;
     let mut request = Arriving::new(alloc);

@@ -1,7 +1,7 @@
 ghost use Rattle.std.specs.Prelude.{◌≡◌, ◌≤◌, ℕ, List, MatchOption};
 ghost use Rattle.clock_device.specs.Calls.{IsUnread, IsUnused};
 ghost use Rattle.clock_device.specs.Readings.{Reading};
-ghost use Rattle.clock_front.specs.Arrivals.{most_reads};
+ghost use Rattle.clock_front.specs.Arrivals.{most_request_reads};
 ghost use Rattle.clock_front.specs.Fronts.{StandsForTexts};
 ghost use Rattle.clock_front.specs.Streamed.{HasServed, IsAnswerTo, IsServed, IsUnanswered};
 
@@ -30,7 +30,7 @@ fn answer_source<P: Processor, R: Source>(
       has_failed = R.has_failed source.new;
     } in MatchOption result (IsUnanswered reading front.old front.new) (λ reply. IsAnswerTo reading reply front.old front.new) }
     ensures stands { (texts : List (List ℕ)) → StandsForTexts texts front.old → HasServed 1 texts front.new }
-    ensures calls { R.calls source.new ≤ most_reads }
+    ensures calls { R.calls source.new ≤ most_request_reads }
     ensures setup { front.new.setup ≡ front.old.setup }
 {
     match read_request(alloc, source) {
@@ -69,7 +69,7 @@ pub fn serve_stream<P: Processor, R: Source, W: Sink>(
         })
         front.old front.new result }
     ensures stands { (texts : List (List ℕ)) → StandsForTexts texts front.old → HasServed 1 texts front.new }
-    ensures calls { R.calls source.new ≤ most_reads }
+    ensures calls { R.calls source.new ≤ most_request_reads }
     ensures setup { front.new.setup ≡ front.old.setup }
 {
     let Some(reply) = answer_source(alloc, front, source) else {

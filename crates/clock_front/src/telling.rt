@@ -3,15 +3,15 @@
 ghost use Rattle.std.specs.Prelude.{◌≡◌, ◌<◌, ℕ, length, IfOk, IfErr, OnOk, OnErr};
 ghost use Rattle.clock_front.specs.inside.Askers.{IsKnown};
 ghost use Rattle.clock_front.specs.Outcomes.{Outcome, answer_of, outcome, refused, to_bidder, to_operator};
+ghost use Rattle.clock_front.specs.Rooms.{room_of};
 ghost use Rattle.clock_front.specs.inside.ShownAsked.{shown_reading};
 ghost use Rattle.clock_front.specs.inside.KeptPage.{IsProductsPage};
 
 use crate::asked::Reading;
 use crate::pages::{account, bids, products, refusal, results, sheet, slip, status};
 use crate::tokens::Asker;
-use clock_device::NoMemory;
 use clock_house::House;
-use clock_http::Reply;
+use clock_http::{NoRoom, Reply};
 use clock_views::{Code, Refusal};
 use std::alloc::Global;
 
@@ -48,10 +48,11 @@ pub(crate) fn tell<P>(
     page: &[u8],
     asker: Asker,
     what: Reading<'_>,
-) -> Result<Reply, NoMemory>
+) -> Result<Reply, NoRoom>
     requires page { IsProductsPage house.now.setup page.now }
     requires known { IsKnown (length house.now.setup.bidders) asker }
-    ensures { IfOk result (λ reply. reply ≡ answer_of (outcome house.now asker (shown_reading what.entry))) }
+    ensures reply { IfOk result (λ reply. reply ≡ answer_of (outcome house.now asker (shown_reading what.entry))) }
+    ensures room { IfErr result (λ room. room ≡ room_of (shown_reading what.entry) (outcome house.now asker (shown_reading what.entry))) }
 {
     match what {
         Reading::Status => status(alloc, house),

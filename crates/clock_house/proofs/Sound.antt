@@ -25,7 +25,7 @@ use Rattle.clock_house.specs.Command.{Command, put, close, other}
 use Rattle.clock_house.specs.Standing.{Standing, Holding, first_holding, holding_after}
 use Rattle.clock_closing.specs.OpenRound.{OpenRound, holding_at, bids_at, bidder_numbers}
 use Rattle.clock_closing.specs.inside.OpenRound.{eligibilities_of}
-use Rattle.clock_closing.specs.Closing.{Outcome, outcome, closed_round, slip_after}
+use Rattle.clock_closing.specs.Closing.{RoundResult, round_result, closed_round, slip_after}
 use Rattle.clock_house.specs.History.{ClosedRound, Auction, standing, holding, bidder_at, slip_of}
 use Rattle.clock_house.specs.inside.OpenRounds.{no_slip}
 use Rattle.clock_house.specs.History.{sheet_in_force, closing_of, after_closing, history}
@@ -39,7 +39,7 @@ use Rattle.std.proofs.lemmas.Simd.{map-map}
 use Rattle.clock_closing.proofs.Sums.{map-get_or}
 use Rattle.clock_closing.proofs.Eligible.{next_eligibility_within}
 use Rattle.clock_house.proofs.Bounds.{round_bounded}
-use Rattle.clock_closing.proofs.Outcomes.{outcome_within, outcome_posted, outcome_risen, outcome_supplied, priced_next}
+use Rattle.clock_closing.proofs.RoundResults.{result_within, result_posted, result_risen, result_supplied, priced_next}
 
 -- a pair of each later element with the first, and all pairs of the later ones
 AllPairs-cons : {A : Type 0} (R : A → A → Type 0) (x : A) (xs : List A) → All (R x) xs → AllPairs R xs → AllPairs R (x ∷ xs)
@@ -144,8 +144,8 @@ module _ (setup : SetupFields) (limits : IsSetup setup) where
 
     module _ (round : ℕ) (increments : Increments) (ties : List Tie) (done : ClosedRound)
         (is : IsClosing (public_setup setup) (open_round setup auction) round increments ties done) where
-      abbrev result : Outcome
-      result = outcome setup.products (open_round setup auction) ties
+      abbrev result : RoundResult
+      result = round_result setup.products (open_round setup auction) ties
 
       here : IsOpen (public_setup setup) (open_round setup auction)
       here = open_sound is.going
@@ -153,28 +153,28 @@ module _ (setup : SetupFields) (limits : IsSetup setup) where
       some_round : 1 ≤ (standing setup.products auction.closed).round
       some_round = omega (arith, round_is is.going)
 
-      within : IsWithinEligibility setup.products (eligibilities_of (open_round setup auction)) (outcome setup.products (open_round setup auction) ties).grid
-      within = outcome_within (public_setup setup) (open_round setup auction) here ties some_round
+      within : IsWithinEligibility setup.products (eligibilities_of (open_round setup auction)) (round_result setup.products (open_round setup auction) ties).grid
+      within = result_within (public_setup setup) (open_round setup auction) here ties some_round
 
-      rows_many : length (outcome setup.products (open_round setup auction) ties).grid ≡ length setup.bidders
+      rows_many : length (round_result setup.products (open_round setup auction) ties).grid ≡ length setup.bidders
       rows_many = within.bidders ∙ length-map (open_round setup auction).holdings _ ∙ many
 
       -- the slip of a bidder
       slip_is : (bidder : ℕ) → bidder < length setup.bidders →
           slip_of bidder done ≡ slip_after (public_setup setup) (standing setup.products auction.closed).round
-          (holding setup auction.closed bidder).eligibility (row_of (outcome setup.products (open_round setup auction) ties).grid bidder)
+          (holding setup auction.closed bidder).eligibility (row_of (round_result setup.products (open_round setup auction) ties).grid bidder)
       slip_is bidder lt =
           ap (slip_of bidder) is.made
           ∙ get_or-map-range_with_len (λ b. slip_after (public_setup setup) (standing setup.products auction.closed).round
-          (holding_at (open_round setup auction).holdings b).eligibility (row_of (outcome setup.products (open_round setup auction) ties).grid b))
+          (holding_at (open_round setup auction).holdings b).eligibility (row_of (round_result setup.products (open_round setup auction) ties).grid b))
           0 (length (open_round setup auction).holdings) bidder bidder no_slip (omega (arith, lt, many)) (omega arith)
           ∙ ap (λ (held : Holding). slip_after (public_setup setup) (standing setup.products auction.closed).round held.eligibility
-          (row_of (outcome setup.products (open_round setup auction) ties).grid bidder)) (held_at bidder lt)
+          (row_of (round_result setup.products (open_round setup auction) ties).grid bidder)) (held_at bidder lt)
 
       -- each bidder stays within its limits
       pub held_next : (bidder : ℕ) → bidder < length setup.bidders → IsWithinLimits setup.products (holding_after (slip_of bidder done))
       held_next bidder lt =
-          let row : List ℕ = row_of (outcome setup.products (open_round setup auction) ties).grid bidder in
+          let row : List ℕ = row_of (round_result setup.products (open_round setup auction) ties).grid bidder in
           let before : IsWithinLimits setup.products (holding setup auction.closed bidder) = sound.within bidder lt in
           let used : activity setup.products row ≤ (holding setup auction.closed bidder).eligibility =
           omega (
@@ -192,35 +192,35 @@ module _ (setup : SetupFields) (limits : IsSetup setup) where
       -- and so do the prices
       pub priced_after : done.sheet.ended ≡ false → HasSoundPrices setup.products (standing setup.products (done ∷ auction.closed))
       priced_after going =
-          let result : Outcome = outcome setup.products (open_round setup auction) ties in
+          let result : RoundResult = round_result setup.products (open_round setup auction) ties in
           let before : Standing = standing setup.products auction.closed in
-          let made : closed_round (public_setup setup) (open_round setup auction) increments (outcome setup.products (open_round setup auction) ties)
+          let made : closed_round (public_setup setup) (open_round setup auction) increments (round_result setup.products (open_round setup auction) ties)
           ≡ done = sym is.made in
-          let goes_on : has_ended setup.products (outcome setup.products (open_round setup auction) ties).grid ≡ false =
+          let goes_on : has_ended setup.products (round_result setup.products (open_round setup auction) ties).grid ≡ false =
           ap (λ (one : ClosedRound). one.sheet.ended) made ∙ going in
           let number : (standing setup.products (done ∷ auction.closed)).round ≡ (standing setup.products auction.closed).round + 1 =
           ap (λ ended. cond ended done.sheet.round (done.sheet.round + 1)) going ∙ ap (λ (one : ClosedRound). one.sheet.round + 1) is.made in
           priced_next setup.products (standing setup.products auction.closed) (sound.priced is.going)
-          (outcome setup.products (open_round setup auction) ties).grid (outcome setup.products (open_round setup auction) ties).posted increments
-          (outcome_posted (public_setup setup) (open_round setup auction) here ties some_round increments (first_prices setup auction.closed (round_is is.going)))
+          (round_result setup.products (open_round setup auction) ties).grid (round_result setup.products (open_round setup auction) ties).posted increments
+          (result_posted (public_setup setup) (open_round setup auction) here ties some_round increments (first_prices setup auction.closed (round_is is.going)))
           limits.products (increments_of_test (length setup.products) increments is.within) goes_on is.possible
-          (λ later. outcome_risen (public_setup setup) (open_round setup auction) here ties some_round increments later goes_on)
+          (λ later. result_risen (public_setup setup) (open_round setup auction) here ties some_round increments later goes_on)
           (standing setup.products (done ∷ auction.closed)) number (ap (λ (one : ClosedRound). map next_pair one.sheet.lines) is.made) some_round
 
       -- the demands on the slips are the round's grid
-      grid_is : grid_after done ≡ (outcome setup.products (open_round setup auction) ties).grid
+      grid_is : grid_after done ≡ (round_result setup.products (open_round setup auction) ties).grid
       grid_is =
           ap grid_after is.made
           ∙ map-map (λ (slip : Slip). slip.demands) (λ b. slip_after (public_setup setup) (standing setup.products auction.closed).round
-          (holding_at (open_round setup auction).holdings b).eligibility (row_of (outcome setup.products (open_round setup auction) ties).grid b))
+          (holding_at (open_round setup auction).holdings b).eligibility (row_of (round_result setup.products (open_round setup auction) ties).grid b))
           (bidder_numbers (open_round setup auction))
-          ∙ map-get_or (outcome setup.products (open_round setup auction) ties).grid (length (open_round setup auction).holdings) [] (rows_many ∙ sym many)
+          ∙ map-get_or (round_result setup.products (open_round setup auction) ties).grid (length (open_round setup auction).holdings) [] (rows_many ∙ sym many)
 
       -- in a later round nothing that was sold out comes free
       supplied_next : (last : ClosedRound) (rounds : List ClosedRound) → auction.closed ≡ last ∷ rounds → StaysSupplied setup.products done last
       supplied_next last rounds e product sold =
           let later : 2 ≤ (standing setup.products auction.closed).round = omega (arith, round_is is.going, ap length e) in
-          let kept = outcome_supplied (public_setup setup) (open_round setup auction) here ties some_round later product
+          let kept = result_supplied (public_setup setup) (open_round setup auction) here ties some_round later product
           (omega (
             arith,
             sold,

@@ -11,6 +11,7 @@ use Rattle.std.specs.Prelude.{◌≡◌, ℕ, ◌+◌, ◌-◌, Bool, true, fals
 use Rattle.std.specs.Prelude.{Ok, Err}
 use Rattle.std.specs.List.{before_first}
 use Rattle.httparse.specs.Grammar.{RequestHead}
+use Rattle.http_uri.specs.ByteClasses.{question_mark}
 use Rattle.clock_http.specs.Scans.{head_length, line_ends, is_loose}
 use Rattle.clock_http.specs.Heads.{head_of}
 use Rattle.clock_http.specs.HeaderLines.{pairs_of, body_length, token_of}
@@ -40,11 +41,11 @@ pub record Head : Type 0 where
   pub path : List ℕ
   pub token : Option (List ℕ)
 
--- the path is the target up to the first question mark, whose byte is 63
+-- the path is the target up to the first question mark
 abbrev pub kept : RequestHead → Head
 kept head = record {
   method = head.method;
-  path = before_first (λ b. b == 63) head.target;
+  path = before_first (λ b. b == question_mark) head.target;
   token = token_of (pairs_of head);
 }
 

@@ -3,7 +3,7 @@
 --     head_length text      how many bytes there are up to and with the first empty line
 --     line_ends bytes      how many lines end
 --     is_loose bytes      the bytes begin with a line end, or an LF stands without a CR before it
-use Rattle.std.specs.Prelude.{ℕ, ◌+◌, ◌&&◌, ◌||◌, not, Bool, false, List, [], ◌∷◌, suc, slice_index, if◌then◌else◌, ◌==◌, nat_eq, Option, Some, None}
+use Rattle.std.specs.Prelude.{ℕ, ◌+◌, ◌&&◌, ◌||◌, not, Bool, false, List, [], ◌∷◌, ◌++◌, suc, slice_index, if◌then◌else◌, ◌==◌, nat_eq, Option, Some, None}
 use Rattle.std.specs.Prelude.{option_map}
 use Rattle.std.specs.List.{starts_with}
 use Rattle.httparse.specs.Ascii.{carriage_return, line_feed, crlf_bytes}
@@ -12,7 +12,7 @@ use Rattle.httparse.specs.Ascii.{carriage_return, line_feed, crlf_bytes}
 abbrev pub head_length : List ℕ → Option ℕ
 head_length [] = None
 head_length (b ∷ rest) =
-    if starts_with nat_eq (b ∷ rest) (13 ∷ 10 ∷ 13 ∷ 10 ∷ []) then Some 4 else option_map suc (head_length rest)
+    if starts_with nat_eq (b ∷ rest) (crlf_bytes ++ crlf_bytes) then Some 4 else option_map suc (head_length rest)
 
 -- how often CR LF stands in the bytes
 abbrev pub line_ends : List ℕ → ℕ

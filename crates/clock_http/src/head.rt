@@ -2,8 +2,9 @@ ghost use Rattle.std.specs.Prelude.{◌≡◌, ◌==◌, position, ◌≤◌, �
 ghost use Rattle.httparse.specs.Grammar.{RequestHead};
 ghost use Rattle.httparse.specs.Spans.{IsRequestWithin, IsRequestAt, IsWithin, span_bytes};
 ghost use Rattle.clock_http.specs.Heads.{head_of};
+ghost use Rattle.http_uri.specs.ByteClasses.{question_mark};
 ghost use Rattle.clock_http.specs.Scans.{line_ends as count_of_line_ends, is_loose as is_loose_text};
-ghost use Rattle.clock_http.specs.inside.HeadParts.{path_of_target, question_mark, head_with_length};
+ghost use Rattle.clock_http.specs.inside.HeadParts.{path_of_target, head_with_length};
 ghost use Rattle.clock_http.specs.Shown.{IsHeadWithin};
 ghost use Rattle.clock_http.specs.inside.HeadFields.{shown_read};
 

@@ -1,16 +1,59 @@
-ghost use Rattle.std.specs.Prelude.{◌≡◌, ◌+◌, ◌≤◌, ◌++◌, drop, length, IfOk};
+ghost use Rattle.std.specs.Prelude.{◌≡◌, ◌+◌, ◌≤◌, ◌++◌, drop, length, IfOk, IfErr, IfSome};
 
-use clock_device::{NoMemory, Text};
+use clock_device::{Bounded, NoMemory, Text};
 use std::alloc::Global;
+use std::marker::Model;
 
 /// How many bytes a text has at its front for the head of a reply, which is written once the page behind it is there.
 pub(crate) const HEAD_ROOM: usize = 256;
 
-/// A text with room for a head, to which a page can be added.
-pub fn text_with_room(alloc: Global) -> Result<Text, NoMemory>
-    ensures { IfOk result (λ text. length text ≡ HEAD_ROOM) }
+/// Room for a page of so many bytes that was asked for and refused. One is made where that happens, and nowhere else: so who has
+/// one knows that it was asked for, and how much. Contracts see the number of bytes.
+#[derive(Debug, Drop)]
+pub struct NoRoom {
+    page: u128,
+}
+
+impl Model for NoRoom {
+    ghost use Rattle.std.specs.Prelude.{ℕ};
+
+    ghost Value = { ℕ };
+
+    ghost view = { λ refused. refused.page };
+}
+
+impl From<NoRoom> for NoMemory {
+    fn from(_refused: NoRoom) -> NoMemory {
+        NoMemory
+    }
+}
+
+/// How many bytes a page of so many takes together with the head, if a machine can count as many.
+fn with_head(page: u128) -> Option<usize>
+    ensures { IfSome result (λ bytes. bytes ≡ HEAD_ROOM + page) }
 {
-    Text::from_slice(alloc, &[0; HEAD_ROOM])
+    match usize::try_from(page) {
+        Ok(page) => HEAD_ROOM.checked_add(page),
+        Err(_) => None,
+    }
+}
+
+/// A text with room for a head, and behind it for a page of so many bytes. It is the only memory that the reply takes.
+pub fn text_with_room(alloc: Global, page: u128) -> Result<Bounded<u8>, NoRoom>
+    ensures head { IfOk result (λ text. length text.items ≡ HEAD_ROOM) }
+    ensures room { IfOk result (λ text. page ≤ text.room) }
+    ensures refused { IfErr result (λ refused. refused ≡ page) }
+{
+    let Some(bytes) = with_head(page) else {
+        return Err(NoRoom { page });
+    };
+    match Text::with_capacity(alloc, bytes) {
+        Ok(mut text) => {
+            text.extend_from_slice(&[0; HEAD_ROOM]);
+            Ok(text)
+        }
+        Err(_) => Err(NoRoom { page }),
+    }
 }
 
 /// Writes bytes right before a place of a text, and tells where they begin.

@@ -20,7 +20,7 @@ use Rattle.clock_bodies.proofs.BodyScanLaws.{bid_means, tie_means, number_means,
 use Rattle.clock_replays.specs.declared.script.Script.{Script}
 use Rattle.clock_replays.specs.declared.script.Script.TheVariants.{Literal, Sincere}
 use Rattle.clock_replays.specs.declared.closing.Closing.{Closing}
-use Rattle.clock_replays.specs.ReplayShape.{ReplayParts, sheet_of, literal_of, sincere_of, script_of, closing_of, parts_of}
+use Rattle.clock_replays.specs.ReplayShape.{ReplayParts, sheet_of, literal_of, sincere_of, script_of, closing_from, parts_of}
 use Rattle.clock_replays.specs.ReplayData.{sheet_data, script_data, closing_data}
 use Rattle.clock_replays.specs.inside.ReplayData.{replay_data, found_data}
 use Rattle.clock_replays.specs.declared.scanned_replay.ScannedReplay.{ScannedReplay}
@@ -59,8 +59,8 @@ script_means (Sincere limits) = rw (each_means row_of numbers row_means limits) 
 abbrev closing : Increments → List Tie → Closing
 closing increments ties = record { increments = increments; ties = ties }
 
-closing_means : (increments : Increments) (ties : List Tie) → closing_of (closing_data (closing increments ties)) ≡ Some (closing increments ties)
-unfolding closing_of
+closing_means : (increments : Increments) (ties : List Tie) → closing_from (closing_data (closing increments ties)) ≡ Some (closing increments ties)
+unfolding closing_from
 closing_means (Single increment) ties = rw (each_means tie_of tie_data tie_means ties) refl
 closing_means (PerProduct increments) ties = rw (each_means number_from whole number_means increments, each_means tie_of tie_data tie_means ties) refl
 
@@ -70,7 +70,7 @@ unfolding parts_of
 parts_mean setup scripts closings =
     rw (
       each_means script_of script_data script_means scripts,
-      each_means closing_of closing_data (λ known. closing_means known.increments known.ties) closings,
+      each_means closing_from closing_data (λ known. closing_means known.increments known.ties) closings,
     ) refl
 
 -- a document that is the value of a replay is judged by what is looked at behind its set-up

@@ -1,6 +1,6 @@
 -- The shape of a replay document: exactly these keys, each with a value of its kind. (Own format.)
 --     sheet_of value      one sheet of a literal script, or none
---     script_of value, closing_of value      an item of "scripts" and of "closings"
+--     script_of value, closing_from value      an item of "scripts" and of "closings"
 --     parts_of value      the whole document, with its set-up not yet read and nothing compared
 use Rattle.std.specs.Prelude.{ℕ, List, Option, Some, None, option_and_then, option_map, is_some, if◌then◌else◌, codes}
 use Rattle.std.specs.Str.{bytes_eq}
@@ -51,8 +51,8 @@ script_of value = do
   script_by_kind kind value
 
 -- {"increment":N,"ties":[TIE,..]}, or with "increments":[N,..]; an object of two members has not both
-unfoldable pub closing_of : Data → Option Closing
-closing_of value = do
+unfoldable pub closing_from : Data → Option Closing
+closing_from value = do
   increments ← increments_of value
   ties ← option_and_then (each tie_of) (items_at (codes "ties") value)
   if has_members 2 value then Some (record { increments = increments; ties = ties }) else None
@@ -62,5 +62,5 @@ unfoldable pub parts_of : Data → Option ReplayParts
 parts_of value = do
   setup ← get (codes "setup") value
   scripts ← option_and_then (each script_of) (items_at (codes "scripts") value)
-  closings ← option_and_then (each closing_of) (items_at (codes "closings") value)
+  closings ← option_and_then (each closing_from) (items_at (codes "closings") value)
   if has_members 3 value then Some (record { setup = setup; scripts = scripts; closings = closings }) else None

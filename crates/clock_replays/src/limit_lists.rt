@@ -6,7 +6,7 @@ ghost use Rattle.clock_replays.specs.EndedRows.{rows_from};
 ghost use Rattle.clock_replays.specs.inside.EndedRows.{AreEnds};
 
 use clock_device::NoMemory;
-use clock_scan::{Scan, Stop};
+use clock_scan::{Scan, ScanStop};
 use clock_terms::Amounts;
 use std::alloc::Global;
 use std::marker::Model;
@@ -120,23 +120,23 @@ impl LimitLists {
 
 /// Adds the end of so many rows that all end there. More than can be counted have no room.
 #[inline(always)]
-fn push_ends(ends: &mut Vec<u32>, end: u32, count: usize) -> Result<(), Stop>
+fn push_ends(ends: &mut Vec<u32>, end: u32, count: usize) -> Result<(), ScanStop>
     ensures { OnOk result (ends.new.items ≡ ends.old.items ++ replicate count end) }
 {
     let Some(after) = ends.as_slice().len().checked_add(count) else {
-        return Err(Stop::NoMemory);
+        return Err(ScanStop::NoMemory);
     };
     ends.resize(after, end)?;
     Ok(())
 }
 
 /// The limits that are next. Most are empty, and so all those are passed at once that follow a list.
-pub(crate) fn limit_lists(alloc: Global, scan: &mut Scan<'_>) -> Result<LimitLists, Stop>
+pub(crate) fn limit_lists(alloc: Global, scan: &mut Scan<'_>) -> Result<LimitLists, ScanStop>
     ensures value { IfOk result (λ limits. Reads 2 scan.old (rows limits) scan.new) }
     ensures shorter { OnOk result (length scan.new < length scan.old) }
 {
     if !scan.opens_array() {
-        return Err(Stop::Unusual);
+        return Err(ScanStop::Unusual);
     }
     let mut ends = Vec::new(alloc);
     let mut prices = Vec::new(alloc);

@@ -13,7 +13,7 @@ use crate::replay::Replay;
 use crate::scanned_replay::scanned_replay;
 use crate::script::Scripts;
 use crate::shape::replay_entries;
-use clock_scan::Stop;
+use clock_scan::ScanStop;
 use clock_setup::members::read_value;
 use clock_setup::{Setup, SetupFault, setup_of};
 use serde_json::Value;
@@ -99,7 +99,7 @@ pub fn read_replay(alloc: Global, bytes: &[u8]) -> Result<Replay, ScriptFault>
 {
     match scanned_replay(alloc, bytes) {
         Ok(found) => compared(found.held.setup, found.scripts, found.closings),
-        Err(Stop::NoMemory) => Err(ScriptFault::NoMemory),
-        Err(Stop::Unusual) => replay_by_tree(alloc, bytes),
+        Err(ScanStop::NoMemory) => Err(ScriptFault::NoMemory),
+        Err(ScanStop::Unusual) => replay_by_tree(alloc, bytes),
     }
 }

@@ -10,7 +10,7 @@ use crate::closing::{Closing, TieList};
 use crate::scanned_part::{ScannedPart, scanned_parts};
 use clock_bodies::{next_tie, one_form};
 use clock_order::Tie;
-use clock_scan::{Scan, Stop, is_key};
+use clock_scan::{Scan, ScanStop, is_key};
 use clock_terms::{Amounts, Increments};
 use std::alloc::Global;
 
@@ -19,10 +19,10 @@ impl ScannedPart for Tie {
 
     ghost shown = { tie_data };
 
-    fn scanned(_alloc: Global, scan: &mut Scan<'_>) -> Result<Tie, Stop> {
+    fn scanned(_alloc: Global, scan: &mut Scan<'_>) -> Result<Tie, ScanStop> {
         match next_tie(scan) {
             Some(tie) => Ok(tie),
-            None => Err(Stop::Unusual),
+            None => Err(ScanStop::Unusual),
         }
     }
 }
@@ -37,12 +37,12 @@ struct FoundClosing {
 
 impl FoundClosing {
     /// Reads the member that is next.
-    fn read_member(&mut self, alloc: Global, scan: &mut Scan<'_>) -> Result<(), Stop>
+    fn read_member(&mut self, alloc: Global, scan: &mut Scan<'_>) -> Result<(), ScanStop>
         ensures value { OnOk result (AddsMember 2 scan.old (closing_fields self.old) scan.new (closing_fields self.new)) }
         ensures shorter { OnOk result (length scan.new < length scan.old) }
     {
         let Some(key) = scan.key() else {
-            return Err(Stop::Unusual);
+            return Err(ScanStop::Unusual);
         };
         if is_key(key, "ties") {
             let ties = scanned_parts(alloc, scan)?;
@@ -56,12 +56,12 @@ impl FoundClosing {
         }
         if is_key(key, "increment") {
             let Some(increment) = scan.number() else {
-                return Err(Stop::Unusual);
+                return Err(ScanStop::Unusual);
             };
             self.increment = Some(increment);
             return Ok(());
         }
-        Err(Stop::Unusual)
+        Err(ScanStop::Unusual)
     }
 
     /// The closing, where all of it was found.
@@ -75,12 +75,12 @@ impl FoundClosing {
 }
 
 /// The closing that is next.
-fn closing(alloc: Global, scan: &mut Scan<'_>) -> Result<Closing, Stop>
+fn closing(alloc: Global, scan: &mut Scan<'_>) -> Result<Closing, ScanStop>
     ensures value { IfOk result (λ closing. Reads 3 scan.old (closing_data closing) scan.new) }
     ensures shorter { OnOk result (length scan.new < length scan.old) }
 {
     if !scan.opens_object() {
-        return Err(Stop::Unusual);
+        return Err(ScanStop::Unusual);
     }
     let mut found = FoundClosing {
         increment: None,
@@ -92,7 +92,7 @@ fn closing(alloc: Global, scan: &mut Scan<'_>) -> Result<Closing, Stop>
     }
     match found.closing() {
         Some(closing) => Ok(closing),
-        None => Err(Stop::Unusual),
+        None => Err(ScanStop::Unusual),
     }
 }
 
@@ -101,7 +101,7 @@ impl ScannedPart for Closing {
 
     ghost shown = { closing_data };
 
-    fn scanned(alloc: Global, scan: &mut Scan<'_>) -> Result<Closing, Stop> {
+    fn scanned(alloc: Global, scan: &mut Scan<'_>) -> Result<Closing, ScanStop> {
         closing(alloc, scan)
     }
 }

@@ -10,7 +10,7 @@ use crate::closing::Closings;
 use crate::held_setup::HeldSetup;
 use crate::scanned_part::scanned_parts;
 use crate::script::Scripts;
-use clock_scan::{Scan, Stop, is_key, is_text};
+use clock_scan::{Scan, ScanStop, is_key, is_text};
 use clock_setup::next_setup;
 use std::alloc::Global;
 
@@ -32,12 +32,12 @@ pub(crate) struct ScannedReplay {
 
 impl FoundReplay {
     /// Reads the member that is next.
-    fn read_member(&mut self, alloc: Global, scan: &mut Scan<'_>) -> Result<(), Stop>
+    fn read_member(&mut self, alloc: Global, scan: &mut Scan<'_>) -> Result<(), ScanStop>
         ensures value { OnOk result (AddsMember 5 scan.old (found_replay self.old) scan.new (found_replay self.new)) }
         ensures shorter { OnOk result (length scan.new < length scan.old) }
     {
         let Some(key) = scan.key() else {
-            return Err(Stop::Unusual);
+            return Err(ScanStop::Unusual);
         };
         if is_key(key, "scripts") {
             let scripts = scanned_parts(alloc, scan)?;
@@ -54,7 +54,7 @@ impl FoundReplay {
             self.held = Some(HeldSetup { setup });
             return Ok(());
         }
-        Err(Stop::Unusual)
+        Err(ScanStop::Unusual)
     }
 
     /// The parts of a replay, where each was found.
@@ -73,11 +73,11 @@ impl FoundReplay {
 }
 
 /// The replay that is next.
-fn replay(alloc: Global, scan: &mut Scan<'_>) -> Result<ScannedReplay, Stop>
+fn replay(alloc: Global, scan: &mut Scan<'_>) -> Result<ScannedReplay, ScanStop>
     ensures { IfOk result (λ found. Reads 6 scan.old (found_data found) scan.new) }
 {
     if !scan.opens_object() {
-        return Err(Stop::Unusual);
+        return Err(ScanStop::Unusual);
     }
     let mut found = FoundReplay {
         closings: None,
@@ -89,21 +89,21 @@ fn replay(alloc: Global, scan: &mut Scan<'_>) -> Result<ScannedReplay, Stop>
     }
     match found.replay() {
         Some(replay) => Ok(replay),
-        None => Err(Stop::Unusual),
+        None => Err(ScanStop::Unusual),
     }
 }
 
 /// The parts of the replay that a document is.
-pub(crate) fn scanned_replay(alloc: Global, bytes: &[u8]) -> Result<ScannedReplay, Stop>
+pub(crate) fn scanned_replay(alloc: Global, bytes: &[u8]) -> Result<ScannedReplay, ScanStop>
     ensures { IfOk result (λ found. json bytes.now ≡ Some (found_data found)) }
 {
     if !is_text(bytes) {
-        return Err(Stop::Unusual);
+        return Err(ScanStop::Unusual);
     }
     let mut scan = Scan::new(bytes);
     let found = replay(alloc, &mut scan)?;
     if !scan.ends() {
-        return Err(Stop::Unusual);
+        return Err(ScanStop::Unusual);
     }
     Ok(found)
 }

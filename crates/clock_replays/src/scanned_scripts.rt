@@ -11,7 +11,7 @@ use crate::scanned_part::{ScannedPart, scanned_parts};
 use crate::script::{BidList, Script, SheetList};
 use clock_bids::Bid;
 use clock_bodies::next_bid;
-use clock_scan::{Scan, Stop, is_key};
+use clock_scan::{Scan, ScanStop, is_key};
 use std::alloc::Global;
 
 impl ScannedPart for Bid {
@@ -19,10 +19,10 @@ impl ScannedPart for Bid {
 
     ghost shown = { bid_data };
 
-    fn scanned(_alloc: Global, scan: &mut Scan<'_>) -> Result<Bid, Stop> {
+    fn scanned(_alloc: Global, scan: &mut Scan<'_>) -> Result<Bid, ScanStop> {
         match next_bid(scan) {
             Some(bid) => Ok(bid),
-            None => Err(Stop::Unusual),
+            None => Err(ScanStop::Unusual),
         }
     }
 }
@@ -33,7 +33,7 @@ impl ScannedPart for Option<BidList> {
 
     ghost shown = { sheet_data };
 
-    fn scanned(alloc: Global, scan: &mut Scan<'_>) -> Result<Option<BidList>, Stop> {
+    fn scanned(alloc: Global, scan: &mut Scan<'_>) -> Result<Option<BidList>, ScanStop> {
         if scan.null() {
             return Ok(None);
         }
@@ -93,12 +93,12 @@ fn script_of(kind: Kind, limits: Option<LimitLists>, sheets: Option<SheetList>) 
 
 impl FoundScript {
     /// Reads the member that is next.
-    fn read_member(&mut self, alloc: Global, scan: &mut Scan<'_>) -> Result<(), Stop>
+    fn read_member(&mut self, alloc: Global, scan: &mut Scan<'_>) -> Result<(), ScanStop>
         ensures value { OnOk result (AddsMember 3 scan.old (script_fields self.old) scan.new (script_fields self.new)) }
         ensures shorter { OnOk result (length scan.new < length scan.old) }
     {
         let Some(key) = scan.key() else {
-            return Err(Stop::Unusual);
+            return Err(ScanStop::Unusual);
         };
         if is_key(key, "limits") {
             let limits = limit_lists(alloc, scan)?;
@@ -112,15 +112,15 @@ impl FoundScript {
         }
         if is_key(key, "kind") {
             let Some(word) = scan.text() else {
-                return Err(Stop::Unusual);
+                return Err(ScanStop::Unusual);
             };
             let Some(kind) = kind_of(word) else {
-                return Err(Stop::Unusual);
+                return Err(ScanStop::Unusual);
             };
             self.kind = Some(kind);
             return Ok(());
         }
-        Err(Stop::Unusual)
+        Err(ScanStop::Unusual)
     }
 
     /// The script, where all of it was found.
@@ -133,12 +133,12 @@ impl FoundScript {
 }
 
 /// The script that is next.
-fn script(alloc: Global, scan: &mut Scan<'_>) -> Result<Script, Stop>
+fn script(alloc: Global, scan: &mut Scan<'_>) -> Result<Script, ScanStop>
     ensures value { IfOk result (λ script. Reads 4 scan.old (script_data script) scan.new) }
     ensures shorter { OnOk result (length scan.new < length scan.old) }
 {
     if !scan.opens_object() {
-        return Err(Stop::Unusual);
+        return Err(ScanStop::Unusual);
     }
     let mut found = FoundScript {
         kind: None,
@@ -150,7 +150,7 @@ fn script(alloc: Global, scan: &mut Scan<'_>) -> Result<Script, Stop>
     }
     match found.script() {
         Some(script) => Ok(script),
-        None => Err(Stop::Unusual),
+        None => Err(ScanStop::Unusual),
     }
 }
 
@@ -159,7 +159,7 @@ impl ScannedPart for Script {
 
     ghost shown = { script_data };
 
-    fn scanned(alloc: Global, scan: &mut Scan<'_>) -> Result<Script, Stop> {
+    fn scanned(alloc: Global, scan: &mut Scan<'_>) -> Result<Script, ScanStop> {
         script(alloc, scan)
     }
 }

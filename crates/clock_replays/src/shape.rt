@@ -148,11 +148,11 @@ fn increments_of(alloc: Global, value: &Value) -> Result<Option<Increments>, NoM
 }
 
 /// How a round is closed.
-#[tactic(auto, unfolding(crate::specs::ReplayShape::closing_of))]
+#[tactic(auto, unfolding(crate::specs::ReplayShape::closing_from))]
 impl Part for Closing {
     ghost use Rattle.clock_replays.specs.ReplayShape as shape;
 
-    ghost meaning = { shape.closing_of };
+    ghost meaning = { shape.closing_from };
 
     fn part_of(alloc: Global, value: &Value) -> Result<Option<Closing>, NoMemory> {
         let Some(increments) = increments_of(alloc, value)? else {

@@ -14,5 +14,5 @@ mod words;
 pub use compact::CompactBid;
 pub use rows::FlatRows;
 pub use scan::Scan;
-pub use stop::Stop;
+pub use stop::ScanStop;
 pub use words::{is_blank, is_key, is_text};

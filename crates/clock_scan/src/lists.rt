@@ -4,13 +4,13 @@ ghost use Rattle.clock_scan.specs.Reading.{numbers, rows, Reads};
 
 use crate::rows::FlatRows;
 use crate::scan::Scan;
-use crate::stop::Stop;
+use crate::stop::ScanStop;
 use clock_device::Items;
 use std::alloc::Global;
 
 impl<'a> Scan<'a> {
     /// Reads a list of numbers that are below 10^19 and written in digits alone.
-    pub fn numbers(&mut self, alloc: Global) -> Result<Vec<u64>, Stop>
+    pub fn numbers(&mut self, alloc: Global) -> Result<Vec<u64>, ScanStop>
         ensures value { IfOk result (λ list. Reads 1 self.old (numbers list.items) self.new) }
         ensures shorter { OnOk result (length self.new < length self.old) }
     {
@@ -20,12 +20,12 @@ impl<'a> Scan<'a> {
     }
 
     /// Reads a list of such lists.
-    pub fn rows(&mut self, alloc: Global) -> Result<Vec<Items<u64>>, Stop>
+    pub fn rows(&mut self, alloc: Global) -> Result<Vec<Items<u64>>, ScanStop>
         ensures value { IfOk result (λ list. Reads 2 self.old (rows list.items) self.new) }
         ensures shorter { OnOk result (length self.new < length self.old) }
     {
         if !self.opens_array() {
-            return Err(Stop::Unusual);
+            return Err(ScanStop::Unusual);
         }
         let mut list = Vec::new(alloc);
         'items: while !self.closes_array() {
@@ -36,16 +36,16 @@ impl<'a> Scan<'a> {
     }
 
     /// Reads a list of numbers as [`numbers`](Scan::numbers) does, behind those that are there.
-    pub fn numbers_behind(&mut self, list: &mut Vec<u64>) -> Result<(), Stop>
+    pub fn numbers_behind(&mut self, list: &mut Vec<u64>) -> Result<(), ScanStop>
         ensures value { OnOk result ((row : List ℕ) × (list.new.items ≡ list.old.items ++ row) × Reads 1 self.old (numbers row) self.new) }
         ensures shorter { OnOk result (length self.new < length self.old) }
     {
         if !self.opens_array() {
-            return Err(Stop::Unusual);
+            return Err(ScanStop::Unusual);
         }
         'items: while !self.closes_array() {
             let Some(next) = self.number() else {
-                return Err(Stop::Unusual);
+                return Err(ScanStop::Unusual);
             };
             list.push(next)?;
             self.further_numbers(list)?;
@@ -54,12 +54,12 @@ impl<'a> Scan<'a> {
     }
 
     /// Reads a list of such lists, as [`rows`](Scan::rows) does, with all numbers in one list.
-    pub fn flat_rows(&mut self, alloc: Global) -> Result<FlatRows, Stop>
+    pub fn flat_rows(&mut self, alloc: Global) -> Result<FlatRows, ScanStop>
         ensures value { IfOk result (λ list. Reads 2 self.old (rows list) self.new) }
         ensures shorter { OnOk result (length self.new < length self.old) }
     {
         if !self.opens_array() {
-            return Err(Stop::Unusual);
+            return Err(ScanStop::Unusual);
         }
         let mut numbers = Vec::new(alloc);
         let mut lengths = Vec::new(alloc);

@@ -11,7 +11,7 @@ ghost use Rattle.clock_scan.specs.Reading.{whole, numbers, Reads, ReadsAll};
 use crate::compact::{CompactBid, compact_bid_at};
 use crate::place::Place;
 use crate::separated::{after_empties, numbers_at};
-use crate::stop::Stop;
+use crate::stop::ScanStop;
 use crate::words::{after_space, after_value, byte_at, ends_text, null_at, number_at, quoted};
 use std::marker::Model;
 
@@ -166,7 +166,7 @@ impl<'a> Scan<'a> {
 
     /// Reads the numbers that are next, where each has a comma right behind it, behind those of a list.
     #[inline(always)]
-    pub(crate) fn further_numbers(&mut self, list: &mut Vec<u64>) -> Result<(), Stop>
+    pub(crate) fn further_numbers(&mut self, list: &mut Vec<u64>) -> Result<(), ScanStop>
         ensures { OnOk result ((row : List ℕ) × (list.new.items ≡ list.old.items ++ row)
             × ReadsAll 0 self.old (map whole row) self.new) }
     {

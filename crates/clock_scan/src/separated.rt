@@ -7,7 +7,7 @@ ghost use Rattle.clock_scan.specs.Reading.{whole, numbers, ReadsAll};
 
 use crate::compact::{digits_at, has_room};
 use crate::place::Place;
-use crate::stop::Stop;
+use crate::stop::ScanStop;
 
 /// The number of one digit that stands there with a comma behind it.
 #[inline(always)]
@@ -54,7 +54,7 @@ fn number_and_comma(bytes: &[u8], at: usize) -> Option<(u64, usize)>
 /// Reads the numbers that stand there with a comma right behind each, behind those of a list, and tells where the last comma
 /// ends.
 #[inline(never)]
-pub(crate) fn numbers_at(bytes: &[u8], start: usize, list: &mut Vec<u64>) -> Result<usize, Stop>
+pub(crate) fn numbers_at(bytes: &[u8], start: usize, list: &mut Vec<u64>) -> Result<usize, ScanStop>
     ensures { IfOk result (λ end. (row : List ℕ) × (list.new.items ≡ list.old.items ++ row)
         × ReadsAll 0 (left Place.AfterComma (drop start bytes.now)) (map whole row) (left Place.AfterComma (drop end bytes.now))) }
 {

@@ -2,7 +2,7 @@
 use Rattle.std.proofs.Common.{◌≡◌, ◌++◌, ℕ, List, [], ◌∷◌, Option, Some, length, take, inl, inr, refl, sym, ◌∙◌, subst, ap}
 use Rattle.clock_device.specs.Streams.{HasRead, HasWritten}
 use Rattle.clock_http.specs.Replies.{Answer}
-use Rattle.clock_keeping.specs.Serving.{WritesReply}
+use Rattle.clock_serving.specs.Serving.{WritesReply}
 use Rattle.clock_serving.specs.Exchanges.{Exchange}
 use Rattle.clock_serving.specs.Laws.{ToldBytes}
 

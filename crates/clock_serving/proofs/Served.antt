@@ -13,9 +13,8 @@ use Rattle.clock_journal.specs.Kept.{HasTexts, JournalState, file_of}
 use Rattle.clock_journal.specs.Reading.{onto}
 use Rattle.clock_journal.proofs.Moments.{every_front}
 use Rattle.clock_keeping.specs.Keeping.{IsInStep, IsKept}
-use Rattle.clock_keeping.specs.Serving.{WritesReply}
 use Rattle.clock_serving.specs.Exchanges.{Exchange}
-use Rattle.clock_serving.specs.Serving.{AreServed, KeepsText, RepliesTo, Walks}
+use Rattle.clock_serving.specs.Serving.{AreServed, KeepsText, RepliesTo, Walks, WritesReply}
 use Rattle.clock_serving.specs.inside.Served.{IsServed}
 use Rattle.clock_front.proofs.RunLaws.{right}
 use Rattle.clock_serving.proofs.Walking.{all_behind, walks_on}

@@ -2,7 +2,7 @@
 use Rattle.std.proofs.Common.{◌≡◌, inl, inr, ℕ, List, [], ◌∷◌, ◌++◌, Option, Some, None, refl, sym, ap, ◌∙◌, subst, append_assoc, append-nil}
 use Rattle.clock_terms.specs.Limits.{SetupFields}
 use Rattle.clock_device.specs.Readings.{Reading}
-use Rattle.clock_front.specs.Streamed.{Writing}
+use Rattle.clock_device.specs.Writings.{Writing}
 use Rattle.clock_serving.specs.Exchanges.{Closes, Exchange, HasClosed, Offer}
 use Rattle.clock_serving.specs.Serving.{KeepsText, Walks}
 

@@ -6,7 +6,7 @@
 --     no_journal      what is kept where nothing is
 use Rattle.std.specs.Prelude.{◌≡◌, ◌++◌, ℕ, false, List, [], ◌∷◌, Option, Some, None}
 use Rattle.clock_device.specs.Readings.{Reading}
-use Rattle.clock_front.specs.Streamed.{Writing}
+use Rattle.clock_device.specs.Writings.{Writing}
 use Rattle.clock_journal.specs.Kept.{JournalState}
 
 -- the bytes that its source has and those that its sink has taken, where they tell them

@@ -1,4 +1,5 @@
 -- How connections are served one after the other, one request each. Texts of a front stand newest first, those of a journal oldest first.
+--     WritesReply writing answer      the reply was written, or a front of it where a write failed
 --     IsReplied one text answer      the text was read, and the reply was written
 --     EndsAlone one      no text was read that could be answered
 --     Walks step past exchanges end      connection by connection the texts become others by this step
@@ -12,20 +13,23 @@ use Rattle.std.specs.Prelude.{◌≡◌, ◌<◌, ◌≤◌, ◌⊎◌, ◌++◌
 use Rattle.clock_terms.specs.Limits.{SetupFields}
 use Rattle.clock_house.specs.House.{HouseFields}
 use Rattle.clock_http.specs.Replies.{Answer}
-use Rattle.clock_front.specs.Arrivals.{HasArrived, HasFailedRead, HasNoRoom, RunsOutOfReads}
+use Rattle.clock_device.specs.Writings.{Writing, WritesWhole, WritesFront, WritesNothing}
+use Rattle.clock_front.specs.Arrivals.{HasArrived, HasNoRoom, IsNotRead}
 use Rattle.clock_front.specs.FixedReplies.{no_memory}
 use Rattle.clock_front.specs.Fronts.{IsStruckOut, StandsForTexts}
 use Rattle.clock_front.specs.Headline.{IsRight}
-use Rattle.clock_front.specs.Streamed.{WritesNothing}
 use Rattle.clock_journal.specs.Crash.{LeavesTexts}
 use Rattle.clock_journal.specs.Disks.{MayBeLeft}
 use Rattle.clock_journal.specs.Kept.{JournalState, file_of}
 use Rattle.clock_journal.specs.Reading.{onto}
 use Rattle.clock_keeping.specs.Keeping.{IsInStep, IsNextKept}
-use Rattle.clock_keeping.specs.Serving.{WritesReply}
 use Rattle.clock_serving.specs.Exchanges.{Exchange}
 use Rattle.clock_serving.specs.declared.fault.ServeFault.{ServeFault}
 use Rattle.clock_serving.specs.declared.fault.ServeFault.TheVariants as fault
+
+-- all of the reply was written; or a front of it, and a write failed
+abbrev pub WritesReply : Writing → Answer → Type 0
+WritesReply writing answer = WritesWhole writing answer.bytes ⊎ WritesFront writing answer.bytes
 
 -- the text was read on this connection, and the reply was written on it, whole or a front of it where a write failed
 pub record IsReplied (one : Exchange) (text : List ℕ) (answer : Answer) : Type 0 where
@@ -36,7 +40,7 @@ pub record IsReplied (one : Exchange) (text : List ℕ) (answer : Answer) : Type
 abbrev pub EndsAlone : Exchange → Type 0
 EndsAlone one =
     (HasNoRoom one.reading × WritesReply one.writing no_memory)
-    ⊎ ((HasFailedRead one.reading ⊎ RunsOutOfReads one.reading) × WritesNothing one.writing)
+    ⊎ (IsNotRead one.reading × WritesNothing one.writing)
 
 -- connection by connection, in order, the texts become others by this step
 abbrev pub Walks : (List (List ℕ) → Exchange → List (List ℕ) → Type 0) → List (List ℕ) → List Exchange → List (List ℕ) → Type 0

@@ -1,11 +1,10 @@
 ghost use Rattle.std.specs.Prelude.{◌≡◌, ◌≤◌, ℕ, List, IfOk, OnOk, OnErr, MatchOption, false, length};
 ghost use Rattle.clock_device.specs.Calls.{IsUnread, IsUnused};
 ghost use Rattle.clock_device.specs.Readings.{Reading};
-ghost use Rattle.clock_front.specs.Streamed.{Writing};
-ghost use Rattle.clock_keeping.specs.Serving.{IsLeftAlone};
+ghost use Rattle.clock_device.specs.Writings.{Writing};
 ghost use Rattle.clock_serving.specs.Exchanges.{Exchange, HasClosed};
 ghost use Rattle.clock_serving.specs.Serving.{EndsServing, is_accept_fault};
-ghost use Rattle.clock_serving.specs.inside.Served.{EndsOne, FailsToKeep, IsAnswered, IsServed, IsUnkept};
+ghost use Rattle.clock_serving.specs.inside.Served.{EndsOne, FailsToKeep, IsAnswered, IsLeftAlone, IsServed, IsUnkept};
 
 use crate::connections::Connections;
 use crate::fault::ServeFault;

@@ -17,7 +17,7 @@ use crate::setup_checks::{bidders_within, is_token, products_within};
 use crate::setup_scan::scanned_setup;
 use crate::setup_tree::setup_entries;
 use clock_device::Text;
-use clock_scan::{Scan, Stop, is_text};
+use clock_scan::{Scan, ScanStop, is_text};
 use clock_terms::{
     LATEST_VERSION, LEAST_LIMIT, LEAST_REQUIREMENT, MOST_LIMIT, MOST_REQUIREMENT, Setup, is_within,
 };
@@ -98,25 +98,25 @@ pub(crate) fn within_limits(alloc: Global, entries: &SetupEntries) -> Result<Set
 }
 
 /// The entries of a document that is read without a tree.
-fn scanned_entries(alloc: Global, bytes: &[u8]) -> Result<SetupEntries<'_>, Stop>
+fn scanned_entries(alloc: Global, bytes: &[u8]) -> Result<SetupEntries<'_>, ScanStop>
     ensures value { IfOk result (λ entries. document.json bytes.now ≡ Some (setup_data entries)) }
     ensures version { IfOk result (λ entries. IsWithin 1 latest_version entries.version) }
     ensures first_version { IfOk result (λ entries. entries.version ≡ 1 → IsOfFirstVersion entries) }
 {
     if !is_text(bytes) {
-        return Err(Stop::Unusual);
+        return Err(ScanStop::Unusual);
     }
     let mut scan = Scan::new(bytes);
     let entries = scanned_setup(alloc, &mut scan)?;
     if !scan.ends() {
-        return Err(Stop::Unusual);
+        return Err(ScanStop::Unusual);
     }
     Ok(entries)
 }
 
 /// The set-up that is next in a document, where it is within its limits, none of its texts has an escape, and each of
 /// its numbers is written in digits alone. Anything else is `Unusual`: then a tree of values tells what it means.
-pub fn next_setup(alloc: Global, scan: &mut Scan<'_>) -> Result<Setup, Stop>
+pub fn next_setup(alloc: Global, scan: &mut Scan<'_>) -> Result<Setup, ScanStop>
     ensures value { IfOk result (λ setup. Reads 3 scan.old (setup_data setup) scan.new) }
     ensures accepted { IfOk result (λ setup. document.setup_of (setup_data setup) ≡ Ok setup) }
     ensures shorter { OnOk result (length scan.new < length scan.old) }
@@ -124,8 +124,8 @@ pub fn next_setup(alloc: Global, scan: &mut Scan<'_>) -> Result<Setup, Stop>
     let entries = scanned_setup(alloc, scan)?;
     match within_limits(alloc, &entries) {
         Ok(setup) => Ok(setup),
-        Err(SetupFault::NoMemory) => Err(Stop::NoMemory),
-        Err(_) => Err(Stop::Unusual),
+        Err(SetupFault::NoMemory) => Err(ScanStop::NoMemory),
+        Err(_) => Err(ScanStop::Unusual),
     }
 }
 
@@ -153,8 +153,8 @@ pub fn read_setup(alloc: Global, bytes: &[u8]) -> Result<Setup, SetupFault>
 {
     match scanned_entries(alloc, bytes) {
         Ok(entries) => within_limits(alloc, &entries),
-        Err(Stop::Unusual) => setup_by_tree(alloc, bytes),
-        Err(Stop::NoMemory) => Err(SetupFault::NoMemory),
+        Err(ScanStop::Unusual) => setup_by_tree(alloc, bytes),
+        Err(ScanStop::NoMemory) => Err(SetupFault::NoMemory),
     }
 }
 

@@ -16,7 +16,7 @@ use crate::opening_entries::{InnerSetup, OpeningInput};
 use crate::opening_scan::scanned_opening;
 use crate::opening_tree::source_parts;
 use clock_device::NoMemory;
-use clock_scan::{FlatRows, Stop};
+use clock_scan::{FlatRows, ScanStop};
 use clock_terms::{Grid, Setup};
 use std::alloc::{AllocError, AllocFailed, Global};
 use thiserror::Error;
@@ -195,7 +195,7 @@ pub fn read_opening(alloc: Global, bytes: &[u8]) -> Result<Opening, OpeningFault
 {
     match scanned_opening(alloc, bytes) {
         Ok(entries) => opening_in(alloc, OpeningInput::Entries(entries)),
-        Err(Stop::Unusual) => opening_by_tree(alloc, bytes),
-        Err(Stop::NoMemory) => Err(OpeningFault::NoMemory),
+        Err(ScanStop::Unusual) => opening_by_tree(alloc, bytes),
+        Err(ScanStop::NoMemory) => Err(OpeningFault::NoMemory),
     }
 }

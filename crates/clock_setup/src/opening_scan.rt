@@ -8,7 +8,7 @@ ghost use Rattle.clock_setup.specs.SetupDocument.{json};
 
 use crate::opening_entries::{InnerSetup, OpeningEntries, ScannedSetup};
 use crate::setup_scan::scanned_setup;
-use clock_scan::{FlatRows, Scan, Stop, is_key, is_text};
+use clock_scan::{FlatRows, Scan, ScanStop, is_key, is_text};
 use std::alloc::Global;
 
 /// What was found of an opening.
@@ -21,12 +21,12 @@ struct OpeningFound<'v> {
 
 impl<'v> OpeningFound<'v> {
     /// Reads the next member.
-    fn read_member(&mut self, alloc: Global, scan: &mut Scan<'v>) -> Result<(), Stop>
+    fn read_member(&mut self, alloc: Global, scan: &mut Scan<'v>) -> Result<(), ScanStop>
         ensures value { OnOk result (AddsMember 3 scan.old (found_opening self.old) scan.new (found_opening self.new)) }
         ensures shorter { OnOk result (length scan.new < length scan.old) }
     {
         let Some(key) = scan.key() else {
-            return Err(Stop::Unusual);
+            return Err(ScanStop::Unusual);
         };
         if is_key(key, "demands") {
             self.demands = Some(scan.flat_rows(alloc)?);
@@ -38,13 +38,13 @@ impl<'v> OpeningFound<'v> {
             return Ok(());
         }
         let Some(number) = scan.number() else {
-            return Err(Stop::Unusual);
+            return Err(ScanStop::Unusual);
         };
         if is_key(key, "increment") {
             self.increment = Some(number);
             return Ok(());
         }
-        Err(Stop::Unusual)
+        Err(ScanStop::Unusual)
     }
 
     /// The parts of an opening, where each was found.
@@ -67,11 +67,11 @@ impl<'v> OpeningFound<'v> {
 }
 
 /// The opening that is next.
-fn opening_entries<'v>(alloc: Global, scan: &mut Scan<'v>) -> Result<OpeningEntries<'v>, Stop>
+fn opening_entries<'v>(alloc: Global, scan: &mut Scan<'v>) -> Result<OpeningEntries<'v>, ScanStop>
     ensures { IfOk result (λ entries. Reads 4 scan.old (entries_data entries) scan.new) }
 {
     if !scan.opens_object() {
-        return Err(Stop::Unusual);
+        return Err(ScanStop::Unusual);
     }
     let mut parts = OpeningFound {
         demands: None,
@@ -83,21 +83,21 @@ fn opening_entries<'v>(alloc: Global, scan: &mut Scan<'v>) -> Result<OpeningEntr
     }
     match parts.entries() {
         Some(entries) => Ok(entries),
-        None => Err(Stop::Unusual),
+        None => Err(ScanStop::Unusual),
     }
 }
 
 /// The parts of the opening that a document is.
-pub(crate) fn scanned_opening(alloc: Global, bytes: &[u8]) -> Result<OpeningEntries<'_>, Stop>
+pub(crate) fn scanned_opening(alloc: Global, bytes: &[u8]) -> Result<OpeningEntries<'_>, ScanStop>
     ensures { IfOk result (λ entries. json bytes.now ≡ Some (entries_data entries)) }
 {
     if !is_text(bytes) {
-        return Err(Stop::Unusual);
+        return Err(ScanStop::Unusual);
     }
     let mut scan = Scan::new(bytes);
     let entries = opening_entries(alloc, &mut scan)?;
     if !scan.ends() {
-        return Err(Stop::Unusual);
+        return Err(ScanStop::Unusual);
     }
     Ok(entries)
 }

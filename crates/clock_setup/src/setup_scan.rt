@@ -9,7 +9,7 @@ ghost use Rattle.clock_setup.specs.inside.FoundEntries.{found_product, found_bid
 ghost use Rattle.clock_setup.specs.inside.FoundSetup.{found_setup};
 
 use crate::entries::{BidderEntry, ProductEntry, SetupEntries, VersionedProducts};
-use clock_scan::{Scan, Stop, is_key};
+use clock_scan::{Scan, ScanStop, is_key};
 use clock_terms::{FIRST_GRANULE, FIRST_LIMIT};
 use std::alloc::Global;
 
@@ -139,21 +139,21 @@ fn common_version(so_far: u64, next: u64) -> Option<u64>
 }
 
 /// Products whose keys are those of one version.
-fn products<'v>(alloc: Global, scan: &mut Scan<'v>) -> Result<VersionedProducts<'v>, Stop>
+fn products<'v>(alloc: Global, scan: &mut Scan<'v>) -> Result<VersionedProducts<'v>, ScanStop>
     ensures value { IfOk result (λ list. Reads 2 scan.old (products_data list.version list.entries.items) scan.new) }
     ensures shorter { OnOk result (length scan.new < length scan.old) }
 {
     if !scan.opens_array() {
-        return Err(Stop::Unusual);
+        return Err(ScanStop::Unusual);
     }
     let mut version = 0;
     let mut entries = Vec::new(alloc);
     'items: while !scan.closes_array() {
         let Some((next, entry)) = product(scan) else {
-            return Err(Stop::Unusual);
+            return Err(ScanStop::Unusual);
         };
         let Some(common) = common_version(version, next) else {
-            return Err(Stop::Unusual);
+            return Err(ScanStop::Unusual);
         };
         version = common;
         entries.push(entry)?;
@@ -230,17 +230,17 @@ fn bidder<'v>(scan: &mut Scan<'v>) -> Option<BidderEntry<'v>>
 }
 
 /// Bidders.
-fn bidders<'v>(alloc: Global, scan: &mut Scan<'v>) -> Result<Vec<BidderEntry<'v>>, Stop>
+fn bidders<'v>(alloc: Global, scan: &mut Scan<'v>) -> Result<Vec<BidderEntry<'v>>, ScanStop>
     ensures value { IfOk result (λ list. Reads 2 scan.old (bidders_data list.items) scan.new) }
     ensures shorter { OnOk result (length scan.new < length scan.old) }
 {
     if !scan.opens_array() {
-        return Err(Stop::Unusual);
+        return Err(ScanStop::Unusual);
     }
     let mut entries = Vec::new(alloc);
     'items: while !scan.closes_array() {
         let Some(entry) = bidder(scan) else {
-            return Err(Stop::Unusual);
+            return Err(ScanStop::Unusual);
         };
         entries.push(entry)?;
     }
@@ -273,12 +273,12 @@ fn limit_of(version: u64, limit: Option<u64>) -> Option<u64>
 
 impl<'v> SetupParts<'v> {
     /// Reads the next member.
-    fn read_member(&mut self, alloc: Global, scan: &mut Scan<'v>) -> Result<(), Stop>
+    fn read_member(&mut self, alloc: Global, scan: &mut Scan<'v>) -> Result<(), ScanStop>
         ensures value { OnOk result (AddsMember 2 scan.old (found_setup self.old) scan.new (found_setup self.new)) }
         ensures shorter { OnOk result (length scan.new < length scan.old) }
     {
         let Some(key) = scan.key() else {
-            return Err(Stop::Unusual);
+            return Err(ScanStop::Unusual);
         };
         if is_key(key, "products") {
             self.products = Some(products(alloc, scan)?);
@@ -290,13 +290,13 @@ impl<'v> SetupParts<'v> {
         }
         if is_key(key, "operator") {
             let Some(text) = scan.text() else {
-                return Err(Stop::Unusual);
+                return Err(ScanStop::Unusual);
             };
             self.operator = Some(text);
             return Ok(());
         }
         let Some(number) = scan.number() else {
-            return Err(Stop::Unusual);
+            return Err(ScanStop::Unusual);
         };
         if is_key(key, "version") {
             self.version = Some(number);
@@ -310,7 +310,7 @@ impl<'v> SetupParts<'v> {
             self.limit = Some(number);
             return Ok(());
         }
-        Err(Stop::Unusual)
+        Err(ScanStop::Unusual)
     }
 
     /// The entries of a known version, with the keys of this version.
@@ -348,14 +348,14 @@ impl<'v> SetupParts<'v> {
 pub(crate) fn scanned_setup<'v>(
     alloc: Global,
     scan: &mut Scan<'v>,
-) -> Result<SetupEntries<'v>, Stop>
+) -> Result<SetupEntries<'v>, ScanStop>
     ensures value { IfOk result (λ entries. Reads 3 scan.old (setup_data entries) scan.new) }
     ensures version { IfOk result (λ entries. IsWithin 1 latest_version entries.version) }
     ensures first_version { IfOk result (λ entries. entries.version ≡ 1 → IsOfFirstVersion entries) }
     ensures shorter { OnOk result (length scan.new < length scan.old) }
 {
     if !scan.opens_object() {
-        return Err(Stop::Unusual);
+        return Err(ScanStop::Unusual);
     }
     let mut parts = SetupParts {
         bidders: None,
@@ -370,6 +370,6 @@ pub(crate) fn scanned_setup<'v>(
     }
     match parts.entries() {
         Some(entries) => Ok(entries),
-        None => Err(Stop::Unusual),
+        None => Err(ScanStop::Unusual),
     }
 }

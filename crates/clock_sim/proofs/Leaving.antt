@@ -10,7 +10,7 @@ use Rattle.std.proofs.lemmas.List.Sums.{sum_by-cons}
 use Rattle.clock_terms.specs.declared.prices.PricePair.{PricePair}
 use Rattle.clock_bids.specs.declared.sheet.Bid.{Bid}
 use Rattle.clock_replays.specs.Replays.{NeverRises}
-use Rattle.clock_sim.specs.Sincere.{leaving_price, leaving_prices, staying, bid_of, leaving_bids, keeping_or_leaving}
+use Rattle.clock_sim.specs.Sincere.{leaving_price, leaving_prices, staying, bid_for, leaving_bids, keeping_or_leaving}
 use Rattle.clock_sim.specs.inside.Blocks.{last_leaving, block_bid, block_bids}
 
 -- ---- rising lists
@@ -65,12 +65,12 @@ one_less n p q xs le = let more = one_more p q xs le in omega arith
 -- ---- bids at different prices
 
 abbrev bids_at : ℕ → ℕ → List ℕ → List ℕ → List Bid
-bids_at product held leaving prices = map (λ price. bid_of product (staying held leaving price) price) prices
+bids_at product held leaving prices = map (λ price. bid_for product (staying held leaving price) price) prices
 
 same_bids : (product n p : ℕ) (xs prices : List ℕ) → AtLeast p prices → bids_at product (suc n) (p ∷ xs) prices ≡ bids_at product n xs prices
 same_bids product n p xs [] h = refl
 same_bids product n p xs (q ∷ prices) h =
-    ap₂ (λ (k : ℕ) (bids : List Bid). bid_of product k q ∷ bids) (one_less n p q xs h.0) (same_bids product n p xs prices h.1)
+    ap₂ (λ (k : ℕ) (bids : List Bid). bid_for product k q ∷ bids) (one_less n p q xs h.0) (same_bids product n p xs prices h.1)
 
 -- one block more, from the last on
 abbrev first_of : List ℕ → Option ℕ
@@ -79,7 +79,7 @@ first_of (x ∷ xs) = Some x
 
 add_by : (product n p x : ℕ) (xs : List ℕ) → p ≤ x → AtLeast p xs → AtLeast x xs → (b : Bool) → nat_eq x p ≡ b
     → bids_at product (suc n) (p ∷ x ∷ xs) (cond b (dedup_from nat_eq p xs) (p ∷ dedup_from nat_eq x xs))
-    ≡ cond (not b) (bid_of product n p ∷ []) [] ++ leaving_bids product n (x ∷ xs)
+    ≡ cond (not b) (bid_for product n p ∷ []) [] ++ leaving_bids product n (x ∷ xs)
 add_by product n p x xs le above_p above_x true e =
     let same : x ≡ p = grind (arith, nat_tests) in
     ap (λ k. bids_at product (suc n) (p ∷ x ∷ xs) (dedup_from nat_eq k xs)) (sym same)
@@ -89,7 +89,7 @@ add_by product n p x xs le above_p above_x false e =
     let none = none_below p x (x ∷ xs) below (omega arith, above_x) in
     let more = one_more p p (x ∷ xs) (omega arith) in
     let left : staying (suc n) (p ∷ x ∷ xs) p ≡ n = omega arith in
-    ap₂ (λ (k : ℕ) (bids : List Bid). bid_of product k p ∷ bids) left
+    ap₂ (λ (k : ℕ) (bids : List Bid). bid_for product k p ∷ bids) left
     (same_bids product n p (x ∷ xs) (dedup_from nat_eq x xs) (kept_above p x xs le above_p))
 
 add_price : (product n p : ℕ) (xs : List ℕ) → AtLeast p xs → Rises xs
@@ -97,7 +97,7 @@ add_price : (product n p : ℕ) (xs : List ℕ) → AtLeast p xs → Rises xs
 add_price product n p [] least rises =
     let more = one_more p p [] (omega arith) in
     let left : staying (suc n) (p ∷ []) p ≡ n = omega arith in
-    ap (λ k. bid_of product k p ∷ []) left
+    ap (λ k. bid_for product k p ∷ []) left
 add_price product n p (x ∷ xs) least rises = add_by product n p x xs least.0 least.1 rises.0 (nat_eq x p) refl
 
 -- ---- blocks
@@ -196,7 +196,7 @@ all_blocks product held pair limits falls within =
     ∙ ap (λ k. leaving_bids product k (leaving_prices pair limits)) all
 
 none_first : (product held : ℕ) (pair : PricePair) (prices : List ℕ) → first_of prices ≡ None
-    → keeping_or_leaving product pair held prices ≡ bid_of product held pair.clock ∷ []
+    → keeping_or_leaving product pair held prices ≡ bid_for product held pair.clock ∷ []
 none_first product held pair [] e = refl
 none_first product held pair (x ∷ xs) e = absurd (cc)
 
@@ -207,7 +207,7 @@ some_first product held pair (x ∷ xs) price e = refl
 
 -- where the last block stays, all do
 pub all_stay : (product held : ℕ) (pair : PricePair) (limits : List ℕ) → NeverRises limits → last_leaving pair (reverse limits) ≡ None
-    → keeping_or_leaving product pair held (leaving_prices pair limits) ≡ bid_of product held pair.clock ∷ []
+    → keeping_or_leaving product pair held (leaving_prices pair limits) ≡ bid_for product held pair.clock ∷ []
 all_stay product held pair limits falls none =
     none_first product held pair (leaving_prices pair limits) (sym (first_leaves pair (reverse limits) (rises_back limits falls)) ∙ none)
 

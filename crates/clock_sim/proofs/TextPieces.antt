@@ -1,5 +1,5 @@
 -- The texts of bodies in the pieces in which they are pushed.
-use Rattle.std.proofs.Common.{◌≡◌, ℕ, List, ◌++◌, codes, decimal, refl, ap, ◌∙◌, append_assoc}
+use Rattle.std.proofs.Common.{◌≡◌, ℕ, List, ◌++◌, codes, decimal, refl, ◌∙◌, append_assoc}
 use Rattle.serde_json.specs.Written.{compact_text}
 use Rattle.serde_json.proofs.OnLiterals.{serde_json_on_literals}
 use Rattle.clock_terms.specs.declared.increments.Increments.{Increments}
@@ -10,20 +10,19 @@ use Rattle.clock_views.specs.BidderPages.{bid_value}
 use Rattle.clock_views.specs.Values.{list_of}
 use Rattle.clock_views.proofs.Texts.{bid_in_pieces}
 use Rattle.clock_sim.specs.RequestTexts.{tie_value, close_value}
-use Rattle.clock_sim.specs.inside.ProductPieces.{product_piece}
+use Rattle.clock_sim.specs.inside.BidPieces.{bid_piece}
 use Rattle.clock_sim.specs.inside.RequestTexts.{increments_text}
 
-regrouped : (a b c d : List ℕ) → a ++ ((b ++ c) ++ d) ≡ (a ++ b) ++ (c ++ d)
-regrouped a b c d = simp append_assoc
+regrouped : (a b c d e : List ℕ) → a ++ (b ++ ((c ++ d) ++ e)) ≡ (a ++ (b ++ c)) ++ (d ++ e)
+regrouped a b c d e = simp append_assoc
 
--- a bid, with the piece of its product
-pub bid_by_product : (bid : Bid)
-    → compact_text (bid_value bid)
-    ≡ (codes "{\"price\":" ++ decimal bid.price) ++ (product_piece bid.product ++ (decimal bid.quantity ++ codes "}"))
-bid_by_product bid =
+-- a bid, with the piece of its price and product
+pub bid_by_piece : (bid : Bid)
+    → compact_text (bid_value bid) ≡ bid_piece bid.price bid.product ++ (decimal bid.quantity ++ codes "}")
+bid_by_piece bid =
     bid_in_pieces bid
-    ∙ ap (λ s. (codes "{\"price\":" ++ decimal bid.price) ++ s)
-    (regrouped (codes ",\"product\":" ++ decimal bid.product) (codes ",\"quantity\":") (decimal bid.quantity) (codes "}"))
+    ∙ regrouped (codes "{\"price\":" ++ decimal bid.price) (codes ",\"product\":" ++ decimal bid.product)
+    (codes ",\"quantity\":") (decimal bid.quantity) (codes "}")
 
 pub tie_in_pieces : (tie : Tie)
     → compact_text (tie_value tie)

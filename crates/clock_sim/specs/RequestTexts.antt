@@ -24,11 +24,11 @@ abbrev pub request_text : List ℕ → List ℕ → List ℕ → List ℕ
 request_text line token body = request_head line token (length body) ++ body
 
 -- a sheet is sent as the page of the bidder's own bids shows it
-abbrev pub put_body : ℕ → List Bid → List ℕ
-put_body round bids = compact_text (bids_value round (Some bids))
+abbrev pub written_put : ℕ → List Bid → List ℕ
+written_put round bids = compact_text (bids_value round (Some bids))
 
 abbrev pub put_text : List ℕ → ℕ → List Bid → List ℕ
-put_text token round bids = request_text (codes "PUT /v1/me/bids") token (put_body round bids)
+put_text token round bids = request_text (codes "PUT /v1/me/bids") token (written_put round bids)
 
 -- a tie number behind its bidder and product
 abbrev pub tie_value : Tie → Data
@@ -45,8 +45,8 @@ close_value round increments ties = object_of (
     ("round", whole round) ∷
     ("ties", list_of tie_value ties) ∷ [])
 
-abbrev pub close_body : ℕ → Increments → List Tie → List ℕ
-close_body round increments ties = compact_text (close_value round increments ties)
+abbrev pub written_close : ℕ → Increments → List Tie → List ℕ
+written_close round increments ties = compact_text (close_value round increments ties)
 
 abbrev pub close_text : List ℕ → ℕ → Increments → List Tie → List ℕ
-close_text token round increments ties = request_text (codes "POST /v1/close") token (close_body round increments ties)
+close_text token round increments ties = request_text (codes "POST /v1/close") token (written_close round increments ties)

@@ -26,16 +26,16 @@ leaving_prices pair limits = filter_map (leaving_price pair) (reverse limits)
 abbrev pub staying : ℕ → List ℕ → ℕ → ℕ
 staying held leaving price = held - count_by (λ left. nat_le left price) leaving
 
-abbrev pub bid_of : ℕ → ℕ → ℕ → Bid
-bid_of product quantity price = record { product = product; quantity = quantity; price = price }
+abbrev pub bid_for : ℕ → ℕ → ℕ → Bid
+bid_for product quantity price = record { product = product; quantity = quantity; price = price }
 
 -- a bid at each different leaving price, rising
 abbrev pub leaving_bids : ℕ → ℕ → List ℕ → List Bid
-leaving_bids product held leaving = map (λ price. bid_of product (staying held leaving price) price) (dedup nat_eq leaving)
+leaving_bids product held leaving = map (λ price. bid_for product (staying held leaving price) price) (dedup nat_eq leaving)
 
 -- where no block leaves, the bid that keeps what is held
 abbrev pub keeping_or_leaving : ℕ → PricePair → ℕ → List ℕ → List Bid
-keeping_or_leaving product pair held [] = bid_of product held pair.clock ∷ []
+keeping_or_leaving product pair held [] = bid_for product held pair.clock ∷ []
 keeping_or_leaving product pair held leaving = leaving_bids product held leaving
 
 -- in a later round a product of which nothing is held has no bid
@@ -45,7 +45,7 @@ later_bids product pair held limits =
 
 -- a bid for so many blocks at a price, where there are any
 abbrev pub bid_if_any : ℕ → ℕ → ℕ → List Bid
-bid_if_any product price quantity = if quantity == 0 then [] else bid_of product quantity price ∷ []
+bid_if_any product price quantity = if quantity == 0 then [] else bid_for product quantity price ∷ []
 
 -- how many blocks have a limit at or above a price
 abbrev pub wanted : List ℕ → ℕ → ℕ

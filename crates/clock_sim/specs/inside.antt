@@ -1,7 +1,7 @@
 -- What only proofs and private functions use: no clause of a public call cites it.
 pub mod Reports
 pub mod RequestTexts
-pub mod ProductPieces
+pub mod BidPieces
 pub mod Blocks
 pub mod Groups
 pub mod RoundPrices

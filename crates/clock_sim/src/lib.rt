@@ -5,10 +5,10 @@
 #![tactic(auto)]
 
 mod audit_lines;
+mod bid_pieces;
 mod final_report;
 mod groups;
 mod house_text;
-mod product_pieces;
 mod report;
 mod report_lines;
 mod request_texts;

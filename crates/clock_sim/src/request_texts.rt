@@ -1,15 +1,14 @@
 //! The texts of requests, which are written onto the same memory again and again.
 
-ghost use Rattle.std.specs.Prelude.{◌≡◌, ◌++◌, decimal, OnOk};
+ghost use Rattle.std.specs.Prelude.{◌≡◌, ◌++◌, codes, decimal, OnOk};
 ghost use Rattle.serde_json.specs.Written.{compact_text, comma_if};
 ghost use Rattle.clock_views.specs.Values.{whole, list_of, Adds};
 ghost use Rattle.clock_views.specs.inside.Values.{item_text};
 ghost use Rattle.clock_views.specs.BidderPages.{bid_value};
 ghost use Rattle.clock_sim.specs.RequestTexts as texts;
-ghost use Rattle.clock_sim.specs.inside.ProductPieces.{product_piece};
 ghost use Rattle.clock_sim.specs.inside.RequestTexts.{increments_text, whole_text};
 
-use crate::product_pieces::ProductPieces;
+use crate::bid_pieces::BidPieces;
 use clock_bids::Bid;
 use clock_device::NoMemory;
 use clock_order::Tie;
@@ -19,7 +18,7 @@ use std::alloc::Global;
 
 /// Adds a label, as `{"bids":[`.
 #[inline(always)]
-fn push_label(text: &mut Vec<u8>, label: &[u8]) -> Result<(), NoMemory>
+pub(crate) fn push_label(text: &mut Vec<u8>, label: &[u8]) -> Result<(), NoMemory>
     ensures { OnOk result (Adds label.now text.old.items text.new.items) }
 {
     text.extend_from_slice(label)?;
@@ -28,7 +27,7 @@ fn push_label(text: &mut Vec<u8>, label: &[u8]) -> Result<(), NoMemory>
 
 /// Adds a label, as `,"round":`, and the number behind it.
 #[inline(always)]
-fn push_number(text: &mut Vec<u8>, label: &[u8], number: u64) -> Result<(), NoMemory>
+pub(crate) fn push_number(text: &mut Vec<u8>, label: &[u8], number: u64) -> Result<(), NoMemory>
     ensures { OnOk result (Adds (label.now ++ decimal number) text.old.items text.new.items) }
 {
     let mut buffer = Buffer::new();
@@ -69,57 +68,35 @@ fn push_numbers(text: &mut Vec<u8>, numbers: &[u64]) -> Result<(), NoMemory>
     Ok(())
 }
 
-/// Adds the product of a bid and the label of its quantity.
+/// Adds a quantity, which has one digit mostly, and the end of its bid.
 #[inline(always)]
-fn push_product(text: &mut Vec<u8>, pieces: &ProductPieces, product: u64) -> Result<(), NoMemory>
-    ensures { OnOk result (Adds (product_piece product) text.old.items text.new.items) }
+fn push_quantity(text: &mut Vec<u8>, quantity: u64) -> Result<(), NoMemory>
+    ensures { OnOk result (Adds (decimal quantity ++ codes "}") text.old.items text.new.items) }
 {
-    match pieces.get(product) {
-        Some(piece) => push_label(text, piece),
-        None => push_other_product(text, product),
+    if quantity < 10 {
+        return push_label(text, &[b'0' + quantity as u8, b'}']);
     }
-}
-
-/// The same for a product that no piece was made for.
-#[inline(never)]
-fn push_other_product(text: &mut Vec<u8>, product: u64) -> Result<(), NoMemory>
-    ensures { OnOk result (Adds (product_piece product) text.old.items text.new.items) }
-{
-    push_number(text, b",\"product\":", product)?;
-    push_label(text, b",\"quantity\":")?;
-    Ok(())
-}
-
-/// Adds a number, which has one digit mostly.
-#[inline(always)]
-fn push_short_number(text: &mut Vec<u8>, number: u64) -> Result<(), NoMemory>
-    ensures { OnOk result (Adds (decimal number) text.old.items text.new.items) }
-{
-    if number < 10 {
-        return push_label(text, &[b'0' + number as u8]);
-    }
-    push_number(text, b"", number)
+    push_number(text, b"", quantity)?;
+    push_label(text, b"}")
 }
 
 /// Adds a bid, behind a comma where it is not the first.
 fn push_bid(
     text: &mut Vec<u8>,
-    pieces: &ProductPieces,
+    pieces: &mut BidPieces,
     later: bool,
     bid: &Bid,
 ) -> Result<(), NoMemory>
     ensures { OnOk result (Adds (item_text later (bid_value bid.now)) text.old.items text.new.items) }
 {
     push_comma_if(text, later)?;
-    push_number(text, b"{\"price\":", bid.price)?;
-    push_product(text, pieces, bid.product)?;
-    push_short_number(text, bid.quantity)?;
-    push_label(text, b"}")?;
+    pieces.push_to(text, bid.price, bid.product)?;
+    push_quantity(text, bid.quantity)?;
     Ok(())
 }
 
 /// Adds an array of bids.
-fn push_bids(text: &mut Vec<u8>, pieces: &ProductPieces, bids: &[Bid]) -> Result<(), NoMemory>
+fn push_bids(text: &mut Vec<u8>, pieces: &mut BidPieces, bids: &[Bid]) -> Result<(), NoMemory>
     ensures { OnOk result (Adds (compact_text (list_of bid_value bids.now)) text.old.items text.new.items) }
 {
     push_label(text, b"[")?;
@@ -133,11 +110,11 @@ fn push_bids(text: &mut Vec<u8>, pieces: &ProductPieces, bids: &[Bid]) -> Result
 /// Adds the body of a sheet.
 fn push_put_body(
     text: &mut Vec<u8>,
-    pieces: &ProductPieces,
+    pieces: &mut BidPieces,
     round: u64,
     bids: &[Bid],
 ) -> Result<(), NoMemory>
-    ensures { OnOk result (Adds (texts.put_body round bids.now) text.old.items text.new.items) }
+    ensures { OnOk result (Adds (texts.written_put round bids.now) text.old.items text.new.items) }
 {
     push_label(text, b"{\"bids\":")?;
     push_bids(text, pieces, bids)?;
@@ -193,7 +170,7 @@ fn push_close_body(
     increments: &Increments,
     ties: &[Tie],
 ) -> Result<(), NoMemory>
-    ensures { OnOk result (Adds (texts.close_body round increments.now ties.now) text.old.items text.new.items) }
+    ensures { OnOk result (Adds (texts.written_close round increments.now ties.now) text.old.items text.new.items) }
 {
     push_label(text, b"{")?;
     push_increments(text, increments)?;
@@ -221,7 +198,7 @@ fn push_head(text: &mut Vec<u8>, line: &[u8], token: &[u8], length: u64) -> Resu
 pub(crate) struct RequestText {
     head: Vec<u8>,
     body: Vec<u8>,
-    pieces: ProductPieces,
+    pieces: BidPieces,
 }
 
 impl RequestText {
@@ -230,7 +207,7 @@ impl RequestText {
         Ok(RequestText {
             head: Vec::new(alloc),
             body: Vec::new(alloc),
-            pieces: ProductPieces::new(alloc, products)?,
+            pieces: BidPieces::new(alloc, products)?,
         })
     }
 
@@ -244,7 +221,7 @@ impl RequestText {
         ensures { OnOk result (whole_text self.new ≡ texts.put_text token.now round bids.now) }
     {
         self.body.clear();
-        push_put_body(&mut self.body, &self.pieces, round, bids)?;
+        push_put_body(&mut self.body, &mut self.pieces, round, bids)?;
         self.head.clear();
         push_head(
             &mut self.head,

@@ -77,23 +77,36 @@ fn played<P: Processor>(
     Ok(final_report(alloc, hub.front().house())?)
 }
 
-/// Plays an auction before its first request, and writes the text of its report.
-fn text_played<P: Processor>(
-    alloc: Global,
-    hub: &mut Hub<P>,
-    replay: &Replay,
-) -> Result<Text, SimFault>
+/// Plays the auction of a replay to its end, and lets the replay go: the report needs nothing of it.
+fn played_out<P: Processor>(alloc: Global, hub: &mut Hub<P>, replay: Replay) -> Result<(), SimFault>
     requires first { StandsForTexts [] hub.old.house }
-    requires same { hub.old.house.setup ≡ replay.now.setup }
-    ensures ok { IfOk result (λ text. rules.played_text replay.now ≡ Ok text) }
-    ensures err { IfErr result (IsRefusal faults.NoMemory (rules.played_text replay.now)) }
+    requires same { hub.old.house.setup ≡ replay.setup }
+    ensures ok { OnOk result (rules.simulated replay ≡ Ok (report_of hub.new.house.setup hub.new.house.closed)) }
+    ensures ended { OnOk result ((standing_in hub.new.house).ended ≡ true) }
+    ensures err { IfErr result (IsRefusal faults.NoMemory (rules.simulated replay)) }
 {
-    play_out(
+    let played = play_out(
         alloc,
         hub,
         replay.scripts.as_slice(),
         replay.closings.as_slice(),
-    )?;
+    );
+    drop(replay);
+    played
+}
+
+/// Plays an auction before its first request, and writes the text of its report.
+fn text_played<P: Processor>(
+    alloc: Global,
+    hub: &mut Hub<P>,
+    replay: Replay,
+) -> Result<Text, SimFault>
+    requires first { StandsForTexts [] hub.old.house }
+    requires same { hub.old.house.setup ≡ replay.setup }
+    ensures ok { IfOk result (λ text. rules.played_text replay ≡ Ok text) }
+    ensures err { IfErr result (IsRefusal faults.NoMemory (rules.played_text replay)) }
+{
+    played_out(alloc, hub, replay)?;
     Ok(final_text(alloc, hub.front().house())?)
 }
 
@@ -127,13 +140,16 @@ pub fn simulate(alloc: Global, replay: &Replay) -> Result<Report, SimFault>
     simulate_with(alloc, replay, Woken)
 }
 
-/// The text of the report of [`simulate`], written from the auction that was played: no sheet is copied. The refusals are the
-/// same.
-pub fn replay_text(alloc: Global, replay: &Replay) -> Result<Text, SimFault>
-    ensures ok { IfOk result (λ text. rules.played_text replay.now ≡ Ok text) }
-    ensures err { IfErr result (IsRefusal faults.NoMemory (rules.played_text replay.now)) }
+/// The text of the report of [`simulate`], written from the auction that was played: no sheet is copied, and the replay is let go
+/// before the text is written. The refusals are the same.
+pub fn replay_text(alloc: Global, replay: Replay) -> Result<Text, SimFault>
+    ensures ok { IfOk result (λ text. rules.played_text replay ≡ Ok text) }
+    ensures err { IfErr result (IsRefusal faults.NoMemory (rules.played_text replay)) }
 {
-    let mut hub = hub_of(alloc, replay, Woken)?;
+    let Ok(mut hub) = hub_of(alloc, &replay, Woken) else {
+        drop(replay);
+        return Err(SimFault::NoMemory);
+    };
     let text = text_played(alloc, &mut hub, replay);
     // let go by a call, as above
     drop(hub);

@@ -98,7 +98,7 @@ fn push_keeping(
     pair: &PriceRange,
     held: u64,
 ) -> Result<(), NoMemory>
-    ensures { OnOk result (bids.new.items ≡ bids.old.items ++ rules.bid_of product held pair.now.clock ∷ []) }
+    ensures { OnOk result (bids.new.items ≡ bids.old.items ++ rules.bid_for product held pair.now.clock ∷ []) }
 {
     bids.push(Bid {
         product,

@@ -2,4 +2,5 @@ pub mod Codes
 pub mod Lists
 pub mod Names
 pub mod Pushes
+pub mod Rooms
 pub mod Texts

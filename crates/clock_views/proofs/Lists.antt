@@ -1,12 +1,12 @@
 -- Arrays that are written item by item.
 use Rattle.std.proofs.Common.{◌≡◌, ℕ, ◌+◌, ◌<◌, List, [], ◌∷◌, ◌++◌, Bool, true, suc, ◌-◌, nat_lt, length}
-use Rattle.std.proofs.Common.{get_or, drop, replicate, append_assoc, ap, ap₂, ◌∙◌, sym, arith}
+use Rattle.std.proofs.Common.{get_or, drop, replicate, append_assoc, ap, ap₂, refl, ◌∙◌, sym, arith}
 use Rattle.serde_json.specs.Data.{Data}
 use Rattle.serde_json.specs.Written.{compact_text, items_text, comma_if}
 use Rattle.std.specs.List.{range_with_len}
 use Rattle.std.proofs.lemmas.Bool.Decides.{nat_tests}
-use Rattle.std.proofs.lemmas.List.{drop_more}
-use Rattle.clock_closing.specs.Blocks.{numbers_in, numbers_of}
+use Rattle.std.proofs.lemmas.List.{drop_more, length-append, length-replicate}
+use Rattle.clock_closing.specs.Blocks.{blocks_in, numbers_in, numbers_of, zeros_in}
 use Rattle.clock_views.specs.Values.{whole, items_of, Adds}
 use Rattle.clock_views.specs.inside.Values.{item_text, AddsNumbers}
 
@@ -48,3 +48,14 @@ cell_more text next cells i cell within is added =
     ap (λ b. next ++ rest_text whole b (numbers_of others)) later
     ∙ added.is (numbers_of others)
     ∙ ap (λ list. text ++ rest_text whole (nat_lt 0 i) (numbers_of list)) (sym split)
+
+-- and then as many numbers fewer are left as the cell has
+pub cell_count : (cells : List ℕ) (i cell : ℕ) → i < length cells → cell ≡ get_or cells i cell
+    → length (numbers_of (drop i cells)) ≡ zeros_in cell + 1 + length (numbers_of (drop (i + 1) cells))
+cell_count cells i cell within is =
+    let others : List ℕ = drop (i + 1) cells in
+    let split : drop i cells ≡ cell ∷ others = drop_more cells i cell within ∙ ap (λ one. one ∷ others) (sym is) in
+    let both : length (numbers_in cell ++ numbers_of others) ≡ length (numbers_in cell) + length (numbers_of others) = length-append (numbers_in cell) (numbers_of others) in
+    let one : length (numbers_in cell) ≡ zeros_in cell + 1 =
+    length-append (replicate (zeros_in cell) 0) (blocks_in cell ∷ []) ∙ ap (λ n. n + 1) (length-replicate (zeros_in cell) 0) in
+    ap (λ list. length (numbers_of list)) split ∙ both ∙ ap (λ n. n + length (numbers_of others)) one

@@ -13,11 +13,6 @@ pub together : {pieces text whole piece : List ℕ} → piece ≡ pieces → Add
 together {text = text} is added = record { is = added.is ∙ ap (λ s. text ++ s) (sym is) }
 
 -- the same where the last piece is added by a call that may fail
-pub before_last : {T E : Type 0} {piece text next : List ℕ} (last : Result T E) (rest whole : List ℕ) → Adds piece text next →
-    OnOk last (Adds rest next whole) → OnOk last (Adds (piece ++ rest) text whole)
-before_last (Ok done) rest whole first others = before first others
-before_last (Err fault) rest whole first others = tt
-
 pub together_last : {T E : Type 0} {pieces piece : List ℕ} (last : Result T E) (text whole : List ℕ) → piece ≡ pieces → OnOk last (Adds pieces text whole) →
     OnOk last (Adds piece text whole)
 together_last (Ok done) text whole is added = together is added

@@ -1,20 +1,23 @@
 //! The pages of one bidder.
 
-ghost use Rattle.std.specs.Prelude.{◌≡◌, ◌<◌, length, option_copied, IfOk, OnOk};
+ghost use Rattle.std.specs.Prelude.{◌≡◌, ◌≤◌, ◌<◌, ◌+◌, ◌*◌, ℕ, Bool, List, length, option_copied, IfOk};
 ghost use Rattle.serde_json.specs.Written.{compact_text};
 ghost use Rattle.clock_terms.specs.Limits.{IsName, IsRow};
+ghost use Rattle.clock_terms.specs.declared.setup.Product.{Product};
 ghost use Rattle.clock_house.specs.History.{bidder_at};
 ghost use Rattle.clock_views.specs.BidderPages.{account_value, bids_value, bid_value, sheet_or_null, accepted_value, accepted_bytes, slip_value};
+ghost use Rattle.clock_views.specs.Rooms.{most_text};
 ghost use Rattle.clock_views.specs.Values.{list_of, IsPage, Adds};
 ghost use Rattle.clock_views.specs.inside.Values.{item_text};
 
 use crate::pieces::{
     push_blocks, push_comma_if, push_label, push_name, push_number, push_row, push_truth,
 };
+use crate::room::{blocks_in_all, page_with_room};
 use clock_bids::{Bid, Own, Sheet};
-use clock_device::{NoMemory, Text};
+use clock_device::{Bounded, NoMemory, Text};
 use clock_house::Slip;
-use clock_terms::{Setup, units_held};
+use clock_terms::{Row, Setup, units_held};
 use std::alloc::Global;
 
 /// What a bidder holds before the current round. The bidder is one of the set-up's, and there is a
@@ -35,35 +38,39 @@ pub fn account_page(
     ensures { IfOk result (IsPage (account_value setup.now.products (bidder_at setup.now bidder).name own.entry.round
         (record { eligibility = own.entry.eligibility; demands = own.entry.demands.now }) ended)) }
 {
-    let mut text = Text::new(alloc);
-    push_account_page(&mut text, setup, bidder, own, ended)?;
-    Ok(text)
+    let mut text = page_with_room(alloc, account_room(own.demands))?;
+    push_account_page(&mut text, setup, bidder, own, ended);
+    Ok(text.into_items())
 }
 
-/// Adds the same page to a text.
-pub fn push_account_page(
-    text: &mut Text,
-    setup: &Setup,
-    bidder: u32,
-    own: Own,
-    ended: bool,
-) -> Result<(), NoMemory>
+/// How many bytes the page takes at most.
+pub fn account_room(demands: &Row) -> u128
+    ensures is { result ≡ 167 + 21 * length demands.now }
+    ensures most { (products : List Product) (name : List ℕ) (round eligibility : ℕ) (ended : Bool)
+        → result ≡ most_text (account_value products name round (record { eligibility = eligibility; demands = demands.now }) ended) }
+{
+    167 + 21 * demands.len() as u128
+}
+
+/// Adds the same page to a text that has room for it.
+pub fn push_account_page(text: &mut Bounded<u8>, setup: &Setup, bidder: u32, own: Own, ended: bool)
     requires bidder { bidder < length setup.now.bidders }
     requires row { IsRow setup.now.products own.demands.now }
-    ensures { OnOk result (Adds (compact_text (account_value setup.now.products (bidder_at setup.now bidder).name own.entry.round
-        (record { eligibility = own.entry.eligibility; demands = own.entry.demands.now }) ended)) text.old text.new) }
+    requires room { 167 + 21 * length own.demands.now ≤ text.old.room }
+    ensures { Adds (compact_text (account_value setup.now.products (bidder_at setup.now bidder).name own.entry.round
+        (record { eligibility = own.entry.eligibility; demands = own.entry.demands.now }) ended)) text.old.items text.new.items }
 {
     push_number(
         text,
         b"{\"activity\":",
         units_held(setup.products.as_slice(), own.demands),
-    )?;
-    push_row(text, b",\"demands\":", own.demands)?;
-    push_number(text, b",\"eligibility\":", own.eligibility)?;
-    push_truth(text, b",\"ended\":", ended)?;
-    push_name(text, b",\"name\":", name_of(setup, bidder))?;
-    push_number(text, b",\"round\":", own.round)?;
-    push_label(text, b"}")
+    );
+    push_row(text, b",\"demands\":", own.demands);
+    push_number(text, b",\"eligibility\":", own.eligibility);
+    push_truth(text, b",\"ended\":", ended);
+    push_name(text, b",\"name\":", name_of(setup, bidder));
+    push_number(text, b",\"round\":", own.round);
+    push_label(text, b"}");
 }
 
 /// The name of a bidder of the set-up.
@@ -83,24 +90,38 @@ pub(crate) fn name_of(setup: &Setup, bidder: u32) -> &[u8]
 pub fn bids_page(alloc: Global, round: u64, sheet: Option<&Sheet>) -> Result<Text, NoMemory>
     ensures { IfOk result (IsPage (bids_value round (option_copied sheet.entry))) }
 {
-    let mut text = Text::new(alloc);
-    push_bids_page(&mut text, round, sheet)?;
-    Ok(text)
+    let mut text = page_with_room(alloc, bids_room(sheet))?;
+    push_bids_page(&mut text, round, sheet);
+    Ok(text.into_items())
 }
 
-/// Adds the same page to a text.
-pub fn push_bids_page(text: &mut Text, round: u64, sheet: Option<&Sheet>) -> Result<(), NoMemory>
-    ensures { OnOk result (Adds (compact_text (bids_value round (option_copied sheet.entry))) text.old text.new) }
+/// How many bytes the page takes at most.
+pub fn bids_room(sheet: Option<&Sheet>) -> u128
+    ensures is { result ≡ 39 + most_text (sheet_or_null (option_copied sheet.entry)) }
+    ensures most { (round : ℕ) → result ≡ most_text (bids_value round (option_copied sheet.entry)) }
 {
-    push_label(text, b"{\"bids\":")?;
-    push_sheet_or_null(text, sheet)?;
-    push_number(text, b",\"round\":", round)?;
-    push_label(text, b"}")
+    match sheet {
+        Some(sheet) => 41 + 95 * sheet.bids().len() as u128,
+        None => 59,
+    }
+}
+
+/// Adds the same page to a text that has room for it.
+pub fn push_bids_page(text: &mut Bounded<u8>, round: u64, sheet: Option<&Sheet>)
+    requires { 39 + most_text (sheet_or_null (option_copied sheet)) ≤ text.old.room }
+    ensures { Adds (compact_text (bids_value round (option_copied sheet.entry))) text.old.items text.new.items }
+{
+    push_label(text, b"{\"bids\":");
+    push_sheet_or_null(text, sheet);
+    push_number(text, b",\"round\":", round);
+    push_label(text, b"}");
 }
 
 /// Adds the array of a sheet's bids, or null where there is no sheet.
-fn push_sheet_or_null(text: &mut Text, sheet: Option<&Sheet>) -> Result<(), NoMemory>
-    ensures { OnOk result (Adds (compact_text (sheet_or_null (option_copied sheet.entry))) text.old text.new) }
+fn push_sheet_or_null(text: &mut Bounded<u8>, sheet: Option<&Sheet>)
+    requires { most_text (sheet_or_null (option_copied sheet)) ≤ text.old.room }
+    ensures adds { Adds (compact_text (sheet_or_null (option_copied sheet.entry))) text.old.items text.new.items }
+    ensures room { text.old.room ≤ text.new.room + most_text (sheet_or_null (option_copied sheet.entry)) }
 {
     match sheet {
         Some(sheet) => push_bids(text, sheet.bids()),
@@ -109,26 +130,29 @@ fn push_sheet_or_null(text: &mut Text, sheet: Option<&Sheet>) -> Result<(), NoMe
 }
 
 /// Adds the array of some bids.
-fn push_bids(text: &mut Text, bids: &[Bid]) -> Result<(), NoMemory>
-    ensures { OnOk result (Adds (compact_text (list_of bid_value bids.now)) text.old text.new) }
+fn push_bids(text: &mut Bounded<u8>, bids: &[Bid])
+    requires { 2 + 95 * length bids.now ≤ text.old.room }
+    ensures adds { Adds (compact_text (list_of bid_value bids.now)) text.old.items text.new.items }
+    ensures room { text.old.room ≤ text.new.room + (2 + 95 * length bids.now) }
 {
-    text.push(b'[')?;
+    text.push(b'[');
     for (i, bid) in bids.iter().enumerate() {
-        push_bid(text, i > 0, bid)?;
+        push_bid(text, i > 0, bid);
     }
-    text.push(b']')?;
-    Ok(())
+    text.push(b']');
 }
 
 /// Adds a bid, behind a comma where it is not the first.
-fn push_bid(text: &mut Text, later: bool, bid: &Bid) -> Result<(), NoMemory>
-    ensures { OnOk result (Adds (item_text later (bid_value bid.now)) text.old text.new) }
+fn push_bid(text: &mut Bounded<u8>, later: bool, bid: &Bid)
+    requires { 95 ≤ text.old.room }
+    ensures adds { Adds (item_text later (bid_value bid.now)) text.old.items text.new.items }
+    ensures room { text.old.room ≤ text.new.room + 95 }
 {
-    push_comma_if(text, later)?;
-    push_number(text, b"{\"price\":", bid.price)?;
-    push_number(text, b",\"product\":", bid.product)?;
-    push_number(text, b",\"quantity\":", bid.quantity)?;
-    push_label(text, b"}")
+    push_comma_if(text, later);
+    push_number(text, b"{\"price\":", bid.price);
+    push_number(text, b",\"product\":", bid.product);
+    push_number(text, b",\"quantity\":", bid.quantity);
+    push_label(text, b"}");
 }
 
 /// What answers a sheet that was accepted: how many bids it has, and the current round.
@@ -141,18 +165,27 @@ pub fn accepted_page(alloc: Global, round: u64, bids: u64) -> Result<Text, NoMem
     ensures value { IfOk result (IsPage (accepted_value round bids)) }
     ensures bytes { IfOk result (λ text. text ≡ accepted_bytes round bids) }
 {
-    let mut text = Text::new(alloc);
-    push_accepted_page(&mut text, round, bids)?;
-    Ok(text)
+    let mut text = page_with_room(alloc, accepted_room())?;
+    push_accepted_page(&mut text, round, bids);
+    Ok(text.into_items())
 }
 
-/// Adds the same page to a text.
-pub fn push_accepted_page(text: &mut Text, round: u64, bids: u64) -> Result<(), NoMemory>
-    ensures { OnOk result (Adds (compact_text (accepted_value round bids)) text.old text.new) }
+/// How many bytes the page takes at most.
+pub fn accepted_room() -> u128
+    ensures is { result ≡ 76 }
+    ensures most { (round bids : ℕ) → result ≡ most_text (accepted_value round bids) }
 {
-    push_number(text, b"{\"accepted\":true,\"bids\":", bids)?;
-    push_number(text, b",\"round\":", round)?;
-    push_label(text, b"}")
+    76
+}
+
+/// Adds the same page to a text that has room for it.
+pub fn push_accepted_page(text: &mut Bounded<u8>, round: u64, bids: u64)
+    requires { 76 ≤ text.old.room }
+    ensures { Adds (compact_text (accepted_value round bids)) text.old.items text.new.items }
+{
+    push_number(text, b"{\"accepted\":true,\"bids\":", bids);
+    push_number(text, b",\"round\":", round);
+    push_label(text, b"}");
 }
 
 /// What a closed round has left a bidder with: its activity and demands, and its eligibility for the
@@ -164,18 +197,27 @@ pub fn push_accepted_page(text: &mut Text, round: u64, bids: u64) -> Result<(), 
 pub fn slip_page(alloc: Global, slip: &Slip) -> Result<Text, NoMemory>
     ensures { IfOk result (IsPage (slip_value slip.now)) }
 {
-    let mut text = Text::new(alloc);
-    push_slip_page(&mut text, slip)?;
-    Ok(text)
+    let mut text = page_with_room(alloc, slip_room(slip))?;
+    push_slip_page(&mut text, slip);
+    Ok(text.into_items())
 }
 
-/// Adds the same page to a text.
-pub fn push_slip_page(text: &mut Text, slip: &Slip) -> Result<(), NoMemory>
-    ensures { OnOk result (Adds (compact_text (slip_value slip.now)) text.old text.new) }
+/// How many bytes the page takes at most.
+pub fn slip_room(slip: &Slip) -> u128
+    ensures is { result ≡ 111 + 21 * length slip.now.demands }
+    ensures most { result ≡ most_text (slip_value slip.now) }
 {
-    push_number(text, b"{\"activity\":", slip.activity)?;
-    push_blocks(text, b",\"demands\":", &slip.demands)?;
-    push_number(text, b",\"eligibility\":", slip.eligibility)?;
-    push_number(text, b",\"round\":", slip.round)?;
-    push_label(text, b"}")
+    111 + 21 * blocks_in_all(&slip.demands)
+}
+
+/// Adds the same page to a text that has room for it.
+pub fn push_slip_page(text: &mut Bounded<u8>, slip: &Slip)
+    requires { 111 + 21 * length slip.now.demands ≤ text.old.room }
+    ensures { Adds (compact_text (slip_value slip.now)) text.old.items text.new.items }
+{
+    push_number(text, b"{\"activity\":", slip.activity);
+    push_blocks(text, b",\"demands\":", &slip.demands);
+    push_number(text, b",\"eligibility\":", slip.eligibility);
+    push_number(text, b",\"round\":", slip.round);
+    push_label(text, b"}");
 }

@@ -1,15 +1,18 @@
 //! The pages of the operator.
 
-ghost use Rattle.std.specs.Prelude.{◌≡◌, ◌<◌, nat_lt, length, IfOk, OnOk};
+ghost use Rattle.std.specs.Prelude.{◌≡◌, ◌≤◌, ◌<◌, ◌+◌, ◌*◌, ℕ, Bool, nat_lt, length, IfOk};
 ghost use Rattle.std.specs.List.{range_with_len};
 ghost use Rattle.serde_json.specs.Written.{compact_text};
+ghost use Rattle.clock_house.specs.House.{holding_in};
 ghost use Rattle.clock_views.specs.OperatorPages.{closed_value, closed_bytes, results_value, result_in};
+ghost use Rattle.clock_views.specs.Rooms.{most_text};
 ghost use Rattle.clock_views.specs.Values.{list_of, IsPage, Adds};
 ghost use Rattle.clock_views.specs.inside.Values.{item_text};
 
 use crate::bidder::name_of;
 use crate::pieces::{push_comma_if, push_label, push_name, push_number, push_row, push_truth};
-use clock_device::{NoMemory, Text};
+use crate::room::page_with_room;
+use clock_device::{Bounded, NoMemory, Text};
 use clock_house::House;
 use clock_terms::Setup;
 use std::alloc::Global;
@@ -25,18 +28,27 @@ pub fn closed_page(alloc: Global, round: u64, ended: bool) -> Result<Text, NoMem
     ensures value { IfOk result (IsPage (closed_value round ended)) }
     ensures bytes { IfOk result (λ text. text ≡ closed_bytes round ended) }
 {
-    let mut text = Text::new(alloc);
-    push_closed_page(&mut text, round, ended)?;
-    Ok(text)
+    let mut text = page_with_room(alloc, closed_room())?;
+    push_closed_page(&mut text, round, ended);
+    Ok(text.into_items())
 }
 
-/// Adds the same page to a text.
-pub fn push_closed_page(text: &mut Text, round: u64, ended: bool) -> Result<(), NoMemory>
-    ensures { OnOk result (Adds (compact_text (closed_value round ended)) text.old text.new) }
+/// How many bytes the page takes at most.
+pub fn closed_room() -> u128
+    ensures is { result ≡ 46 }
+    ensures most { (round : ℕ) (ended : Bool) → result ≡ most_text (closed_value round ended) }
 {
-    push_number(text, b"{\"closed\":", round)?;
-    push_truth(text, b",\"ended\":", ended)?;
-    push_label(text, b"}")
+    46
+}
+
+/// Adds the same page to a text that has room for it.
+pub fn push_closed_page(text: &mut Bounded<u8>, round: u64, ended: bool)
+    requires { 46 ≤ text.old.room }
+    ensures { Adds (compact_text (closed_value round ended)) text.old.items text.new.items }
+{
+    push_number(text, b"{\"closed\":", round);
+    push_truth(text, b",\"ended\":", ended);
+    push_label(text, b"}");
 }
 
 /// What each bidder holds now: its demands, its eligibility and its name, in the order of the
@@ -48,45 +60,62 @@ pub fn push_closed_page(text: &mut Text, round: u64, ended: bool) -> Result<(), 
 pub fn results_page<P>(alloc: Global, house: &House<P>) -> Result<Text, NoMemory>
     ensures { IfOk result (IsPage (results_value house.now)) }
 {
-    let mut text = Text::new(alloc);
-    push_results_page(&mut text, house)?;
-    Ok(text)
+    let mut text = page_with_room(alloc, results_room(house))?;
+    push_results_page(&mut text, house);
+    Ok(text.into_items())
 }
 
-/// Adds the same page to a text.
-pub fn push_results_page<P>(text: &mut Text, house: &House<P>) -> Result<(), NoMemory>
-    ensures { OnOk result (Adds (compact_text (results_value house.now)) text.old text.new) }
+/// How many bytes the page takes at most.
+pub fn results_room<P>(house: &House<P>) -> u128
+    ensures is { result ≡ 56 + most_text (list_of (result_in house.now) (range_with_len 0 (length house.now.setup.bidders))) }
+    ensures most { result ≡ most_text (results_value house.now) }
 {
-    push_label(text, b"{\"bidders\":")?;
-    push_results(text, house)?;
-    push_truth(text, b",\"ended\":", house.ended())?;
-    push_number(text, b",\"round\":", house.round())?;
-    push_label(text, b"}")
+    let mut room = 58;
+    for bidder in 0..bidder_count(house.setup()) {
+        room += 93 + 21 * house.own(bidder).demands.len() as u128;
+    }
+    room
+}
+
+/// Adds the same page to a text that has room for it.
+pub fn push_results_page<P>(text: &mut Bounded<u8>, house: &House<P>)
+    requires { 56 + most_text (list_of (result_in house.now) (range_with_len 0 (length house.now.setup.bidders))) ≤ text.old.room }
+    ensures { Adds (compact_text (results_value house.now)) text.old.items text.new.items }
+{
+    push_label(text, b"{\"bidders\":");
+    push_results(text, house);
+    push_truth(text, b",\"ended\":", house.ended());
+    push_number(text, b",\"round\":", house.round());
+    push_label(text, b"}");
 }
 
 /// Adds the array of what each bidder holds.
-fn push_results<P>(text: &mut Text, house: &House<P>) -> Result<(), NoMemory>
-    ensures { OnOk result (Adds (compact_text (list_of (result_in house.now) (range_with_len 0 (length house.now.setup.bidders)))) text.old text.new) }
+fn push_results<P>(text: &mut Bounded<u8>, house: &House<P>)
+    requires { most_text (list_of (result_in house.now) (range_with_len 0 (length house.now.setup.bidders))) ≤ text.old.room }
+    ensures adds { Adds (compact_text (list_of (result_in house.now) (range_with_len 0 (length house.now.setup.bidders)))) text.old.items text.new.items }
+    ensures room { text.old.room
+        ≤ text.new.room + most_text (list_of (result_in house.now) (range_with_len 0 (length house.now.setup.bidders))) }
 {
-    text.push(b'[')?;
+    text.push(b'[');
     for bidder in 0..bidder_count(house.setup()) {
-        push_result(text, house, bidder)?;
+        push_result(text, house, bidder);
     }
-    text.push(b']')?;
-    Ok(())
+    text.push(b']');
 }
 
 /// Adds what a bidder holds, behind a comma where it is not the first bidder.
-fn push_result<P>(text: &mut Text, house: &House<P>, bidder: u32) -> Result<(), NoMemory>
-    requires { bidder < length house.now.setup.bidders }
-    ensures { OnOk result (Adds (item_text (nat_lt 0 bidder) (result_in house.now bidder)) text.old text.new) }
+fn push_result<P>(text: &mut Bounded<u8>, house: &House<P>, bidder: u32)
+    requires bidder { bidder < length house.now.setup.bidders }
+    requires room { 93 + 21 * length (holding_in house.now bidder).demands ≤ text.old.room }
+    ensures adds { Adds (item_text (nat_lt 0 bidder) (result_in house.now bidder)) text.old.items text.new.items }
+    ensures room { text.old.room ≤ text.new.room + (93 + 21 * length (holding_in house.now bidder).demands) }
 {
     let own = house.own(bidder);
-    push_comma_if(text, bidder > 0)?;
-    push_row(text, b"{\"demands\":", own.demands)?;
-    push_number(text, b",\"eligibility\":", own.eligibility)?;
-    push_name(text, b",\"name\":", name_of(house.setup(), bidder))?;
-    push_label(text, b"}")
+    push_comma_if(text, bidder > 0);
+    push_row(text, b"{\"demands\":", own.demands);
+    push_number(text, b",\"eligibility\":", own.eligibility);
+    push_name(text, b",\"name\":", name_of(house.setup(), bidder));
+    push_label(text, b"}");
 }
 
 /// How many bidders a set-up has.

@@ -1,11 +1,12 @@
 //! The pages that everyone may see. Their texts are functions of what is public of a set-up.
 
-ghost use Rattle.std.specs.Prelude.{◌≡◌, length, zip, All, IfOk, OnOk};
+ghost use Rattle.std.specs.Prelude.{◌≡◌, ◌≤◌, ◌+◌, ◌*◌, ℕ, Bool, length, zip, All, IfOk};
 ghost use Rattle.serde_json.specs.Written.{compact_text};
-ghost use Rattle.clock_terms.specs.Limits.{IsProduct, public_setup};
+ghost use Rattle.clock_terms.specs.Limits.{IsProduct, PublicSetup, public_setup};
 ghost use Rattle.clock_views.specs.PublicPages.{status_value, status_bytes, line_value, sheet_value};
 ghost use Rattle.clock_views.specs.PublicPages.{products_value, product_value, from_version_2 as number_from_version_2};
 ghost use Rattle.clock_views.specs.inside.PublicPages.{limit_text};
+ghost use Rattle.clock_views.specs.Rooms.{most_text};
 ghost use Rattle.clock_views.specs.Values.{list_of, IsPage, Adds};
 ghost use Rattle.clock_views.specs.inside.Values.{item_text};
 
@@ -13,7 +14,8 @@ use crate::pieces::{
     push_comma_if, push_label, push_name, push_number, push_number_if, push_number_or_null,
     push_truth,
 };
-use clock_device::{NoMemory, Text};
+use crate::room::page_with_room;
+use clock_device::{Bounded, NoMemory, Text};
 use clock_posting::{Line, RoundSheet};
 use clock_terms::{Product, Setup};
 use std::alloc::Global;
@@ -28,24 +30,28 @@ pub fn status_page(alloc: Global, setup: &Setup, round: u64, ended: bool) -> Res
     ensures value { IfOk result (IsPage (status_value (public_setup setup.now) round ended)) }
     ensures bytes { IfOk result (λ text. text ≡ status_bytes (public_setup setup.now) round ended) }
 {
-    let mut text = Text::new(alloc);
-    push_status_page(&mut text, setup, round, ended)?;
-    Ok(text)
+    let mut text = page_with_room(alloc, status_room())?;
+    push_status_page(&mut text, setup, round, ended);
+    Ok(text.into_items())
 }
 
-/// Adds the same page to a text.
-pub fn push_status_page(
-    text: &mut Text,
-    setup: &Setup,
-    round: u64,
-    ended: bool,
-) -> Result<(), NoMemory>
-    ensures { OnOk result (Adds (compact_text (status_value (public_setup setup.now) round ended)) text.old text.new) }
+/// How many bytes the page takes at most.
+pub fn status_room() -> u128
+    ensures is { result ≡ 76 }
+    ensures most { (setup : PublicSetup) (round : ℕ) (ended : Bool) → result ≡ most_text (status_value setup round ended) }
 {
-    push_truth(text, b"{\"ended\":", ended)?;
-    push_number(text, b",\"round\":", round)?;
-    push_number(text, b",\"version\":", version_of(setup))?;
-    push_label(text, b"}")
+    76
+}
+
+/// Adds the same page to a text that has room for it.
+pub fn push_status_page(text: &mut Bounded<u8>, setup: &Setup, round: u64, ended: bool)
+    requires { 76 ≤ text.old.room }
+    ensures { Adds (compact_text (status_value (public_setup setup.now) round ended)) text.old.items text.new.items }
+{
+    push_truth(text, b"{\"ended\":", ended);
+    push_number(text, b",\"round\":", round);
+    push_number(text, b",\"version\":", version_of(setup));
+    push_label(text, b"}");
 }
 
 /// What is auctioned: the products in the order of the set-up, and the activity requirement, with the
@@ -57,91 +63,84 @@ pub fn push_status_page(
 pub fn products_page(alloc: Global, setup: &Setup) -> Result<Text, NoMemory>
     ensures { IfOk result (IsPage (products_value (public_setup setup.now))) }
 {
-    let mut text = Text::new(alloc);
-    push_products_page(&mut text, setup)?;
-    Ok(text)
-}
-
-/// Adds the same page to a text.
-pub fn push_products_page(text: &mut Text, setup: &Setup) -> Result<(), NoMemory>
-    ensures { OnOk result (Adds (compact_text (products_value (public_setup setup.now))) text.old text.new) }
-{
+    let mut text = page_with_room(alloc, 111 + 193 * setup.products.len() as u128)?;
     push_offer(
-        text,
+        &mut text,
         setup.version,
         setup.limit,
         setup.requirement,
         setup.products.as_slice(),
-    )
+    );
+    Ok(text.into_items())
 }
 
 /// Adds the page of a set-up with this version, limit and requirement, and these products.
 fn push_offer(
-    text: &mut Text,
+    text: &mut Bounded<u8>,
     version: u64,
     limit: u64,
     requirement: u64,
     products: &[Product],
-) -> Result<(), NoMemory>
-    requires { All IsProduct products.now }
-    ensures { OnOk result (Adds (compact_text (products_value
-        (record { version = version; limit = limit; requirement = requirement; products = products.now }))) text.old text.new) }
+)
+    requires limits { All IsProduct products.now }
+    requires room { 111 + 193 * length products.now ≤ text.old.room }
+    ensures { Adds (compact_text (products_value
+        (record { version = version; limit = limit; requirement = requirement; products = products.now }))) text.old.items text.new.items }
 {
-    push_label(text, b"{")?;
-    push_limit(text, from_version_2(version, limit))?;
-    push_label(text, b"\"products\":")?;
-    push_products(text, version, products)?;
-    push_number(text, b",\"requirement\":", requirement)?;
-    push_number(text, b",\"version\":", version)?;
-    push_label(text, b"}")
+    push_label(text, b"{");
+    push_limit(text, from_version_2(version, limit));
+    push_label(text, b"\"products\":");
+    push_products(text, version, products);
+    push_number(text, b",\"requirement\":", requirement);
+    push_number(text, b",\"version\":", version);
+    push_label(text, b"}");
 }
 
 /// Adds the activity limit and the comma behind it, where there is one.
-fn push_limit(text: &mut Text, limit: Option<u64>) -> Result<(), NoMemory>
-    ensures { OnOk result (Adds (limit_text limit) text.old text.new) }
+fn push_limit(text: &mut Bounded<u8>, limit: Option<u64>)
+    requires { 29 ≤ text.old.room }
+    ensures adds { Adds (limit_text limit) text.old.items text.new.items }
+    ensures room { text.old.room ≤ text.new.room + 29 }
 {
     if let Some(limit) = limit {
-        push_number(text, b"\"limit\":", limit)?;
-        push_label(text, b",")?;
+        push_number(text, b"\"limit\":", limit);
+        push_label(text, b",");
     }
-    Ok(())
 }
 
 /// Adds the array of some products.
-fn push_products(text: &mut Text, version: u64, products: &[Product]) -> Result<(), NoMemory>
-    requires { All IsProduct products.now }
-    ensures { OnOk result (Adds (compact_text (list_of (product_value version) products.now)) text.old text.new) }
+fn push_products(text: &mut Bounded<u8>, version: u64, products: &[Product])
+    requires limits { All IsProduct products.now }
+    requires room { 2 + 193 * length products.now ≤ text.old.room }
+    ensures adds { Adds (compact_text (list_of (product_value version) products.now)) text.old.items text.new.items }
+    ensures room { text.old.room ≤ text.new.room + (2 + 193 * length products.now) }
 {
-    text.push(b'[')?;
+    text.push(b'[');
     for (i, product) in products.iter().enumerate() {
-        push_product(text, i > 0, version, product)?;
+        push_product(text, i > 0, version, product);
     }
-    text.push(b']')?;
-    Ok(())
+    text.push(b']');
 }
 
 /// Adds a product, behind a comma where it is not the first.
-fn push_product(
-    text: &mut Text,
-    later: bool,
-    version: u64,
-    product: &Product,
-) -> Result<(), NoMemory>
-    requires { IsProduct product.now }
-    ensures { OnOk result (Adds (item_text later (product_value version product.now)) text.old text.new) }
+fn push_product(text: &mut Bounded<u8>, later: bool, version: u64, product: &Product)
+    requires limits { IsProduct product.now }
+    requires room { 193 ≤ text.old.room }
+    ensures adds { Adds (item_text later (product_value version product.now)) text.old.items text.new.items }
+    ensures room { text.old.room ≤ text.new.room + 193 }
 {
-    push_comma_if(text, later)?;
-    push_number(text, b"{\"cap\":", product.cap)?;
+    push_comma_if(text, later);
+    push_number(text, b"{\"cap\":", product.cap);
     push_number_if(
         text,
         b",\"granule\":",
         from_version_2(version, product.granule),
-    )?;
-    push_name(text, b",\"name\":", product.name.as_slice())?;
-    push_number(text, b",\"opening\":", product.opening.get())?;
-    push_number(text, b",\"supply\":", product.supply)?;
-    push_number(text, b",\"units\":", product.units)?;
-    push_label(text, b"}")
+    );
+    push_name(text, b",\"name\":", product.name.as_slice());
+    push_number(text, b",\"opening\":", product.opening.get());
+    push_number(text, b",\"supply\":", product.supply);
+    push_number(text, b",\"units\":", product.units);
+    push_label(text, b"}");
 }
 
 /// What a closed round has posted. There is a line for each product of the set-up.
@@ -153,50 +152,62 @@ pub fn sheet_page(alloc: Global, setup: &Setup, sheet: &RoundSheet) -> Result<Te
     requires { length sheet.now.lines ≡ length setup.now.products }
     ensures { IfOk result (IsPage (sheet_value (public_setup setup.now) sheet.now)) }
 {
-    let mut text = Text::new(alloc);
-    push_sheet_page(&mut text, setup, sheet)?;
-    Ok(text)
+    let mut text = page_with_room(alloc, sheet_room(sheet))?;
+    push_sheet_page(&mut text, setup, sheet);
+    Ok(text.into_items())
 }
 
-/// Adds the same page to a text.
-pub fn push_sheet_page(text: &mut Text, setup: &Setup, sheet: &RoundSheet) -> Result<(), NoMemory>
-    requires { length sheet.now.lines ≡ length setup.now.products }
-    ensures { OnOk result (Adds (compact_text (sheet_value (public_setup setup.now) sheet.now)) text.old text.new) }
+/// How many bytes the page takes at most. There is a line for each product of the set-up.
+pub fn sheet_room(sheet: &RoundSheet) -> u128
+    ensures is { result ≡ 59 + 191 * length sheet.now.lines }
+    ensures most { (setup : PublicSetup) → length sheet.now.lines ≡ length setup.products → result ≡ most_text (sheet_value setup sheet.now) }
 {
-    push_truth(text, b"{\"ended\":", sheet.ended)?;
-    push_label(text, b",\"products\":")?;
-    push_lines(text, products_of(setup), sheet.lines.as_slice())?;
-    push_number(text, b",\"round\":", sheet.round)?;
-    push_label(text, b"}")
+    59 + 191 * sheet.lines.len() as u128
+}
+
+/// Adds the same page to a text that has room for it.
+pub fn push_sheet_page(text: &mut Bounded<u8>, setup: &Setup, sheet: &RoundSheet)
+    requires each { length sheet.now.lines ≡ length setup.now.products }
+    requires room { 59 + 191 * length sheet.now.lines ≤ text.old.room }
+    ensures { Adds (compact_text (sheet_value (public_setup setup.now) sheet.now)) text.old.items text.new.items }
+{
+    push_truth(text, b"{\"ended\":", sheet.ended);
+    push_label(text, b",\"products\":");
+    push_lines(text, products_of(setup), sheet.lines.as_slice());
+    push_number(text, b",\"round\":", sheet.round);
+    push_label(text, b"}");
 }
 
 /// Adds the array of the lines of some products.
-fn push_lines(text: &mut Text, products: &[Product], lines: &[Line]) -> Result<(), NoMemory>
+fn push_lines(text: &mut Bounded<u8>, products: &[Product], lines: &[Line])
     requires limits { All IsProduct products.now }
     requires each { length lines.now ≡ length products.now }
-    ensures { OnOk result (Adds (compact_text (list_of (λ row. line_value row.0 row.1) (zip products.now lines.now))) text.old text.new) }
+    requires room { 2 + 191 * length lines.now ≤ text.old.room }
+    ensures adds { Adds (compact_text (list_of (λ row. line_value row.0 row.1) (zip products.now lines.now))) text.old.items text.new.items }
+    ensures room { text.old.room ≤ text.new.room + (2 + 191 * length lines.now) }
 {
-    text.push(b'[')?;
+    text.push(b'[');
     for (i, line) in lines.iter().enumerate() {
-        push_line(text, i > 0, &products[i], line)?;
+        push_line(text, i > 0, &products[i], line);
     }
-    text.push(b']')?;
-    Ok(())
+    text.push(b']');
 }
 
 /// Adds the line of a product, behind a comma where it is not the first.
-fn push_line(text: &mut Text, later: bool, product: &Product, line: &Line) -> Result<(), NoMemory>
-    requires { IsProduct product.now }
-    ensures { OnOk result (Adds (item_text later (line_value product.now line.now)) text.old text.new) }
+fn push_line(text: &mut Bounded<u8>, later: bool, product: &Product, line: &Line)
+    requires limits { IsProduct product.now }
+    requires room { 191 ≤ text.old.room }
+    ensures adds { Adds (item_text later (line_value product.now line.now)) text.old.items text.new.items }
+    ensures room { text.old.room ≤ text.new.room + 191 }
 {
-    push_comma_if(text, later)?;
-    push_number(text, b"{\"clock\":", line.clock.get())?;
-    push_number_or_null(text, b",\"demand\":", line.demand)?;
-    push_name(text, b",\"name\":", product.name.as_slice())?;
-    push_number_or_null(text, b",\"next\":", line.next)?;
-    push_number(text, b",\"posted\":", line.posted.get())?;
-    push_number(text, b",\"start\":", line.start.get())?;
-    push_label(text, b"}")
+    push_comma_if(text, later);
+    push_number(text, b"{\"clock\":", line.clock.get());
+    push_number_or_null(text, b",\"demand\":", line.demand);
+    push_name(text, b",\"name\":", product.name.as_slice());
+    push_number_or_null(text, b",\"next\":", line.next);
+    push_number(text, b",\"posted\":", line.posted.get());
+    push_number(text, b",\"start\":", line.start.get());
+    push_label(text, b"}");
 }
 
 /// A number that set-up documents have from version 2 on.

@@ -38,8 +38,8 @@ abbrev pub most_port : ℕ
 most_port = 65535
 
 -- how many connections `serve` takes at most
-abbrev pub most_connections : ℕ
-most_connections = 1000000
+abbrev pub most_served : ℕ
+most_served = 1000000
 
 -- an option that must be given, as `--setup FILE`
 abbrev pub needed_rule : Text → Rule
@@ -57,7 +57,7 @@ journal_rule = record (new_rule (codes "journal")) { long = Some (codes "journal
 abbrev pub serve_needing : App
 serve_needing =
     with_rule (with_rule (with_rule (new_app (codes "serve")) (needed_rule (codes "setup")))
-    (number_rule (codes "port") most_port)) (number_rule (codes "connections") most_connections)
+    (number_rule (codes "port") most_port)) (number_rule (codes "connections") most_served)
 
 -- `serve --setup FILE --port N --connections K [--journal FILE]`
 abbrev pub serve_grammar : App
@@ -128,7 +128,7 @@ abbrev pub serving_from : List Row → Option ServingTold
 serving_from options =
     option_and_then (λ setup. option_and_then (λ port. option_map (λ connections.
     record { setup = setup; port = port; connections = connections; journal = first_of (codes "journal") options })
-    (number_of (codes "connections") 1 most_connections options)) (number_of (codes "port") 1 most_port options)) (first_of (codes "setup") options)
+    (number_of (codes "connections") 1 most_served options)) (number_of (codes "port") 1 most_port options)) (first_of (codes "setup") options)
 
 -- what the options of the other two tell
 abbrev pub files_from : List Row → Option FilesTold

@@ -4,7 +4,9 @@ use super::documents::{document, joined};
 use clock_device::{NoMemory, Text};
 use clock_processor::Plain;
 use clock_setup::fixtures::ONE_PRODUCT;
-use clock_sim::{Replay, Report, SimFault, read_replay, report_text, simulate, simulate_with};
+use clock_sim::{
+    Replay, Report, SimFault, read_replay, replay_text, report_text, simulate, simulate_with,
+};
 use clock_views::Code;
 use std::alloc::Global;
 use std::test::Fail;
@@ -34,26 +36,30 @@ fn told(alloc: Global, report: Result<Report, SimFault>) -> Result<Text, SimFaul
     }
 }
 
-/// How rounds are settled.
+/// How rounds are settled, and what the text is written from.
 #[derive(Clone, Copy)]
 enum Settled {
     Woken,
     Rescanned,
+    /// By the event queue, and the text from the auction itself.
+    Written,
 }
 
+const ALL_WAYS: [Settled; 3] = [Settled::Woken, Settled::Rescanned, Settled::Written];
+
 /// What a replay comes to.
-fn played(alloc: Global, replay: &Replay, settled: Settled) -> Result<Text, SimFault> {
-    let report = match settled {
-        Settled::Woken => simulate(alloc, replay),
-        Settled::Rescanned => simulate_with(alloc, replay, Plain),
-    };
-    told(alloc, report)
+fn played(alloc: Global, replay: Replay, settled: Settled) -> Result<Text, SimFault> {
+    match settled {
+        Settled::Woken => told(alloc, simulate(alloc, &replay)),
+        Settled::Rescanned => told(alloc, simulate_with(alloc, &replay, Plain)),
+        Settled::Written => replay_text(alloc, replay),
+    }
 }
 
 /// What a document comes to. Each of these documents is a replay.
 fn outcome(alloc: Global, document: &[u8], settled: Settled) -> Result<Text, SimFault> {
     match read_replay(alloc, document) {
-        Ok(replay) => played(alloc, &replay, settled),
+        Ok(replay) => played(alloc, replay, settled),
         Err(_) => Err(SimFault::NoMemory),
     }
 }
@@ -80,7 +86,7 @@ fn with_scripts(
 #[test]
 fn sincere_bidders_leave_at_their_limits(rt: HostRuntime) -> Result<(), Fail> {
     let document = with_scripts(rt.alloc(), THREE_CLOSINGS, FALLING_LIMITS, ONE_BLOCK)?;
-    for settled in [Settled::Woken, Settled::Rescanned] {
+    for settled in ALL_WAYS {
         let text = outcome(rt.alloc(), document.as_slice(), settled)?;
         assert_eq!(rt; text.as_slice(), REPORT.as_bytes());
     }
@@ -106,7 +112,10 @@ const FAULTS: [(&str, &str, SimFault); 3] = [
 fn the_first_fault_is_told(rt: HostRuntime) -> Result<(), Fail> {
     for (script, closings, fault) in FAULTS.iter() {
         let document = with_scripts(rt.alloc(), closings, script, ONE_BLOCK)?;
-        assert_eq!(rt; fault_of(rt.alloc(), document.as_slice()), Some(*fault));
+        for settled in ALL_WAYS {
+            let told = outcome(rt.alloc(), document.as_slice(), settled);
+            assert_eq!(rt; told.err(), Some(*fault));
+        }
     }
     Ok(())
 }

@@ -5,15 +5,15 @@ use clock_bids::BidFault;
 use clock_device::Text;
 use clock_house::{CloseFault, PutFault};
 use clock_order::TieFault;
-use clock_views::{Code, Refusal, push_refusal_page, refusal_page};
+use clock_views::{Code, REFUSAL_ROOM, Refusal, push_refusal_page, refusal_page};
 use std::alloc::Global;
 use std::process::Abort;
 use std::test::Fail;
 
 /// The page of a refusal is this text.
 fn is_told(rt: &impl Abort, alloc: Global, refusal: Refusal, expected: &[u8]) -> Result<(), Fail> {
-    let mut page = Text::new(alloc);
-    push_refusal_page(&mut page, refusal)?;
+    let mut page = Text::with_capacity(alloc, REFUSAL_ROOM as usize)?;
+    push_refusal_page(&mut page, refusal);
     assert!(rt; page.as_slice() == expected);
     Ok(())
 }

@@ -29,10 +29,10 @@ impl OpenRound<'_> {
         requires first { self.now.before.standing.round ≡ 1 }
         requires increments { AreIncrements (length self.now.setup.products) increments.now }
         ensures ok { IfOk result (AreResults (posted (public_setup self.now.setup) self.now.before increments.now
-            (rules.first_outcome self.now.setup.products self.now.before))) }
+            (rules.first_result self.now.setup.products self.now.before))) }
         ensures err { IfErr result (IsRefusal close_faults.NoMemory
             (posted (public_setup self.now.setup) self.now.before increments.now
-            (rules.first_outcome self.now.setup.products self.now.before))) }
+            (rules.first_result self.now.setup.products self.now.before))) }
     {
         let grid = self.asked_grid(alloc)?;
         let posting = post_first(alloc, self.setup, &grid, increments)?;

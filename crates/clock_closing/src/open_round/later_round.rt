@@ -35,11 +35,11 @@ impl OpenRound<'_> {
         requires later { 2 ≤ self.now.before.standing.round }
         requires increments { AreIncrements (length self.now.setup.products) increments.now }
         ensures ok { IfOk result (AreResults (posted (public_setup self.now.setup) self.now.before increments.now
-            (rules.later_outcome self.now.setup.products self.now.before
+            (rules.later_result self.now.setup.products self.now.before
             (rules.requests self.now.before ties.now)))) }
         ensures err { IfErr result (IsRefusal close_faults.NoMemory
             (posted (public_setup self.now.setup) self.now.before increments.now
-            (rules.later_outcome self.now.setup.products self.now.before
+            (rules.later_result self.now.setup.products self.now.before
             (rules.requests self.now.before ties.now)))) }
     {
         let requests = self.requests(alloc, ties)?;
@@ -71,7 +71,7 @@ impl OpenRound<'_> {
     fn changes(&self, alloc: Global) -> Result<Changes, NoMemory>
         requires { 2 ≤ self.now.before.standing.round }
         ensures all { IfOk result (λ changes. changes ≡ flat_map
-            (rules.requests_of self.now.before) (bidder_numbers self.now.before)) }
+            (rules.requests_by self.now.before) (bidder_numbers self.now.before)) }
         ensures apart { IfOk result (AllPairs AreApart) }
     {
         let mut changes = Changes::new(alloc);

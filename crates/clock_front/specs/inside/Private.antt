@@ -8,7 +8,7 @@ use Rattle.clock_house.specs.House.{HouseFields, ToView}
 use Rattle.clock_http.specs.Replies.{Answer}
 use Rattle.clock_front.specs.Requests.{Ask}
 use Rattle.clock_front.specs.Outcomes.{answer_of}
-use Rattle.clock_front.specs.inside.Known.{known_from, known_outcome}
+use Rattle.clock_front.specs.inside.Knowledge.{known_from, known_outcome}
 use Rattle.clock_front.specs.declared.tokens.Asker.{Asker}
 use Rattle.clock_front.specs.declared.tokens.Asker.TheVariants.{Nobody, Operator, Bidder}
 

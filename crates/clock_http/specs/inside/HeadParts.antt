@@ -4,12 +4,9 @@
 --     ended_at length text      the head of a text that has ended after so many bytes
 use Rattle.std.specs.Prelude.{ℕ, List, take, ◌==◌, Option, Some, None, Result}
 use Rattle.std.specs.List.{before_first}
+use Rattle.http_uri.specs.ByteClasses.{question_mark}
 use Rattle.clock_http.specs.declared.code.Code.{Code}
 use Rattle.clock_http.specs.Framing.{Head, ended_head, length_read, ok_head}
-
--- b'?'
-abbrev pub question_mark : ℕ
-question_mark = 63
 
 -- the path is the target up to the first question mark
 abbrev pub path_of_target : List ℕ → List ℕ

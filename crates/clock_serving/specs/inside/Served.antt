@@ -1,24 +1,30 @@
 -- How one connection is served.
+--     IsLeftAlone reading ..      no request could be read, and nothing has changed
 --     IsAnswered reading answer ..      the reply to what was read, or that of want of memory for it
 --     IsServed one ..      one connection was served
 --     IsUnkept takes one ..      its text could not be kept
 --     EndsOne takes old new .. result      how serving one ends
 use Rattle.std.specs.Prelude.{◌≡◌, ◌⊎◌, ◌++◌, ℕ, true, List, [], ◌∷◌, length, Option, Result, Ok, Err}
 use Rattle.clock_device.specs.Readings.{Reading}
+use Rattle.clock_device.specs.Writings.{WritesNothing}
 use Rattle.clock_house.specs.House.{HouseFields}
 use Rattle.clock_http.specs.Replies.{Answer}
 use Rattle.clock_front.specs.Arrivals.{HasArrived, HasNoRoom}
 use Rattle.clock_front.specs.FixedReplies.{no_memory}
 use Rattle.clock_front.specs.Fronts.{AnswersText}
-use Rattle.clock_front.specs.Streamed.{WritesNothing}
+use Rattle.clock_front.specs.Streamed.{IsUnanswered}
 use Rattle.clock_journal.specs.Crash.{LeavesTexts}
 use Rattle.clock_journal.specs.Disks.{MayBeLeft}
 use Rattle.clock_journal.specs.Kept.{JournalState, HasTexts}
 use Rattle.clock_keeping.specs.Keeping.{IsInStep, IsKept}
-use Rattle.clock_keeping.specs.Serving.{IsLeftAlone, WritesReply}
+use Rattle.clock_serving.specs.Serving.{WritesReply}
 use Rattle.clock_serving.specs.Exchanges.{Exchange, HasClosed}
 use Rattle.clock_serving.specs.declared.fault.ServeFault.{ServeFault}
 use Rattle.clock_serving.specs.declared.fault.ServeFault.TheVariants as fault
+
+-- no request could be read; front and journal are as they were
+abbrev pub IsLeftAlone : Reading → JournalState → JournalState → HouseFields → HouseFields → Type 0
+IsLeftAlone reading journal_old journal_new old new = IsUnanswered reading old new × (journal_new ≡ journal_old)
 
 -- the text that was read is answered, and kept where it is accepted
 pub record AnswersAndKeeps (reading : Reading) (answer : Answer) (journal_old journal_new : JournalState) (old new : HouseFields) : Type 0 where

@@ -5,7 +5,7 @@
 use Rattle.std.specs.Prelude.{ℕ, ◌+◌, ◌==◌, not, Bool, true, List, [], ◌∷◌, ◌++◌, length, Option, Some, None, if◌then◌else◌}
 use Rattle.clock_terms.specs.declared.prices.PricePair.{PricePair}
 use Rattle.clock_bids.specs.declared.sheet.Bid.{Bid}
-use Rattle.clock_sim.specs.Sincere.{leaving_price, bid_of}
+use Rattle.clock_sim.specs.Sincere.{leaving_price, bid_for}
 
 -- the price at which the block that stands first leaves
 abbrev pub last_leaving : PricePair → List ℕ → Option ℕ
@@ -20,7 +20,7 @@ is_last price (Some next) = not (next == price)
 -- the bid at the price at which a block leaves, where the block before does not leave there
 abbrev pub block_bid : ℕ → ℕ → Option ℕ → Option ℕ → List Bid
 block_bid product before None next = []
-block_bid product before (Some price) next = if is_last price next then bid_of product before price ∷ [] else []
+block_bid product before (Some price) next = if is_last price next then bid_for product before price ∷ [] else []
 
 -- the bids of all blocks, the last one first; so many held blocks are past the limits
 abbrev pub block_bids : ℕ → ℕ → PricePair → List ℕ → List Bid

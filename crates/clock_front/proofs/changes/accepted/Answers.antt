@@ -8,5 +8,5 @@ use Rattle.clock_front.proofs.changes.accepted.Goals as goal
 
 pub returns : goal.returns
 returns c =
-    written_page _ _ _ _ _ _ c.written.ensures c.in_ok-text.ensures c.in_ok-push_accepted_page.ensures
+    written_page _ _ _ _ _ _ c.written.ensures c.in_ok-text.ensures.head c.push_accepted_page.ensures
     ∙ ap (λ (bids : List Bid). with_page Done None (accepted_value c.args.sheet.now.round (length bids))) c.as_slice.ensures

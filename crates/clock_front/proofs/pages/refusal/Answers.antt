@@ -5,7 +5,7 @@ use Rattle.clock_front.specs.Outcomes.{with_page}
 use Rattle.clock_front.proofs.PageLaws.{written_page}
 use Rattle.clock_front.proofs.pages.refusal.Goals as goal
 
-pub returns : goal.returns
-returns c =
-    written_page _ _ _ _ _ _ c.written.ensures c.in_ok-text.ensures c.in_ok-push_refusal_page.ensures
+pub returns-clause-reply : goal.returns-clause-reply
+returns-clause-reply c =
+    written_page _ _ _ _ _ _ c.written.ensures c.in_ok-text.ensures.head c.push_refusal_page.ensures
     ∙ ap (λ (shown : Shown). with_page shown.code None (refusal_value c.args.refusal)) c.refusal.view_is

@@ -1,18 +1,18 @@
 use Rattle.std.proofs.Common.{◌≡◌, ap, ◌∙◌}
 use Rattle.clock_terms.specs.Limits.{SetupFields}
 use Rattle.clock_house.specs.History.{bidder_at}
-use Rattle.clock_views.proofs.Pushes.{before_last, together_last}
+use Rattle.clock_views.proofs.Pushes.{before, together}
 use Rattle.clock_views.proofs.Texts.{account_in_pieces}
 use Rattle.clock_views.proofs.bidder.push_account_page.Goals as goal
 
 pub returns : goal.returns
 returns c =
     let products : c.as_slice.result.now ≡ c.args.setup.now.products = c.as_slice.ensures ∙ ap (λ (s : SetupFields). s.products) c.setup.view_is in
-    together_last c.push_label.result _ _ (account_in_pieces c.args.setup.now.products (bidder_at c.args.setup.now c.args.bidder).name c.args.own.round
+    together (account_in_pieces c.args.setup.now.products (bidder_at c.args.setup.now c.args.bidder).name c.args.own.round
     (record { eligibility = c.args.own.eligibility; demands = c.args.own.demands.now }) c.args.ended)
-    (before_last c.push_label.result _ _ (rw (c.units_held.ensures.exact, products) at c.in_ok-push_number.ensures)
-    (before_last c.push_label.result _ _ c.in_ok-push_row.ensures
-    (before_last c.push_label.result _ _ c.in_ok-push_number-2.ensures
-    (before_last c.push_label.result _ _ c.in_ok-push_truth.ensures
-    (before_last c.push_label.result _ _ (rw c.name_of.ensures.value at c.in_ok-push_name.ensures)
-    (before_last c.push_label.result _ _ c.in_ok-push_number-3.ensures c.push_label.ensures))))))
+    (before (rw (c.units_held.ensures.exact, products) at c.push_number.ensures.adds)
+    (before c.push_row.ensures.adds
+    (before c.push_number-2.ensures.adds
+    (before c.push_truth.ensures.adds
+    (before (rw c.name_of.ensures.value at c.push_name.ensures.adds)
+    (before c.push_number-3.ensures.adds c.push_label.ensures.adds))))))

@@ -2,14 +2,14 @@ use Rattle.std.proofs.Common.{append_assoc}
 use Rattle.clock_views.proofs.Names.{plain_name}
 use Rattle.clock_views.proofs.pieces.push_name.Goals as goal
 
-pub returns : goal.returns
-returns c = record {
+pub returns-clause-adds : goal.returns-clause-adds
+returns-clause-adds c = record {
   is = simp (
-    c.in_ok-extend_from_slice.ensures.ok,
-    c.in_ok-push.ensures.ok,
-    c.in_ok-extend_from_slice-2.ensures.ok,
-    c.in_ok-push-2.ensures.ok,
-    plain_name c.args.name.now c.requires,
+    c.extend_from_slice.ensures.items,
+    c.push.ensures.items,
+    c.extend_from_slice-2.ensures.items,
+    c.push-2.ensures.items,
+    plain_name c.args.name.now c.requires.name,
     append_assoc,
   );
 }

@@ -4,7 +4,7 @@ use Rattle.std.specs.List.{range_with_len}
 use Rattle.clock_terms.specs.declared.change.Change.{Change}
 use Rattle.clock_closing.specs.Holdings.{Holding}
 use Rattle.clock_closing.specs.OpenRound.{OpenRoundFields, holding_at}
-use Rattle.clock_closing.specs.Closing.{requests_of}
+use Rattle.clock_closing.specs.Closing.{requests_by}
 use Rattle.clock_closing.proofs.Joined.{flat_map-range_more}
 use Rattle.clock_closing.proofs.OpenRounds.{own_places}
 use Rattle.clock_closing.proofs.open_round.OpenRound.changes.Goals as goal
@@ -18,14 +18,14 @@ loop-bidder-preserved c =
     let own = rw (prices, demands, c.sheet.ensures) at c.in_ok-own.ensures.exact in
     c.in_ok-extend_from_slice.ensures.ok
     ∙ ap (λ (xs : List Change). xs ++ c.as_slice.result.now) c.loop-bidder.invariant
-    ∙ ap (λ (xs : List Change). flat_map (requests_of c.args.self.now.before) (range_with_len 0 c.loop-bidder.bidder) ++ xs) (c.as_slice.ensures ∙ own)
-    ∙ sym (flat_map-range_more (requests_of c.args.self.now.before) c.loop-bidder.bidder)
+    ∙ ap (λ (xs : List Change). flat_map (requests_by c.args.self.now.before) (range_with_len 0 c.loop-bidder.bidder) ++ xs) (c.as_slice.ensures ∙ own)
+    ∙ sym (flat_map-range_more (requests_by c.args.self.now.before) c.loop-bidder.bidder)
 
 pub returns-clause-all : goal.returns-clause-all
 returns-clause-all c =
     let done : c.loop-bidder.bidder ≡ c.bidders-bidder-end.result = omega arith in
     c.loop-bidder.invariant
-    ∙ ap (λ (n : ℕ). flat_map (requests_of c.args.self.now.before) (range_with_len 0 n)) (done ∙ c.bidders-bidder-end.ensures.held)
+    ∙ ap (λ (n : ℕ). flat_map (requests_by c.args.self.now.before) (range_with_len 0 n)) (done ∙ c.bidders-bidder-end.ensures.held)
 
 pub returns-clause-apart : goal.returns-clause-apart
 returns-clause-apart c =

@@ -3,7 +3,7 @@ use Rattle.std.proofs.lemmas.Result.{err_from_is_err_and}
 use Rattle.clock_terms.specs.Limits.{public_setup}
 use Rattle.clock_posting.specs.Posting.{IsPosting, opening_posted}
 use Rattle.clock_closing.specs.OpenRound.{OpenRoundFields}
-use Rattle.clock_closing.specs.Closing.{asked_grid, first_outcome}
+use Rattle.clock_closing.specs.Closing.{asked_grid, first_result}
 use Rattle.clock_closing.proofs.Posts.{posts, posts-refused}
 use Rattle.clock_closing.proofs.Steps.{is_open, within_grid}
 use Rattle.clock_closing.proofs.OpenRounds.{asked_within}
@@ -25,7 +25,7 @@ returns-in_err-posting-clause-err c =
     let refused = rw (c.in_ok-grid.ensures, setup) at c.in_err-posting.ensures.err in
     rw (told.1, told.2)
     (posts-refused (public_setup c.args.self.now.setup) c.args.self.now.before c.args.increments.now
-    (first_outcome c.args.self.now.setup.products c.args.self.now.before) c.in_err-posting.field-0.0 refused)
+    (first_result c.args.self.now.setup.products c.args.self.now.before) c.in_err-posting.field-0.0 refused)
 
 pub returns-clause-ok : goal.returns-clause-ok
 returns-clause-ok c =
@@ -38,6 +38,6 @@ returns-clause-ok c =
     c.in_ok-posting.posting = rw (c.requires.first, opening) posting in
     let made = c.in_ok-with_slips.ensures in
     posts (public_setup c.args.self.now.setup) c.args.self.now.before c.args.increments.now
-    (first_outcome c.args.self.now.setup.products c.args.self.now.before) c.in_ok-posting.posting c.in_ok-with_slips.field-0 is
+    (first_result c.args.self.now.setup.products c.args.self.now.before) c.in_ok-posting.posting c.in_ok-with_slips.field-0 is
     c.in_ok-posting.ensures.laws c.in_ok-with_slips.ensures.sheet c.in_ok-with_slips.ensures.next
     (rw c.in_ok-grid.ensures at c.in_ok-with_slips.ensures.slips) c.in_ok-with_slips.ensures.demands

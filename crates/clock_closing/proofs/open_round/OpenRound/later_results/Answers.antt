@@ -4,7 +4,7 @@ use Rattle.std.proofs.lemmas.List.Sorted.{All-permutation}
 use Rattle.clock_terms.specs.Limits.{public_setup}
 use Rattle.clock_posting.specs.PostedPrice.{IsWithinPrices}
 use Rattle.clock_closing.specs.OpenRound.{OpenRoundFields}
-use Rattle.clock_closing.specs.Closing.{requests, later_outcome}
+use Rattle.clock_closing.specs.Closing.{requests, later_result}
 use Rattle.clock_closing.proofs.Posts.{posts, posts-refused}
 use Rattle.clock_closing.proofs.OpenRounds.{priced_requests}
 use Rattle.clock_closing.proofs.open_round.OpenRound.later_results.Goals as goal
@@ -24,7 +24,7 @@ returns-in_err-posting-clause-err g c =
     at c.in_err-posting.ensures.err in
     rw (told.1, told.2)
     (posts-refused (public_setup c.args.self.now.setup) c.args.self.now.before c.args.increments.now
-    (later_outcome c.args.self.now.setup.products c.args.self.now.before (requests c.args.self.now.before c.args.ties.now))
+    (later_result c.args.self.now.setup.products c.args.self.now.before (requests c.args.self.now.before c.args.ties.now))
     c.in_err-posting.field-0.0 refused)
 
 pub returns-clause-ok : goal.returns-clause-ok
@@ -38,6 +38,6 @@ returns-clause-ok g c =
     at c.in_ok-posting.ensures.ok in
     let slips = rw (c.into_grid-grid.ensures, c.in_ok-settled.ensures.grid, c.in_ok-requests.ensures.ordered) at c.in_ok-with_slips.ensures.slips in
     posts (public_setup c.args.self.now.setup) c.args.self.now.before c.args.increments.now
-    (later_outcome c.args.self.now.setup.products c.args.self.now.before (requests c.args.self.now.before c.args.ties.now))
+    (later_result c.args.self.now.setup.products c.args.self.now.before (requests c.args.self.now.before c.args.ties.now))
     c.in_ok-posting.posting c.in_ok-with_slips.field-0 is c.in_ok-posting.ensures.laws c.in_ok-with_slips.ensures.sheet
     c.in_ok-with_slips.ensures.next slips c.in_ok-with_slips.ensures.demands

@@ -1,13 +1,13 @@
 use Rattle.std.proofs.Common.{◌≡◌, ◌≤◌, ap, sym, ◌∙◌, arith}
 use Rattle.clock_closing.specs.OpenRound.{OpenRoundFields}
-use Rattle.clock_closing.proofs.Outcomes.{outcome-first, outcome-later}
+use Rattle.clock_closing.proofs.RoundResults.{result-first, result-later}
 use Rattle.clock_closing.proofs.open_round.OpenRound.results.Goals as goal
 
 pub returns-then-self-eq1-clause-err : goal.returns-then-self-eq1-clause-err
 returns-then-self-eq1-clause-err g c =
     let number : c.self.inside.round ≡ c.args.self.now.before.standing.round =
     ap (λ (round : OpenRoundFields). round.before.standing.round) c.self.view_is in
-    rw (outcome-first c.args.self.now.setup.products c.args.self.now.before c.args.ties.now (sym number ∙ c.if-self-eq1.true))
+    rw (result-first c.args.self.now.setup.products c.args.self.now.before c.args.ties.now (sym number ∙ c.if-self-eq1.true))
     c.first_results.ensures.err
 
 pub returns-else-self-eq1-clause-err : goal.returns-else-self-eq1-clause-err
@@ -15,4 +15,4 @@ returns-else-self-eq1-clause-err g c =
     let number : c.self.inside.round ≡ c.args.self.now.before.standing.round =
     ap (λ (round : OpenRoundFields). round.before.standing.round) c.self.view_is in
     let later : 2 ≤ c.args.self.now.before.standing.round = omega (arith, c.self.invariant.sound.priced.numbered) in
-    rw (outcome-later c.args.self.now.setup.products c.args.self.now.before c.args.ties.now later) c.later_results.ensures.err
+    rw (result-later c.args.self.now.setup.products c.args.self.now.before c.args.ties.now later) c.later_results.ensures.err

@@ -4,7 +4,7 @@ use Rattle.clock_front.specs.Hubs.{HubFields, IsConnectFault}
 use Rattle.clock_front.specs.inside.NumberedHubs.{opened, Stands}
 use Rattle.clock_front.proofs.NumberedLaws.{then_ok, connected_stands, refused_stands}
 use Rattle.clock_front.proofs.numbered.NumberedHub.connect.Goals as goal
-use Rattle.clock_front.proofs.numbered.NumberedHub.connect.Goals.{in-Ok, in-Err-Full}
+use Rattle.clock_front.proofs.numbered.NumberedHub.connect.Goals.{in-Ok, in-Err-Full, in-Err-Unknown}
 
 pub returns-clause-stands : goal.returns-clause-stands
 returns-clause-stands g c = λ numbered stands.
@@ -18,5 +18,6 @@ returns-clause-stands g c = λ numbered stands.
       | in-Err-Full w ↦ subst (λ (o : Option Conn). with_conn o new) (sym w.conn-is)
           (subst (with_conn None) (sym w.in-Err-Full.ensures.still) (refused_stands numbered old.connections conns stands
           (subst (IsConnectFault old.connections) w.in-Err-Full.field-0-is w.in-Err-Full.ensures.fault) c.requires))
+      | in-Err-Unknown w ↦ absurd (subst (IsConnectFault old.connections) w.in-Err-Unknown.field-0-is w.in-Err-Unknown.ensures.fault)
     ] in
     then_ok c.push.result (λ pushed. subst (Stands (numbered ++ opened numbered ∷ []) new.connections) (sym pushed) made) c.push.ensures.ok

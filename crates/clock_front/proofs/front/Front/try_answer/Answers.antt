@@ -13,9 +13,10 @@ use Rattle.clock_http.specs.Shown.{shown_head}
 use Rattle.clock_front.specs.inside.TokenTable.{IsTableOf}
 use Rattle.clock_front.specs.declared.tokens.Asker.{Asker}
 use Rattle.clock_front.proofs.OutcomeLaws.{away_other}
-use Rattle.clock_front.proofs.PrivateLaws.{private_reply, if_private}
+use Rattle.clock_front.specs.Rooms.{WantsRoom}
+use Rattle.clock_front.proofs.PrivateLaws.{private_reply, if_private, if_private_want, want_as}
 use Rattle.clock_front.proofs.FrontLaws.{refused_fixed, told_as, done_as, if_done, ask_by, whole_request}
-use Rattle.clock_front.proofs.front.Front.answer_text.Goals as goal
+use Rattle.clock_front.proofs.front.Front.try_answer.Goals as goal
 
 pub fixed_reply-requires : goal.fixed_reply-requires
 fixed_reply-requires g c = refused_fixed c.args.text.now c.in-Refused.code (sym c.in-Refused.ensures)
@@ -24,10 +25,10 @@ pub returns-in-NeedMore-clause-reply : goal.returns-in-NeedMore-clause-reply
 returns-in-NeedMore-clause-reply g c =
     let house = c.args.self.now in
     let text = c.args.text.now in
-    told_as c.refusal.result _ _
+    told_as c.turn_away.result _ _
     (ap (λ (shown : Shown). answer_of (refused shown)) c.alone.ensures
     ∙ ap (λ (ask : Ask). answer_of (outcome house (asker house.setup (request_of text).token) ask)) (ask_by text incomplete c.in-NeedMore.ensures))
-    c.refusal.ensures
+    c.turn_away.ensures.reply
 
 pub returns-in-NeedMore-clause-followed : goal.returns-in-NeedMore-clause-followed
 returns-in-NeedMore-clause-followed g c =
@@ -36,7 +37,7 @@ returns-in-NeedMore-clause-followed g c =
     let who = asker house.setup (request_of text).token in
     let others = subst (λ (h : HouseFields). IsFollowedBy other h h) c.self.view_is c.law_of_house.ensures.others in
     let same = sym (away_other house.setup who CutShort) ∙ ap (command_of house.setup who) (ask_by text incomplete c.in-NeedMore.ensures) in
-    if_done c.refusal.result (subst (λ (command : Command). IsFollowedBy command house house) same others)
+    if_done c.turn_away.result (subst (λ (command : Command). IsFollowedBy command house house) same others)
 
 pub returns-in-Refused-clause-reply : goal.returns-in-Refused-clause-reply
 returns-in-Refused-clause-reply g c =
@@ -89,7 +90,7 @@ returns-in-Whole-clause-followed g c =
 pub returns-in-NeedMore-clause-private : goal.returns-in-NeedMore-clause-private
 returns-in-NeedMore-clause-private g c =
     let limits = subst (λ (h : HouseFields). IsSetup h.setup) c.self.view_is c.law_of_house.ensures.limits in
-    if_private c.refusal.result c.args.self.now c.args.text.now limits (returns-in-NeedMore-clause-reply g c)
+    if_private c.turn_away.result c.args.self.now c.args.text.now limits (returns-in-NeedMore-clause-reply g c)
 
 pub returns-in-Refused-clause-private : goal.returns-in-Refused-clause-private
 returns-in-Refused-clause-private g c =
@@ -100,3 +101,37 @@ pub returns-in-Whole-clause-private : goal.returns-in-Whole-clause-private
 returns-in-Whole-clause-private g c =
     let limits = subst (λ (h : HouseFields). IsSetup h.setup) c.self.view_is c.law_of_house.ensures.limits in
     if_private c.answer_head.result c.args.self.now c.args.text.now limits (returns-in-Whole-clause-reply g c)
+
+pub returns-in-NeedMore-clause-wanted : goal.returns-in-NeedMore-clause-wanted
+returns-in-NeedMore-clause-wanted g c =
+    let house = c.args.self.now in
+    let text = c.args.text.now in
+    let who = asker house.setup (request_of text).token in
+    want_as c.turn_away.result _ _
+    (λ why is. subst (λ (ask : Ask). WantsRoom ask (outcome house who ask) why) (ask_by text incomplete c.in-NeedMore.ensures) (λ reading. is))
+    c.turn_away.ensures.wanted
+
+pub returns-in-NeedMore-clause-wanted_privately : goal.returns-in-NeedMore-clause-wanted_privately
+returns-in-NeedMore-clause-wanted_privately g c =
+    let limits = subst (λ (h : HouseFields). IsSetup h.setup) c.self.view_is c.law_of_house.ensures.limits in
+    if_private_want c.turn_away.result c.args.self.now c.args.text.now limits (returns-in-NeedMore-clause-wanted g c)
+
+pub returns-in-Whole-clause-wanted : goal.returns-in-Whole-clause-wanted
+returns-in-Whole-clause-wanted g c =
+    let house = c.args.self.now in
+    let text = c.args.text.now in
+    let head = shown_head c.in-Whole.head in
+    let ask = ask_by_route (page_of head.path) head c.in-Whole.body.now in
+    let table = subst (λ (h : HouseFields). IsTableOf h.setup c.self.inside.tokens) c.self.view_is c.self.invariant.0 in
+    want_as c.answer_head.result _ _
+    (λ why want.
+    subst (λ (request : Request). WantsRoom request.ask (outcome house (asker house.setup request.token) request.ask) why)
+    (whole_request text head c.in-Whole.body.now c.in-Whole.ensures)
+    (subst (λ (who : Asker). WantsRoom ask (outcome house who ask) why) (c.asker-asker.ensures.shown house.setup table)
+    (subst (λ (h : HouseFields). WantsRoom ask (outcome h c.asker-asker.result ask) why) c.self.view_is want)))
+    c.answer_head.ensures.wanted
+
+pub returns-in-Whole-clause-wanted_privately : goal.returns-in-Whole-clause-wanted_privately
+returns-in-Whole-clause-wanted_privately g c =
+    let limits = subst (λ (h : HouseFields). IsSetup h.setup) c.self.view_is c.law_of_house.ensures.limits in
+    if_private_want c.answer_head.result c.args.self.now c.args.text.now limits (returns-in-Whole-clause-wanted g c)

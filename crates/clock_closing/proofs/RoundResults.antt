@@ -28,23 +28,23 @@ use Rattle.clock_posting.proofs.Posted.{length-posted_prices, posted_between, po
 use Rattle.clock_closing.specs.Standing.{Standing}
 use Rattle.clock_closing.specs.OpenRound.{OpenRound, HasSoundPrices, IsOpen}
 use Rattle.clock_closing.specs.inside.OpenRound.{eligibilities_of, grid_of}
-use Rattle.clock_closing.specs.Closing.{Outcome, requests, first_outcome, later_outcome, outcome, settlement}
+use Rattle.clock_closing.specs.Closing.{RoundResult, requests, first_result, later_result, round_result, settlement}
 use Rattle.clock_closing.proofs.OpenRounds.{all_requests, asked_within, settled_within, priced_requests}
 use Rattle.clock_order.proofs.InOrder.{processing_permutes}
 use Rattle.clock_posting.proofs.NextPrices.{next_rising, next_within}
 use Rattle.clock_closing.proofs.Sums.{sum_by-lt_sum_by, length-le-sum_by, sum_by-map, map-get_or}
 use Rattle.std.proofs.lemmas.List.Sorted.{All-permutation}
 
--- the outcome of the first round, and of a later one
-pub outcome-first : (products : List Product) (now : OpenRound) (ties : List Tie) → now.standing.round ≡ 1 →
-    outcome products now ties ≡ first_outcome products now
-outcome-first products now ties e =
-    ap (λ first. cond first (first_outcome products now) (later_outcome products now (requests now ties))) (eq-eqb now.standing.round 1 e)
+-- the result of the first round, and of a later one
+pub result-first : (products : List Product) (now : OpenRound) (ties : List Tie) → now.standing.round ≡ 1 →
+    round_result products now ties ≡ first_result products now
+result-first products now ties e =
+    ap (λ first. cond first (first_result products now) (later_result products now (requests now ties))) (eq-eqb now.standing.round 1 e)
 
-pub outcome-later : (products : List Product) (now : OpenRound) (ties : List Tie) → 2 ≤ now.standing.round →
-    outcome products now ties ≡ later_outcome products now (requests now ties)
-outcome-later products now ties later =
-    ap (λ first. cond first (first_outcome products now) (later_outcome products now (requests now ties)))
+pub result-later : (products : List Product) (now : OpenRound) (ties : List Tie) → 2 ≤ now.standing.round →
+    round_result products now ties ≡ later_result products now (requests now ties)
+result-later products now ties later =
+    ap (λ first. cond first (first_result products now) (later_result products now (requests now ties)))
     (ne_eqb now.standing.round 1 (λ e. omega (arith, e, later)))
 
 -- the first round or a later one
@@ -64,13 +64,13 @@ module _ (setup : PublicSetup) (now : OpenRound) (sound : IsOpen setup now) (tie
   later_list = processing_permutes ties (all_requests setup now sound)
 
   -- every bidder's demands are within its eligibility
-  pub outcome_within : IsWithinEligibility setup.products (eligibilities_of now) (outcome setup.products now ties).grid
-  outcome_within = elim (first_or_later now.standing.round first)
-      as (λ _. IsWithinEligibility setup.products (eligibilities_of now) (outcome setup.products now ties).grid) [
-        | inl one ↦ subst (λ (result : Outcome). IsWithinEligibility setup.products (eligibilities_of now) result.grid)
-            (sym (outcome-first setup.products now ties one)) (asked_within setup now sound one)
-        | inr later ↦ subst (λ (result : Outcome). IsWithinEligibility setup.products (eligibilities_of now) result.grid)
-            (sym (outcome-later setup.products now ties later)) (settled_within setup now sound later (requests now ties) later_list)
+  pub result_within : IsWithinEligibility setup.products (eligibilities_of now) (round_result setup.products now ties).grid
+  result_within = elim (first_or_later now.standing.round first)
+      as (λ _. IsWithinEligibility setup.products (eligibilities_of now) (round_result setup.products now ties).grid) [
+        | inl one ↦ subst (λ (result : RoundResult). IsWithinEligibility setup.products (eligibilities_of now) result.grid)
+            (sym (result-first setup.products now ties one)) (asked_within setup now sound one)
+        | inr later ↦ subst (λ (result : RoundResult). IsWithinEligibility setup.products (eligibilities_of now) result.grid)
+            (sym (result-later setup.products now ties later)) (settled_within setup now sound later (requests now ties) later_list)
       ]
 
   priced_list : 2 ≤ now.standing.round → All (IsWithinPrices now.standing.prices) (requests now ties)
@@ -78,20 +78,20 @@ module _ (setup : PublicSetup) (now : OpenRound) (sound : IsOpen setup now) (tie
       (priced_requests setup now sound later)
 
   first_posted : (increments : Increments) → now.standing.prices ≡ opening_prices setup.products →
-      ArePosted setup.products now.standing.prices (first_outcome setup.products now).grid (first_outcome setup.products now).posted increments
+      ArePosted setup.products now.standing.prices (first_result setup.products now).grid (first_result setup.products now).posted increments
   first_posted increments opening = record {
     lengths = length-map setup.products _;
     positive = opening_dollars setup.products sound.limits;
     between =
-        subst (λ (prices : List PricePair). All IsBetween (lines_of_round setup.products prices (first_outcome setup.products now).grid
+        subst (λ (prices : List PricePair). All IsBetween (lines_of_round setup.products prices (first_result setup.products now).grid
         (opening_posted setup.products) increments)) (sym opening)
-        (lines_between setup.products (opening_prices setup.products) (first_outcome setup.products now).grid (opening_posted setup.products) increments
-        (opening_between setup.products (first_outcome setup.products now).grid increments));
+        (lines_between setup.products (opening_prices setup.products) (first_result setup.products now).grid (opening_posted setup.products) increments
+        (opening_between setup.products (first_result setup.products now).grid increments));
   }
 
   later_posted : (increments : Increments) → 2 ≤ now.standing.round →
-      ArePosted setup.products now.standing.prices (later_outcome setup.products now (requests now ties)).grid
-      (later_outcome setup.products now (requests now ties)).posted increments
+      ArePosted setup.products now.standing.prices (later_result setup.products now (requests now ties)).grid
+      (later_result setup.products now (requests now ties)).posted increments
   later_posted increments later =
       let end = settlement setup.products now (requests now ties) in
       let prices = now.standing.prices in
@@ -105,36 +105,36 @@ module _ (setup : PublicSetup) (now : OpenRound) (sound : IsOpen setup now) (tie
       }
 
   -- the prices posted
-  pub outcome_posted : (increments : Increments) → (now.standing.round ≡ 1 → now.standing.prices ≡ opening_prices setup.products) →
-      ArePosted setup.products now.standing.prices (outcome setup.products now ties).grid (outcome setup.products now ties).posted increments
-  outcome_posted increments opening = elim (first_or_later now.standing.round first)
-      as (λ _. ArePosted setup.products now.standing.prices (outcome setup.products now ties).grid (outcome setup.products now ties).posted increments) [
-        | inl one ↦ subst (λ (result : Outcome). ArePosted setup.products now.standing.prices result.grid result.posted increments)
-            (sym (outcome-first setup.products now ties one)) (first_posted increments (opening one))
-        | inr later ↦ subst (λ (result : Outcome). ArePosted setup.products now.standing.prices result.grid result.posted increments)
-            (sym (outcome-later setup.products now ties later)) (later_posted increments later)
+  pub result_posted : (increments : Increments) → (now.standing.round ≡ 1 → now.standing.prices ≡ opening_prices setup.products) →
+      ArePosted setup.products now.standing.prices (round_result setup.products now ties).grid (round_result setup.products now ties).posted increments
+  result_posted increments opening = elim (first_or_later now.standing.round first)
+      as (λ _. ArePosted setup.products now.standing.prices (round_result setup.products now ties).grid (round_result setup.products now ties).posted increments) [
+        | inl one ↦ subst (λ (result : RoundResult). ArePosted setup.products now.standing.prices result.grid result.posted increments)
+            (sym (result-first setup.products now ties one)) (first_posted increments (opening one))
+        | inr later ↦ subst (λ (result : RoundResult). ArePosted setup.products now.standing.prices result.grid result.posted increments)
+            (sym (result-later setup.products now ties later)) (later_posted increments later)
       ]
 
   -- in a later round that goes on, some price has risen to the clock price
-  pub outcome_risen : (increments : Increments) → 2 ≤ now.standing.round → has_ended setup.products (outcome setup.products now ties).grid ≡ false →
-      Any IsAtClock (lines_of_round setup.products now.standing.prices (outcome setup.products now ties).grid
-      (outcome setup.products now ties).posted increments)
-  outcome_risen increments later going =
+  pub result_risen : (increments : Increments) → 2 ≤ now.standing.round → has_ended setup.products (round_result setup.products now ties).grid ≡ false →
+      Any IsAtClock (lines_of_round setup.products now.standing.prices (round_result setup.products now ties).grid
+      (round_result setup.products now ties).posted increments)
+  result_risen increments later going =
       let end = settlement setup.products now (requests now ties) in
-      let same = outcome-later setup.products now ties later in
-      subst (λ (result : Outcome). Any IsAtClock (lines_of_round setup.products now.standing.prices result.grid result.posted increments)) (sym same)
+      let same = result-later setup.products now ties later in
+      subst (λ (result : RoundResult). Any IsAtClock (lines_of_round setup.products now.standing.prices result.grid result.posted increments)) (sym same)
       (some_at_clock setup.products now.standing.prices (requests now ties) end.left end.grid increments
-      (ap (λ (result : Outcome). has_ended setup.products result.grid) (sym same) ∙ going))
+      (ap (λ (result : RoundResult). has_ended setup.products result.grid) (sym same) ∙ going))
 
   -- a product that was sold out stays so
-  pub outcome_supplied : 2 ≤ now.standing.round → (product : ℕ) → supply_of setup.products product ≤ total_of (grid_of now) product →
-      supply_of setup.products product ≤ total_of (outcome setup.products now ties).grid product
-  outcome_supplied later product sold =
+  pub result_supplied : 2 ≤ now.standing.round → (product : ℕ) → supply_of setup.products product ≤ total_of (grid_of now) product →
+      supply_of setup.products product ≤ total_of (round_result setup.products now ties).grid product
+  result_supplied later product sold =
       omega (
         arith,
         sold,
         settled_supplied setup.products (eligibilities_of now) (requests now ties) (grid_of now) product,
-        ap (λ (result : Outcome). total_of result.grid product) (outcome-later setup.products now ties later),
+        ap (λ (result : RoundResult). total_of result.grid product) (result-later setup.products now ties later),
       )
 
 -- the next prices of a round that goes on

@@ -1,11 +1,12 @@
--- What was written to a sink over a run.
+-- What is seen of a sink over several writes, and what was written of a text.
+--     Writing     the bytes taken before and after, and how the writes ended
 --     WritesWhole, WritesFront     all of the text was written, or a write failed and a front of it was
---     IsUntouched     no write was made
+--     WritesNothing     no write was made
 use Rattle.std.specs.Prelude.{◌≡◌, ℕ, List, Option, Bool, true, false}
+use Rattle.clock_device.specs.Calls.{IsUnused}
 use Rattle.clock_device.specs.Streams.{HasWritten, HasWrittenFront, HasWrittenNothing}
 
--- what is seen of a sink over a run: the bytes taken before and after it, where the sink tells them, how many writes
--- were made, and whether one failed
+-- the bytes taken before and after the writes, where the sink tells them, how many writes were made, and whether one failed
 pub record Writing : Type 0 where
   pub before : Option (List ℕ)
   pub after : Option (List ℕ)
@@ -23,7 +24,6 @@ pub record WritesFront (writing : Writing) (text : List ℕ) : Type 0 where
   pub failed : writing.has_failed ≡ true
 
 -- no write was made, so nothing was written
-pub record IsUntouched (writing : Writing) : Type 0 where
+pub record WritesNothing (writing : Writing) : Type 0 where
+  pub unused : IsUnused writing.calls writing.has_failed
   pub bytes : HasWrittenNothing writing.before writing.after
-  pub none : writing.calls ≡ 0
-  pub unfailed : writing.has_failed ≡ false

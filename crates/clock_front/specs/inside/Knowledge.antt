@@ -1,5 +1,5 @@
 -- What a bidder knows of the auction by its view, and what it is told by that.
---     Known      what a bidder knows
+--     Knowledge      what a bidder knows
 --     known_from setup row view      what it knows by its view
 --     known_outcome setup row known ask      what it is told
 use Rattle.std.specs.Prelude.{ℕ, List, Option, option_map, option_and_then, Ok, Err}
@@ -21,14 +21,14 @@ use Rattle.clock_front.specs.Requests as asked
 use Rattle.clock_front.specs.Outcomes.{Outcome, done, refused, not_allowed, body_code, page_or_no_round, put_outcome}
 
 -- where the auction stands, what the bidder holds, its sheet in force, and of each closed round the sheet and its own slip
-pub record Known : Type 0 where
+pub record Knowledge : Type 0 where
   pub standing : Standing
   pub holding : Holding
   pub in_force : Option (List Bid)
   pub rounds : ℕ → Option (RoundSheet × Slip)
 
 -- what a bidder knows by its view
-abbrev pub known_from : PublicSetup → Bidder → List Seen → Known
+abbrev pub known_from : PublicSetup → Bidder → List Seen → Knowledge
 known_from setup row view = record {
   standing = seen_standing setup view;
   holding = seen_holding setup row view;
@@ -37,11 +37,11 @@ known_from setup row view = record {
 }
 
 -- the closed round that a segment of a path names
-abbrev pub known_round : Known → List ℕ → Option (RoundSheet × Slip)
+abbrev pub known_round : Knowledge → List ℕ → Option (RoundSheet × Slip)
 known_round known segment = option_and_then known.rounds (plain_number segment)
 
 -- pages of everyone and its own, and the answers to its sheets; the operator's pages are not for it
-unfoldable pub known_outcome : PublicSetup → Bidder → Known → Ask → Outcome
+unfoldable pub known_outcome : PublicSetup → Bidder → Knowledge → Ask → Outcome
 known_outcome setup row known (asked.turned_away why) = refused (alone why)
 known_outcome setup row known (asked.no_method page) = not_allowed page
 known_outcome setup row known asked.status = done (status_value setup known.standing.round known.standing.ended)

@@ -1,0 +1,23 @@
+-- How many bytes the text of a page takes at most, by its shape alone.
+--     most_text value      each number and each null counts as 20 bytes, and each name as 34
+use Rattle.std.specs.Prelude.{ℕ, ◌+◌, length}
+use Rattle.serde_json.specs.Data.{Data, null, boolean, number, string, array, object, Items, no_items, item, Members, no_members, member}
+
+-- a number has 20 digits at most, a name 32 characters and two quotes; before an item stands a bracket or a comma, and before a
+-- member that, its key in quotes and a colon
+abbrev mutual
+  pub most_text : Data → ℕ
+  most_text null = 20
+  most_text (boolean truth) = 5
+  most_text (number n) = 20
+  most_text (string name) = 34
+  most_text (array items) = 2 + most_items items
+  most_text (object members) = 2 + most_members members
+
+  pub most_items : Items → ℕ
+  most_items no_items = 0
+  most_items (item value items) = 1 + most_text value + most_items items
+
+  pub most_members : Members → ℕ
+  most_members no_members = 0
+  most_members (member key value members) = 4 + length key + most_text value + most_members members
