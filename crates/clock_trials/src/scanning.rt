@@ -1,4 +1,4 @@
-use clock_scan::{Scan, Stop, is_blank};
+use clock_scan::{Scan, ScanStop, is_blank};
 use std::alloc::Global;
 use std::test::Fail;
 
@@ -15,8 +15,8 @@ fn rows_of(alloc: Global, text: &[u8]) -> (usize, u64) {
             }
             (rows.len(), sum)
         }
-        Err(Stop::Unusual) => (9, 0),
-        Err(Stop::NoMemory) => (9, 1),
+        Err(ScanStop::Unusual) => (9, 0),
+        Err(ScanStop::NoMemory) => (9, 1),
     }
 }
 
@@ -32,8 +32,8 @@ fn flat_rows_of(alloc: Global, text: &[u8]) -> (usize, u64, bool) {
             }
             (count, sum, wide)
         }
-        Err(Stop::Unusual) => (9, 0, false),
-        Err(Stop::NoMemory) => (9, 1, false),
+        Err(ScanStop::Unusual) => (9, 0, false),
+        Err(ScanStop::NoMemory) => (9, 1, false),
     }
 }
 
