@@ -82,7 +82,12 @@ fn ties(alloc: Global, scan: &mut Scan<'_>, room: usize) -> Result<Items<Tie>, S
 
 impl FoundClose {
     /// Reads the member that is next.
-    fn read_member(&mut self, alloc: Global, scan: &mut Scan<'_>, room: usize) -> Result<(), ScanStop>
+    fn read_member(
+        &mut self,
+        alloc: Global,
+        scan: &mut Scan<'_>,
+        room: usize,
+    ) -> Result<(), ScanStop>
         ensures value { OnOk result (AddsMember 2 scan.old (close_fields self.old) scan.new (close_fields self.new)) }
         ensures shorter { OnOk result (length scan.new < length scan.old) }
     {

@@ -151,7 +151,12 @@ fn bids(alloc: Global, scan: &mut Scan<'_>, room: usize) -> Result<Items<Bid>, S
 
 impl FoundPut {
     /// Reads the member that is next.
-    fn read_member(&mut self, alloc: Global, scan: &mut Scan<'_>, room: usize) -> Result<(), ScanStop>
+    fn read_member(
+        &mut self,
+        alloc: Global,
+        scan: &mut Scan<'_>,
+        room: usize,
+    ) -> Result<(), ScanStop>
         ensures value { OnOk result (AddsMember 2 scan.old (put_fields self.old) scan.new (put_fields self.new)) }
         ensures shorter { OnOk result (length scan.new < length scan.old) }
     {
