@@ -15,7 +15,7 @@ mod words;
 
 pub use compact::CompactBid;
 pub use members::{ScannedMembers, scanned_members};
-pub use parts::{ScannedPart, scanned_parts};
+pub use parts::{PartReader, scanned_parts};
 pub use rows::FlatRows;
 pub use scan::Scan;
 pub use stop::ScanStop;

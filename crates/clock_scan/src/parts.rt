@@ -7,27 +7,30 @@ use crate::scan::Scan;
 use crate::stop::ScanStop;
 use std::alloc::Global;
 
-/// What an item of a list may be, where it has the shape that is wanted.
-pub trait ScannedPart<'v>: Sized + Drop {
+/// How an item of a list is read, where it has the shape that is wanted.
+pub trait PartReader<'v> {
+    /// What is read.
+    type Part: Drop;
+
     /// How deep it nests.
     ghost levels: { ℕ };
 
     /// The value of JSON that it is.
-    ghost shown: { Self → Data };
+    ghost shown: { Self.Part → Data };
 
     /// The one that is next.
-    fn scanned(alloc: Global, scan: &mut Scan<'v>) -> Result<Self, ScanStop>
+    fn part(alloc: Global, scan: &mut Scan<'v>) -> Result<Self::Part, ScanStop>
         ensures value { IfOk result (λ part. Reads levels scan.old (shown part) scan.new) }
         ensures shorter { OnOk result (length scan.new < length scan.old) };
 }
 
-/// The list that is next, with room for so many parts made at once.
-pub fn scanned_parts<'v, P: ScannedPart<'v>>(
+/// The list of parts that is next, with room for so many made at once.
+pub fn scanned_parts<'v, R: PartReader<'v>>(
     alloc: Global,
     scan: &mut Scan<'v>,
     room: usize,
-) -> Result<Vec<P>, ScanStop>
-    ensures value { IfOk result (λ parts. Reads (suc P.levels) scan.old (array (items_of (map P.shown parts.items))) scan.new) }
+) -> Result<Vec<R::Part>, ScanStop>
+    ensures value { IfOk result (λ parts. Reads (suc R.levels) scan.old (array (items_of (map R.shown parts.items))) scan.new) }
     ensures shorter { OnOk result (length scan.new < length scan.old) }
 {
     if !scan.opens_array() {
@@ -35,7 +38,7 @@ pub fn scanned_parts<'v, P: ScannedPart<'v>>(
     }
     let mut parts = Vec::with_capacity(alloc, room)?;
     'items: while !scan.closes_array() {
-        let next = P::scanned(alloc, scan)?;
+        let next = R::part(alloc, scan)?;
         parts.push(next)?;
     }
     Ok(parts)

@@ -9,7 +9,7 @@ ghost use Rattle.clock_setup.specs.inside.FoundSetup.{found_setup};
 
 use crate::entries::{BidderEntry, ProductEntry, SetupEntries, VersionedProducts};
 use clock_scan::{
-    Scan, ScanStop, ScannedMembers, ScannedPart, is_key, scanned_members, scanned_parts,
+    PartReader, Scan, ScanStop, ScannedMembers, is_key, scanned_members, scanned_parts,
 };
 use clock_terms::{FIRST_GRANULE, FIRST_LIMIT};
 use std::alloc::Global;
@@ -209,12 +209,17 @@ impl<'v> BidderParts<'v> {
     }
 }
 
-impl<'v> ScannedPart<'v> for BidderEntry<'v> {
+/// A bidder is read from its members.
+struct BidderReader;
+
+impl<'v> PartReader<'v> for BidderReader {
+    type Part = BidderEntry<'v>;
+
     ghost levels = { 1 };
 
     ghost shown = { bidder_data };
 
-    fn scanned(alloc: Global, scan: &mut Scan<'v>) -> Result<BidderEntry<'v>, ScanStop> {
+    fn part(alloc: Global, scan: &mut Scan<'v>) -> Result<BidderEntry<'v>, ScanStop> {
         let nothing = BidderParts {
             eligibility: None,
             name: None,
@@ -264,7 +269,7 @@ impl<'v> ScannedMembers<'v> for SetupParts<'v> {
             return Ok(());
         }
         if is_key(key, "bidders") {
-            self.bidders = Some(scanned_parts(alloc, scan, 0)?);
+            self.bidders = Some(scanned_parts::<BidderReader>(alloc, scan, 0)?);
             return Ok(());
         }
         if is_key(key, "operator") {
