@@ -2,7 +2,7 @@
 use Rattle.std.proofs.Common.{◌≡◌, ℕ, true, List, [], ◌∷◌, map, Option, Some, None, option_map, Result, Ok, Err}
 use Rattle.std.proofs.Common.{IfOk, IfSome, refl, ap, ◌∙◌, subst, arith}
 use Rattle.std.specs.Str.{IsUtf8}
-use Rattle.json.specs.Token.{Token, key as key_token}
+use Rattle.json.specs.Token.{Token}
 use Rattle.json.specs.Lex.{tokens}
 use Rattle.serde_json.specs.Data.{Data}
 use Rattle.clock_terms.specs.Faults.{or_fault}
@@ -10,10 +10,9 @@ use Rattle.clock_setup.specs.Members.{each, number_from, ◌>>=◌}
 use Rattle.clock_setup.proofs.JsonLaws.{json_value}
 use Rattle.clock_terms.specs.declared.increments.Increments.{Increments}
 use Rattle.clock_terms.specs.declared.increments.Increments.TheVariants.{Single, PerProduct}
-use Rattle.clock_scan.specs.Reading.{whole, numbers, items_of, Fields, Reads}
-use Rattle.clock_scan.specs.inside.Reading.{is_field, with_field, AddsMember}
+use Rattle.clock_scan.specs.Reading.{whole, numbers, items_of, Reads}
 use Rattle.clock_scan.specs.declared.stop.ScanStop.{ScanStop}
-use Rattle.clock_scan.proofs.Steps.{adds_member, items_start, items_next, items_end, text_is}
+use Rattle.clock_scan.proofs.Steps.{items_start, items_next, items_end, text_is}
 use Rattle.clock_bids.specs.declared.sheet.Bid.{Bid}
 use Rattle.clock_order.specs.declared.ties.Tie.{Tie}
 use Rattle.clock_bodies.specs.declared.put_body.PutBody.{PutBody}
@@ -23,14 +22,6 @@ use Rattle.clock_bodies.specs.Bodies.{bid_of, put_of, put_body, meant_by}
 use Rattle.clock_bodies.specs.CloseBodies.{tie_of, close_of, close_body}
 use Rattle.clock_bodies.specs.QuickBodies.{bid_data, tie_data}
 use Rattle.clock_bodies.specs.inside.QuickBodies.{put_data, close_data}
-
--- a member of some fields, where it is one of them
-pub added : {A : Type 0} (fields_of : A → Fields) (levels : ℕ) (old value new : List Token) (fields : Fields) (name : List ℕ) (d : Data) (found : Option A)
-    → old ≡ key_token name ∷ value → Reads levels value d new → IfSome found (λ _. is_field name fields ≡ true)
-    → IfSome found (λ after. with_field name d fields ≡ fields_of after) → IfSome found (λ after. AddsMember levels old fields new (fields_of after))
-added fields_of levels old value new fields name d None named reads known is = tt
-added fields_of levels old value new fields name d (Some after) named reads known is =
-    subst (λ fs. AddsMember levels old fields new fs) is (adds_member levels old value new fields name d named reads known)
 
 -- a list of three numbers
 pub three_read : (first start after_first after_second after_third new : List Token) (a b c : ℕ) → first ≡ Token.begin_array ∷ start

@@ -9,6 +9,6 @@ mod put_scan;
 
 pub use body_fault::BodyFault;
 pub use close_body::{CloseBody, is_of_version, read_close, tie_of};
-pub use close_scan::{next_tie, one_form};
+pub use close_scan::{TieReader, one_form};
 pub use put_body::{PutBody, bid_of, read_put};
-pub use put_scan::next_bid;
+pub use put_scan::BidReader;

@@ -1,7 +1,6 @@
 //! The body of a sheet read byte by byte, where it has the shape that is asked for.
-ghost use Rattle.std.specs.Prelude.{◌≡◌, true, [], ◌++◌, ◌<◌, List, length, map, Ok, IfSome, IfOk, OnOk};
-ghost use Rattle.clock_scan.specs.Reading.{whole, members_of, Reads, ReadsAll};
-ghost use Rattle.clock_scan.specs.inside.Reading.{is_field, with_field, AddsMember};
+ghost use Rattle.std.specs.Prelude.{◌≡◌, [], ◌++◌, ◌<◌, List, length, map, Ok, IfSome, IfOk, OnOk};
+ghost use Rattle.clock_scan.specs.Reading.{members_of, Reads, ReadsAll};
 ghost use Rattle.serde_json.specs.Data.{object};
 ghost use Rattle.clock_bodies.specs.Bodies as bodies;
 ghost use Rattle.clock_bodies.specs.QuickBodies.{bid_fields, bid_data, bids_data};
@@ -10,7 +9,7 @@ ghost use Rattle.clock_bodies.specs.inside.QuickBodies.{put_fields, put_data};
 use crate::put_body::PutBody;
 use clock_bids::Bid;
 use clock_device::Items;
-use clock_scan::{Scan, ScanStop, is_key, is_text};
+use clock_scan::{PartReader, Scan, ScanStop, ScannedMembers, is_key, is_text, scanned_members};
 use std::alloc::Global;
 
 /// How many bytes a bid and its comma take at least.
@@ -24,49 +23,40 @@ struct FoundBid {
     quantity: Option<u64>,
 }
 
-/// What was found of a sheet so far.
+/// What was found of a sheet so far, and for how many bids room is made at once.
 #[derive(Drop)]
 struct FoundPut {
+    room: usize,
     round: Option<u64>,
     bids: Option<Items<Bid>>,
 }
 
-impl FoundBid {
-    /// What was found, with one number more under its key.
+impl<'v> ScannedMembers<'v> for FoundBid {
+    ghost levels = { 0 };
+
+    ghost fields = { bid_fields };
+
     #[inline(always)]
-    fn with(self, key: &[u8], number: u64) -> Option<FoundBid>
-        ensures known { IfSome result (λ _. is_field key.now (bid_fields self) ≡ true) }
-        ensures value { IfSome result (λ found. with_field key.now (whole number) (bid_fields self) ≡ bid_fields found) }
-    {
-        let FoundBid {
-            price,
-            product,
-            quantity,
-        } = self;
+    fn read_member(&mut self, _alloc: Global, scan: &mut Scan<'v>) -> Result<(), ScanStop> {
+        let key = scan.key()?;
+        let number = scan.number()?;
         if is_key(key, "price") {
-            return Some(FoundBid {
-                price: Some(number),
-                product,
-                quantity,
-            });
+            self.price = Some(number);
+            return Ok(());
         }
         if is_key(key, "product") {
-            return Some(FoundBid {
-                price,
-                product: Some(number),
-                quantity,
-            });
+            self.product = Some(number);
+            return Ok(());
         }
         if is_key(key, "quantity") {
-            return Some(FoundBid {
-                price,
-                product,
-                quantity: Some(number),
-            });
+            self.quantity = Some(number);
+            return Ok(());
         }
-        None
+        Err(ScanStop::Unusual)
     }
+}
 
+impl FoundBid {
     /// The bid, where all of it was found.
     #[inline(always)]
     fn bid(self) -> Option<Bid>
@@ -80,35 +70,29 @@ impl FoundBid {
     }
 }
 
-/// What was found of a bid, with the member that is next.
-#[inline(always)]
-fn bid_member(scan: &mut Scan<'_>, found: FoundBid) -> Option<FoundBid>
-    ensures value { IfSome result (λ after. AddsMember 0 scan.old (bid_fields found) scan.new (bid_fields after)) }
-    ensures shorter { IfSome result (λ _. length scan.new < length scan.old) }
-{
-    let key = scan.key()?;
-    let number = scan.number()?;
-    found.with(key, number)
-}
+/// A bid is read from its members, where no key has an escape and each number is written in digits alone.
+pub struct BidReader;
 
-/// The bid that is next, where no key has an escape and each number is written in digits alone.
-#[inline(never)]
-pub fn next_bid(scan: &mut Scan<'_>) -> Option<Bid>
-    ensures value { IfSome result (λ bid. Reads 1 scan.old (bid_data bid) scan.new) }
-    ensures shorter { IfSome result (λ _. length scan.new < length scan.old) }
-{
-    if !scan.opens_object() {
-        return None;
+impl<'v> PartReader<'v> for BidReader {
+    type Part = Bid;
+
+    ghost levels = { 1 };
+
+    ghost shown = { bid_data };
+
+    #[inline(never)]
+    fn part(alloc: Global, scan: &mut Scan<'v>) -> Result<Bid, ScanStop> {
+        let nothing = FoundBid {
+            price: None,
+            product: None,
+            quantity: None,
+        };
+        let found = scanned_members(alloc, scan, nothing)?;
+        match found.bid() {
+            Some(bid) => Ok(bid),
+            None => Err(ScanStop::Unusual),
+        }
     }
-    let mut found = FoundBid {
-        price: None,
-        product: None,
-        quantity: None,
-    };
-    'members: while !scan.closes_object() {
-        found = bid_member(scan, found)?;
-    }
-    found.bid()
 }
 
 /// The bids that are next, behind those of a list, as far as they are written without white space, their keys in the order of
@@ -140,44 +124,35 @@ fn bids(alloc: Global, scan: &mut Scan<'_>, room: usize) -> Result<Items<Bid>, S
     let mut list = Vec::with_capacity(alloc, room)?;
     compact_bids(scan, &mut list)?;
     'items: while !scan.closes_array() {
-        let Some(next) = next_bid(scan) else {
-            return Err(ScanStop::Unusual);
-        };
+        let next = BidReader::part(alloc, scan)?;
         list.push(next)?;
         compact_bids(scan, &mut list)?;
     }
     Ok(Items::from_vec(list))
 }
 
-impl FoundPut {
-    /// Reads the member that is next.
-    fn read_member(
-        &mut self,
-        alloc: Global,
-        scan: &mut Scan<'_>,
-        room: usize,
-    ) -> Result<(), ScanStop>
-        ensures value { OnOk result (AddsMember 2 scan.old (put_fields self.old) scan.new (put_fields self.new)) }
-        ensures shorter { OnOk result (length scan.new < length scan.old) }
-    {
-        let Some(key) = scan.key() else {
-            return Err(ScanStop::Unusual);
-        };
+impl<'v> ScannedMembers<'v> for FoundPut {
+    ghost levels = { 2 };
+
+    ghost fields = { put_fields };
+
+    fn read_member(&mut self, alloc: Global, scan: &mut Scan<'v>) -> Result<(), ScanStop> {
+        let key = scan.key()?;
         if is_key(key, "round") {
-            let Some(round) = scan.number() else {
-                return Err(ScanStop::Unusual);
-            };
+            let round = scan.number()?;
             self.round = Some(round);
             return Ok(());
         }
         if is_key(key, "bids") {
-            let bids = bids(alloc, scan, room)?;
+            let bids = bids(alloc, scan, self.room)?;
             self.bids = Some(bids);
             return Ok(());
         }
         Err(ScanStop::Unusual)
     }
+}
 
+impl FoundPut {
     /// The sheet, where all of it was found.
     fn body(self) -> Option<PutBody>
         ensures { IfSome result (λ body. object (members_of (put_fields self)) ≡ put_data body) }
@@ -193,16 +168,12 @@ impl FoundPut {
 fn put(alloc: Global, scan: &mut Scan<'_>, room: usize) -> Result<PutBody, ScanStop>
     ensures { IfOk result (λ body. Reads 3 scan.old (put_data body) []) }
 {
-    if !scan.opens_object() {
-        return Err(ScanStop::Unusual);
-    }
-    let mut found = FoundPut {
+    let nothing = FoundPut {
+        room,
         round: None,
         bids: None,
     };
-    'members: while !scan.closes_object() {
-        found.read_member(alloc, scan, room)?;
-    }
+    let found = scanned_members(alloc, scan, nothing)?;
     if !scan.ends() {
         return Err(ScanStop::Unusual);
     }

@@ -1,9 +1,7 @@
 -- What is read of a replay document without a tree is what the document means.
-use Rattle.std.proofs.Common.{◌≡◌, ℕ, ◌≤◌, true, List, ◌∷◌, Option, Some, None, option_map, refl, ap, ◌∙◌}
+use Rattle.std.proofs.Common.{◌≡◌, ℕ, List, Option, Some, None, option_map, refl, ap, ◌∙◌}
 use Rattle.serde_json.specs.Data.{Data}
-use Rattle.clock_scan.specs.Reading.{Token, whole, numbers, Fields, Reads}
-use Rattle.clock_scan.specs.inside.Reading.{is_field, with_field, AddsMember}
-use Rattle.clock_scan.proofs.Steps.{adds_member, reads_deeper}
+use Rattle.clock_scan.specs.Reading.{whole, numbers}
 use Rattle.clock_terms.specs.Faults.{first_fault, unless}
 use Rattle.clock_setup.specs.SetupData.{setup_data}
 use Rattle.clock_setup.specs.Members.{number_from}
@@ -29,13 +27,7 @@ use Rattle.clock_replays.specs.ReplayChecks.{replay_checks}
 use Rattle.clock_replays.specs.ReplayDocument.{document_replay}
 use Rattle.clock_replays.proofs.DocumentLaws.{replay_at}
 
--- ---- reading
 
--- a member under one of the keys, whose value nests less deep than others may
-pub member_added : (few levels : ℕ) (old value new : List Token) (fields : Fields) (key name : List ℕ) (d : Data) → few ≤ levels → old ≡ Token.key key ∷ value
-    → key ≡ name → Reads few value d new → is_field name fields ≡ true → AddsMember levels old fields new (with_field name d fields)
-member_added few levels old value new fields key name d enough next same reads known =
-    adds_member levels old value new fields name d (next ∙ ap (λ k. Token.key k ∷ value) same) (reads_deeper few levels value d new enough reads) known
 
 abbrev pub all_of : ScannedReplay → ReplayFields
 all_of found = record { setup = found.held.setup; scripts = found.scripts; closings = found.closings }

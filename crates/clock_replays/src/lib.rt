@@ -10,7 +10,6 @@ mod part;
 mod read;
 mod replay;
 mod scanned_closings;
-mod scanned_part;
 mod scanned_replay;
 mod scanned_scripts;
 mod script;

@@ -1,16 +1,16 @@
 //! A replay document read without a tree, where no text has an escape and each number is written in digits alone.
-ghost use Rattle.std.specs.Prelude.{◌≡◌, ◌<◌, length, Some, IfSome, IfOk, OnOk};
+ghost use Rattle.std.specs.Prelude.{◌≡◌, Some, IfSome, IfOk};
 ghost use Rattle.serde_json.specs.Data.{object};
 ghost use Rattle.clock_scan.specs.Reading.{members_of, Reads};
-ghost use Rattle.clock_scan.specs.inside.Reading.{AddsMember};
 ghost use Rattle.clock_setup.specs.SetupDocument.{json};
 ghost use Rattle.clock_replays.specs.inside.ReplayData.{found_replay, found_data};
 
 use crate::closing::Closings;
 use crate::held_setup::HeldSetup;
-use crate::scanned_part::scanned_parts;
+use crate::scanned_closings::ClosingReader;
+use crate::scanned_scripts::ScriptReader;
 use crate::script::Scripts;
-use clock_scan::{Scan, ScanStop, is_key, is_text};
+use clock_scan::{Scan, ScanStop, ScannedMembers, is_key, is_text, scanned_members, scanned_parts};
 use clock_setup::next_setup;
 use std::alloc::Global;
 
@@ -30,22 +30,20 @@ pub(crate) struct ScannedReplay {
     pub closings: Closings,
 }
 
-impl FoundReplay {
-    /// Reads the member that is next.
-    fn read_member(&mut self, alloc: Global, scan: &mut Scan<'_>) -> Result<(), ScanStop>
-        ensures value { OnOk result (AddsMember 5 scan.old (found_replay self.old) scan.new (found_replay self.new)) }
-        ensures shorter { OnOk result (length scan.new < length scan.old) }
-    {
-        let Some(key) = scan.key() else {
-            return Err(ScanStop::Unusual);
-        };
+impl<'v> ScannedMembers<'v> for FoundReplay {
+    ghost levels = { 5 };
+
+    ghost fields = { found_replay };
+
+    fn read_member(&mut self, alloc: Global, scan: &mut Scan<'v>) -> Result<(), ScanStop> {
+        let key = scan.key()?;
         if is_key(key, "scripts") {
-            let scripts = scanned_parts(alloc, scan)?;
+            let scripts = scanned_parts::<ScriptReader>(alloc, scan, 0)?;
             self.scripts = Some(Scripts::from_vec(scripts));
             return Ok(());
         }
         if is_key(key, "closings") {
-            let closings = scanned_parts(alloc, scan)?;
+            let closings = scanned_parts::<ClosingReader>(alloc, scan, 0)?;
             self.closings = Some(Closings::from_vec(closings));
             return Ok(());
         }
@@ -56,7 +54,9 @@ impl FoundReplay {
         }
         Err(ScanStop::Unusual)
     }
+}
 
+impl FoundReplay {
     /// The parts of a replay, where each was found.
     fn replay(self) -> Option<ScannedReplay>
         ensures { IfSome result (λ found. object (members_of (found_replay self)) ≡ found_data found) }
@@ -76,17 +76,12 @@ impl FoundReplay {
 fn replay(alloc: Global, scan: &mut Scan<'_>) -> Result<ScannedReplay, ScanStop>
     ensures { IfOk result (λ found. Reads 6 scan.old (found_data found) scan.new) }
 {
-    if !scan.opens_object() {
-        return Err(ScanStop::Unusual);
-    }
-    let mut found = FoundReplay {
+    let nothing = FoundReplay {
         closings: None,
         scripts: None,
         held: None,
     };
-    'members: while !scan.closes_object() {
-        found.read_member(alloc, scan)?;
-    }
+    let found = scanned_members(alloc, scan, nothing)?;
     match found.replay() {
         Some(replay) => Ok(replay),
         None => Err(ScanStop::Unusual),

@@ -1,43 +1,32 @@
 //! Scripts read without a tree, where no text has an escape and each number is written in digits alone.
-ghost use Rattle.std.specs.Prelude.{◌≡◌, ◌<◌, length, IfSome, IfOk, OnOk};
+ghost use Rattle.std.specs.Prelude.{◌≡◌, Some, IfSome};
 ghost use Rattle.serde_json.specs.Data.{object};
-ghost use Rattle.clock_scan.specs.Reading.{members_of, Reads};
-ghost use Rattle.clock_scan.specs.inside.Reading.{AddsMember};
-ghost use Rattle.clock_bodies.specs.QuickBodies.{bid_data};
+ghost use Rattle.clock_scan.specs.Reading.{members_of};
 ghost use Rattle.clock_replays.specs.ReplayData.{sheet_data, kind_text, script_fields, script_data};
 
 use crate::limit_lists::{LimitLists, limit_lists};
-use crate::scanned_part::{ScannedPart, scanned_parts};
 use crate::script::{BidList, Script, SheetList};
-use clock_bids::Bid;
-use clock_bodies::next_bid;
-use clock_scan::{Scan, ScanStop, is_key};
+use clock_bodies::BidReader;
+use clock_scan::{
+    PartReader, Scan, ScanStop, ScannedMembers, is_key, scanned_members, scanned_parts,
+};
 use std::alloc::Global;
 
-impl ScannedPart for Bid {
-    ghost levels = { 1 };
+/// A sheet is read as a list of bids, or as `null` where there is none.
+struct SheetReader;
 
-    ghost shown = { bid_data };
+impl<'v> PartReader<'v> for SheetReader {
+    type Part = Option<BidList>;
 
-    fn scanned(_alloc: Global, scan: &mut Scan<'_>) -> Result<Bid, ScanStop> {
-        match next_bid(scan) {
-            Some(bid) => Ok(bid),
-            None => Err(ScanStop::Unusual),
-        }
-    }
-}
-
-/// A sheet: a list of bids, or `null` where there is none.
-impl ScannedPart for Option<BidList> {
     ghost levels = { 2 };
 
     ghost shown = { sheet_data };
 
-    fn scanned(alloc: Global, scan: &mut Scan<'_>) -> Result<Option<BidList>, ScanStop> {
+    fn part(alloc: Global, scan: &mut Scan<'v>) -> Result<Option<BidList>, ScanStop> {
         if scan.null() {
             return Ok(None);
         }
-        let bids = scanned_parts(alloc, scan)?;
+        let bids = scanned_parts::<BidReader>(alloc, scan, 0)?;
         Ok(Some(BidList::from_vec(bids)))
     }
 }
@@ -91,29 +80,25 @@ fn script_of(kind: Kind, limits: Option<LimitLists>, sheets: Option<SheetList>) 
     }
 }
 
-impl FoundScript {
-    /// Reads the member that is next.
-    fn read_member(&mut self, alloc: Global, scan: &mut Scan<'_>) -> Result<(), ScanStop>
-        ensures value { OnOk result (AddsMember 3 scan.old (script_fields self.old) scan.new (script_fields self.new)) }
-        ensures shorter { OnOk result (length scan.new < length scan.old) }
-    {
-        let Some(key) = scan.key() else {
-            return Err(ScanStop::Unusual);
-        };
+impl<'v> ScannedMembers<'v> for FoundScript {
+    ghost levels = { 3 };
+
+    ghost fields = { script_fields };
+
+    fn read_member(&mut self, alloc: Global, scan: &mut Scan<'v>) -> Result<(), ScanStop> {
+        let key = scan.key()?;
         if is_key(key, "limits") {
             let limits = limit_lists(alloc, scan)?;
             self.limits = Some(limits);
             return Ok(());
         }
         if is_key(key, "sheets") {
-            let sheets = scanned_parts(alloc, scan)?;
+            let sheets = scanned_parts::<SheetReader>(alloc, scan, 0)?;
             self.sheets = Some(SheetList::from_vec(sheets));
             return Ok(());
         }
         if is_key(key, "kind") {
-            let Some(word) = scan.text() else {
-                return Err(ScanStop::Unusual);
-            };
+            let word = scan.text()?;
             let Some(kind) = kind_of(word) else {
                 return Err(ScanStop::Unusual);
             };
@@ -122,7 +107,9 @@ impl FoundScript {
         }
         Err(ScanStop::Unusual)
     }
+}
 
+impl FoundScript {
     /// The script, where all of it was found.
     fn script(self) -> Option<Script>
         ensures { IfSome result (λ script. object (members_of (script_fields self)) ≡ script_data script) }
@@ -132,34 +119,26 @@ impl FoundScript {
     }
 }
 
-/// The script that is next.
-fn script(alloc: Global, scan: &mut Scan<'_>) -> Result<Script, ScanStop>
-    ensures value { IfOk result (λ script. Reads 4 scan.old (script_data script) scan.new) }
-    ensures shorter { OnOk result (length scan.new < length scan.old) }
-{
-    if !scan.opens_object() {
-        return Err(ScanStop::Unusual);
-    }
-    let mut found = FoundScript {
-        kind: None,
-        limits: None,
-        sheets: None,
-    };
-    'members: while !scan.closes_object() {
-        found.read_member(alloc, scan)?;
-    }
-    match found.script() {
-        Some(script) => Ok(script),
-        None => Err(ScanStop::Unusual),
-    }
-}
+/// A script is read from its members.
+pub(crate) struct ScriptReader;
 
-impl ScannedPart for Script {
+impl<'v> PartReader<'v> for ScriptReader {
+    type Part = Script;
+
     ghost levels = { 4 };
 
     ghost shown = { script_data };
 
-    fn scanned(alloc: Global, scan: &mut Scan<'_>) -> Result<Script, ScanStop> {
-        script(alloc, scan)
+    fn part(alloc: Global, scan: &mut Scan<'v>) -> Result<Script, ScanStop> {
+        let nothing = FoundScript {
+            kind: None,
+            limits: None,
+            sheets: None,
+        };
+        let found = scanned_members(alloc, scan, nothing)?;
+        match found.script() {
+            Some(script) => Ok(script),
+            None => Err(ScanStop::Unusual),
+        }
     }
 }

@@ -13,7 +13,8 @@ use Rattle.serde_json.specs.Data.{Data, Items, item, array, object, string, null
 use Rattle.serde_json.specs.Read.{of_json, converted, read}
 use Rattle.serde_json.proofs.Numbers.{number_of-decimal}
 use Rattle.clock_scan.specs.Reading.{whole, items_before, items_of, Fields, members_of, Reads, ReadsAll}
-use Rattle.clock_scan.specs.inside.Reading.{with_field, is_field, HasItems, HasMembers, AddsMember}
+use Rattle.clock_scan.specs.Members.{HasMembers, AddsMember}
+use Rattle.clock_scan.specs.inside.Reading.{with_field, is_field, HasItems}
 use Rattle.clock_scan.proofs.Turns.{converted_some, item_read, items_over, member_read, members_over, object_read, array_read, last, last_read}
 use Rattle.clock_scan.proofs.FieldLaws.{put_in}
 use Rattle.clock_scan.proofs.LexLaws.{space_at, at_end}
@@ -194,13 +195,14 @@ members_end levels first start old new found opened has closed = λ depth enough
     let inside = has.2 (depth - 1) (omega (arith, enough)) ∙ members_over (json.value (depth - 1)) found has.0 old new has.1 (ap read_key closed) in
     subst (λ n. converted of_json (json.value n first) ≡ Some (object found, new)) less (object_read (depth - 1) first start new found opened inside)
 
--- a member under one of the keys
-pub adds_member : (levels : ℕ) (old value new : List Token) (fields : Fields) (name : List ℕ) (d : Data) → old ≡ Token.key name ∷ value
-    → Reads levels value d new
-    → is_field name fields ≡ true → AddsMember levels old fields new (with_field name d fields)
-adds_member levels old value new fields name d named reads known = λ start has.
+-- a member under one of the keys, whose value nests no deeper than others may
+pub adds_member : (few levels : ℕ) (old value new : List Token) (fields : Fields) (key name : List ℕ) (d : Data) → few ≤ levels
+    → old ≡ Token.key key ∷ value → key ≡ name → Reads few value d new → is_field name fields ≡ true
+    → AddsMember levels old fields new (with_field name d fields)
+adds_member few levels old value new fields key name d enough next same reads known = λ start has.
     subst (λ ms. HasMembers levels start ms new) (put_in name d fields known)
-    (members_next levels start old value new (members_of fields) name d has named reads)
+    (members_next levels start old value new (members_of fields) name d has (next ∙ ap (λ k. Token.key k ∷ value) same)
+    (reads_deeper few levels value d new enough reads))
 
 -- ---- the whole text
 

@@ -4,6 +4,8 @@
 
 mod compact;
 mod lists;
+mod members;
+mod parts;
 mod place;
 mod rows;
 mod scan;
@@ -12,6 +14,8 @@ mod stop;
 mod words;
 
 pub use compact::CompactBid;
+pub use members::{ScannedMembers, scanned_members};
+pub use parts::{PartReader, scanned_parts};
 pub use rows::FlatRows;
 pub use scan::Scan;
 pub use stop::ScanStop;

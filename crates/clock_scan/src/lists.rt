@@ -5,7 +5,6 @@ ghost use Rattle.clock_scan.specs.Reading.{numbers, rows, Reads};
 use crate::rows::FlatRows;
 use crate::scan::Scan;
 use crate::stop::ScanStop;
-use clock_device::Items;
 use std::alloc::Global;
 
 impl<'a> Scan<'a> {
@@ -19,22 +18,6 @@ impl<'a> Scan<'a> {
         Ok(list)
     }
 
-    /// Reads a list of such lists.
-    pub fn rows(&mut self, alloc: Global) -> Result<Vec<Items<u64>>, ScanStop>
-        ensures value { IfOk result (λ list. Reads 2 self.old (rows list.items) self.new) }
-        ensures shorter { OnOk result (length self.new < length self.old) }
-    {
-        if !self.opens_array() {
-            return Err(ScanStop::Unusual);
-        }
-        let mut list = Vec::new(alloc);
-        'items: while !self.closes_array() {
-            let next = self.numbers(alloc)?;
-            list.push(Items::from_vec(next))?;
-        }
-        Ok(list)
-    }
-
     /// Reads a list of numbers as [`numbers`](Scan::numbers) does, behind those that are there.
     pub fn numbers_behind(&mut self, list: &mut Vec<u64>) -> Result<(), ScanStop>
         ensures value { OnOk result ((row : List ℕ) × (list.new.items ≡ list.old.items ++ row) × Reads 1 self.old (numbers row) self.new) }
@@ -44,16 +27,14 @@ impl<'a> Scan<'a> {
             return Err(ScanStop::Unusual);
         }
         'items: while !self.closes_array() {
-            let Some(next) = self.number() else {
-                return Err(ScanStop::Unusual);
-            };
+            let next = self.number()?;
             list.push(next)?;
             self.further_numbers(list)?;
         }
         Ok(())
     }
 
-    /// Reads a list of such lists, as [`rows`](Scan::rows) does, with all numbers in one list.
+    /// Reads a list of such lists, with all their numbers in one list.
     pub fn flat_rows(&mut self, alloc: Global) -> Result<FlatRows, ScanStop>
         ensures value { IfOk result (λ list. Reads 2 self.old (rows list) self.new) }
         ensures shorter { OnOk result (length self.new < length self.old) }

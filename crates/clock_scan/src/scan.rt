@@ -1,5 +1,5 @@
 //! A text read mark by mark.
-ghost use Rattle.std.specs.Prelude.{◌≡◌, ◌∷◌, ◌++◌, [], ℕ, List, ◌<◌, length, map, replicate, IsTrue, IfSome, IfNone, OnOk};
+ghost use Rattle.std.specs.Prelude.{◌≡◌, ◌∷◌, ◌++◌, [], ℕ, List, ◌<◌, length, map, replicate, IsTrue, IfSome, IfNone, IfOk, OnOk};
 ghost use Rattle.std.specs.Bool.{MatchBool};
 ghost use Rattle.json.specs.Token.{begin_array, begin_object, end_array, end_object, key as key_token};
 ghost use Rattle.json.specs.Lex.{tokens};
@@ -114,38 +114,42 @@ impl<'a> Scan<'a> {
 
     /// Reads a key with no escape in it, and its colon.
     #[inline(always)]
-    pub fn key(&mut self) -> Option<&'a [u8]>
-        ensures { IfSome result (λ key. self.old ≡ key_token key.now ∷ self.new) }
+    pub fn key(&mut self) -> Result<&'a [u8], ScanStop>
+        ensures { IfOk result (λ key. self.old ≡ key_token key.now ∷ self.new) }
     {
         let at = after_space(self.bytes, self.at);
         if !self.place.may_begin() {
-            return None;
+            return Err(ScanStop::Unusual);
         }
-        let (key, at) = quoted(self.bytes, at)?;
+        let Some((key, at)) = quoted(self.bytes, at) else {
+            return Err(ScanStop::Unusual);
+        };
         let at = after_space(self.bytes, at);
         if byte_at(self.bytes, at) != b':' {
-            return None;
+            return Err(ScanStop::Unusual);
         }
         self.at = at + 1;
         self.place = Place::Fresh;
-        Some(key)
+        Ok(key)
     }
 
     /// Reads a number below 10^19 that is written in digits alone.
     #[inline(always)]
-    pub fn number(&mut self) -> Option<u64>
-        ensures value { IfSome result (λ n. Reads 0 self.old (whole n) self.new) }
-        ensures shorter { IfSome result (λ _. length self.new < length self.old) }
+    pub fn number(&mut self) -> Result<u64, ScanStop>
+        ensures value { IfOk result (λ n. Reads 0 self.old (whole n) self.new) }
+        ensures shorter { OnOk result (length self.new < length self.old) }
     {
         let at = after_space(self.bytes, self.at);
         if !self.place.may_begin() {
-            return None;
+            return Err(ScanStop::Unusual);
         }
-        let (n, at) = number_at(self.bytes, at)?;
+        let Some((n, at)) = number_at(self.bytes, at) else {
+            return Err(ScanStop::Unusual);
+        };
         let (place, at) = after_value(self.bytes, at);
         self.at = at;
         self.place = place;
-        Some(n)
+        Ok(n)
     }
 
     /// Reads a bid that is written without white space, its keys in the order of their bytes, where a comma follows it.
@@ -212,26 +216,28 @@ impl<'a> Scan<'a> {
 
     /// Reads a text with no escape in it.
     #[inline(always)]
-    pub fn text(&mut self) -> Option<&'a str>
-        ensures value { IfSome result (λ text. Reads 0 self.old (string text.now) self.new) }
-        ensures shorter { IfSome result (λ _. length self.new < length self.old) }
+    pub fn text(&mut self) -> Result<&'a str, ScanStop>
+        ensures value { IfOk result (λ text. Reads 0 self.old (string text.now) self.new) }
+        ensures shorter { OnOk result (length self.new < length self.old) }
     {
         let at = after_space(self.bytes, self.at);
         if !self.place.may_begin() {
-            return None;
+            return Err(ScanStop::Unusual);
         }
-        let (bytes, at) = quoted(self.bytes, at)?;
+        let Some((bytes, at)) = quoted(self.bytes, at) else {
+            return Err(ScanStop::Unusual);
+        };
         let Ok(text) = str::from_utf8(bytes) else {
-            return None;
+            return Err(ScanStop::Unusual);
         };
         let next = after_space(self.bytes, at);
         if !ends_text(byte_at(self.bytes, next)) {
-            return None;
+            return Err(ScanStop::Unusual);
         }
         let (place, at) = after_value(self.bytes, at);
         self.at = at;
         self.place = place;
-        Some(text)
+        Ok(text)
     }
 
     /// Whether nothing follows.

@@ -2,13 +2,12 @@
 ghost use Rattle.std.specs.Prelude.{◌≡◌, ◌<◌, length, Some, IfSome, IfOk, OnOk};
 ghost use Rattle.serde_json.specs.Data.{object};
 ghost use Rattle.clock_scan.specs.Reading.{members_of, Reads};
-ghost use Rattle.clock_scan.specs.inside.Reading.{AddsMember};
 ghost use Rattle.clock_setup.specs.inside.OpeningData.{entries_data, found_opening};
 ghost use Rattle.clock_setup.specs.SetupDocument.{json};
 
 use crate::opening_entries::{InnerSetup, OpeningEntries, ScannedSetup};
 use crate::setup_scan::scanned_setup;
-use clock_scan::{FlatRows, Scan, ScanStop, is_key, is_text};
+use clock_scan::{FlatRows, Scan, ScanStop, ScannedMembers, is_key, is_text, scanned_members};
 use std::alloc::Global;
 
 /// What was found of an opening.
@@ -19,15 +18,13 @@ struct OpeningFound<'v> {
     setup: Option<ScannedSetup<'v>>,
 }
 
-impl<'v> OpeningFound<'v> {
-    /// Reads the next member.
-    fn read_member(&mut self, alloc: Global, scan: &mut Scan<'v>) -> Result<(), ScanStop>
-        ensures value { OnOk result (AddsMember 3 scan.old (found_opening self.old) scan.new (found_opening self.new)) }
-        ensures shorter { OnOk result (length scan.new < length scan.old) }
-    {
-        let Some(key) = scan.key() else {
-            return Err(ScanStop::Unusual);
-        };
+impl<'v> ScannedMembers<'v> for OpeningFound<'v> {
+    ghost levels = { 3 };
+
+    ghost fields = { found_opening };
+
+    fn read_member(&mut self, alloc: Global, scan: &mut Scan<'v>) -> Result<(), ScanStop> {
+        let key = scan.key()?;
         if is_key(key, "demands") {
             self.demands = Some(scan.flat_rows(alloc)?);
             return Ok(());
@@ -37,16 +34,16 @@ impl<'v> OpeningFound<'v> {
             self.setup = Some(ScannedSetup { entries });
             return Ok(());
         }
-        let Some(number) = scan.number() else {
-            return Err(ScanStop::Unusual);
-        };
         if is_key(key, "increment") {
+            let number = scan.number()?;
             self.increment = Some(number);
             return Ok(());
         }
         Err(ScanStop::Unusual)
     }
+}
 
+impl<'v> OpeningFound<'v> {
     /// The parts of an opening, where each was found.
     fn entries(self) -> Option<OpeningEntries<'v>>
         ensures { IfSome result (λ entries. object (members_of (found_opening self.entry)) ≡ entries_data entries) }
@@ -70,17 +67,12 @@ impl<'v> OpeningFound<'v> {
 fn opening_entries<'v>(alloc: Global, scan: &mut Scan<'v>) -> Result<OpeningEntries<'v>, ScanStop>
     ensures { IfOk result (λ entries. Reads 4 scan.old (entries_data entries) scan.new) }
 {
-    if !scan.opens_object() {
-        return Err(ScanStop::Unusual);
-    }
-    let mut parts = OpeningFound {
+    let nothing = OpeningFound {
         demands: None,
         increment: None,
         setup: None,
     };
-    'members: while !scan.closes_object() {
-        parts.read_member(alloc, scan)?;
-    }
+    let parts = scanned_members(alloc, scan, nothing)?;
     match parts.entries() {
         Some(entries) => Ok(entries),
         None => Err(ScanStop::Unusual),

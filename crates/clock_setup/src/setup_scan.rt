@@ -2,14 +2,15 @@
 ghost use Rattle.std.specs.Prelude.{◌≡◌, ◌⊎◌, ◌<◌, length, IfSome, IfOk, OnOk};
 ghost use Rattle.serde_json.specs.Data.{object};
 ghost use Rattle.clock_scan.specs.Reading.{members_of, Reads};
-ghost use Rattle.clock_scan.specs.inside.Reading.{AddsMember};
 ghost use Rattle.clock_terms.specs.Limits.{IsWithin, IsOfFirstVersion, latest_version, first_granule, first_limit};
 ghost use Rattle.clock_setup.specs.SetupData.{added, product_data, products_data, bidder_data, bidders_data, setup_data};
 ghost use Rattle.clock_setup.specs.inside.FoundEntries.{found_product, found_bidder};
 ghost use Rattle.clock_setup.specs.inside.FoundSetup.{found_setup};
 
 use crate::entries::{BidderEntry, ProductEntry, SetupEntries, VersionedProducts};
-use clock_scan::{Scan, ScanStop, is_key};
+use clock_scan::{
+    PartReader, Scan, ScanStop, ScannedMembers, is_key, scanned_members, scanned_parts,
+};
 use clock_terms::{FIRST_GRANULE, FIRST_LIMIT};
 use std::alloc::Global;
 
@@ -24,42 +25,44 @@ struct ProductParts<'v> {
     units: Option<u64>,
 }
 
-impl<'v> ProductParts<'v> {
-    /// Reads the next member.
-    fn read_member(&mut self, scan: &mut Scan<'v>) -> Option<()>
-        ensures value { IfSome result (λ _. AddsMember 0 scan.old (found_product self.old) scan.new (found_product self.new)) }
-        ensures shorter { IfSome result (λ _. length scan.new < length scan.old) }
-    {
+impl<'v> ScannedMembers<'v> for ProductParts<'v> {
+    ghost levels = { 0 };
+
+    ghost fields = { found_product };
+
+    fn read_member(&mut self, _alloc: Global, scan: &mut Scan<'v>) -> Result<(), ScanStop> {
         let key = scan.key()?;
         if is_key(key, "name") {
             let text = scan.text()?;
             self.name = Some(text);
-            return Some(());
+            return Ok(());
         }
         let number = scan.number()?;
         if is_key(key, "cap") {
             self.cap = Some(number);
-            return Some(());
+            return Ok(());
         }
         if is_key(key, "opening") {
             self.opening = Some(number);
-            return Some(());
+            return Ok(());
         }
         if is_key(key, "supply") {
             self.supply = Some(number);
-            return Some(());
+            return Ok(());
         }
         if is_key(key, "units") {
             self.units = Some(number);
-            return Some(());
+            return Ok(());
         }
         if is_key(key, "granule") {
             self.granule = Some(number);
-            return Some(());
+            return Ok(());
         }
-        None
+        Err(ScanStop::Unusual)
     }
+}
 
+impl<'v> ProductParts<'v> {
     /// The product, and the first version of documents in which one has these keys.
     fn entry(self) -> Option<(u64, ProductEntry<'v>)>
         ensures value { IfSome result (λ r. object (members_of (found_product self.entry)) ≡ product_data r.0 r.1) }
@@ -103,16 +106,13 @@ impl<'v> ProductParts<'v> {
 }
 
 /// A product, and the first version of documents in which one has its keys.
-fn product<'v>(scan: &mut Scan<'v>) -> Option<(u64, ProductEntry<'v>)>
-    ensures value { IfSome result (λ r. Reads 1 scan.old (product_data r.0 r.1) scan.new) }
-    ensures version { IfSome result (λ r. IsWithin 1 latest_version r.0) }
-    ensures first_version { IfSome result (λ r. r.0 ≡ 1 → r.1.granule ≡ first_granule) }
-    ensures shorter { IfSome result (λ _. length scan.new < length scan.old) }
+fn product<'v>(alloc: Global, scan: &mut Scan<'v>) -> Result<(u64, ProductEntry<'v>), ScanStop>
+    ensures value { IfOk result (λ r. Reads 1 scan.old (product_data r.0 r.1) scan.new) }
+    ensures version { IfOk result (λ r. IsWithin 1 latest_version r.0) }
+    ensures first_version { IfOk result (λ r. r.0 ≡ 1 → r.1.granule ≡ first_granule) }
+    ensures shorter { OnOk result (length scan.new < length scan.old) }
 {
-    if !scan.opens_object() {
-        return None;
-    }
-    let mut parts = ProductParts {
+    let nothing = ProductParts {
         cap: None,
         granule: None,
         name: None,
@@ -120,11 +120,11 @@ fn product<'v>(scan: &mut Scan<'v>) -> Option<(u64, ProductEntry<'v>)>
         supply: None,
         units: None,
     };
-    'members: while !scan.closes_object() {
-        parts.read_member(scan)?;
+    let parts = scanned_members(alloc, scan, nothing)?;
+    match parts.entry() {
+        Some(product) => Ok(product),
+        None => Err(ScanStop::Unusual),
     }
-    let (version, entry) = parts.entry()?;
-    Some((version, entry))
 }
 
 /// The version that a list of products and one more have their keys from, where it is the same. It is 0 for no products.
@@ -149,9 +149,7 @@ fn products<'v>(alloc: Global, scan: &mut Scan<'v>) -> Result<VersionedProducts<
     let mut version = 0;
     let mut entries = Vec::new(alloc);
     'items: while !scan.closes_array() {
-        let Some((next, entry)) = product(scan) else {
-            return Err(ScanStop::Unusual);
-        };
+        let (next, entry) = product(alloc, scan)?;
         let Some(common) = common_version(version, next) else {
             return Err(ScanStop::Unusual);
         };
@@ -169,30 +167,32 @@ struct BidderParts<'v> {
     token: Option<&'v str>,
 }
 
-impl<'v> BidderParts<'v> {
-    /// Reads the next member.
-    fn read_member(&mut self, scan: &mut Scan<'v>) -> Option<()>
-        ensures value { IfSome result (λ _. AddsMember 0 scan.old (found_bidder self.old) scan.new (found_bidder self.new)) }
-        ensures shorter { IfSome result (λ _. length scan.new < length scan.old) }
-    {
+impl<'v> ScannedMembers<'v> for BidderParts<'v> {
+    ghost levels = { 0 };
+
+    ghost fields = { found_bidder };
+
+    fn read_member(&mut self, _alloc: Global, scan: &mut Scan<'v>) -> Result<(), ScanStop> {
         let key = scan.key()?;
         if is_key(key, "eligibility") {
             let number = scan.number()?;
             self.eligibility = Some(number);
-            return Some(());
+            return Ok(());
         }
         let text = scan.text()?;
         if is_key(key, "name") {
             self.name = Some(text);
-            return Some(());
+            return Ok(());
         }
         if is_key(key, "token") {
             self.token = Some(text);
-            return Some(());
+            return Ok(());
         }
-        None
+        Err(ScanStop::Unusual)
     }
+}
 
+impl<'v> BidderParts<'v> {
     /// The bidder.
     fn entry(self) -> Option<BidderEntry<'v>>
         ensures { IfSome result (λ entry. object (members_of (found_bidder self.entry)) ≡ bidder_data entry) }
@@ -209,42 +209,28 @@ impl<'v> BidderParts<'v> {
     }
 }
 
-/// A bidder.
-fn bidder<'v>(scan: &mut Scan<'v>) -> Option<BidderEntry<'v>>
-    ensures value { IfSome result (λ entry. Reads 1 scan.old (bidder_data entry) scan.new) }
-    ensures shorter { IfSome result (λ _. length scan.new < length scan.old) }
-{
-    if !scan.opens_object() {
-        return None;
-    }
-    let mut parts = BidderParts {
-        eligibility: None,
-        name: None,
-        token: None,
-    };
-    'members: while !scan.closes_object() {
-        parts.read_member(scan)?;
-    }
-    let entry = parts.entry()?;
-    Some(entry)
-}
+/// A bidder is read from its members.
+struct BidderReader;
 
-/// Bidders.
-fn bidders<'v>(alloc: Global, scan: &mut Scan<'v>) -> Result<Vec<BidderEntry<'v>>, ScanStop>
-    ensures value { IfOk result (λ list. Reads 2 scan.old (bidders_data list.items) scan.new) }
-    ensures shorter { OnOk result (length scan.new < length scan.old) }
-{
-    if !scan.opens_array() {
-        return Err(ScanStop::Unusual);
-    }
-    let mut entries = Vec::new(alloc);
-    'items: while !scan.closes_array() {
-        let Some(entry) = bidder(scan) else {
-            return Err(ScanStop::Unusual);
+impl<'v> PartReader<'v> for BidderReader {
+    type Part = BidderEntry<'v>;
+
+    ghost levels = { 1 };
+
+    ghost shown = { bidder_data };
+
+    fn part(alloc: Global, scan: &mut Scan<'v>) -> Result<BidderEntry<'v>, ScanStop> {
+        let nothing = BidderParts {
+            eligibility: None,
+            name: None,
+            token: None,
         };
-        entries.push(entry)?;
+        let parts = scanned_members(alloc, scan, nothing)?;
+        match parts.entry() {
+            Some(bidder) => Ok(bidder),
+            None => Err(ScanStop::Unusual),
+        }
     }
-    Ok(entries)
 }
 
 /// What was found of a set-up.
@@ -271,33 +257,27 @@ fn limit_of(version: u64, limit: Option<u64>) -> Option<u64>
     }
 }
 
-impl<'v> SetupParts<'v> {
-    /// Reads the next member.
-    fn read_member(&mut self, alloc: Global, scan: &mut Scan<'v>) -> Result<(), ScanStop>
-        ensures value { OnOk result (AddsMember 2 scan.old (found_setup self.old) scan.new (found_setup self.new)) }
-        ensures shorter { OnOk result (length scan.new < length scan.old) }
-    {
-        let Some(key) = scan.key() else {
-            return Err(ScanStop::Unusual);
-        };
+impl<'v> ScannedMembers<'v> for SetupParts<'v> {
+    ghost levels = { 2 };
+
+    ghost fields = { found_setup };
+
+    fn read_member(&mut self, alloc: Global, scan: &mut Scan<'v>) -> Result<(), ScanStop> {
+        let key = scan.key()?;
         if is_key(key, "products") {
             self.products = Some(products(alloc, scan)?);
             return Ok(());
         }
         if is_key(key, "bidders") {
-            self.bidders = Some(bidders(alloc, scan)?);
+            self.bidders = Some(scanned_parts::<BidderReader>(alloc, scan, 0)?);
             return Ok(());
         }
         if is_key(key, "operator") {
-            let Some(text) = scan.text() else {
-                return Err(ScanStop::Unusual);
-            };
+            let text = scan.text()?;
             self.operator = Some(text);
             return Ok(());
         }
-        let Some(number) = scan.number() else {
-            return Err(ScanStop::Unusual);
-        };
+        let number = scan.number()?;
         if is_key(key, "version") {
             self.version = Some(number);
             return Ok(());
@@ -312,7 +292,9 @@ impl<'v> SetupParts<'v> {
         }
         Err(ScanStop::Unusual)
     }
+}
 
+impl<'v> SetupParts<'v> {
     /// The entries of a known version, with the keys of this version.
     fn entries(self) -> Option<SetupEntries<'v>>
         ensures value { IfSome result (λ entries. object (members_of (found_setup self.entry)) ≡ setup_data entries) }
@@ -354,10 +336,7 @@ pub(crate) fn scanned_setup<'v>(
     ensures first_version { IfOk result (λ entries. entries.version ≡ 1 → IsOfFirstVersion entries) }
     ensures shorter { OnOk result (length scan.new < length scan.old) }
 {
-    if !scan.opens_object() {
-        return Err(ScanStop::Unusual);
-    }
-    let mut parts = SetupParts {
+    let nothing = SetupParts {
         bidders: None,
         limit: None,
         operator: None,
@@ -365,9 +344,7 @@ pub(crate) fn scanned_setup<'v>(
         requirement: None,
         version: None,
     };
-    'members: while !scan.closes_object() {
-        parts.read_member(alloc, scan)?;
-    }
+    let parts = scanned_members(alloc, scan, nothing)?;
     match parts.entries() {
         Some(entries) => Ok(entries),
         None => Err(ScanStop::Unusual),

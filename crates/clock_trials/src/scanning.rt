@@ -2,25 +2,7 @@ use clock_scan::{Scan, ScanStop, is_blank};
 use std::alloc::Global;
 use std::test::Fail;
 
-/// The number of the rows, and the sum of their numbers; or 9 and what stopped the reading.
-fn rows_of(alloc: Global, text: &[u8]) -> (usize, u64) {
-    let mut scan = Scan::new(text);
-    match scan.rows(alloc) {
-        Ok(rows) => {
-            let mut sum = 0u64;
-            for row in rows.as_slice() {
-                for number in row.as_slice() {
-                    sum = sum.wrapping_add(*number);
-                }
-            }
-            (rows.len(), sum)
-        }
-        Err(ScanStop::Unusual) => (9, 0),
-        Err(ScanStop::NoMemory) => (9, 1),
-    }
-}
-
-/// The same of rows that are read into one list, and whether the rows have three numbers each.
+/// The number of the rows, the sum of their numbers, and whether the rows have three numbers each; or 9 and what stopped the reading.
 fn flat_rows_of(alloc: Global, text: &[u8]) -> (usize, u64, bool) {
     let mut scan = Scan::new(text);
     match scan.flat_rows(alloc) {
@@ -43,8 +25,8 @@ fn member_of(text: &[u8]) -> Option<(usize, usize)> {
     if !scan.opens_object() {
         return None;
     }
-    let key = scan.key()?.len();
-    let value = scan.text()?.len();
+    let key = scan.key().ok()?.len();
+    let value = scan.text().ok()?.len();
     if !scan.closes_object() || !scan.ends() {
         return None;
     }
@@ -52,34 +34,21 @@ fn member_of(text: &[u8]) -> Option<(usize, usize)> {
 }
 
 #[test]
-fn rows_of_numbers(rt: HostRuntime) -> Result<(), Fail> {
-    let alloc = rt.alloc();
-    let rows: [(&[u8], (usize, u64)); 9] = [
-        (b"[[1,2],[ 3 ]\n,[]]", (3, 6)),
-        (b" [ ] ", (0, 0)),
-        (b"[[9999999999999999999]]", (1, 9_999_999_999_999_999_999)),
-        (b"[[10000000000000000000]]", (9, 0)),
-        (b"[[01]]", (9, 0)),
-        (b"[[1.0]]", (9, 0)),
-        (b"[[-1]]", (9, 0)),
-        (b"[[1,],[2]]", (9, 0)),
-        (b"[[1][2]]", (9, 0)),
-    ];
-    for (text, shown) in rows.iter() {
-        assert_eq!(rt; rows_of(alloc, text), *shown);
-    }
-    Ok(())
-}
-
-#[test]
 fn rows_in_one_list(rt: HostRuntime) -> Result<(), Fail> {
     let alloc = rt.alloc();
-    let rows: [(&[u8], (usize, u64, bool)); 8] = [
+    let rows: [(&[u8], (usize, u64, bool)); 12] = [
         (b"[[1,2],[ 3 ]\n,[]]", (3, 6, false)),
         (b"[[1,2,3],[4,5,6]]", (2, 21, true)),
         (b"[[1,2,3],[4,5]]", (2, 15, false)),
         (b" [ ] ", (0, 0, true)),
+        (
+            b"[[9999999999999999999]]",
+            (1, 9_999_999_999_999_999_999, false),
+        ),
         (b"[[10000000000000000000]]", (9, 0, false)),
+        (b"[[01]]", (9, 0, false)),
+        (b"[[1.0]]", (9, 0, false)),
+        (b"[[-1]]", (9, 0, false)),
         (b"[[1,],[2]]", (9, 0, false)),
         (b"[[1][2]]", (9, 0, false)),
         (b"[1]", (9, 0, false)),

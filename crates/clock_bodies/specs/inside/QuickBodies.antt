@@ -1,37 +1,44 @@
 -- The values of JSON that bodies are, as the quick readers find them.
-use Rattle.std.specs.Prelude.{[], ◌∷◌, Some, option_map, codes}
+use Rattle.std.specs.Prelude.{ℕ, List, [], ◌∷◌, Option, Some, option_map, codes}
 use Rattle.serde_json.specs.Data.{Data, object}
 use Rattle.clock_scan.specs.Reading.{whole, numbers, Fields, members_of}
+use Rattle.clock_bids.specs.declared.sheet.Bid.{Bid}
+use Rattle.clock_order.specs.declared.ties.Tie.{Tie}
 use Rattle.clock_bodies.specs.declared.put_body.PutBody.{PutBody}
 use Rattle.clock_bodies.specs.declared.put_scan.FoundPut.{FoundPut}
 use Rattle.clock_bodies.specs.declared.close_body.CloseBody.{CloseBody}
 use Rattle.clock_bodies.specs.declared.close_scan.FoundClose.{FoundClose}
 use Rattle.clock_bodies.specs.QuickBodies.{bids_data, ties_data, single_of, listed_of}
 
+-- a sheet's keys, each with a value or none
+abbrev pub put_members : Option ℕ → Option (List Bid) → Fields
+put_members round bids =
+    (codes "bids", option_map bids_data bids)
+    ∷ (codes "round", option_map whole round)
+    ∷ []
+
 -- a sheet's keys, each with what was found
 abbrev pub put_fields : FoundPut → Fields
-put_fields found =
-    (codes "bids", option_map bids_data found.bids)
-    ∷ (codes "round", option_map whole found.round)
-    ∷ []
+put_fields found = put_members found.round found.bids
 
 -- a sheet as a value
 abbrev pub put_data : PutBody → Data
-put_data body = object (members_of (put_fields (record { round = Some body.round; bids = Some body.bids })))
+put_data body = object (members_of (put_members (Some body.round) (Some body.bids)))
+
+-- a closing's keys, each with a value or none
+abbrev pub close_members : Option ℕ → Option (List ℕ) → Option ℕ → Option (List Tie) → Fields
+close_members increment increments round ties =
+    (codes "increment", option_map whole increment)
+    ∷ (codes "increments", option_map numbers increments)
+    ∷ (codes "round", option_map whole round)
+    ∷ (codes "ties", option_map ties_data ties)
+    ∷ []
 
 -- a closing's keys, each with what was found
 abbrev pub close_fields : FoundClose → Fields
-close_fields found =
-    (codes "increment", option_map whole found.increment)
-    ∷ (codes "increments", option_map numbers found.increments)
-    ∷ (codes "round", option_map whole found.round)
-    ∷ (codes "ties", option_map ties_data found.ties)
-    ∷ []
-
--- what is found of a whole closing
-abbrev pub found_of : CloseBody → FoundClose
-found_of body = record { increment = single_of body.increments; increments = listed_of body.increments; round = Some body.round; ties = Some body.ties }
+close_fields found = close_members found.increment found.increments found.round found.ties
 
 -- a closing as a value
 abbrev pub close_data : CloseBody → Data
-close_data body = object (members_of (close_fields (found_of body)))
+close_data body =
+    object (members_of (close_members (single_of body.increments) (listed_of body.increments) (Some body.round) (Some body.ties)))

@@ -1,14 +1,14 @@
--- Lists and objects of JSON that are not read to their end yet.
---     HasItems, HasMembers      what was read of a list or an object that is not closed yet
---     AddsMember      one member more was read
+-- Lists of JSON that are not read to their end yet, and fields of an object.
+--     with_field, is_field      the fields with a value at a key, and whether a key is one of theirs
+--     HasItems      what was read of a list that is not closed yet
 use Rattle.std.specs.Prelude.{◌≡◌, ℕ, ◌≤◌, List, [], ◌∷◌, length, Bool, true, false, Some}
 use Rattle.std.specs.Ordering.{nat_cmp, match_ordering}
 use Rattle.std.specs.Cmp.Lexicographic.{slice_cmp}
 pub use Rattle.json.specs.Token.{Token}
 use Rattle.json.specs.Json as json
-use Rattle.serde_json.specs.Data.{Data, Members, no_members}
-use Rattle.serde_json.specs.Read.{of_items, of_members, converted}
-use Rattle.clock_scan.specs.Reading.{items_before, Fields, members_of}
+use Rattle.serde_json.specs.Data.{Data}
+use Rattle.serde_json.specs.Read.{of_items, converted}
+use Rattle.clock_scan.specs.Reading.{items_before, Fields}
 
 -- the fields with a value at a key
 abbrev pub with_field : List ℕ → Data → Fields → Fields
@@ -35,15 +35,3 @@ HasItems levels old values new =
     (count : ℕ) × (length new ≤ count)
     × ((depth : ℕ) → levels ≤ depth → converted of_items (json.items (json.value depth) (length old) old)
     ≡ json.parse_map (items_before values) (converted of_items (json.items (json.value depth) count new)))
-
--- of an object whose members begin with the old tokens these were read, and the new tokens are left of it
-unfoldable pub HasMembers : ℕ → List Token → Members → List Token → Type 0
-HasMembers levels old found new =
-    (count : ℕ) × (length new ≤ count)
-    × ((depth : ℕ) → levels ≤ depth → converted (λ ms. of_members ms no_members) (json.members (json.value depth) (length old) old)
-    ≡ converted (λ ms. of_members ms found) (json.members (json.value depth) count new))
-
--- where some fields of an object were read before, these are read now
-abbrev pub AddsMember : ℕ → List Token → Fields → List Token → Fields → Type 0
-AddsMember levels old before new after =
-    (start : List Token) → HasMembers levels start (members_of before) old → HasMembers levels start (members_of after) new

@@ -24,24 +24,24 @@ items-preserved c =
     let l = c.items in
     let start = c.opens_array.new.self in
     let after = c.product.new.scan in
-    let known = c.in-Some.next in
-    let version = c.in-Some-common_version.common in
-    let entry = c.in-Some.entry in
-    let is : version ≡ known = c.in-Some-common_version.ensures.0 in
-    let agrees : (l.version ≡ 0) ⊎ (l.version ≡ version) = subst (λ v. (l.version ≡ 0) ⊎ (l.version ≡ v)) (sym is) c.in-Some-common_version.ensures.1 in
+    let known = c.in_ok-next.next in
+    let version = c.in-Some.common in
+    let entry = c.in_ok-next.entry in
+    let is : version ≡ known = c.in-Some.ensures.0 in
+    let agrees : (l.version ≡ 0) ⊎ (l.version ≡ version) = subst (λ v. (l.version ≡ 0) ⊎ (l.version ≡ v)) (sym is) c.in-Some.ensures.1 in
     let P = λ (product : Product). product.granule ≡ first_granule in
     let same : c.closes_array.new.self ≡ l.scan = grind arith in
     let reads : Reads 1 l.scan (product_data version entry) after =
-    subst (λ v. Reads 1 l.scan (product_data v entry) after) (sym is) (subst (λ ts. Reads 1 ts (product_data known entry) after) same c.in-Some.ensures.value)
+    subst (λ v. Reads 1 l.scan (product_data v entry) after) (sym is) (subst (λ ts. Reads 1 ts (product_data known entry) after) same c.in_ok-next.ensures.value)
     in
     let kept = of_common_version l.version version l.entries.items l.invariant.2 agrees in (
       subst (λ list. HasItems 1 start (map (product_data version) list) after) (sym c.in_ok-push.ensures.items)
           (items_push_next 1 (product_data version) start l.scan after l.entries.items entry
           (subst (λ values. HasItems 1 start values l.scan) kept l.invariant.0) reads),
-      omega (arith, l.invariant.1, c.in-Some.ensures.shorter, ap length same),
-      λ zero. absurd (omega (arith, zero, is, c.in-Some.ensures.version.0)),
+      omega (arith, l.invariant.1, c.in_ok-next.ensures.shorter, ap length same),
+      λ zero. absurd (omega (arith, zero, is, c.in_ok-next.ensures.version.0)),
       λ one. subst (All P) (sym c.in_ok-push.ensures.items) (All-push P l.entries.items entry
-          (of_first_version l.version version l.entries.items l.invariant.2 l.invariant.3 agrees one) (c.in-Some.ensures.first_version (sym is ∙ one))),
+          (of_first_version l.version version l.entries.items l.invariant.2 l.invariant.3 agrees one) (c.in_ok-next.ensures.first_version (sym is ∙ one))),
     )
 
 pub returns-clause-value : goal.returns-clause-value

@@ -1,0 +1,45 @@
+//! Lists of parts of one kind.
+ghost use Rattle.std.specs.Prelude.{◌≡◌, ℕ, suc, ◌<◌, length, map, IfOk, OnOk};
+ghost use Rattle.serde_json.specs.Data.{Data, array};
+ghost use Rattle.clock_scan.specs.Reading.{items_of, Reads};
+
+use crate::scan::Scan;
+use crate::stop::ScanStop;
+use std::alloc::Global;
+
+/// How an item of a list is read, where it has the shape that is wanted.
+pub trait PartReader<'v> {
+    /// What is read.
+    type Part: Drop;
+
+    /// How deep it nests.
+    ghost levels: { ℕ };
+
+    /// The value of JSON that it is.
+    ghost shown: { Self.Part → Data };
+
+    /// The one that is next.
+    fn part(alloc: Global, scan: &mut Scan<'v>) -> Result<Self::Part, ScanStop>
+        ensures value { IfOk result (λ part. Reads levels scan.old (shown part) scan.new) }
+        ensures shorter { OnOk result (length scan.new < length scan.old) };
+}
+
+/// The list of parts that is next, with room for so many made at once.
+pub fn scanned_parts<'v, R: PartReader<'v>>(
+    alloc: Global,
+    scan: &mut Scan<'v>,
+    room: usize,
+) -> Result<Vec<R::Part>, ScanStop>
+    ensures value { IfOk result (λ parts. Reads (suc R.levels) scan.old (array (items_of (map R.shown parts.items))) scan.new) }
+    ensures shorter { OnOk result (length scan.new < length scan.old) }
+{
+    if !scan.opens_array() {
+        return Err(ScanStop::Unusual);
+    }
+    let mut parts = Vec::with_capacity(alloc, room)?;
+    'items: while !scan.closes_array() {
+        let next = R::part(alloc, scan)?;
+        parts.push(next)?;
+    }
+    Ok(parts)
+}
