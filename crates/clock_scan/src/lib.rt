@@ -4,6 +4,7 @@
 
 mod compact;
 mod lists;
+mod numbers;
 mod place;
 mod rows;
 mod scan;
