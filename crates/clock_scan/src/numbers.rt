@@ -80,14 +80,35 @@ fn are_short(numbers: &[u64]) -> bool
     !has_long
 }
 
+/// Writes numbers over as many others, in two bytes each.
+fn write_short(places: &mut [u16], numbers: &[u64])
+    requires count { length places.old ≡ length numbers.now }
+    requires small { All (λ number. number < 2 ^ 16) numbers.now }
+    ensures { places.new ≡ numbers.now }
+{
+    for (place, number) in numbers.iter().enumerate() {
+        places[place] = *number as u16;
+    }
+}
+
+/// Writes numbers over as many others, in eight bytes each.
+fn write_long(places: &mut [u64], numbers: &[u16])
+    requires { length places.old ≡ length numbers.now }
+    ensures { places.new ≡ numbers.now }
+{
+    for (place, number) in numbers.iter().enumerate() {
+        places[place] = *number as u64;
+    }
+}
+
 /// Adds numbers at the end, in two bytes each.
 fn push_short(list: &mut Vec<u16>, numbers: &[u64]) -> Result<(), NoMemory>
     requires { All (λ number. number < 2 ^ 16) numbers.now }
     ensures { OnOk result (list.new.items ≡ list.old.items ++ numbers.now) }
 {
-    for number in numbers {
-        list.push(*number as u16)?;
-    }
+    let start = list.len();
+    list.resize(start + numbers.len(), 0)?;
+    write_short(&mut list[start..], numbers);
     Ok(())
 }
 
@@ -95,8 +116,8 @@ fn push_short(list: &mut Vec<u16>, numbers: &[u64]) -> Result<(), NoMemory>
 fn push_long(list: &mut Vec<u64>, numbers: &[u16]) -> Result<(), NoMemory>
     ensures { OnOk result (list.new.items ≡ list.old.items ++ numbers.now) }
 {
-    for number in numbers {
-        list.push(*number as u64)?;
-    }
+    let start = list.len();
+    list.resize(start + numbers.len(), 0)?;
+    write_long(&mut list[start..], numbers);
     Ok(())
 }
