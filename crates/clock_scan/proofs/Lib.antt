@@ -4,3 +4,4 @@ mod FieldLaws
 pub mod Steps
 mod RowSteps
 mod CompactLaws
+mod PieceLaws

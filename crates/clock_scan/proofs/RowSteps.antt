@@ -1,9 +1,9 @@
 -- Laws of rows that stand in one list.
-use Rattle.std.proofs.Common.{◌≡◌, ℕ, ◌+◌, ◌-◌, ◌≤◌, ◌==◌, ◌&&◌, List, [], ◌∷◌, ◌++◌, length, take, drop, refl, sym, ap, ◌∙◌, suc, arith}
+use Rattle.std.proofs.Common.{◌≡◌, ℕ, ◌+◌, ◌-◌, ◌<◌, ◌≤◌, ◌==◌, ◌&&◌, List, [], ◌∷◌, ◌++◌, length, take, drop, get_or, refl, sym, ap, ◌∙◌, zero, suc, arith}
 use Rattle.std.specs.List.{list_all}
 use Rattle.std.proofs.lemmas.List.{nil_from_length, take_all, take-append-le, drop-append-le, take-append-drop, length-take-le}
-use Rattle.std.proofs.lemmas.List.{length-append, length-drop}
-use Rattle.clock_scan.specs.Rows.{cut, joined}
+use Rattle.std.proofs.lemmas.List.{length-append, length-drop, take_more, drop-drop}
+use Rattle.clock_scan.specs.Rows.{cut}
 use Rattle.clock_scan.specs.inside.Rows.{numbers_in}
 
 -- one row more has its own numbers more
@@ -33,14 +33,39 @@ unfolding cut
 length-cut [] numbers = refl
 length-cut (count ∷ lengths) numbers = ap (λ n. suc n) (length-cut lengths (drop count numbers))
 
--- the rows, joined again, are the list
-pub joined-cut : (lengths numbers : List ℕ) → numbers_in lengths ≡ length numbers → joined (cut lengths numbers) ≡ numbers
-unfolding cut numbers_in joined
-joined-cut [] numbers all = sym (nil_from_length numbers (sym all))
-joined-cut (count ∷ lengths) numbers all =
-    let left : length (drop count numbers) ≡ length numbers - count = length-drop count numbers in
-    ap (λ rest. take count numbers ++ rest) (joined-cut lengths (drop count numbers) (omega (arith, all, left)))
-    ∙ take-append-drop count numbers
+-- the numbers of some rows and of others
+numbers_both : (lengths more : List ℕ) → numbers_in (lengths ++ more) ≡ numbers_in lengths + numbers_in more
+unfolding numbers_in
+numbers_both [] more = omega arith
+numbers_both (count ∷ lengths) more = ap (λ n. count + n) (numbers_both lengths more) ∙ omega arith
+
+-- the first rows have at most the numbers of all
+numbers_part : (lengths : List ℕ) (place : ℕ) → numbers_in (take place lengths) ≤ numbers_in lengths
+numbers_part lengths place =
+    let both : numbers_in lengths ≡ numbers_in (take place lengths) + numbers_in (drop place lengths) =
+    ap numbers_in (sym (take-append-drop place lengths)) ∙ numbers_both (take place lengths) (drop place lengths) in
+    omega (arith, both)
+
+-- the first rows and the next one
+pub numbers_next : (lengths : List ℕ) (place : ℕ) → place < length lengths
+    → numbers_in (take (place + 1) lengths) ≡ numbers_in (take place lengths) + get_or lengths place 0
+numbers_next lengths place within =
+    ap numbers_in (take_more lengths place 0 within) ∙ numbers_more (take place lengths) (get_or lengths place 0)
+
+-- the first rows and the next one have at most the numbers of all
+pub next_within : (lengths : List ℕ) (place : ℕ) → place < length lengths
+    → numbers_in (take place lengths) + get_or lengths place 0 ≤ numbers_in lengths
+next_within lengths place within = omega (arith, numbers_next lengths place within, numbers_part lengths (place + 1))
+
+-- a row stands behind the numbers of those before it
+pub row_cut : (lengths numbers : List ℕ) (place : ℕ) → place < length lengths
+    → get_or (cut lengths numbers) place [] ≡ take (get_or lengths place 0) (drop (numbers_in (take place lengths)) numbers)
+unfolding cut numbers_in
+row_cut [] numbers place within = absurd (omega arith)
+row_cut (count ∷ lengths) numbers zero within = refl
+row_cut (count ∷ lengths) numbers (suc place) within =
+    row_cut lengths (drop count numbers) place (omega arith)
+    ∙ ap (take (get_or lengths place 0)) (drop-drop (numbers_in (take place lengths)) count numbers)
 
 -- the rows have one length where their lengths are that one
 pub same_lengths : (width : ℕ) (lengths numbers : List ℕ) → numbers_in lengths ≡ length numbers

@@ -1,14 +1,8 @@
 -- Rows of numbers that stand in one list.
 --     cut lengths numbers      the list cut into rows of these lengths
---     joined rows      the numbers of all rows, row by row
-use Rattle.std.specs.Prelude.{ℕ, List, [], ◌∷◌, ◌++◌, take, drop}
+use Rattle.std.specs.Prelude.{ℕ, List, [], ◌∷◌, take, drop}
 
 -- a list cut into rows of these lengths
 unfoldable pub cut : List ℕ → List ℕ → List (List ℕ)
 cut [] numbers = []
 cut (count ∷ lengths) numbers = take count numbers ∷ cut lengths (drop count numbers)
-
--- the numbers of all rows, row by row
-unfoldable pub joined : List (List ℕ) → List ℕ
-joined [] = []
-joined (row ∷ rows) = row ++ joined rows

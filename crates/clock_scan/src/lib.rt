@@ -5,6 +5,7 @@
 mod compact;
 mod lists;
 mod members;
+mod numbers;
 mod parts;
 mod place;
 mod rows;

@@ -2,6 +2,7 @@
 ghost use Rattle.std.specs.Prelude.{◌≡◌, ◌<◌, ◌++◌, ℕ, List, length, IfOk, OnOk};
 ghost use Rattle.clock_scan.specs.Reading.{numbers, rows, Reads};
 
+use crate::numbers::Numbers;
 use crate::rows::FlatRows;
 use crate::scan::Scan;
 use crate::stop::ScanStop;
@@ -42,12 +43,14 @@ impl<'a> Scan<'a> {
         if !self.opens_array() {
             return Err(ScanStop::Unusual);
         }
-        let mut numbers = Vec::new(alloc);
+        let mut numbers = Numbers::new(alloc);
         let mut lengths = Vec::new(alloc);
+        let mut row = Vec::new(alloc);
         'items: while !self.closes_array() {
-            let before = numbers.as_slice().len();
-            self.numbers_behind(&mut numbers)?;
-            lengths.push(numbers.as_slice().len() - before)?;
+            row.clear();
+            self.numbers_behind(&mut row)?;
+            numbers.extend_from_slice(row.as_slice())?;
+            lengths.push(row.as_slice().len())?;
         }
         Ok(FlatRows { lengths, numbers })
     }

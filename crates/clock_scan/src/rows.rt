@@ -1,8 +1,9 @@
 //! Rows of numbers, all in one list.
-ghost use Rattle.std.specs.Prelude.{◌≡◌, ◌==◌, length, IfOk};
+ghost use Rattle.std.specs.Prelude.{◌≡◌, ◌==◌, ◌<◌, ◌≤◌, ◌+◌, [], length, take, slice_index, slice_index_or, IfOk, OnOk};
 ghost use Rattle.std.specs.List.{list_all};
-ghost use Rattle.clock_scan.specs.Rows.{joined};
+ghost use Rattle.clock_scan.specs.inside.Rows.{numbers_in};
 
+use crate::numbers::Numbers;
 use clock_device::{Items, NoMemory};
 use std::alloc::Global;
 use std::marker::Model;
@@ -12,7 +13,7 @@ use std::marker::Model;
 #[derive(Drop)]
 pub struct FlatRows {
     pub(crate) lengths: Vec<usize>,
-    pub(crate) numbers: Vec<u64>,
+    pub(crate) numbers: Numbers,
 }
 
 impl Model for FlatRows {
@@ -22,9 +23,9 @@ impl Model for FlatRows {
 
     ghost Value = { List (List ℕ) };
 
-    ghost view = { λ a. cut a.lengths.items a.numbers.items };
+    ghost view = { λ a. cut a.lengths.items a.numbers };
 
-    ghost invariant = { λ a. numbers_in a.lengths.items ≡ length a.numbers.items };
+    ghost invariant = { λ a. numbers_in a.lengths.items ≡ length a.numbers };
 }
 
 /// Whether each length is that width.
@@ -34,12 +35,27 @@ fn are_all(width: usize, lengths: &[usize]) -> bool
     lengths.iter().all(|length| *length == width)
 }
 
+/// Where the row of a place begins and ends, among so many numbers: behind those of the rows before it.
+fn span_of(lengths: &[usize], place: usize, whole: usize) -> (usize, usize)
+    requires place { place < length lengths.now }
+    requires whole { numbers_in lengths.now ≡ whole }
+    ensures start { result.0 ≡ numbers_in (take place lengths.now) }
+    ensures end { result.1 ≡ result.0 + slice_index lengths.now place }
+    ensures within { result.1 ≤ whole }
+{
+    let mut start = 0usize;
+    for before in 0..place {
+        start += lengths[before];
+    }
+    (start, start + lengths[place])
+}
+
 impl FlatRows {
     /// The numbers of some lists as rows.
     pub fn from_lists(alloc: Global, lists: &[Items<u64>]) -> Result<FlatRows, NoMemory>
         ensures { IfOk result (λ rows. rows ≡ lists.now) }
     {
-        let mut numbers = Vec::new(alloc);
+        let mut numbers = Numbers::new(alloc);
         let mut lengths = Vec::new(alloc);
         for list in lists {
             let row = list.as_slice();
@@ -63,10 +79,12 @@ impl FlatRows {
         are_all(width, self.lengths.as_slice())
     }
 
-    /// The one list that the numbers stand in, row by row. It is taken out and not copied.
-    pub fn into_numbers(self) -> Vec<u64>
-        ensures { result.items ≡ joined self }
+    /// Puts the numbers of a row in the place of what a list held. The place is one of the rows'.
+    pub fn read_row(&self, place: usize, row: &mut Vec<u64>) -> Result<(), NoMemory>
+        requires { place < length self.now }
+        ensures { OnOk result (row.new.items ≡ slice_index_or self.now place []) }
     {
-        self.numbers
+        let (start, end) = span_of(self.lengths.as_slice(), place, self.numbers.len());
+        self.numbers.read(start, end, row)
     }
 }

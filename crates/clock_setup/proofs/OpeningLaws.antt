@@ -29,6 +29,16 @@ pub zip_at : {A B : Type 0} (ks : List A) (vs : List B) (i : ℕ) (a : A) (b : B
 zip_at ks vs i a b h k first second =
     ap (λ x. (x, b)) first ∙ ap (λ y. (get_or ks i a, y)) second ∙ sym (get_or-zip ks vs i (a, b) h k)
 
+-- a bidder with its row
+pub row_line : (bidders : List Bidder) (rows : List (List ℕ)) (number : ℕ) (bidder : Bidder) (row : List ℕ) → number < length bidders
+    → length rows ≡ length bidders → bidder ≡ get_or bidders number bidder → row ≡ get_or rows number []
+    → ((bidder, row) ≡ get_or (zip bidders rows) number (bidder, row)) × (number < length (zip bidders rows))
+row_line bidders rows number bidder row within count first second =
+    let held : number < length rows = omega (arith, within, count) in (
+      zip_at bidders rows number bidder row within held first (second ∙ get_or_default rows number [] row held),
+      omega (arith, length-zip bidders rows, count, within),
+    )
+
 line_at : (products : List Product) (row : List ℕ) (i : ℕ) (d : Product) → length row ≡ length products → i < length row
     → (get_or products i d, get_or row i 0) ≡ get_or (zip products row) i (get_or products i d, get_or row i 0)
 line_at products row i d same h =

@@ -1,6 +1,6 @@
-ghost use Rattle.std.specs.Prelude.{◌≡◌, ◌≢◌, ◌*◌, ◌≤◌, ◌++◌, ◌∷◌, [], None, Some, length, zip, All, IfOk, IfErr, IfNone};
+ghost use Rattle.std.specs.Prelude.{◌≡◌, ◌≢◌, ◌≤◌, None, Some, length, zip, All, IfOk, IfErr, IfNone, OnOk};
 ghost use Rattle.serde_json.specs.Data.{Data};
-ghost use Rattle.clock_terms.specs.Demands.{rows_of, IsGrid};
+ghost use Rattle.clock_terms.specs.Demands.{IsGrid};
 ghost use Rattle.clock_terms.specs.Eligibility.{activity};
 ghost use Rattle.clock_terms.specs.Faults.{first_fault, in_turn};
 ghost use Rattle.clock_terms.specs.Limits.{IsProduct, IsRow, IsWithin, is_within, least_increment, most_increment, most_products, most_supply};
@@ -11,7 +11,7 @@ use crate::fault::SetupFault;
 use crate::opening::OpeningFault;
 use clock_money::{LEAST_INCREMENT, MOST_INCREMENT};
 use clock_scan::FlatRows;
-use clock_terms::{Amounts, Bidder, Grid, Product, Setup, is_within, row_at};
+use clock_terms::{Bidder, Grid, Product, Setup, is_within};
 use std::alloc::Global;
 
 /// Whether there is a row for each bidder, and in each row a number for each product.
@@ -62,44 +62,48 @@ fn row_fault(number: u64, setup: &Setup, bidder: &Bidder, row: &[u64]) -> Option
     }
 }
 
-/// The first fault of the rows that stand in one list.
-fn rows_fault(setup: &Setup, demands: &[u64]) -> Option<OpeningFault>
-    requires { length setup.now.bidders * length setup.now.products ≤ length demands.now }
-    ensures fault { result ≡ first_fault (in_turn (row_checks setup.now.products) 0
-        (zip setup.now.bidders (rows_of (length setup.now.bidders) (length setup.now.products) demands.now))) }
-    ensures small { IfNone result (All (λ row. All (λ demand. demand ≤ most_supply) row)
-        (rows_of (length setup.now.bidders) (length setup.now.products) demands.now)) }
-    ensures held { result ≢ Some (OpeningFault.Setup SetupFault.NoMemory) }
+/// Gives each bidder its row of demands in a grid, or tells the first fault that one has. The numbers of a row stand in a
+/// list that is lent.
+fn set_rows(
+    setup: &Setup,
+    demands: &FlatRows,
+    row: &mut Vec<u64>,
+    grid: &mut Grid,
+) -> Result<(), OpeningFault>
+    requires demands { IsGrid (length setup.now.bidders) (length setup.now.products) demands.now }
+    requires grid { IsGrid (length setup.now.bidders) (length setup.now.products) grid.old }
+    ensures same { OnOk result (grid.new ≡ demands.now) }
+    ensures ok { OnOk result
+        (first_fault (in_turn (row_checks setup.now.products) 0 (zip setup.now.bidders demands.now)) ≡ None) }
+    ensures err { IfErr result (λ fault. fault ≢ OpeningFault.NoMemory
+        → first_fault (in_turn (row_checks setup.now.products) 0 (zip setup.now.bidders demands.now)) ≡ Some fault) }
+    ensures held { IfErr result (λ fault. fault ≢ OpeningFault.Setup SetupFault.NoMemory) }
 {
     let bidders = setup.bidders.as_slice();
-    let products = setup.products.as_slice().len();
     for (number, bidder) in bidders.iter().enumerate() {
-        let row = row_at(demands, number, products);
-        if let Some(fault) = row_fault(number as u64, setup, bidder, row) {
-            return Some(fault);
+        demands.read_row(number, row)?;
+        if let Some(fault) = row_fault(number as u64, setup, bidder, row.as_slice()) {
+            return Err(fault);
         }
+        grid.set_row(number, row.as_slice());
     }
-    None
+    Ok(())
 }
 
-/// The first fault of the rows that stand in one list, or else of the increment.
-fn fault_of(setup: &Setup, demands: &[u64], increment: u64) -> Option<OpeningFault>
-    requires { length setup.now.bidders * length setup.now.products ≤ length demands.now }
-    ensures fault { result ≡ first_fault (in_turn (row_checks setup.now.products) 0
-        (zip setup.now.bidders (rows_of (length setup.now.bidders) (length setup.now.products) demands.now))
-        ++ ((OpeningFault.Increment, is_within least_increment most_increment increment) ∷ [])) }
-    ensures small { IfNone result (All (λ row. All (λ demand. demand ≤ most_supply) row)
-        (rows_of (length setup.now.bidders) (length setup.now.products) demands.now)) }
-    ensures increment { IfNone result (IsWithin least_increment most_increment increment) }
-    ensures held { result ≢ Some (OpeningFault.Setup SetupFault.NoMemory) }
+/// The grid of rows of demands, or the first fault that one has.
+fn grid_of_rows(alloc: Global, setup: &Setup, demands: &FlatRows) -> Result<Grid, OpeningFault>
+    requires { IsGrid (length setup.now.bidders) (length setup.now.products) demands.now }
+    ensures same { IfOk result (λ grid. grid ≡ demands.now) }
+    ensures ok { IfOk result (λ _.
+        first_fault (in_turn (row_checks setup.now.products) 0 (zip setup.now.bidders demands.now)) ≡ None) }
+    ensures err { IfErr result (λ fault. fault ≢ OpeningFault.NoMemory
+        → first_fault (in_turn (row_checks setup.now.products) 0 (zip setup.now.bidders demands.now)) ≡ Some fault) }
+    ensures held { IfErr result (λ fault. fault ≢ OpeningFault.Setup SetupFault.NoMemory) }
 {
-    if let Some(fault) = rows_fault(setup, demands) {
-        return Some(fault);
-    }
-    if !is_within(LEAST_INCREMENT, MOST_INCREMENT, increment) {
-        return Some(OpeningFault::Increment);
-    }
-    None
+    let mut row = Vec::with_capacity(alloc, setup.products.as_slice().len())?;
+    let mut grid = Grid::zero(alloc, setup)?;
+    set_rows(setup, demands, &mut row, &mut grid)?;
+    Ok(grid)
 }
 
 /// The grid of a set-up's demands, or the first fault that these or the increment have.
@@ -121,10 +125,9 @@ pub(crate) fn grid_within(
     if !has_counts(setup, &demands) {
         return Err(OpeningFault::Shape);
     }
-    let numbers = Amounts::from_vec(demands.into_numbers());
-    if let Some(fault) = fault_of(setup, numbers.as_slice(), increment) {
-        return Err(fault);
+    let grid = grid_of_rows(alloc, setup, &demands)?;
+    if !is_within(LEAST_INCREMENT, MOST_INCREMENT, increment) {
+        return Err(OpeningFault::Increment);
     }
-    let grid = Grid::of_numbers(alloc, setup, numbers)?;
     Ok(grid)
 }

@@ -9,8 +9,14 @@ fn flat_rows_of(alloc: Global, text: &[u8]) -> (usize, u64, bool) {
         Ok(rows) => {
             let (count, wide) = (rows.count(), rows.has_lengths(3));
             let mut sum = 0u64;
-            for number in rows.into_numbers().as_slice() {
-                sum = sum.wrapping_add(*number);
+            let mut row = Vec::new(alloc);
+            for place in 0..count {
+                if rows.read_row(place, &mut row).is_err() {
+                    return (9, 1, false);
+                }
+                for number in row.as_slice() {
+                    sum = sum.wrapping_add(*number);
+                }
             }
             (count, sum, wide)
         }

@@ -6,6 +6,6 @@ use Rattle.clock_scan.proofs.rows.FlatRows.from_lists.Given as goal
 -- the lists so far are the rows
 abbrev pub invariant-loop-list : goal.invariant-loop-list
 invariant-loop-list l = record {
-  rows : cut l.lengths.items l.numbers.items ≡ take l.list-index l.lists;
-  all : numbers_in l.lengths.items ≡ length l.numbers.items;
+  rows : cut l.lengths.items l.numbers ≡ take l.list-index l.lists;
+  all : numbers_in l.lengths.items ≡ length l.numbers;
 }
