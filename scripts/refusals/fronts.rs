@@ -62,7 +62,9 @@ pub fn play<P: Processor + Copy>(
         Some((last, before)) => {
             let mut front = opened(alloc, processor, document)?;
             for text in before {
-                record.push_bytes(front.answer(text.as_bytes()).bytes())?;
+                let reply = front.answer(text.as_bytes());
+                anyhow::ensure!(!is_refusal(&reply), "no memory where none was refused");
+                record.push_bytes(reply.bytes())?;
             }
             answer_last(alloc, record, &mut front, last)?;
             front

@@ -15,7 +15,7 @@ use Rattle.clock_front.specs.inside.Askers.{IsKnown}
 use Rattle.clock_front.specs.Fronts.{commands_of}
 use Rattle.clock_front.specs.Outcomes.{outcome, answer_of, put_outcome, refused}
 use Rattle.clock_front.specs.Private.{IsPrivateReply}
-use Rattle.clock_front.specs.Rooms.{IsPrivateWant, IsWantOf, room_of}
+use Rattle.clock_front.specs.Rooms.{IsPrivateWant, IsWantOf, asks_for_page, room_of}
 use Rattle.clock_front.specs.declared.unanswered.Unanswered.{Unanswered}
 use Rattle.clock_front.specs.declared.unanswered.Unanswered.TheVariants.{Room}
 use Rattle.clock_front.specs.inside.Private.{IsToldByView, IsToldAsker}
@@ -27,6 +27,7 @@ use Rattle.clock_front.specs.declared.tokens.Asker.{Asker}
 use Rattle.clock_front.specs.declared.tokens.Asker.TheVariants.{Nobody, Operator, Bidder}
 use Rattle.clock_front.proofs.FrontLaws.{outcome_after}
 use Rattle.clock_front.proofs.RunLaws.{right}
+use Rattle.clock_front.proofs.AskerLaws.{asker_own}
 use Rattle.clock_front.proofs.TextViews.{told_from_view, told_of_view}
 
 -- what is told to a bidder is what its view tells
@@ -75,8 +76,8 @@ want_as (Err why) P Q goes is = goes why is
 -- the room that a bidder's own text wants is told by its view
 private_want : (house : HouseFields) (text : List ℕ) (why : Unanswered) → IsSetup house.setup → IsWantOf text house why → IsPrivateWant text house why
 private_want house text why limits want =
-    λ texts bidder stands lt own reading.
-    want reading
+    λ texts bidder stands lt own asks.
+    want (ap (λ who. asks_for_page who (request_of text).ask) (asker_own house.setup limits.tokens bidder lt (request_of text).token own) ∙ asks)
     ∙ ap (λ told. Room (room_of (request_of text).ask told))
     (outcome_after house (commands_of house.setup texts) (asker house.setup (request_of text).token) (request_of text).ask stands
     ∙ told_from_view house.setup bidder texts text limits.tokens lt own)

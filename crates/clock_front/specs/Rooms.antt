@@ -1,8 +1,8 @@
--- What want of memory may tell. A request that changes nothing takes memory once, for its reply, and how much is a function of what its
--- asker is told: so that there is none for it tells of the system's memory and of that alone.
---     is_reading ask      the request changes nothing
+-- What want of memory may tell. Room for the page of a reply is taken by a call that sees how much alone, and how much is a function of
+-- what the asker is told: so that there is none tells of the system's memory.
+--     asks_for_page asker ask      the request changes nothing, whatever stands in the house
 --     room_of ask outcome      how much room the page of its reply is given
---     IsWantOf text house why      a text that changes nothing gets no reply only where just so much was asked for and refused
+--     IsWantOf text house why      a text that asks for a page alone is not answered only where just so much was wanted
 --     IsPrivateWant text house why      and for a bidder's own request that is a function of its view
 use Rattle.std.specs.Prelude.{◌≡◌, ◌<◌, ℕ, Bool, true, false, List, length}
 use Rattle.serde_json.specs.Data.{Data}
@@ -12,6 +12,8 @@ use Rattle.clock_house.specs.House.{HouseFields}
 use Rattle.clock_house.specs.History.{bidder_at}
 use Rattle.clock_views.specs.Rooms.{most_text}
 use Rattle.clock_front.specs.Askers.{asker}
+use Rattle.clock_front.specs.declared.tokens.Asker.{Asker}
+use Rattle.clock_front.specs.declared.tokens.Asker.TheVariants.{Nobody, Operator, Bidder}
 use Rattle.clock_front.specs.Requests.{Ask, request_of}
 use Rattle.clock_front.specs.Requests as asked
 use Rattle.clock_front.specs.Outcomes.{Outcome, done, refused, not_allowed, outcome}
@@ -20,19 +22,31 @@ use Rattle.clock_front.specs.Views.{is_own, text_view, typed_view, bidder_outcom
 use Rattle.clock_front.specs.declared.unanswered.Unanswered.{Unanswered}
 use Rattle.clock_front.specs.declared.unanswered.Unanswered.TheVariants.{Room}
 
--- every request but a sheet and a closing
-abbrev pub is_reading : Ask → Bool
-is_reading (asked.turned_away why) = true
-is_reading (asked.no_method page) = true
-is_reading asked.status = true
-is_reading asked.products = true
-is_reading (asked.sheet segment) = true
-is_reading asked.account = true
-is_reading asked.bids = true
-is_reading (asked.put body) = false
-is_reading (asked.slip segment) = true
-is_reading (asked.close body) = false
-is_reading asked.results = true
+-- who asks is no bidder
+abbrev pub is_no_bidder : Asker → Bool
+is_no_bidder Nobody = true
+is_no_bidder Operator = true
+is_no_bidder (Bidder bidder) = false
+
+-- who asks is not the operator
+abbrev pub is_no_operator : Asker → Bool
+is_no_operator Nobody = true
+is_no_operator Operator = false
+is_no_operator (Bidder bidder) = true
+
+-- every request asks for a page alone but a bidder's sheet and the operator's closing
+abbrev pub asks_for_page : Asker → Ask → Bool
+asks_for_page who (asked.turned_away why) = true
+asks_for_page who (asked.no_method page) = true
+asks_for_page who asked.status = true
+asks_for_page who asked.products = true
+asks_for_page who (asked.sheet segment) = true
+asks_for_page who asked.account = true
+asks_for_page who asked.bids = true
+asks_for_page who (asked.put body) = is_no_bidder who
+asks_for_page who (asked.slip segment) = true
+asks_for_page who (asked.close body) = is_no_operator who
+asks_for_page who asked.results = true
 
 -- what the page of any refusal may take
 abbrev pub refusal_room : ℕ
@@ -43,23 +57,25 @@ abbrev pub page_room : Ask → Data → ℕ
 page_room asked.products value = length (compact_text value)
 page_room ask value = most_text value
 
+-- the room for the page of an outcome
 abbrev pub room_of : Ask → Outcome → ℕ
 room_of ask (done value) = page_room ask value
 room_of ask (refused shown) = refusal_room
 room_of ask (not_allowed page) = refusal_room
 
--- a request that changes nothing gets no reply only where just so much room was refused as the page of the right reply is given
-abbrev pub WantsRoom : Ask → Outcome → Unanswered → Type 0
-WantsRoom ask right why = is_reading ask ≡ true → why ≡ Room (room_of ask right)
+-- a request for a page alone is not answered only where just so much room was wanted as the page of the right reply is given
+abbrev pub WantsRoom : Asker → Ask → Outcome → Unanswered → Type 0
+WantsRoom who ask right why = asks_for_page who ask ≡ true → why ≡ Room (room_of ask right)
 
--- so does a text, by what its sender is told as the house stands
+-- the same of a text, by what its sender is told as the house stands
 abbrev pub IsWantOf : List ℕ → HouseFields → Unanswered → Type 0
 IsWantOf text house why =
-    WantsRoom (request_of text).ask (outcome house (asker house.setup (request_of text).token) (request_of text).ask) why
+    WantsRoom (asker house.setup (request_of text).token) (request_of text).ask
+    (outcome house (asker house.setup (request_of text).token) (request_of text).ask) why
 
--- and so does a bidder's own text by what its view tells, in which no rival occurs, whichever texts the house stands for
+-- and for a bidder's own text by what its view tells, in which no rival occurs, whichever texts the house stands for
 abbrev pub IsPrivateWant : List ℕ → HouseFields → Unanswered → Type 0
 IsPrivateWant text house why = (texts : List (List ℕ)) (bidder : ℕ) → StandsForTexts texts house → bidder < length house.setup.bidders
     → is_own (bidder_at house.setup bidder) text ≡ true
-    → WantsRoom (request_of text).ask (bidder_outcome (public_setup house.setup) (bidder_at house.setup bidder)
+    → WantsRoom (Bidder bidder) (request_of text).ask (bidder_outcome (public_setup house.setup) (bidder_at house.setup bidder)
     (typed_view (text_view house.setup bidder texts)) (request_of text).ask) why

@@ -86,7 +86,8 @@ fn answer_asked<P: Processor>(
     requires known { IsKnown (length house.old.setup.bidders) asker }
     requires page { IsProductsPage house.old.setup products.now }
     ensures reply { IfOk result (λ reply. reply ≡ answer_of (outcome house.old asker (shown_asked what.entry))) }
-    ensures wanted { IfErr result (WantsRoom (shown_asked what.entry) (outcome house.old asker (shown_asked what.entry))) }
+    ensures wanted { IfErr result (WantsRoom asker (shown_asked what.entry)
+        (outcome house.old asker (shown_asked what.entry))) }
     ensures followed { OnOk result (IsFollowedBy (command_of house.old.setup asker (shown_asked what.entry)) house.old house.new) }
     ensures still { OnErr result (StandsStill house.old house.new) }
 {
@@ -118,7 +119,7 @@ fn answer_head<P: Processor>(
     requires page { IsProductsPage house.old.setup products.now }
     ensures reply { IfOk result (λ reply. reply
         ≡ answer_of (outcome house.old asker (ask_by_route (page_of head.now.path.now) (shown_head head.now) body.now))) }
-    ensures wanted { IfErr result (WantsRoom (ask_by_route (page_of head.now.path.now) (shown_head head.now) body.now)
+    ensures wanted { IfErr result (WantsRoom asker (ask_by_route (page_of head.now.path.now) (shown_head head.now) body.now)
         (outcome house.old asker (ask_by_route (page_of head.now.path.now) (shown_head head.now) body.now))) }
     ensures private { IfOk result (IsToldAsker house.old asker (ask_by_route (page_of head.now.path.now) (shown_head head.now) body.now)) }
     ensures followed { OnOk result (IsFollowedBy
@@ -169,8 +170,8 @@ impl<P: Processor> Front<P> {
     }
 
     /// The reply to a text of which this is known, where there is memory for it; otherwise what was refused, and nothing has
-    /// changed. A text that changes nothing takes memory once, for its reply, and how much follows from the right reply alone: so
-    /// for a bidder's own text it follows from its view, and that there is none tells it of no rival.
+    /// changed. A text that asks for a page alone goes without a reply only with the refusal of room for it, of a size that
+    /// follows from the right reply: so for a bidder's own text it follows from its view.
     pub fn try_answer(&mut self, text: &[u8], progress: Progress) -> Result<Reply, Unanswered>
         requires { Knows text.now progress }
         ensures reply { IfOk result (λ reply. reply

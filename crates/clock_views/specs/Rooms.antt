@@ -1,4 +1,4 @@
--- How many bytes the text of a page takes at most, by its shape alone.
+-- How many bytes the text of a page is given, by its shape alone.
 --     most_text value      each number and each null counts as 20 bytes, and each name as 34
 use Rattle.std.specs.Prelude.{ℕ, ◌+◌, length}
 use Rattle.serde_json.specs.Data.{Data, null, boolean, number, string, array, object, Items, no_items, item, Members, no_members, member}
@@ -14,10 +14,12 @@ abbrev mutual
   most_text (array items) = 2 + most_items items
   most_text (object members) = 2 + most_members members
 
+  -- the items of a list, each with what stands before it
   pub most_items : Items → ℕ
   most_items no_items = 0
   most_items (item value items) = 1 + most_text value + most_items items
 
+  -- the members of an object, each with its key and what stands before it
   pub most_members : Members → ℕ
   most_members no_members = 0
   most_members (member key value members) = 4 + length key + most_text value + most_members members

@@ -108,7 +108,7 @@ returns-in-NeedMore-clause-wanted g c =
     let text = c.args.text.now in
     let who = asker house.setup (request_of text).token in
     want_as c.turn_away.result _ _
-    (λ why is. subst (λ (ask : Ask). WantsRoom ask (outcome house who ask) why) (ask_by text incomplete c.in-NeedMore.ensures) (λ reading. is))
+    (λ why is. subst (λ (ask : Ask). WantsRoom who ask (outcome house who ask) why) (ask_by text incomplete c.in-NeedMore.ensures) (λ reading. is))
     c.turn_away.ensures.wanted
 
 pub returns-in-NeedMore-clause-wanted_privately : goal.returns-in-NeedMore-clause-wanted_privately
@@ -125,10 +125,10 @@ returns-in-Whole-clause-wanted g c =
     let table = subst (λ (h : HouseFields). IsTableOf h.setup c.self.inside.tokens) c.self.view_is c.self.invariant.0 in
     want_as c.answer_head.result _ _
     (λ why want.
-    subst (λ (request : Request). WantsRoom request.ask (outcome house (asker house.setup request.token) request.ask) why)
+    subst (λ (request : Request). WantsRoom (asker house.setup request.token) request.ask (outcome house (asker house.setup request.token) request.ask) why)
     (whole_request text head c.in-Whole.body.now c.in-Whole.ensures)
-    (subst (λ (who : Asker). WantsRoom ask (outcome house who ask) why) (c.asker-asker.ensures.shown house.setup table)
-    (subst (λ (h : HouseFields). WantsRoom ask (outcome h c.asker-asker.result ask) why) c.self.view_is want)))
+    (subst (λ (who : Asker). WantsRoom who ask (outcome house who ask) why) (c.asker-asker.ensures.shown house.setup table)
+    (subst (λ (h : HouseFields). WantsRoom c.asker-asker.result ask (outcome h c.asker-asker.result ask) why) c.self.view_is want)))
     c.answer_head.ensures.wanted
 
 pub returns-in-Whole-clause-wanted_privately : goal.returns-in-Whole-clause-wanted_privately
