@@ -1,4 +1,4 @@
-ghost use Rattle.std.specs.Prelude.{◌≡◌, ◌≤◌, ◌<◌, ◌+◌, ◌⊎◌, ◌++◌, ◌∷◌, [], replicate, All, IfOk, OnOk};
+ghost use Rattle.std.specs.Prelude.{◌≡◌, ◌≤◌, ◌+◌, ◌-◌, ◌++◌, ◌∷◌, [], replicate, All, IfOk, OnOk};
 ghost use Rattle.clock_terms.specs.Limits.{most_supply};
 ghost use Rattle.clock_closing.specs.Blocks as rules;
 ghost use Rattle.clock_closing.specs.inside.Blocks.{most_zeros};
@@ -57,10 +57,43 @@ fn fill(cells: &mut Vec<u16>, demands: &Row) -> Result<(), NoMemory>
 {
     cells.clear();
     let mut from = 0;
-    'cells: while from < demands.len() {
-        let place = demands.first_held(from, last_place(from, demands.len()));
+    let mut held = demands.held();
+    'held: while let Some(place) = held.next() {
+        from = push_zeros(cells, from, place)?;
         cells.push(cell_of((place - from) as u64, demands.get(place)))?;
         from = place + 1;
+    }
+    push_last(cells, from, demands.len())?;
+    Ok(())
+}
+
+/// Adds cells of zeros up to a place, until so few are left that they fit into one more, and tells where those begin.
+#[inline(always)]
+fn push_zeros(cells: &mut Vec<u16>, from: usize, until: usize) -> Result<usize, NoMemory>
+    requires { from ≤ until }
+    ensures zeros { IfOk result (λ next. rules.numbers_of cells.new.items
+        ≡ rules.numbers_of cells.old.items ++ replicate (next - from) 0) }
+    ensures least { IfOk result (λ next. from ≤ next) }
+    ensures most { IfOk result (λ next. next ≤ until) }
+    ensures few { IfOk result (λ next. until ≤ next + most_zeros) }
+{
+    let mut next = from;
+    'zeros: while until - next > MOST_ZEROS {
+        cells.push(cell_of(MOST_ZEROS as u64, 0))?;
+        next += MOST_ZEROS + 1;
+    }
+    Ok(next)
+}
+
+/// Adds cells of the zeros behind the last number that is held.
+fn push_last(cells: &mut Vec<u16>, from: usize, count: usize) -> Result<(), NoMemory>
+    requires { from ≤ count }
+    ensures { OnOk result (rules.numbers_of cells.new.items
+        ≡ rules.numbers_of cells.old.items ++ replicate (count - from) 0) }
+{
+    let next = push_zeros(cells, from, count)?;
+    if next < count {
+        cells.push(cell_of((count - 1 - next) as u64, 0))?;
     }
     Ok(())
 }
@@ -77,17 +110,6 @@ pub fn blocks_in(cell: u16) -> u64
     ensures { result ≡ rules.blocks_in cell }
 {
     cell as u64 / 64
-}
-
-/// The last place at which the number of a cell may stand whose zeros begin at a place.
-fn last_place(from: usize, count: usize) -> usize
-    requires { from < count }
-    ensures least { from ≤ result }
-    ensures within { result < count }
-    ensures few { result ≤ from + most_zeros }
-    ensures last { result + 1 ≡ count ⊎ result ≡ from + most_zeros }
-{
-    from + (count - 1 - from).min(MOST_ZEROS)
 }
 
 /// A number and the zeros before it.

@@ -6,5 +6,6 @@ pub mod RowLaws
 mod RowTotals
 mod Zeros
 mod Marks
+mod Walks
 pub mod ActivityLaws
 pub mod Examples

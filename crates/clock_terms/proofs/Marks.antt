@@ -14,11 +14,7 @@ bit_moved word by i = ap (λ n. n % 2) (shr-shr word by i)
 -- a demand whose bit is not set is 0
 not_held : (demands marks : List ℕ) (place : ℕ) → IsKeptRow demands marks → place < length demands
     → bit_at (get_or marks (place / 64) 0) (place % 64) ≡ 0 → get_or demands place 0 ≡ 0
-not_held demands marks place kept within clear =
-    ⊎_elim
-    (λ (held : 0 < get_or demands place 0). absurd (omega (arith, clear, kept.held place within held)))
-    (λ (none : get_or demands place 0 ≤ 0). omega (arith, none))
-    (cases_lt 0 (get_or demands place 0))
+not_held demands marks place kept within clear = omega (arith, clear, kept.held place)
 
 -- the demands so far are 0, and so are those whose bits are not set behind them in one word
 pub passed_more : (demands marks : List ℕ) (from place step to : ℕ) → IsKeptRow demands marks → AllWithin (λ demand. demand ≡ 0) demands from place

@@ -1,8 +1,9 @@
 -- Demands that are 0 are passed over.
-use Rattle.std.proofs.Common.{◌≡◌, ℕ, zero, suc, ◌+◌, ◌*◌, ◌<◌, ◌≤◌, ◌-◌, List, [], ◌∷◌, length, drop, get_or, refl, ap, sym, ◌∙◌, arith, All}
+use Rattle.std.proofs.Common.{◌≡◌, ℕ, zero, suc, ◌+◌, ◌*◌, ◌<◌, ◌≤◌, ◌-◌, List, [], ◌∷◌, length, drop, get_or, refl, ap, sym, ◌∙◌, arith, All, ⊎_elim}
 use Rattle.std.specs.Prelude.{zip}
+use Rattle.std.proofs.lemmas.Bool.{cases_lt}
 use Rattle.std.specs.List.{AllWithin}
-use Rattle.std.proofs.lemmas.List.{get_or_default, get_or-drop, drop-drop, drop_more}
+use Rattle.std.proofs.lemmas.List.{get_or_default, get_or-drop, drop-drop, drop_more, drop_all}
 use Rattle.std.proofs.lemmas.List.Sums.{sum_by-cons}
 use Rattle.std.proofs.lemmas.Nat.{mul-le}
 use Rattle.clock_terms.specs.declared.setup.Product.{Product}
@@ -28,6 +29,10 @@ activity-behind (suc n) (product ∷ products) (demand ∷ row) none =
       ap (λ n. product.units * n) (none 0 (omega arith)),
     )
 
+-- behind a row there are no demands
+activity-end : (products : List Product) (row : List ℕ) (from : ℕ) → length row ≤ from → activity (drop from products) (drop from row) ≡ 0
+activity-end products row from past = ap (λ list. activity (drop from products) list) (drop_all from row past) ∙ no_numbers (drop from products)
+
 -- the same from one place of the row to a later one
 pub activity-passed : (products : List Product) (row : List ℕ) (from to : ℕ) → from ≤ to → AllWithin (λ demand. demand ≡ 0) row from to
     → activity (drop to products) (drop to row) ≡ activity (drop from products) (drop from row)
@@ -39,6 +44,16 @@ activity-passed products row from to order none =
     ∙ ap (λ list. activity (drop count (drop from products)) list) (sym (drop-drop count from row))
     ∙ activity-behind count (drop from products) (drop from row)
     (λ k below. get_or-drop from row k 0 ∙ none (from + k) 0 (omega arith) (omega (arith, below, is)))
+
+-- where no demand is held from a place on, nothing is taken from there on
+pub activity-none : (products : List Product) (row : List ℕ) (from : ℕ) → AllWithin (λ demand. demand ≡ 0) row from (length row)
+    → activity (drop from products) (drop from row) ≡ 0
+activity-none products row from none =
+    ⊎_elim
+    (λ (past : length row < from). activity-end products row from (omega (arith, past)))
+    (λ (order : from ≤ length row).
+    sym (activity-passed products row from (length row) order none) ∙ activity-end products row (length row) (omega arith))
+    (cases_lt (length row) from)
 
 -- a product that is held, and those behind it up to the next one that is
 module _ (products : List Product) (row : List ℕ) (place : ℕ) (one : Product) (held : place < length row) (each : length row ≡ length products) where

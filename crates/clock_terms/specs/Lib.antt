@@ -2,6 +2,7 @@ pub mod Limits
 pub mod Demands
 pub mod Prices
 pub mod Increments
+pub mod Held
 pub mod Eligibility
 pub mod Faults
 pub mod Requests

@@ -38,12 +38,10 @@ pub fn units_held(products: &[Product], row: &Row) -> u64
     ensures exact { result ≡ eligibility.activity products.now row.now }
     ensures most { result ≤ most_products * (most_units * most_supply) }
 {
-    let count = row.len();
     let mut total: u64 = 0;
-    let mut place = row.first_held(0, count);
-    'held: while place < count {
+    let mut held = row.held();
+    'held: while let Some(place) = held.next() {
         total += products[place].units * row.get(place);
-        place = row.first_held(place + 1, count);
     }
     total
 }

@@ -5,6 +5,7 @@
 mod change;
 mod eligibility;
 mod grid;
+mod held_products;
 mod increments;
 mod limits;
 mod prices;
@@ -14,6 +15,7 @@ mod setup;
 pub use change::{Change, Changes, Kind};
 pub use eligibility::{activity, next_eligibility, units_held};
 pub use grid::{Amounts, Grid, row_at};
+pub use held_products::HeldProducts;
 pub use increments::Increments;
 pub use limits::{
     FIRST_GRANULE, FIRST_LIMIT, LATEST_VERSION, LEAST_LIMIT, LEAST_REQUIREMENT, LONGEST_NAME,

@@ -1,4 +1,4 @@
-ghost use Rattle.std.specs.Prelude.{◌≡◌, ℕ, ◌+◌, ◌≤◌, ◌<◌, ◌*◌, ◌≢◌, length, replicate, All, IfOk, slice_index, slice_set};
+ghost use Rattle.std.specs.Prelude.{◌≡◌, ℕ, ◌+◌, ◌≤◌, ◌<◌, ◌*◌, ◌≢◌, min, length, replicate, All, IfOk, slice_index, slice_set};
 ghost use Rattle.std.specs.List.{AllWithin};
 ghost use Rattle.std.specs.Int.{bit_at};
 ghost use Rattle.clock_terms.specs.Limits.{most_products, most_supply};
@@ -88,13 +88,18 @@ impl Row {
         ensures { self.new ≡ slice_set self.old product demand }
     {
         let word = self.marks[product / 64];
-        let bit = (product % 64) as u32;
-        self.marks[product / 64] = if demand > 0 {
-            marked(word, bit)
-        } else {
-            unmarked(word, bit)
-        };
+        self.marks[product / 64] = with_mark(word, (product % 64) as u32, demand);
         self.demands[product] = demand as u16;
+    }
+
+    /// The marks of the 64 products from `word * 64` on: a bit is set where a block of its product is held.
+    #[inline(always)]
+    pub(crate) fn marks_in(&self, word: usize) -> u64
+        requires { word * 64 ≤ length self.now }
+        ensures marks { (bit : ℕ) → bit < 64 → bit_at result bit ≡ min 1 (slice_index self.now (word * 64 + bit)) }
+        ensures few { length self.now ≤ most_products }
+    {
+        self.marks[word]
     }
 
     /// The first product from `from` on of which a block is held, or `until` where each one before that is not held.
@@ -152,14 +157,12 @@ fn marks_of(alloc: Global, demands: &[u64]) -> Result<Vec<u64>, NoMemory>
 /// The marks of the 64 demands from one on, or of as many as there are.
 fn word_of(demands: &[u64], from: usize) -> u64
     requires { from ≤ length demands.now }
-    ensures { (bit : ℕ) → bit < 64 → 0 < slice_index demands.now (from + bit) → bit_at result bit ≡ 1 }
+    ensures { (bit : ℕ) → bit < 64 → bit_at result bit ≡ min 1 (slice_index demands.now (from + bit)) }
 {
     let count = (demands.len() - from).min(64);
     let mut word = 0;
     for bit in 0..count {
-        if demands[from + bit] > 0 {
-            word = marked(word, bit as u32);
-        }
+        word = with_mark(word, bit as u32, demands[from + bit]);
     }
     word
 }
@@ -174,19 +177,16 @@ fn unmarked_from(word: u64, bit: usize) -> usize
     (64 - bit).min((word >> bit).trailing_zeros() as usize)
 }
 
-/// A word of marks with a mark more.
-fn marked(word: u64, bit: u32) -> u64
+/// A word of marks with the one of a place as its demand wants it: set where a block is held, and else not.
+fn with_mark(word: u64, bit: u32, demand: u64) -> u64
     requires { bit < 64 }
-    ensures set { bit_at result bit ≡ 1 }
-    ensures kept { (other : ℕ) → bit_at word other ≡ 1 → bit_at result other ≡ 1 }
+    ensures own { bit_at result bit ≡ min 1 demand }
+    ensures kept { (other : ℕ) → other < 64 → other ≢ bit → bit_at result other ≡ bit_at word other }
 {
-    word | (1u64 << bit)
-}
-
-/// A word of marks with a mark less.
-fn unmarked(word: u64, bit: u32) -> u64
-    requires { bit < 64 }
-    ensures { (other : ℕ) → other < 64 → other ≢ bit → bit_at word other ≡ 1 → bit_at result other ≡ 1 }
-{
-    word & !(1u64 << bit)
+    let held = demand > 0;
+    if held {
+        word | (1u64 << bit)
+    } else {
+        word & !(1u64 << bit)
+    }
 }

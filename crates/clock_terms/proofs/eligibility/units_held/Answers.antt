@@ -1,13 +1,14 @@
-use Rattle.std.proofs.Common.{◌<◌, length, arith}
-use Rattle.clock_terms.proofs.Zeros.{activity-passed, so_far_more, small_more}
+use Rattle.std.proofs.Common.{◌≡◌, ◌+◌, ◌<◌, List, ℕ, length, min, subst, ◌∙◌, arith}
+use Rattle.std.specs.List.{AllWithin}
+use Rattle.clock_terms.proofs.Zeros.{activity-passed, activity-none, so_far_more, small_more}
 use Rattle.clock_terms.proofs.eligibility.units_held.Goals as goal
 
 pub held-init : goal.held-init
 held-init c = record {
-  within = omega (arith, c.first_held-place.ensures.most, c.len-count.ensures.is);
+  row = c.held-held.ensures.row;
   so_far = omega (
     arith,
-    activity-passed c.args.products.now c.args.row.now 0 c.first_held-place.result (omega arith) c.first_held-place.ensures.passed,
+    activity-passed c.args.products.now c.args.row.now 0 c.held-held.result.from (omega arith) c.held-held.ensures.passed,
   );
   small = omega arith;
 }
@@ -16,15 +17,31 @@ pub held-preserved : goal.held-preserved
 held-preserved c =
     let products = c.args.products.now in
     let row = c.args.row.now in
-    let place = c.held.place in
+    let place = c.in-Some.place in
+    let old = c.held.held in
+    let next = c.next.new.self in
+    let found = c.in-Some.ensures in
     let one = c.index-products-place.result in
-    let held : place < length row = omega (arith, c.held-test.true, c.len-count.ensures.is) in
-    let next = c.first_held-place-in-held in
+    let same = c.held.invariant.row in
+    let within : place < length row = subst (λ (demands : List ℕ). place < length demands) same found.within in
+    let passed = activity-passed products row old.from place found.least
+    (subst (λ (demands : List ℕ). AllWithin (λ demand. demand ≡ 0) demands old.from place) same found.passed) in
     record {
-      within = omega (arith, next.ensures.most, c.len-count.ensures.is);
-      so_far = so_far_more products row place one held c.requires.row.each c.held.total _ next.result _ c.get.ensures.is
-          c.held.invariant.so_far
-          next.ensures.least next.ensures.passed;
-      small = small_more products row place one held c.requires.row.each c.held.total next.result _ c.get.ensures.is c.requires.limits c.requires.row
-          c.held.invariant.small next.ensures.least;
+      row = found.row ∙ same;
+      so_far = so_far_more products row place one within c.requires.row.each c.held.total _ next.from _ c.get.ensures.is
+          (omega (arith, passed, c.held.invariant.so_far))
+          (omega (arith, found.given))
+          (subst (λ (demands : List ℕ). AllWithin (λ demand. demand ≡ 0) demands (place + 1) next.from) same found.ahead);
+      small = small_more products row place one within c.requires.row.each c.held.total (min next.from (length row)) _ c.get.ensures.is
+          c.requires.limits c.requires.row (omega (arith, c.held.invariant.small, found.least)) (omega (arith, found.given, within));
     }
+
+pub returns-clause-exact : goal.returns-clause-exact
+returns-clause-exact c =
+    let row = c.args.row.now in
+    let none = subst (λ (demands : List ℕ). AllWithin (λ demand. demand ≡ 0) demands c.held.held.from (length demands)) c.held.invariant.row
+    c.in_default.ensures.passed in
+    omega (arith, c.held.invariant.so_far, activity-none c.args.products.now row c.held.held.from none)
+
+pub returns-clause-most : goal.returns-clause-most
+returns-clause-most c = omega (arith, c.held.invariant.small, c.requires.row.each, c.requires.product_count)

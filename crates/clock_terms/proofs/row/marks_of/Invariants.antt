@@ -1,4 +1,4 @@
-use Rattle.std.proofs.Common.{◌≡◌, ℕ, ◌*◌, ◌+◌, ◌<◌, length, slice_index}
+use Rattle.std.proofs.Common.{◌≡◌, ℕ, ◌*◌, ◌+◌, ◌<◌, min, length, slice_index}
 use Rattle.std.specs.Int.{bit_at}
 use Rattle.clock_terms.proofs.row.marks_of.Given as goal
 
@@ -6,5 +6,5 @@ use Rattle.clock_terms.proofs.row.marks_of.Given as goal
 abbrev pub invariant-loop-word : goal.invariant-loop-word
 invariant-loop-word l = record {
   long : length l.marks.items ≡ l.word;
-  held : (word bit : ℕ) → word < l.word → bit < 64 → 0 < slice_index l.demands (word * 64 + bit) → bit_at (slice_index l.marks.items word) bit ≡ 1;
+  held : (word bit : ℕ) → word < l.word → bit < 64 → bit_at (slice_index l.marks.items word) bit ≡ min 1 (slice_index l.demands (word * 64 + bit));
 }
