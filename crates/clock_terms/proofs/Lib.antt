@@ -2,8 +2,6 @@ pub mod WithinLaws
 pub mod IncrementLaws
 pub mod FaultLaws
 pub mod DemandLaws
-pub mod RowLaws
-mod RowTotals
 mod Zeros
 mod Marks
 mod Walks

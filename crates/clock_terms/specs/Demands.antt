@@ -4,9 +4,7 @@
 --     with_demand grid bidder product demand      the grid with that one demand changed
 --     no_demands bidders products      all demands 0
 --     IsGrid bidders products grid      the grid has these numbers of rows and columns
---     rows_of bidders products demands      one list of all demands, bidder by bidder, cut into its rows
-use Rattle.std.specs.Prelude.{◌≡◌, ℕ, zero, suc, List, [], ◌∷◌, length, take}
-use Rattle.std.specs.Prelude.{drop, replicate, slice_index, slice_index_or, slice_set, sum_by, All}
+use Rattle.std.specs.Prelude.{◌≡◌, ℕ, List, [], length, replicate, slice_index, slice_index_or, slice_set, sum_by, All}
 
 -- a bidder's demands
 abbrev pub row_of : List (List ℕ) → ℕ → List ℕ
@@ -32,8 +30,3 @@ no_demands bidders products = replicate bidders (replicate products 0)
 -- a row for each bidder, and in each row a number for each product
 abbrev pub IsGrid : ℕ → ℕ → List (List ℕ) → Type 0
 IsGrid bidders products grid = (length grid ≡ bidders) × All (λ row. length row ≡ products) grid
-
--- one list of all demands, bidder by bidder, cut into so many rows
-unfoldable pub rows_of : ℕ → ℕ → List ℕ → List (List ℕ)
-rows_of zero products demands = []
-rows_of (suc bidders) products demands = take products demands ∷ rows_of bidders products (drop products demands)

@@ -1,6 +1,6 @@
-ghost use Rattle.std.specs.Prelude.{◌≡◌, List, ℕ, ◌+◌, ◌*◌, ◌≤◌, ◌<◌, length, take, drop, All, IfOk, slice_index, slice_set};
-ghost use Rattle.clock_terms.specs.Limits.{most_bidders, most_products, most_supply};
-ghost use Rattle.clock_terms.specs.Demands.{total_of, demand_at, row_of, rows_of, with_demand, no_demands};
+ghost use Rattle.std.specs.Prelude.{◌≡◌, ◌≤◌, ◌<◌, length, All, IfOk, slice_set};
+ghost use Rattle.clock_terms.specs.Limits.{most_supply};
+ghost use Rattle.clock_terms.specs.Demands.{total_of, demand_at, row_of, with_demand, no_demands};
 
 use crate::row::Row;
 use crate::setup::Setup;
@@ -10,42 +10,6 @@ use std::marker::Model;
 
 /// Numbers of blocks or of bidding units: one for each product, each bidder or each change.
 pub type Amounts = Items<u64>;
-
-/// How many demands the bidders before one have, where each has one for each product.
-fn demands_before(bidder: usize, products: usize) -> usize
-    requires bidder { bidder ≤ most_bidders }
-    requires products { products ≤ most_products }
-    ensures count { result ≡ bidder * products }
-    ensures small { result ≤ most_bidders * most_products }
-{
-    bidder * products
-}
-
-/// A bidder's row of demands that stand in one list, where each bidder has one for each product.
-pub fn row_at(demands: &[u64], bidder: usize, products: usize) -> &[u64]
-    requires bidder { bidder ≤ most_bidders }
-    requires products { products ≤ most_products }
-    requires within { bidder * products + products ≤ length demands.now }
-    ensures { result.now ≡ take products (drop (bidder * products) demands.now) }
-{
-    let start = demands_before(bidder, products);
-    &demands[start..start + products]
-}
-
-/// Adds a row of demands to the products' totals.
-fn add_row(totals: &mut Amounts, row: &[u64])
-    requires lengths { length row.now ≡ length totals.old }
-    requires small { All (λ demand. demand ≤ most_supply) row.now }
-    requires few { All (λ total. total ≤ most_bidders * most_supply) totals.old }
-    ensures length { length totals.new ≡ length totals.old }
-    ensures sums { (product : ℕ) → product < length totals.old
-        → slice_index totals.new product ≡ slice_index totals.old product + slice_index row.now product }
-{
-    for (product, demand) in row.iter().enumerate() {
-        let total = totals.as_slice()[product] + *demand;
-        totals.set(product, total);
-    }
-}
 
 /// A row of demands for each bidder, and in it the demand in blocks for each product. Contracts see the list of rows,
 /// and nothing of how it is kept. No demand is above 1,000 blocks. The total of each product stands beside the rows.
@@ -77,25 +41,6 @@ impl Grid {
         let mut rows = Vec::new(alloc);
         for _bidder in 0..bidders {
             rows.push(Row::zeros(alloc, products)?)?;
-        }
-        Ok(Grid { rows, totals })
-    }
-
-    /// The grid of a set-up whose demands stand in one list, bidder by bidder.
-    pub fn of_numbers(alloc: Global, setup: &Setup, demands: Amounts) -> Result<Grid, NoMemory>
-        requires full { length demands ≡ length setup.now.bidders * length setup.now.products }
-        requires small { All (λ row. All (λ demand. demand ≤ most_supply) row)
-            (rows_of (length setup.now.bidders) (length setup.now.products) demands) }
-        ensures { IfOk result (λ grid. grid ≡ rows_of (length setup.now.bidders) (length setup.now.products) demands) }
-    {
-        let bidders = setup.bidders.as_slice().len();
-        let products = setup.products.as_slice().len();
-        let mut totals = Amounts::zeros(alloc, products)?;
-        let mut rows = Vec::new(alloc);
-        for bidder in 0..bidders {
-            let row = row_at(demands.as_slice(), bidder, products);
-            add_row(&mut totals, row);
-            rows.push(Row::of_numbers(alloc, row)?)?;
         }
         Ok(Grid { rows, totals })
     }

@@ -14,7 +14,7 @@ mod setup;
 
 pub use change::{Change, Changes, Kind};
 pub use eligibility::{activity, next_eligibility, units_held};
-pub use grid::{Amounts, Grid, row_at};
+pub use grid::{Amounts, Grid};
 pub use held_products::HeldProducts;
 pub use increments::Increments;
 pub use limits::{
