@@ -3,7 +3,6 @@ pub mod IncrementLaws
 pub mod FaultLaws
 pub mod DemandLaws
 mod Zeros
-mod Marks
 mod Walks
 pub mod ActivityLaws
 pub mod Examples
