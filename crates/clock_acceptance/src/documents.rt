@@ -4,7 +4,8 @@ use clock_setup::fixtures::{ACTIVITY_LIMIT, ONE_PRODUCT};
 use std::alloc::Global;
 use std::test::Fail;
 
-/// Two products A and B of seven blocks each, the bidders X and Z of eligibility 10, and an activity limit of 125 percent.
+/// Two products A and B of seven blocks each, the bidders X and Z of eligibility 10, and an activity limit of 125
+/// percent.
 pub const SEVEN_BLOCKS: &str = r#"{
     "version": 2, "requirement": 100, "limit": 125, "operator": "OPERATOROPERATOR",
     "products": [

@@ -1,4 +1,5 @@
-//! Tests that cross crates: whole rounds, from set-up documents to sheets and slips, and settlings with both processors.
+//! Tests that cross crates: whole rounds, from set-up documents to sheets and slips, and settlings with both
+//! processors.
 #![tactic(auto)]
 
 #[cfg(test)]

@@ -4,7 +4,7 @@
 --     TakesUpTo     no more bytes were read than the program reads
 --     ReadsTooMuch     one byte more than the program reads was taken
 --     IsReadingOf     how reading ended, by its result
-use Rattle.std.specs.Prelude.{◌≡◌, ◌≤◌, ◌⊎◌, ◌+◌, ℕ, List, length, true, false, Result, Ok, Err}
+use Rattle.std.specs.Prelude.{◌≡◌, ◌≤◌, ◌⊎◌, ◌+◌, ℕ, List, length, false, Result, Ok, Err}
 use Rattle.clock_device.specs.Streams.{HasRead, IsReadOut}
 use Rattle.clock_device.specs.Readings.{Reading, HasFailedRead, RunsOutOfReads}
 use Rattle.clock_auction.specs.declared.fault.Fault.{Fault}

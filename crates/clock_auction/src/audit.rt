@@ -94,7 +94,8 @@ pub fn recounted(
     bytes: &[u8],
 ) -> Result<Recount, Fault>
     requires { StandsForTexts [] front }
-    ensures { IfOk result (λ recount. IsRecountOf front.setup first bytes.now recount.front recount.chain recount.digests.items) }
+    ensures { IfOk result (λ recount. IsRecountOf front.setup first bytes.now recount.front recount.chain
+        recount.digests.items) }
 {
     let mut recount = Recount::new(alloc, front, first);
     match recover(&mut recount, &first, bytes) {
@@ -106,7 +107,8 @@ pub fn recounted(
     }
 }
 
-/// The rounds that are closed, each with the digest of its closing, and what each bidder won where the auction has ended.
+/// The rounds that are closed, each with the digest of its closing, and what each bidder won where the auction has
+/// ended.
 pub fn audit_of(alloc: Global, recount: &Recount) -> Result<Text, Fault>
     requires { IsSomeRecount recount.now.front recount.now.chain recount.now.digests.items }
     ensures { (first : List ℕ) (texts : List (List ℕ))

@@ -47,8 +47,18 @@ pub fn command<R: Source, W: Sink, F: Sink>(
           interruptions = R.interruptions reader.new;
           has_failed = R.has_failed reader.new;
         })
-        (record { before = W.bytes_taken writer.old; after = W.bytes_taken writer.new; calls = W.calls writer.new; has_failed = W.has_failed writer.new })
-        (record { before = F.bytes_taken faults.old; after = F.bytes_taken faults.new; calls = F.calls faults.new; has_failed = F.has_failed faults.new })
+        (record {
+          before = W.bytes_taken writer.old;
+          after = W.bytes_taken writer.new;
+          calls = W.calls writer.new;
+          has_failed = W.has_failed writer.new;
+        })
+        (record {
+          before = F.bytes_taken faults.old;
+          after = F.bytes_taken faults.new;
+          calls = F.calls faults.new;
+          has_failed = F.has_failed faults.new;
+        })
         result }
     ensures reads { R.calls reader.new ≤ most_document_reads }
 {
@@ -97,7 +107,12 @@ fn run<R: Source, W: Sink>(
           interruptions = R.interruptions reader.new;
           has_failed = R.has_failed reader.new;
         })
-        (record { before = W.bytes_taken writer.old; after = W.bytes_taken writer.new; calls = W.calls writer.new; has_failed = W.has_failed writer.new })
+        (record {
+          before = W.bytes_taken writer.old;
+          after = W.bytes_taken writer.new;
+          calls = W.calls writer.new;
+          has_failed = W.has_failed writer.new;
+        })
         result }
     ensures reads { R.calls reader.new ≤ most_document_reads }
 {
@@ -113,7 +128,12 @@ fn run<R: Source, W: Sink>(
 pub fn show_fault<F: Sink>(fault: Fault, faults: &mut F)
     requires { IsUnused (F.calls faults.old) (F.has_failed faults.old) }
     ensures { Shows
-        (record { before = F.bytes_taken faults.old; after = F.bytes_taken faults.new; calls = F.calls faults.new; has_failed = F.has_failed faults.new })
+        (record {
+          before = F.bytes_taken faults.old;
+          after = F.bytes_taken faults.new;
+          calls = F.calls faults.new;
+          has_failed = F.has_failed faults.new;
+        })
         (fault_line fault) }
 {
     let _ = write_fault(faults, fault);

@@ -143,7 +143,8 @@ fn write_numbered<W: Sink>(sink: &mut W, word: &str, number: u64) -> Result<(), 
 
 /// Writes a word and two numbers.
 fn write_pair<W: Sink>(sink: &mut W, word: &str, first: u64, second: u64) -> Result<(), Failed>
-    ensures bytes { WritesText (W.bytes_taken sink.old) (W.bytes_taken sink.new) (word.now ++ decimal first ++ (codes " " ++ decimal second)) result }
+    ensures bytes { WritesText (W.bytes_taken sink.old) (W.bytes_taken sink.new) (word.now ++ decimal first
+        ++ (codes " " ++ decimal second)) result }
     ensures failed { W.has_failed sink.new ≡ (W.has_failed sink.old || is_err result) }
 {
     write_numbered(sink, word, first)?;

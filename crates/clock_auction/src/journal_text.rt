@@ -75,8 +75,8 @@ fn setup_line(alloc: Global, first: &Link) -> Result<Text, NoMemory> {
     Ok(text)
 }
 
-/// The digest of the set-up document, and for each text of a journal the line `text NUMBER PLACE LENGTH DIGEST`, with its place in the
-/// file, and then its bytes and a line feed.
+/// The digest of the set-up document, and for each text of a journal the line `text NUMBER PLACE LENGTH DIGEST`, with
+/// its place in the file, and then its bytes and a line feed.
 pub fn listing_of(alloc: Global, first: Link, bytes: &[u8]) -> Result<Listing, Fault> {
     let mut listing = Listing {
         text: setup_line(alloc, &first)?,

@@ -18,8 +18,9 @@ use std::net::{Net, TcpListener, TcpStream};
 use std::os::unix::fs::OpenOptionsExt;
 use std::rt::Files;
 
-/// Serves an auction of the set-up in a file, and keeps it in a journal: takes the journal over, tells how many texts it has and the
-/// digest of the last, listens on 127.0.0.1, and serves so many connections, one after the other. The first fault ends it.
+/// Serves an auction of the set-up in a file, and keeps it in a journal: takes the journal over, tells how many texts
+/// it has and the digest of the last, listens on 127.0.0.1, and serves so many connections, one after the other. The
+/// first fault ends it.
 pub fn serve_kept<R>(rt: &R, serving: &Serving, path: &str) -> Result<(), Fault>
 where
     R: Files<File = File>

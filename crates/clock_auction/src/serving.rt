@@ -13,7 +13,8 @@ use clock_serving::{Listening, ServeFault, Unkept, serve_all};
 use std::alloc::Global;
 use std::net::TcpListener;
 
-/// Serves so many connections of a port, one after the other, with one request each. A fault of a stream ends its connection alone.
+/// Serves so many connections of a port, one after the other, with one request each. A fault of a stream ends its
+/// connection alone.
 ///
 /// It waits for each connection, and for each peer, as long as these take.
 pub fn serve_on<P: Processor>(
@@ -36,7 +37,8 @@ pub fn serve_on<P: Processor>(
     )
 }
 
-/// The same with a journal: each closing is told with its digest, and a text that could not be kept ends it without a reply.
+/// The same with a journal: each closing is told with its digest, and a text that could not be kept ends it without a
+/// reply.
 pub fn serve_kept_on<P: Processor, R: Print, D: Durable>(
     alloc: Global,
     front: &mut Front<P>,
@@ -45,7 +47,8 @@ pub fn serve_kept_on<P: Processor, R: Print, D: Durable>(
     connections: u64,
 ) -> Result<(), ServeFault>
     requires unfailed { journal.old.has_failed ≡ false }
-    ensures served { (exchanges : List Exchange) × EndsServing Fits connections exchanges journal.old journal.new front.old front.new result }
+    ensures served { (exchanges : List Exchange) × EndsServing Fits connections exchanges journal.old journal.new
+        front.old front.new result }
     ensures setup { front.new.setup ≡ front.old.setup }
 {
     serve_all(

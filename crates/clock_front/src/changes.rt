@@ -134,8 +134,10 @@ fn close_round<P: Processor>(
     closing: &CloseBody,
 ) -> Result<Reply, NoMemory>
     ensures reply { IfOk result (λ reply. reply
-        ≡ answer_of (told.close_outcome closing.now.round (closing_in house.old closing.now.round closing.now.increments closing.now.ties))) }
-    ensures followed { OnOk result (IsFollowedBy (command.close closing.now.round closing.now.increments closing.now.ties) house.old house.new) }
+        ≡ answer_of (told.close_outcome closing.now.round (closing_in house.old closing.now.round closing.now.increments
+        closing.now.ties))) }
+    ensures followed { OnOk result (IsFollowedBy (command.close closing.now.round closing.now.increments
+        closing.now.ties) house.old house.new) }
     ensures still { OnErr result (StandsStill house.old house.new) }
 {
     match house.prepare(closing.round, &closing.increments, closing.ties.as_slice()) {
@@ -161,7 +163,9 @@ pub(crate) fn close<P: Processor>(
 ) -> Result<Reply, NoMemory>
     ensures reply { IfOk result (λ reply. reply
         ≡ answer_of (told.close_to house.old (in_version house.old.setup.version (close_body body.now)))) }
-    ensures followed { OnOk result (IsFollowedBy (told.close_command (in_version house.old.setup.version (close_body body.now))) house.old house.new) }
+    ensures followed { OnOk result
+        (IsFollowedBy (told.close_command (in_version house.old.setup.version (close_body body.now)))
+        house.old house.new) }
     ensures still { OnErr result (StandsStill house.old house.new) }
 {
     house.law_of_house();

@@ -145,8 +145,10 @@ impl Connections {
     #[inline(always)]
     pub fn take(&mut self, conn: Conn, piece: &[u8]) -> Result<bool, NoMemory>
         requires { IsSome (text_of self.old conn) }
-        ensures taken { (text : List ℕ) → text_of self.old conn ≡ Some text → OnOk result (IsTaken self.old self.new conn (text ++ piece.now)) }
-        ensures short { (text : List ℕ) → text_of self.old conn ≡ Some text → IfOk result (λ short. short ≡ needs_more (text ++ piece.now)) }
+        ensures taken { (text : List ℕ) → text_of self.old conn ≡ Some text
+            → OnOk result (IsTaken self.old self.new conn (text ++ piece.now)) }
+        ensures short { (text : List ℕ) → text_of self.old conn ≡ Some text → IfOk result (λ short. short
+            ≡ needs_more (text ++ piece.now)) }
         ensures err { OnErr result (self.new ≡ self.old) }
     {
         self.slab[conn.slot].take(piece)

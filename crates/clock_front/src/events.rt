@@ -18,7 +18,8 @@ use std::alloc::Global;
 /// - `Piece`: bytes of a connection's request.
 /// - `Finish`: the end of a connection's input.
 ///
-/// A piece and an end do nothing where the connection was refused, its request was answered, or it was not asked for yet.
+/// A piece and an end do nothing where the connection was refused, its request was answered, or it was not asked for
+/// yet.
 #[derive(Drop)]
 pub enum Event {
     Connect,
@@ -66,9 +67,9 @@ fn take_each<P: Processor>(
     Ok(replies)
 }
 
-/// Answers the requests that come in pieces over connections, in the order in which they are complete, as [`run`](crate::run)
-/// answers their texts. There is no memory where a connection, a piece or a list found none; a request that finds none while
-/// it is answered has a reply that says so.
+/// Answers the requests that come in pieces over connections, in the order in which they are complete, as
+/// [`run`](crate::run) answers their texts. There is no memory where a connection, a piece or a list found none; a
+/// request that finds none while it is answered has a reply that says so.
 pub fn run_events<P: Processor>(
     alloc: Global,
     setup: Setup,

@@ -1,5 +1,5 @@
-//! Replies that are always the same, and take no memory: those that refuse a text at its head or at its length, and that of
-//! want of memory.
+//! Replies that are always the same, and take no memory: those that refuse a text at its head or at its length, and
+//! that of want of memory.
 
 ghost use Rattle.std.specs.Prelude.{◌≡◌, IsTrue};
 ghost use Rattle.clock_front.specs.FixedReplies.{no_memory};

@@ -12,7 +12,7 @@ ghost use Rattle.clock_front.specs.Private.{IsPrivateReply};
 ghost use Rattle.clock_front.specs.inside.Private.{IsToldAsker};
 ghost use Rattle.clock_front.specs.Requests.{ask_by_route, request_of};
 ghost use Rattle.clock_http.specs.Routes.{page_of};
-ghost use Rattle.clock_http.specs.Shown.{Knows, shown_head, shown_bytes};
+ghost use Rattle.clock_http.specs.Shown.{Knows, shown_head};
 ghost use Rattle.clock_front.specs.inside.ShownAsked.{shown_asked};
 ghost use Rattle.clock_front.specs.inside.TokenTable.{IsTableOf};
 ghost use Rattle.clock_front.specs.inside.KeptPage.{IsProductsPage};
@@ -88,7 +88,8 @@ fn answer_asked<P: Processor>(
     ensures reply { IfOk result (λ reply. reply ≡ answer_of (outcome house.old asker (shown_asked what.entry))) }
     ensures wanted { IfErr result (WantsRoom asker (shown_asked what.entry)
         (outcome house.old asker (shown_asked what.entry))) }
-    ensures followed { OnOk result (IsFollowedBy (command_of house.old.setup asker (shown_asked what.entry)) house.old house.new) }
+    ensures followed { OnOk result (IsFollowedBy (command_of house.old.setup asker (shown_asked what.entry))
+        house.old house.new) }
     ensures still { OnErr result (StandsStill house.old house.new) }
 {
     house.law_of_house();
@@ -118,12 +119,16 @@ fn answer_head<P: Processor>(
     requires known { IsKnown (length house.old.setup.bidders) asker }
     requires page { IsProductsPage house.old.setup products.now }
     ensures reply { IfOk result (λ reply. reply
-        ≡ answer_of (outcome house.old asker (ask_by_route (page_of head.now.path.now) (shown_head head.now) body.now))) }
-    ensures wanted { IfErr result (WantsRoom asker (ask_by_route (page_of head.now.path.now) (shown_head head.now) body.now)
+        ≡ answer_of (outcome house.old asker (ask_by_route (page_of head.now.path.now) (shown_head head.now)
+        body.now))) }
+    ensures wanted { IfErr result (WantsRoom asker (ask_by_route (page_of head.now.path.now)
+        (shown_head head.now) body.now)
         (outcome house.old asker (ask_by_route (page_of head.now.path.now) (shown_head head.now) body.now))) }
-    ensures private { IfOk result (IsToldAsker house.old asker (ask_by_route (page_of head.now.path.now) (shown_head head.now) body.now)) }
+    ensures private { IfOk result (IsToldAsker house.old asker (ask_by_route (page_of head.now.path.now)
+        (shown_head head.now) body.now)) }
     ensures followed { OnOk result (IsFollowedBy
-        (command_of house.old.setup asker (ask_by_route (page_of head.now.path.now) (shown_head head.now) body.now)) house.old house.new) }
+        (command_of house.old.setup asker (ask_by_route (page_of head.now.path.now) (shown_head head.now) body.now))
+        house.old house.new) }
     ensures still { OnErr result (StandsStill house.old house.new) }
 {
     house.law_of_house();
@@ -169,15 +174,17 @@ impl<P: Processor> Front<P> {
         }
     }
 
-    /// The reply to a text of which this is known, where there is memory for it; otherwise what was refused, and nothing has
-    /// changed. A text that asks for a page alone goes without a reply only with the refusal of room for it, of a size that
-    /// follows from the right reply: so for a bidder's own text it follows from its view.
+    /// The reply to a text of which this is known, where there is memory for it; otherwise what was refused, and
+    /// nothing has changed. A text that asks for a page alone goes without a reply only with the refusal of room for
+    /// it, of a size that follows from the right reply: so for a bidder's own text it follows from its view.
     pub fn try_answer(&mut self, text: &[u8], progress: Progress) -> Result<Reply, Unanswered>
         requires { Knows text.now progress }
         ensures reply { IfOk result (λ reply. reply
-            ≡ answer_of (outcome self.old (asker_with self.old.setup (request_of text.now).token) (request_of text.now).ask)) }
+            ≡ answer_of (outcome self.old (asker_with self.old.setup (request_of text.now).token)
+            (request_of text.now).ask)) }
         ensures followed { OnOk result (IsFollowedBy
-            (command_of self.old.setup (asker_with self.old.setup (request_of text.now).token) (request_of text.now).ask) self.old self.new) }
+            (command_of self.old.setup (asker_with self.old.setup (request_of text.now).token)
+            (request_of text.now).ask) self.old self.new) }
         ensures still { OnErr result (StandsStill self.old self.new) }
         ensures private { IfOk result (IsPrivateReply text.now self.old) }
         ensures wanted { IfErr result (IsWantOf text.now self.old) }
@@ -203,8 +210,8 @@ impl<P: Processor> Front<P> {
         }
     }
 
-    /// The reply to a text of which this is known, after which the input has ended. It is that of [`Front::answer`]; a text
-    /// that came in pieces is not looked at again from its beginning.
+    /// The reply to a text of which this is known, after which the input has ended. It is that of [`Front::answer`]; a
+    /// text that came in pieces is not looked at again from its beginning.
     pub fn answer_known(&mut self, text: &[u8], progress: Progress) -> Reply
         requires { Knows text.now progress }
         ensures answered { AnswersText text.now result self.old self.new }
@@ -222,8 +229,8 @@ impl<P: Processor> Front<P> {
 
     /// The reply to a text, after which the input has ended: a request, less than one, or none at all.
     ///
-    /// Where there is no memory the reply is that of [`Code::Memory`], and nothing has changed; a text that is refused at its
-    /// head or at its length needs none. The page of a change is built before the change is made.
+    /// Where there is no memory the reply is that of [`Code::Memory`], and nothing has changed; a text that is refused
+    /// at its head or at its length needs none. The page of a change is built before the change is made.
     pub fn answer(&mut self, text: &[u8]) -> Reply
         ensures answered { AnswersText text.now result self.old self.new }
         ensures done { IsDoneBy text.now result self.old self.new }

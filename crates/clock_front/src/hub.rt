@@ -41,7 +41,8 @@ fn complete<P: Processor>(front: &mut Front<P>, connections: &mut Connections, c
     ensures answered { (text : List ℕ) → text_of connections.old conn ≡ Some text
         → IsAnswered (record { house = front.old; connections = connections.old })
         (record { house = front.new; connections = connections.new }) conn text result }
-    ensures cut_short { (text : List ℕ) → text_of connections.old conn ≡ Some text → needs_more text ≡ true → IsCutShort result }
+    ensures cut_short { (text : List ℕ) → text_of connections.old conn ≡ Some text → needs_more text ≡ true
+        → IsCutShort result }
 {
     let partial = connections.remove(conn);
     partial.answer(front)
@@ -73,8 +74,8 @@ impl<P: Processor> Hub<P> {
         }
     }
 
-    /// A new connection, which was never given before. It is refused as full where 256 connections stand, or where so many
-    /// were made that there is no further serial number.
+    /// A new connection, which was never given before. It is refused as full where 256 connections stand, or where so
+    /// many were made that there is no further serial number.
     pub fn connect(&mut self) -> Result<Conn, HubFault>
         ensures connected { IfOk result (IsConnected self.old.connections self.new.connections) }
         ensures front { self.new.house ≡ self.old.house }
@@ -84,8 +85,8 @@ impl<P: Processor> Hub<P> {
         self.connections.connect()
     }
 
-    /// Takes a piece of a request: it needs more, or its reply is told, as [`Front::answer`] gives it. Where there is no
-    /// memory the connection stands with the bytes that it had, and the piece can be fed again.
+    /// Takes a piece of a request: it needs more, or its reply is told, as [`Front::answer`] gives it. Where there is
+    /// no memory the connection stands with the bytes that it had, and the piece can be fed again.
     #[inline(always)]
     pub fn feed(&mut self, conn: Conn, piece: &[u8]) -> Result<Fed, HubFault>
         ensures fed { (text : List ℕ) → text_of self.old.connections conn ≡ Some text

@@ -74,7 +74,8 @@ pub(crate) fn products(alloc: Global, page: &[u8]) -> Result<Reply, NoRoom>
 /// The sheet of the round that a segment names.
 pub(crate) fn sheet<P>(alloc: Global, house: &House<P>, segment: &[u8]) -> Result<Reply, NoRoom>
     ensures reply { IfOk result (λ reply. reply ≡ answer_of (told house.now who.Nobody (asked.sheet segment.now))) }
-    ensures room { IfErr result (λ room. room ≡ room_of (asked.sheet segment.now) (told house.now who.Nobody (asked.sheet segment.now))) }
+    ensures room { IfErr result (λ room. room ≡ room_of (asked.sheet segment.now) (told house.now who.Nobody
+        (asked.sheet segment.now))) }
 {
     let Some(round) = plain_number(segment) else {
         return refusal(alloc, Refusal::alone(Code::NoRound));
@@ -92,7 +93,8 @@ pub(crate) fn account<P>(alloc: Global, house: &House<P>, bidder: u32) -> Result
     requires { bidder < length house.now.setup.bidders }
     ensures reply { IfOk result (λ reply. reply ≡ answer_of (told house.now (who.Bidder bidder) asked.account)) }
     ensures private { IfOk result (IsToldByView house.now bidder asked.account) }
-    ensures room { IfErr result (λ room. room ≡ room_of asked.account (told house.now (who.Bidder bidder) asked.account)) }
+    ensures room { IfErr result (λ room. room ≡ room_of asked.account (told house.now (who.Bidder bidder)
+        asked.account)) }
 {
     let own = house.own(bidder);
     let mut text = text_with_room(alloc, account_room(own.demands))?;
@@ -120,8 +122,10 @@ pub(crate) fn slip<P>(
     segment: &[u8],
 ) -> Result<Reply, NoRoom>
     requires { bidder < length house.now.setup.bidders }
-    ensures reply { IfOk result (λ reply. reply ≡ answer_of (told house.now (who.Bidder bidder) (asked.slip segment.now))) }
-    ensures room { IfErr result (λ room. room ≡ room_of (asked.slip segment.now) (told house.now (who.Bidder bidder) (asked.slip segment.now))) }
+    ensures reply { IfOk result (λ reply. reply
+        ≡ answer_of (told house.now (who.Bidder bidder) (asked.slip segment.now))) }
+    ensures room { IfErr result (λ room. room ≡ room_of (asked.slip segment.now) (told house.now (who.Bidder bidder)
+        (asked.slip segment.now))) }
 {
     let Some(round) = plain_number(segment) else {
         return refusal(alloc, Refusal::alone(Code::NoRound));
@@ -137,8 +141,10 @@ pub(crate) fn slip<P>(
 /// What all bidders hold.
 #[tactic(auto, unfolding(clock_views::specs::OperatorPages::results_value))]
 pub(crate) fn results<P>(alloc: Global, house: &House<P>) -> Result<Reply, NoRoom>
-    ensures reply { IfOk result (λ reply. reply ≡ answer_of (told (without_room house.now) who.Operator asked.results)) }
-    ensures room { IfErr result (λ room. room ≡ room_of asked.results (told (without_room house.now) who.Operator asked.results)) }
+    ensures reply { IfOk result (λ reply. reply
+        ≡ answer_of (told (without_room house.now) who.Operator asked.results)) }
+    ensures room { IfErr result (λ room. room ≡ room_of asked.results (told (without_room house.now) who.Operator
+        asked.results)) }
 {
     let mut text = text_with_room(alloc, results_room(house))?;
     push_results_page(&mut text, house);

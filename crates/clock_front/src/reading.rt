@@ -44,8 +44,8 @@ impl From<AllocError> for Unread {
     }
 }
 
-/// Makes one read and adds its bytes to the request. Answers whether it was the last: they decide what the request is, or the
-/// input has ended.
+/// Makes one read and adds its bytes to the request. Answers whether it was the last: they decide what the request is,
+/// or the input has ended.
 fn read_once<R: Source>(
     source: &mut R,
     piece: &mut [u8],
@@ -70,8 +70,8 @@ fn read_once<R: Source>(
     Ok(count == 0 || !short)
 }
 
-/// Reads until the bytes decide what the request is, or the input ends. An interrupted read is tried again, and 2,000,000 reads
-/// are made at most.
+/// Reads until the bytes decide what the request is, or the input ends. An interrupted read is tried again, and
+/// 2,000,000 reads are made at most.
 pub fn read_request<R: Source>(alloc: Global, source: &mut R) -> Result<Arriving, Unread>
     requires { IsUnread (R.calls source.old) (R.interruptions source.old) (R.has_failed source.old) }
     ensures arrival { EndsArrival

@@ -32,9 +32,9 @@ fn answer_each<P: Processor>(
 
 /// Answers request texts in turn, each by what those before it have made of the auction: one reply for each, in order.
 ///
-/// A reply of want of memory has done nothing, and its text is struck out. Every other reply is the right one; to a bidder's
-/// own request it is a function of the public set-up, the bidder's row and what the bidder sees of the run, so that every
-/// other run in which a bidder sees the same gives it the same bytes.
+/// A reply of want of memory has done nothing, and its text is struck out. Every other reply is the right one; to a
+/// bidder's own request it is a function of the public set-up, the bidder's row and what the bidder sees of the run, so
+/// that every other run in which a bidder sees the same gives it the same bytes.
 pub fn run<P: Processor>(
     alloc: Global,
     setup: Setup,

@@ -28,7 +28,8 @@ fn answer_source<P: Processor, R: Source>(
       calls = R.calls source.new;
       interruptions = R.interruptions source.new;
       has_failed = R.has_failed source.new;
-    } in MatchOption result (IsUnanswered reading front.old front.new) (λ reply. IsAnswerTo reading reply front.old front.new) }
+    } in MatchOption result (IsUnanswered reading front.old front.new) (λ reply. IsAnswerTo reading reply
+        front.old front.new) }
     ensures stands { (texts : List (List ℕ)) → StandsForTexts texts front.old → HasServed 1 texts front.new }
     ensures calls { R.calls source.new ≤ most_request_reads }
     ensures setup { front.new.setup ≡ front.old.setup }
@@ -42,9 +43,9 @@ fn answer_source<P: Processor, R: Source>(
 
 /// Reads one request, answers it, and writes its reply. What the request did is told by the code of the reply.
 ///
-/// No read is made once the bytes read decide what the request is, and 2,000,000 reads are made at most; an interrupted read is
-/// tried again. Where the input ends, the bytes that came are answered as they stand: [`Code::CutShort`]. Where there is no
-/// memory for them the reply is that of [`Code::Memory`], and nothing has changed.
+/// No read is made once the bytes read decide what the request is, and 2,000,000 reads are made at most; an interrupted
+/// read is tried again. Where the input ends, the bytes that came are answered as they stand: [`Code::CutShort`]. Where
+/// there is no memory for them the reply is that of [`Code::Memory`], and nothing has changed.
 pub fn serve_stream<P: Processor, R: Source, W: Sink>(
     alloc: Global,
     front: &mut Front<P>,

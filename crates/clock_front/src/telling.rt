@@ -52,7 +52,8 @@ pub(crate) fn tell<P>(
     requires page { IsProductsPage house.now.setup page.now }
     requires known { IsKnown (length house.now.setup.bidders) asker }
     ensures reply { IfOk result (λ reply. reply ≡ answer_of (outcome house.now asker (shown_reading what.entry))) }
-    ensures room { IfErr result (λ room. room ≡ room_of (shown_reading what.entry) (outcome house.now asker (shown_reading what.entry))) }
+    ensures room { IfErr result (λ room. room ≡ room_of (shown_reading what.entry)
+        (outcome house.now asker (shown_reading what.entry))) }
 {
     match what {
         Reading::Status => status(alloc, house),

@@ -92,7 +92,8 @@ impl Tokens {
 
     /// Who asks with a token, or with none. It takes no memory.
     pub(crate) fn asker(&self, token: Option<&[u8]>) -> Asker
-        ensures shown { (setup : SetupFields) → IsTableOf setup self.now → result ≡ askers.asker setup (shown_bytes token.entry) }
+        ensures shown { (setup : SetupFields) → IsTableOf setup self.now → result
+            ≡ askers.asker setup (shown_bytes token.entry) }
         ensures known { (setup : SetupFields) → IsTableOf setup self.now → IsKnown (length setup.bidders) result }
     {
         holder_of(&self.holders, token)

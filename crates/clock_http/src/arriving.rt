@@ -8,8 +8,8 @@ use clock_device::NoMemory;
 use std::alloc::Global;
 use std::marker::Model;
 
-/// The bytes of a request that have come so far, and what is known of them, so that what came in earlier pieces is not searched
-/// again.
+/// The bytes of a request that have come so far, and what is known of them, so that what came in earlier pieces is not
+/// searched again.
 ///
 /// Contracts see the bytes.
 #[derive(Drop)]
@@ -18,7 +18,8 @@ pub struct Arriving {
     room: Vec<u8>,
     count: usize,
     progress: Progress,
-    /// While the bytes are fewer than this they have a place, more of the body comes, and nothing else is to be known of them.
+    /// While the bytes are fewer than this they have a place, more of the body comes, and nothing else is to be known
+    /// of them.
     quiet: usize,
 }
 
@@ -33,8 +34,8 @@ impl Model for Arriving {
     ghost invariant = { λ a. IsFollowed a.room.items a.count a.progress a.quiet };
 }
 
-/// Makes zeros behind some bytes, up to one byte less than are awaited, as far as there is room for them: no memory is asked
-/// for. Below the length that it answers each byte has a place, and is not the last that is awaited.
+/// Makes zeros behind some bytes, up to one byte less than are awaited, as far as there is room for them: no memory is
+/// asked for. Below the length that it answers each byte has a place, and is not the last that is awaited.
 fn make_places(room: &mut Vec<u8>, awaited: usize) -> usize
     ensures kept { (zeros : List ℕ) × (room.new.items ≡ room.old.items ++ zeros) }
     ensures placed { result ≤ length room.new.items + 1 }
@@ -47,8 +48,8 @@ fn make_places(room: &mut Vec<u8>, awaited: usize) -> usize
     places + 1
 }
 
-/// What is known of the beginning of a text becomes what is known of the text, which fills its room. It tells whether the text
-/// needs more.
+/// What is known of the beginning of a text becomes what is known of the text, which fills its room. It tells whether
+/// the text needs more.
 fn look_on(room: &mut Vec<u8>, progress: &mut Progress, quiet: &mut usize) -> bool
     requires { KnowsOfStart room.old.items progress.old }
     ensures kept { take (length room.old.items) room.new.items ≡ room.old.items }
@@ -60,7 +61,8 @@ fn look_on(room: &mut Vec<u8>, progress: &mut Progress, quiet: &mut usize) -> bo
     progress.needs_more()
 }
 
-/// Makes room for three times as many bytes again, but for none beyond those awaited, where that is more than are to be added.
+/// Makes room for three times as many bytes again, but for none beyond those awaited, where that is more than are to be
+/// added.
 fn make_room(room: &mut Vec<u8>, added: usize, awaited: usize) -> Result<(), NoMemory>
     ensures { room.new.items ≡ room.old.items }
 {
@@ -107,8 +109,8 @@ impl Arriving {
         }
     }
 
-    /// Adds bytes at the end, all of them or none, and tells whether they are neither a whole request nor refused. Where more of
-    /// a body comes that is awaited only the number of the bytes is looked at.
+    /// Adds bytes at the end, all of them or none, and tells whether they are neither a whole request nor refused.
+    /// Where more of a body comes that is awaited only the number of the bytes is looked at.
     #[inline(always)]
     pub fn take(&mut self, piece: &[u8]) -> Result<bool, NoMemory>
         ensures ok { OnOk result (self.new ≡ self.old ++ piece.now) }
@@ -126,8 +128,8 @@ impl Arriving {
         }
     }
 
-    /// The same, of more than one byte or where they have no place yet. It stands apart, so that what a single byte costs stays
-    /// small.
+    /// The same, of more than one byte or where they have no place yet. It stands apart, so that what a single byte
+    /// costs stays small.
     #[inline(never)]
     fn take_piece(&mut self, piece: &[u8]) -> Result<bool, NoMemory>
         ensures ok { OnOk result (self.new ≡ self.old ++ piece.now) }

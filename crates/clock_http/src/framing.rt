@@ -95,9 +95,9 @@ impl Progress {
 
 /// What a text is. It takes no memory, and all slices are of the text.
 ///
-/// Nothing is decided before the head has ended with CR LF CR LF, 16,384 bytes have come without an end, or the head's body
-/// has come whole. Then the first that applies is answered: 64 header lines, a head of the grammar, no transfer coding, one
-/// length of digits, up to 1,048,576. What is decided stays, whatever bytes follow.
+/// Nothing is decided before the head has ended with CR LF CR LF, 16,384 bytes have come without an end, or the head's
+/// body has come whole. Then the first that applies is answered: 64 header lines, a head of the grammar, no transfer
+/// coding, one length of digits, up to 1,048,576. What is decided stays, whatever bytes follow.
 pub fn frame(text: &[u8]) -> Framing<'_>
     ensures { shown_framing result ≡ framing_of text.now }
 {

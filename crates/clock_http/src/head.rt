@@ -39,7 +39,8 @@ fn parse_head(bytes: &[u8], headers: &mut [HeaderSpan]) -> Option<RequestSpans>
     requires tight { is_loose_text bytes.now ≡ false }
     ensures none { IfNone result (head_of bytes.now ≡ None) }
     ensures within { IfSome result (λ r. IsRequestWithin bytes.now headers.new r) }
-    ensures found { IfSome result (λ r. (h : RequestHead) × (head_of bytes.now ≡ Some h) × IsRequestAt bytes.now headers.new r h) }
+    ensures found { IfSome result (λ r. (h : RequestHead) × (head_of bytes.now ≡ Some h)
+        × IsRequestAt bytes.now headers.new r h) }
 {
     match parse_request(bytes, headers) {
         Ok(Status::Complete(found)) => {

@@ -7,8 +7,8 @@ use std::marker::Model;
 /// How many bytes a text has at its front for the head of a reply, which is written once the page behind it is there.
 pub(crate) const HEAD_ROOM: usize = 256;
 
-/// Room for a page of so many bytes that was asked for and refused, or that is more than a machine can count. One is made there
-/// alone: so who has one knows that so much was wanted. Contracts see the number of bytes.
+/// Room for a page of so many bytes that was asked for and refused, or that is more than a machine can count. One is
+/// made there alone: so who has one knows that so much was wanted. Contracts see the number of bytes.
 #[derive(Debug, Drop)]
 pub struct NoRoom {
     page: u128,

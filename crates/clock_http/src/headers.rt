@@ -48,7 +48,8 @@ impl Lines {
     /// These, and the line of another name or of this one, which is told in letters of any case.
     fn and(self, wanted: &[u8], name: &[u8], value: Span) -> Lines
         requires { self.count < usize.MAX }
-        ensures lines { (text : List ℕ) (pairs : Pairs) → AreLinesOf text wanted.now pairs self → IsWithin (length text) value
+        ensures lines { (text : List ℕ) (pairs : Pairs) → AreLinesOf text wanted.now pairs self
+            → IsWithin (length text) value
             → AreLinesOf text wanted.now (pairs ++ (name.now, span_bytes text value) ∷ []) result }
         ensures few { result.count ≤ self.count + 1 }
     {
@@ -145,7 +146,8 @@ impl Fields {
     /// Where the token stands.
     pub(crate) fn token(&self, text: &[u8]) -> Option<Span>
         requires { (pairs : Pairs) × AreFieldsOf text.now pairs self.now }
-        ensures shown { (pairs : Pairs) → AreFieldsOf text.now pairs self.now → option_map (span_bytes text.now) result ≡ lines.token_of pairs }
+        ensures shown { (pairs : Pairs) → AreFieldsOf text.now pairs self.now → option_map (span_bytes text.now) result
+            ≡ lines.token_of pairs }
         ensures within { IsSomeWithin (length text.now) result }
     {
         if self.authorization.count != 1 {

@@ -76,9 +76,9 @@ impl Progress {
         Progress::Unended(0)
     }
 
-    /// What is known of a text, by what was known of its beginning. What came before is not searched again: while no head
-    /// has ended, its end is looked for in what came since and three bytes before it, and afterwards only the length of the
-    /// text is asked for. A head is read when it has ended.
+    /// What is known of a text, by what was known of its beginning. What came before is not searched again: while no
+    /// head has ended, its end is looked for in what came since and three bytes before it, and afterwards only the
+    /// length of the text is asked for. A head is read when it has ended.
     pub fn advance(self, text: &[u8]) -> Progress
         requires { KnowsOfStart text.now self }
         ensures { Knows text.now result }

@@ -54,11 +54,11 @@ fn keep<D: Durable>(journal: &mut Journal<D>, text: &[u8]) -> Result<(), Failed>
     journal.append(text)
 }
 
-/// The reply to a text of which this is known, after which the input has ended. Where the text was accepted as a sheet or a closing
-/// it is in the journal, on the disk, before the reply is given out.
+/// The reply to a text of which this is known, after which the input has ended. Where the text was accepted as a sheet
+/// or a closing it is in the journal, on the disk, before the reply is given out.
 ///
-/// At `Err` the text could not be kept: nothing is to be replied, and neither the front nor the journal to be used any more. It
-/// comes where a call of the disk has failed, and for a text that no journal takes.
+/// At `Err` the text could not be kept: nothing is to be replied, and neither the front nor the journal to be used any
+/// more. It comes where a call of the disk has failed, and for a text that no journal takes.
 pub fn answer_and_keep<P: Processor, D: Durable>(
     front: &mut Front<P>,
     journal: &mut Journal<D>,

@@ -40,22 +40,25 @@ impl<P: Processor> Machine for Auction<P> {
     }
 }
 
-/// Takes up an auction from the bytes of its journal, for the set-up document of a digest. It changes nothing in the file. Of what
-/// a stop of the machine has left every text is taken that was on the disk, and after them only the one that was being added.
+/// Takes up an auction from the bytes of its journal, for the set-up document of a digest. It changes nothing in the
+/// file. Of what a stop of the machine has left every text is taken that was on the disk, and after them only the one
+/// that was being added.
 ///
-/// At `Err` the file is no journal of this set-up that a stop has left, or holds a text that is not accepted there, or there was no
-/// memory; the auction is not to be used any more.
+/// At `Err` the file is no journal of this set-up that a stop has left, or holds a text that is not accepted there, or
+/// there was no memory; the auction is not to be used any more.
 pub fn take_up<P: Processor>(
     auction: &mut Auction<P>,
     digest: &Link,
     bytes: &[u8],
 ) -> Result<Recovered, JournalFault>
     requires { StandsForTexts [] auction.old.front }
-    ensures read { MatchResult result (λ recovered. IsTakenUp digest.now bytes.now recovered auction.new.front) (IsRefusal digest.now bytes.now) }
+    ensures read { MatchResult result (λ recovered. IsTakenUp digest.now bytes.now recovered auction.new.front)
+        (IsRefusal digest.now bytes.now) }
     ensures crash { (texts : List (List ℕ)) (least : ℕ) → LeavesTexts digest.now bytes.now texts least
         → MatchResult result (λ _. HasTakenUp texts least auction.new.front) IsUntaken }
     ensures refused { MatchResult result (λ _. Unit {0})
-        (IsRefusedRightly (IsRefused auction.old.front.setup) (λ past. past ≡ []) digest.now (drop 56 bytes.now) (length bytes.now)) }
+        (IsRefusedRightly (IsRefused auction.old.front.setup) (λ past. past ≡ []) digest.now (drop 56 bytes.now)
+        (length bytes.now)) }
     ensures setup { auction.new.front.setup ≡ auction.old.front.setup }
 {
     recover(auction, digest, bytes)

@@ -13,8 +13,8 @@ pub struct Connection<R, W> {
 
 /// Connections that are taken one after the other, each closed before the next.
 ///
-/// Contracts see whether one is open, what it had where it was taken, and what was read and written on each that was closed, where
-/// it tells them: a source and a sink belong to one connection, since no two are open at once.
+/// Contracts see whether one is open, what it had where it was taken, and what was read and written on each that was
+/// closed, where it tells them: a source and a sink belong to one connection, since no two are open at once.
 pub trait Connections {
     type Reader: Source;
 
@@ -35,7 +35,8 @@ pub trait Connections {
         ensures open { is_open self.new ≡ not (is_err result) }
         ensures source { IfOk result (λ one. (offer self.new).source ≡ Self.Reader.bytes_left one.source) }
         ensures sink { IfOk result (λ one. (offer self.new).sink ≡ Self.Writer.bytes_taken one.sink) }
-        ensures unread { IfOk result (λ one. IsUnread (Self.Reader.calls one.source) (Self.Reader.interruptions one.source)
+        ensures unread { IfOk result (λ one. IsUnread (Self.Reader.calls one.source)
+            (Self.Reader.interruptions one.source)
             (Self.Reader.has_failed one.source)) }
         ensures unused { IfOk result (λ one. IsUnused (Self.Writer.calls one.sink) (Self.Writer.has_failed one.sink)) }
         ensures closed { closed self.new ≡ closed self.old }

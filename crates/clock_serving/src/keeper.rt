@@ -23,10 +23,11 @@ pub trait Keeper {
     /// The texts that it can keep.
     ghost takes: { List ℕ → Type 0 };
 
-    /// The reply to a text of which this is known, after which the input has ended. Where the text was accepted as a sheet or a
-    /// closing it is kept before the reply is given out.
+    /// The reply to a text of which this is known, after which the input has ended. Where the text was accepted as a
+    /// sheet or a closing it is kept before the reply is given out.
     ///
-    /// At `Err` the text could not be kept: nothing is to be replied, and neither the front nor this is to be used any more.
+    /// At `Err` the text could not be kept: nothing is to be replied, and neither the front nor this is to be used any
+    /// more.
     fn answer<P: Processor>(
         &mut self,
         front: &mut Front<P>,

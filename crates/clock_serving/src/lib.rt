@@ -1,7 +1,7 @@
 //! The loop of a server: connections that are taken one after the other, with one request each.
 //!
-//! [`serve_all`] serves them by a front. Where they come from is a [`Connections`]: a [`Listening`] on a port of the machine, or a
-//! [`Listed`] in memory. Where accepted texts are kept is a [`Keeper`]: a journal, or [`Unkept`].
+//! [`serve_all`] serves them by a front. Where they come from is a [`Connections`]: a [`Listening`] on a port of the
+//! machine, or a [`Listed`] in memory. Where accepted texts are kept is a [`Keeper`]: a journal, or [`Unkept`].
 #![tactic(auto)]
 
 mod closed;

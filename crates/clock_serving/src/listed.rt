@@ -7,9 +7,9 @@ use clock_device::{Bounded, Failed, ListSink, ListSource, NoMemory, Stop};
 use std::alloc::Global;
 use std::marker::Model;
 
-/// What a client of a connection in memory sends and takes: its bytes, how many of them one read gives at most and at which read
-/// they stop; how many bytes it takes in all, how many of them by one write, and at which write it fails. A read and a write are
-/// of one byte at least, and are counted from 0.
+/// What a client of a connection in memory sends and takes: its bytes, how many of them one read gives at most and at
+/// which read they stop; how many bytes it takes in all, how many of them by one write, and at which write it fails. A
+/// read and a write are of one byte at least, and are counted from 0.
 #[derive(Clone, Copy)]
 pub struct Client<'a> {
     pub bytes: &'a [u8],
@@ -47,7 +47,8 @@ impl<'a> Model for Listed<'a> {
 impl<'a> Listed<'a> {
     /// The connections of these clients, of which none was taken yet.
     pub fn new(alloc: Global, clients: &'a [Client<'a>]) -> Result<Listed<'a>, NoMemory>
-        ensures { IfOk result (λ listed. listed ≡ record { is_open = false; offered = []; closed = []; has_failed = false }) }
+        ensures { IfOk result (λ listed. listed
+            ≡ record { is_open = false; offered = []; closed = []; has_failed = false }) }
     {
         Ok(Listed {
             alloc,

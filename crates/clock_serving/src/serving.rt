@@ -1,7 +1,6 @@
 ghost use Rattle.std.specs.Prelude.{◌≡◌, ◌≤◌, ℕ, List, IfOk, OnOk, OnErr, MatchOption, false, length};
 ghost use Rattle.clock_device.specs.Calls.{IsUnread, IsUnused};
 ghost use Rattle.clock_device.specs.Readings.{Reading};
-ghost use Rattle.clock_device.specs.Writings.{Writing};
 ghost use Rattle.clock_serving.specs.Exchanges.{Exchange, HasClosed};
 ghost use Rattle.clock_serving.specs.Serving.{EndsServing, is_accept_fault};
 ghost use Rattle.clock_serving.specs.inside.Served.{EndsOne, FailsToKeep, IsAnswered, IsLeftAlone, IsServed, IsUnkept};
@@ -126,7 +125,8 @@ fn serve_next<P: Processor, K: Keeper, C: Connections>(
     requires unfailed { (K.journal keeper.old).has_failed ≡ false }
     requires closed { C.is_open connections.old ≡ false }
     requires taken { C.has_failed connections.old ≡ false }
-    ensures ends { EndsOne K.takes (C.closed connections.old) (C.closed connections.new) (K.journal keeper.old) (K.journal keeper.new)
+    ensures ends { EndsOne K.takes (C.closed connections.old) (C.closed connections.new) (K.journal keeper.old)
+        (K.journal keeper.new)
         front.old front.new result }
     ensures unfailed { OnOk result ((K.journal keeper.new).has_failed ≡ false) }
     ensures closed { C.is_open connections.new ≡ false }
@@ -148,7 +148,8 @@ fn serve_next<P: Processor, K: Keeper, C: Connections>(
     }
 }
 
-/// Serves so many connections, one after the other, with one request each. A fault of a stream ends its connection alone.
+/// Serves so many connections, one after the other, with one request each. A fault of a stream ends its connection
+/// alone.
 ///
 /// It waits for each connection, and for each peer, as long as these take.
 pub fn serve_all<P: Processor, K: Keeper, C: Connections>(
@@ -161,7 +162,8 @@ pub fn serve_all<P: Processor, K: Keeper, C: Connections>(
     requires unfailed { (K.journal keeper.old).has_failed ≡ false }
     requires closed { C.is_open connections.old ≡ false }
     requires taken { C.has_failed connections.old ≡ false }
-    ensures served { (exchanges : List Exchange) × HasClosed (C.closed connections.old) (C.closed connections.new) exchanges
+    ensures served { (exchanges : List Exchange) × HasClosed (C.closed connections.old)
+        (C.closed connections.new) exchanges
         × EndsServing K.takes count exchanges (K.journal keeper.old) (K.journal keeper.new) front.old front.new result }
     ensures closed { C.is_open connections.new ≡ false }
     ensures taken { C.has_failed connections.new ≡ is_accept_fault result }

@@ -13,9 +13,9 @@ use std::alloc::Global;
 /// A digest in digits of base 16.
 pub type Digits = [u8; 64];
 
-/// The text of an audit: the lines of each round's sheet, by rising round, and behind each the line `closed ROUND DIGEST` with
-/// the digest of the closing, one for each round; and where the auction has ended the lines of what each bidder won, as
-/// [`crate::report_text`] has them.
+/// The text of an audit: the lines of each round's sheet, by rising round, and behind each the line `closed ROUND
+/// DIGEST` with the digest of the closing, one for each round; and where the auction has ended the lines of what each
+/// bidder won, as [`crate::report_text`] has them.
 ///
 /// ```text
 /// round 1
@@ -53,7 +53,8 @@ fn push_audited(
 ) -> Result<(), NoMemory>
     requires each { All (λ sheet. length sheet.lines ≡ length setup.now.products) sheets.now }
     requires enough { length sheets.now ≤ length digests.now }
-    ensures { OnOk result (text.new ≡ text.old ++ flat_map (words.audited_round setup.now.products) (zip sheets.now digests.now)) }
+    ensures { OnOk result (text.new ≡ text.old ++ flat_map (words.audited_round setup.now.products)
+        (zip sheets.now digests.now)) }
 {
     for (index, sheet) in sheets.iter().enumerate() {
         push_round(alloc, text, setup, sheet, &digests[index])?;

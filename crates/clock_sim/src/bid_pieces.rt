@@ -73,8 +73,8 @@ impl Piece {
     }
 }
 
-/// What stands in the text of a bid ahead of its quantity, kept for each product as it was last written: most bids for a product
-/// in a round are at one price.
+/// What stands in the text of a bid ahead of its quantity, kept for each product as it was last written: most bids for
+/// a product in a round are at one price.
 #[derive(Drop)]
 pub(crate) struct BidPieces {
     pieces: Vec<Piece>,

@@ -116,7 +116,8 @@ fn join<P: Processor>(
 fn make_room<P: Processor>(hub: &mut Hub<P>, group: &mut Vec<Waiting>) -> Result<(), SimFault>
     requires { IsGroup hub.old.connections group.old.items }
     ensures group { OnOk result (IsGroup hub.new.connections group.new.items) }
-    ensures way { MakesWay (after_group hub.old.house.setup group.old.items) (after_group hub.old.house.setup group.new.items)
+    ensures way { MakesWay (after_group hub.old.house.setup group.old.items) (after_group hub.old.house.setup
+        group.new.items)
         hub.old.house hub.new.house result }
 {
     if group.len() >= MOST_WAITING {

@@ -1,7 +1,7 @@
 //! Scripted bidders: how a replay is played, and its report.
 //!
-//! [`simulate`] plays a [`Replay`]: each sheet and closing is sent to the front as the bytes of a live request, so that a
-//! scripted bidder takes the path of a live one.
+//! [`simulate`] plays a [`Replay`]: each sheet and closing is sent to the front as the bytes of a live request, so that
+//! a scripted bidder takes the path of a live one.
 #![tactic(auto)]
 
 mod audit_lines;

@@ -13,7 +13,8 @@ use std::alloc::Global;
 
 /// The text of a report: the lines of each round's sheet, by rising round, then for each bidder the line
 /// `won NAME DEMAND .. PAY` with its demand for each product and the sum of demand times posted price of the last
-/// round, in whole dollars. Fields are parted by one space, numbers are plain decimal, and each line ends with a line feed:
+/// round, in whole dollars. Fields are parted by one space, numbers are plain decimal, and each line ends with a line
+/// feed:
 ///
 /// ```text
 /// round 1
@@ -42,7 +43,8 @@ pub(crate) fn push_won_by_all(
     requires lines { length lines.now ≡ length setup.now.products }
     requires bidders { length grid.now ≡ length setup.now.bidders }
     requires rows { All (IsRow setup.now.products) grid.now }
-    ensures { OnOk result (text.new ≡ text.old ++ flat_map (words.won_text lines.now) (zip setup.now.bidders grid.now)) }
+    ensures { OnOk result (text.new ≡ text.old ++ flat_map (words.won_text lines.now)
+        (zip setup.now.bidders grid.now)) }
 {
     push_wins(text, lines, setup.bidders.as_slice(), grid)
 }

@@ -91,7 +91,8 @@ fn play_round<P: Processor>(
 ) -> Result<(), SimFault>
     requires each { length scripts.now ≡ length hub.old.house.setup.bidders }
     requires scripts { All (IsScript hub.old.house.setup.products) scripts.now }
-    ensures { MakesStep (rules.after_round hub.old.house.setup scripts.now closing.now) hub.old.house hub.new.house result }
+    ensures { MakesStep (rules.after_round hub.old.house.setup scripts.now closing.now) hub.old.house
+        hub.new.house result }
 {
     put_all(alloc, hub, requests, scripts)?;
     close_scripted(hub, requests, closing)
@@ -107,7 +108,8 @@ pub(crate) fn play<P: Processor>(
 ) -> Result<(), SimFault>
     requires each { length scripts.now ≡ length hub.old.house.setup.bidders }
     requires scripts { All (IsScript hub.old.house.setup.products) scripts.now }
-    ensures step { MakesStep (rules.rehearsed hub.old.house.setup scripts.now closings.now) hub.old.house hub.new.house result }
+    ensures step { MakesStep (rules.rehearsed hub.old.house.setup scripts.now closings.now) hub.old.house
+        hub.new.house result }
     ensures ended { OnOk result ((standing_in hub.new.house).ended ≡ true) }
 {
     for closing in closings {

@@ -63,8 +63,10 @@ impl Requests {
     ) -> Result<(), NoMemory>
         requires known { bidder < length house.now.setup.bidders }
         requires limits { IsLimits house.now.setup.products limits.now }
-        ensures { OnOk result (whole_text self.new.request ≡ put_text (bidder_at house.now.setup bidder).token (standing_in house.now).round
-            (sincere_sheet (standing_in house.now).round (standing_in house.now).prices (holding_in house.now bidder).demands limits.now)) }
+        ensures { OnOk result (whole_text self.new.request ≡ put_text (bidder_at house.now.setup bidder).token
+            (standing_in house.now).round
+            (sincere_sheet (standing_in house.now).round (standing_in house.now).prices
+            (holding_in house.now bidder).demands limits.now)) }
     {
         house.law_of_house();
         let setup = house.setup();
@@ -89,7 +91,8 @@ impl Requests {
         round: u64,
         sheets: &[Option<BidList>],
     ) -> Result<bool, NoMemory>
-        ensures { IfOk result (λ puts. option_map (put_text token.now round) (slice_index_or sheets.now (round - 1) None)
+        ensures { IfOk result (λ puts. option_map (put_text token.now round) (slice_index_or sheets.now
+            (round - 1) None)
             ≡ (if puts then Some (whole_text self.new.request) else None)) }
     {
         match sheet_of(sheets, round) {
@@ -134,7 +137,8 @@ impl Requests {
         house: &House<P>,
         closing: &Closing,
     ) -> Result<(), NoMemory>
-        ensures { OnOk result (whole_text self.new.request ≡ rules.scripted_close house.now.setup house.now.closed closing.now) }
+        ensures { OnOk result (whole_text self.new.request ≡ rules.scripted_close house.now.setup house.now.closed
+            closing.now) }
     {
         self.request.write_close(
             house.setup().operator.as_slice(),

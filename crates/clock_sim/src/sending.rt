@@ -36,7 +36,8 @@ fn told(code: Code, sender: Option<u64>, round: u64) -> Result<(), SimFault>
 fn last_reply<P: Processor>(hub: &mut Hub<P>, conn: Conn, piece: &[u8]) -> Result<Reply, HubFault>
     ensures answered { (text : List ℕ) → text_of hub.old.connections conn ≡ Some text
         → IfOk result (IsAnswered hub.old hub.new conn (text ++ piece.now)) }
-    ensures still { (text : List ℕ) → text_of hub.old.connections conn ≡ Some text → OnErr result (hub.new.house ≡ hub.old.house) }
+    ensures still { (text : List ℕ) → text_of hub.old.connections conn ≡ Some text → OnErr result (hub.new.house
+        ≡ hub.old.house) }
 {
     match hub.feed(conn, piece)? {
         Fed::Reply(reply) => Ok(reply),
@@ -53,7 +54,8 @@ pub(crate) fn send_body<P: Processor>(
     body: &[u8],
 ) -> Result<(), SimFault>
     ensures step { (head : List ℕ) → text_of hub.old.connections conn ≡ Some head
-        → MakesStep (λ texts. rules.after_request hub.old.house.setup texts sender round (head ++ body.now)) hub.old.house hub.new.house result }
+        → MakesStep (λ texts. rules.after_request hub.old.house.setup texts sender round (head ++ body.now))
+        hub.old.house hub.new.house result }
     ensures others { (head : List ℕ) → text_of hub.old.connections conn ≡ Some head
         → OnOk result (KeepsOthers hub.old.connections hub.new.connections conn) }
 {

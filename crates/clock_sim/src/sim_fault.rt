@@ -33,8 +33,8 @@ impl From<NoMemory> for SimFault {
     }
 }
 
-/// A replay's connections are its own, fewer than 256 stand, and fewer are made than there are serial numbers: what a hub
-/// refuses, it refuses for want of memory.
+/// A replay's connections are its own, fewer than 256 stand, and fewer are made than there are serial numbers: what a
+/// hub refuses, it refuses for want of memory.
 impl From<HubFault> for SimFault {
     ghost use Rattle.std.specs.Prelude.{◌≡◌};
     ghost use Rattle.clock_sim.specs.declared.sim_fault.SimFault.TheVariants.{NoMemory};

@@ -46,10 +46,20 @@ fn play_out<P: Processor>(
     requires first { StandsForTexts [] hub.old.house }
     requires each { length scripts.now ≡ length hub.old.house.setup.bidders }
     requires scripts { All (IsScript hub.old.house.setup.products) scripts.now }
-    ensures ok { let replay : ReplayFields = record { setup = hub.old.house.setup; scripts = scripts.now; closings = closings.now } in
+    ensures ok { let replay : ReplayFields = record {
+      setup = hub.old.house.setup;
+      scripts = scripts.now;
+      closings =
+          closings.now;
+    } in
         OnOk result (rules.simulated replay ≡ Ok (report_of hub.new.house.setup hub.new.house.closed)) }
     ensures ended { OnOk result ((standing_in hub.new.house).ended ≡ true) }
-    ensures err { let replay : ReplayFields = record { setup = hub.old.house.setup; scripts = scripts.now; closings = closings.now } in
+    ensures err { let replay : ReplayFields = record {
+      setup = hub.old.house.setup;
+      scripts = scripts.now;
+      closings =
+          closings.now;
+    } in
         IfErr result (IsRefusal faults.NoMemory (rules.simulated replay)) }
 {
     let mut requests = no_requests(alloc, hub)?;
@@ -129,10 +139,10 @@ pub fn simulate_with<P: Processor + Drop>(
 /// Plays an auction: in each round the bidders, in the order of their numbers, put the sheets that their scripts give,
 /// and then the next closing is made, until the auction ends; the closings that are left are not used.
 ///
-/// Each sheet and closing is sent as the bytes of a live request over a connection of its own, so that it takes the path of
-/// a live bidder's. Sheets go in groups of at most 64: all connections of a group are made, then all heads are fed, then all
-/// bodies; one whose body is too long is answered at its head, and goes by itself. The first fault in the order of the
-/// requests is answered: one that is refused, or that the auction goes on and no closing is left.
+/// Each sheet and closing is sent as the bytes of a live request over a connection of its own, so that it takes the
+/// path of a live bidder's. Sheets go in groups of at most 64: all connections of a group are made, then all heads are
+/// fed, then all bodies; one whose body is too long is answered at its head, and goes by itself. The first fault in the
+/// order of the requests is answered: one that is refused, or that the auction goes on and no closing is left.
 pub fn simulate(alloc: Global, replay: &Replay) -> Result<Report, SimFault>
     ensures ok { IfOk result (λ report. rules.simulated replay.now ≡ Ok report) }
     ensures err { IfErr result (IsRefusal faults.NoMemory (rules.simulated replay.now)) }
@@ -140,8 +150,8 @@ pub fn simulate(alloc: Global, replay: &Replay) -> Result<Report, SimFault>
     simulate_with(alloc, replay, Woken)
 }
 
-/// The text of the report of [`simulate`], written from the auction that was played: no sheet is copied, and the replay is let go
-/// before the text is written. The refusals are the same.
+/// The text of the report of [`simulate`], written from the auction that was played: no sheet is copied, and the replay
+/// is let go before the text is written. The refusals are the same.
 pub fn replay_text(alloc: Global, replay: Replay) -> Result<Text, SimFault>
     ensures ok { IfOk result (λ text. rules.played_text replay ≡ Ok text) }
     ensures err { IfErr result (IsRefusal faults.NoMemory (rules.played_text replay)) }

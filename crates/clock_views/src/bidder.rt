@@ -47,7 +47,8 @@ pub fn account_page(
 pub fn account_room(demands: &Row) -> u128
     ensures is { result ≡ 167 + 21 * length demands.now }
     ensures most { (products : List Product) (name : List ℕ) (round eligibility : ℕ) (ended : Bool)
-        → result ≡ most_text (account_value products name round (record { eligibility = eligibility; demands = demands.now }) ended) }
+        → result ≡ most_text (account_value products name round
+        (record { eligibility = eligibility; demands = demands.now }) ended) }
 {
     167 + 21 * demands.len() as u128
 }
@@ -58,7 +59,8 @@ pub fn push_account_page(text: &mut Bounded<u8>, setup: &Setup, bidder: u32, own
     requires row { IsRow setup.now.products own.demands.now }
     requires room { 167 + 21 * length own.demands.now ≤ text.old.room }
     ensures { Adds (compact_text (account_value setup.now.products (bidder_at setup.now bidder).name own.entry.round
-        (record { eligibility = own.entry.eligibility; demands = own.entry.demands.now }) ended)) text.old.items text.new.items }
+        (record { eligibility = own.entry.eligibility; demands = own.entry.demands.now }) ended)) text.old.items
+        text.new.items }
 {
     push_number(
         text,

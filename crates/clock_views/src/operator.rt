@@ -67,7 +67,8 @@ pub fn results_page<P>(alloc: Global, house: &House<P>) -> Result<Text, NoMemory
 
 /// How many bytes the page takes at most.
 pub fn results_room<P>(house: &House<P>) -> u128
-    ensures is { result ≡ 56 + most_text (list_of (result_in house.now) (range_with_len 0 (length house.now.setup.bidders))) }
+    ensures is { result ≡ 56 + most_text (list_of (result_in house.now)
+        (range_with_len 0 (length house.now.setup.bidders))) }
     ensures most { result ≡ most_text (results_value house.now) }
 {
     let mut room = 58;
@@ -79,7 +80,8 @@ pub fn results_room<P>(house: &House<P>) -> u128
 
 /// Adds the same page to a text that has room for it.
 pub fn push_results_page<P>(text: &mut Bounded<u8>, house: &House<P>)
-    requires { 56 + most_text (list_of (result_in house.now) (range_with_len 0 (length house.now.setup.bidders))) ≤ text.old.room }
+    requires { 56 + most_text (list_of (result_in house.now) (range_with_len 0 (length house.now.setup.bidders)))
+        ≤ text.old.room }
     ensures { Adds (compact_text (results_value house.now)) text.old.items text.new.items }
 {
     push_label(text, b"{\"bidders\":");
@@ -91,10 +93,13 @@ pub fn push_results_page<P>(text: &mut Bounded<u8>, house: &House<P>)
 
 /// Adds the array of what each bidder holds.
 fn push_results<P>(text: &mut Bounded<u8>, house: &House<P>)
-    requires { most_text (list_of (result_in house.now) (range_with_len 0 (length house.now.setup.bidders))) ≤ text.old.room }
-    ensures adds { Adds (compact_text (list_of (result_in house.now) (range_with_len 0 (length house.now.setup.bidders)))) text.old.items text.new.items }
+    requires { most_text (list_of (result_in house.now) (range_with_len 0 (length house.now.setup.bidders)))
+        ≤ text.old.room }
+    ensures adds { Adds (compact_text (list_of (result_in house.now)
+        (range_with_len 0 (length house.now.setup.bidders)))) text.old.items text.new.items }
     ensures room { text.old.room
-        ≤ text.new.room + most_text (list_of (result_in house.now) (range_with_len 0 (length house.now.setup.bidders))) }
+        ≤ text.new.room + most_text (list_of (result_in house.now)
+        (range_with_len 0 (length house.now.setup.bidders))) }
 {
     text.push(b'[');
     for bidder in 0..bidder_count(house.setup()) {

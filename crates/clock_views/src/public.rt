@@ -38,7 +38,8 @@ pub fn status_page(alloc: Global, setup: &Setup, round: u64, ended: bool) -> Res
 /// How many bytes the page takes at most.
 pub fn status_room() -> u128
     ensures is { result ≡ 76 }
-    ensures most { (setup : PublicSetup) (round : ℕ) (ended : Bool) → result ≡ most_text (status_value setup round ended) }
+    ensures most { (setup : PublicSetup) (round : ℕ) (ended : Bool) → result
+        ≡ most_text (status_value setup round ended) }
 {
     76
 }
@@ -85,7 +86,8 @@ fn push_offer(
     requires limits { All IsProduct products.now }
     requires room { 111 + 193 * length products.now ≤ text.old.room }
     ensures { Adds (compact_text (products_value
-        (record { version = version; limit = limit; requirement = requirement; products = products.now }))) text.old.items text.new.items }
+        (record { version = version; limit = limit; requirement = requirement; products = products.now })))
+        text.old.items text.new.items }
 {
     push_label(text, b"{");
     push_limit(text, from_version_2(version, limit));
@@ -160,7 +162,8 @@ pub fn sheet_page(alloc: Global, setup: &Setup, sheet: &RoundSheet) -> Result<Te
 /// How many bytes the page takes at most. There is a line for each product of the set-up.
 pub fn sheet_room(sheet: &RoundSheet) -> u128
     ensures is { result ≡ 59 + 191 * length sheet.now.lines }
-    ensures most { (setup : PublicSetup) → length sheet.now.lines ≡ length setup.products → result ≡ most_text (sheet_value setup sheet.now) }
+    ensures most { (setup : PublicSetup) → length sheet.now.lines ≡ length setup.products → result
+        ≡ most_text (sheet_value setup sheet.now) }
 {
     59 + 191 * sheet.lines.len() as u128
 }
@@ -183,7 +186,8 @@ fn push_lines(text: &mut Bounded<u8>, products: &[Product], lines: &[Line])
     requires limits { All IsProduct products.now }
     requires each { length lines.now ≡ length products.now }
     requires room { 2 + 191 * length lines.now ≤ text.old.room }
-    ensures adds { Adds (compact_text (list_of (λ row. line_value row.0 row.1) (zip products.now lines.now))) text.old.items text.new.items }
+    ensures adds { Adds (compact_text (list_of (λ row. line_value row.0 row.1) (zip products.now lines.now)))
+        text.old.items text.new.items }
     ensures room { text.old.room ≤ text.new.room + (2 + 191 * length lines.now) }
 {
     text.push(b'[');

@@ -50,7 +50,8 @@ pub fn push_refusal_page(text: &mut Bounded<u8>, refusal: Refusal)
 /// Adds the page that shows these.
 fn push_refusal(text: &mut Bounded<u8>, code: Code, place: Option<u64>, round: Option<u64>)
     requires { REFUSAL_ROOM ≤ text.old.room }
-    ensures { Adds (compact_text (refusal_value (record { code = code; place = place; round = round }))) text.old.items text.new.items }
+    ensures { Adds (compact_text (refusal_value (record { code = code; place = place; round = round }))) text.old.items
+        text.new.items }
 {
     push_label(text, b"{\"code\":\"");
     push_label(text, code.text().as_bytes());

@@ -163,7 +163,8 @@ fn files_command<'a>(
 
 /// The program without its commands.
 fn program_alone<'a>(alloc: Global) -> Result<Command<'a>, Error>
-    ensures shape { IfOk result (λ command. app_of command ≡ on_top asks_for_a_command (new_app (codes "clock_auction"))) }
+    ensures shape { IfOk result (λ command. app_of command
+        ≡ on_top asks_for_a_command (new_app (codes "clock_auction"))) }
     ensures err { IfErr result (λ error. kind_of error ≡ ErrorKind.OutOfMemory) }
 {
     let named = Command::new(alloc, "clock_auction").bin_name("clock_auction")?;
@@ -183,7 +184,8 @@ fn with_prices<'a>(
     program: Command<'a>,
     helps: &'a NumberHelps,
 ) -> Result<Command<'a>, Error>
-    ensures shape { IfOk result (λ command. app_of command ≡ with_subcommand (app_of program.entry) prices_grammar.top) }
+    ensures shape { IfOk result (λ command. app_of command ≡ with_subcommand (app_of program.entry)
+        prices_grammar.top) }
     ensures err { IfErr result (λ error. kind_of error ≡ ErrorKind.OutOfMemory) }
 {
     match prices_command(alloc, helps) {
@@ -203,7 +205,8 @@ fn with_plain<'a>(
     about: &'a str,
     help: &'a str,
 ) -> Result<Command<'a>, Error>
-    ensures shape { IfOk result (λ command. app_of command ≡ with_subcommand (app_of program.entry) (new_app name.now).top) }
+    ensures shape { IfOk result (λ command. app_of command ≡ with_subcommand (app_of program.entry)
+        (new_app name.now).top) }
     ensures err { IfErr result (λ error. kind_of error ≡ ErrorKind.OutOfMemory) }
 {
     let command = Command::new(alloc, name).about(about).after_help(help);
@@ -236,7 +239,8 @@ fn with_files<'a>(
     about: &'a str,
     help: &'a str,
 ) -> Result<Command<'a>, Error>
-    ensures shape { IfOk result (λ command. app_of command ≡ with_subcommand (app_of program.entry) (files_grammar name.now).top) }
+    ensures shape { IfOk result (λ command. app_of command ≡ with_subcommand (app_of program.entry)
+        (files_grammar name.now).top) }
     ensures err { IfErr result (λ error. kind_of error ≡ ErrorKind.OutOfMemory) }
 {
     match files_command(alloc, name, about, help) {

@@ -11,8 +11,8 @@ use std::alloc::Global;
 use std::process::Abort;
 use std::test::Fail;
 
-/// Requests in turn, with `;` between two: the request line, whose token it has, its body, and the status and page of its
-/// reply.
+/// Requests in turn, with `;` between two: the request line, whose token it has, its body, and the status and page of
+/// its reply.
 const SHEETS: &str =
     r#"GET /v1/me/bids|X||200 OK|{"bids":[{"price":100,"product":0,"quantity":2}],"round":1};
 PUT /v1/me/bids|X|{"bids":[{"price":100,"product":0,"quantity":1}],"round":1}|200 OK|{"accepted":true,"bids":1,"round":1};

@@ -13,8 +13,8 @@ pub(crate) fn opened(alloc: Global, document: &str) -> Result<Front<Plain>, Fail
     Ok(Front::new(alloc, setup, Plain)?)
 }
 
-/// What is done with a front of a set-up document. No other function of the tests lets a front go, since each that does so
-/// proves it anew.
+/// What is done with a front of a set-up document. No other function of the tests lets a front go, since each that does
+/// so proves it anew.
 pub(crate) fn on_front<T, F: FnOnce(&mut Front<Plain>) -> Result<T, Fail>>(
     alloc: Global,
     document: &str,

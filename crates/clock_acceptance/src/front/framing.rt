@@ -10,8 +10,8 @@ use std::alloc::Global;
 use std::process::Abort;
 use std::test::Fail;
 
-/// Texts, and what they are: `more` is needed, a code refuses them, or they have a method, a path, a token or `-`, and a body.
-/// Here `~` stands for CR LF, `$` for LF and `^` for CR.
+/// Texts, and what they are: `more` is needed, a code refuses them, or they have a method, a path, a token or `-`, and
+/// a body. Here `~` stands for CR LF, `$` for LF and `^` for CR.
 const TEXTS: &str = "|more
 ^|more
 $$|more

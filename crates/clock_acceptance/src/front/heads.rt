@@ -6,8 +6,8 @@ use std::alloc::Global;
 use std::process::Abort;
 use std::test::Fail;
 
-/// Header lines of a request, with `~` between two, and the status and page of its reply. Where there are two faults the
-/// earlier one answers.
+/// Header lines of a request, with `~` between two, and the status and page of its reply. Where there are two faults
+/// the earlier one answers.
 const HEADER_LINES: &str = r#"content-length: +5|400 Bad Request|{"code":"bad_length","status":400}
 content-length: 1048577|413 Payload Too Large|{"code":"long_body","status":413}
 content-length: 1048576|400 Bad Request|{"code":"cut_short","status":400}

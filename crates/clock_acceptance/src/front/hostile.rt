@@ -11,8 +11,8 @@ use std::alloc::Global;
 use std::process::Abort;
 use std::test::Fail;
 
-/// Header lines behind X's token, with `~` between two, a body, and the status and page of the reply. Here `=` stands for the
-/// body's length, `^` for the byte 0 and `$` for the byte 255.
+/// Header lines behind X's token, with `~` between two, a body, and the status and page of the reply. Here `=` stands
+/// for the body's length, `^` for the byte 0 and `$` for the byte 255.
 const ROWS: &str =
     r#"content-length: =~a: b^|{"bids":[],"round":1}|400 Bad Request|{"code":"bad_head","status":400}
 transfer-encoding: chunked~content-length: x|{"bids":[],"round":1}|501 Not Implemented|{"code":"coding","status":501}

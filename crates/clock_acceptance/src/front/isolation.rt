@@ -27,8 +27,8 @@ const V_X_AND_W: &str =
     r#"{"name":"V","token":"VVVVVVVVVVVVVVVV","eligibility":3},{"name":"X","token":"XXXXXXXXXXXXXXXX","eligibility":10},
 {"name":"W","token":"WWWWWWWWWWWWWWWW","eligibility":5}"#;
 
-/// X's own requests, a line each: the request line, whose token it has, and its body. At each line of `~` the others send
-/// theirs.
+/// X's own requests, a line each: the request line, whose token it has, and its body. At each line of `~` the others
+/// send theirs.
 const OWN: &str = r#"GET /v1/me/bids|X|
 PUT /v1/me/bids|X|{"bids":[{"price":100,"product":0,"quantity":3}],"round":1}
 PUT /v1/me/bids|X|{"bids":[{"price":100,"product":0,"quantity":2}],"round":1}

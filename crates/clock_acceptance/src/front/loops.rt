@@ -1,4 +1,5 @@
-//! The loop of a server over connections in memory: what is written on each, where one fails, and where a text can't be kept.
+//! The loop of a server over connections in memory: what is written on each, where one fails, and where a text can't be
+//! kept.
 ghost use Rattle.std.specs.Prelude.{◌≡◌, false};
 
 use super::texts::{ACCEPTED, CUT_SHORT, PUT, STATUS};
@@ -29,7 +30,8 @@ fn client(text: &str) -> Client<'_> {
     }
 }
 
-/// A sheet, a part of one, a connection that fails at its second read, a client that takes 18 bytes of its reply, and a question.
+/// A sheet, a part of one, a connection that fails at its second read, a client that takes 18 bytes of its reply, and a
+/// question.
 fn clients() -> [Client<'static>; 5] {
     let mut broken = client(PUT);
     broken.read_stop = Some((1, Stop::Failed));

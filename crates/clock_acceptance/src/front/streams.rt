@@ -13,8 +13,8 @@ use std::alloc::Global;
 use std::process::Abort;
 use std::test::Fail;
 
-/// How a text is served by reads and writes of so many bytes at most, one of which may stop: what is answered and written, and
-/// whether X's sheet is in force then.
+/// How a text is served by reads and writes of so many bytes at most, one of which may stop: what is answered and
+/// written, and whether X's sheet is in force then.
 #[derive(Drop)]
 struct Row<'a> {
     text: &'a [u8],

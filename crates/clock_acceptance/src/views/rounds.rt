@@ -17,8 +17,8 @@ const X: u32 = 0;
 
 const Y: u32 = 1;
 
-/// What is done with an auction of one product before its first round. No other function of these tests lets a house go, since each that
-/// does so proves it anew.
+/// What is done with an auction of one product before its first round. No other function of these tests lets a house
+/// go, since each that does so proves it anew.
 fn on_house<F: FnOnce(&mut House<Plain>) -> Result<(), Fail>>(
     alloc: Global,
     act: F,

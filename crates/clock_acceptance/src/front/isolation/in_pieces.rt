@@ -18,7 +18,8 @@ struct Request {
     text: String,
 }
 
-/// How the bytes of a run's requests come. They are whole in their order, so that each last byte comes behind those before.
+/// How the bytes of a run's requests come. They are whole in their order, so that each last byte comes behind those
+/// before.
 #[derive(Clone, Copy)]
 enum Way {
     /// One request after the other.
