@@ -42,10 +42,11 @@ fn member_of(text: &[u8]) -> Option<(usize, usize)> {
 #[test]
 fn rows_in_one_list(rt: HostRuntime) -> Result<(), Fail> {
     let alloc = rt.alloc();
-    let rows: [(&[u8], (usize, u64, bool)); 12] = [
+    let rows: [(&[u8], (usize, u64, bool)); 13] = [
         (b"[[1,2],[ 3 ]\n,[]]", (3, 6, false)),
         (b"[[1,2,3],[4,5,6]]", (2, 21, true)),
         (b"[[1,2,3],[4,5]]", (2, 15, false)),
+        (b"[[65535,65536],[1]]", (2, 131_072, false)),
         (b" [ ] ", (0, 0, true)),
         (
             b"[[9999999999999999999]]",
