@@ -5,7 +5,6 @@ pub mod DemandLaws
 pub mod RowLaws
 mod RowTotals
 mod Zeros
-mod Marks
 mod Walks
 pub mod ActivityLaws
 pub mod Examples

@@ -1,5 +1,4 @@
 ghost use Rattle.std.specs.Prelude.{◌≡◌, ℕ, ◌+◌, ◌≤◌, ◌<◌, ◌*◌, ◌≢◌, min, length, replicate, All, IfOk, slice_index, slice_set};
-ghost use Rattle.std.specs.List.{AllWithin};
 ghost use Rattle.std.specs.Int.{bit_at};
 ghost use Rattle.clock_terms.specs.Limits.{most_products, most_supply};
 ghost use Rattle.clock_terms.specs.inside.Rows.{AreMarked};
@@ -101,31 +100,6 @@ impl Row {
     {
         self.marks[word]
     }
-
-    /// The first product from `from` on of which a block is held, or `until` where each one before that is not held.
-    #[inline(always)]
-    pub fn first_held(&self, from: usize, until: usize) -> usize
-        requires order { from ≤ until }
-        requires within { until ≤ length self.now }
-        ensures least { from ≤ result }
-        ensures most { result ≤ until }
-        ensures passed { AllWithin (λ demand. demand ≡ 0) self.now from result }
-        ensures held { result < until → 0 < slice_index self.now result }
-    {
-        let mut place = from;
-        'places: while place < until {
-            let bit = place % 64;
-            let step = unmarked_from(self.marks[place / 64], bit);
-            place = until.min(place + step);
-            if bit + step < 64 {
-                if place == until || self.demands[place] != 0 {
-                    break;
-                }
-                place += 1;
-            }
-        }
-        place
-    }
 }
 
 /// The same demands in two bytes each.
@@ -165,16 +139,6 @@ fn word_of(demands: &[u64], from: usize) -> u64
         word = with_mark(word, bit as u32, demands[from + bit]);
     }
     word
-}
-
-/// How many bits of a word of marks are not set from one on, up to the first that is or to the end of the word.
-#[inline(always)]
-fn unmarked_from(word: u64, bit: usize) -> usize
-    requires { bit < 64 }
-    ensures within { bit + result ≤ 64 }
-    ensures none { (step : ℕ) → step < result → bit_at word (bit + step) ≡ 0 }
-{
-    (64 - bit).min((word >> bit).trailing_zeros() as usize)
 }
 
 /// A word of marks with the one of a place as its demand wants it: set where a block is held, and else not.
