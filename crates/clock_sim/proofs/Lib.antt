@@ -1,5 +1,6 @@
 mod Examples
 pub mod Leaving
+mod SheetWalks
 pub mod TextPieces
 pub mod RoundLaws
 pub mod StepLaws

@@ -1,6 +1,6 @@
 //! The sheets of sincere bidders.
 
-ghost use Rattle.std.specs.Prelude.{◌≡◌, ℕ, ◌≤◌, ◌<◌, ◌==◌, ◌++◌, ◌∷◌, [], false, length, take, reverse, slice_index, All, OnOk, option_copied};
+ghost use Rattle.std.specs.Prelude.{◌≡◌, ◌≤◌, ◌<◌, ◌≢◌, ◌++◌, ◌∷◌, [], length, take, reverse, All, OnOk, option_copied};
 ghost use Rattle.clock_sim.specs.Sincere as rules;
 ghost use Rattle.clock_replays.specs.Replays.{NeverRises};
 ghost use Rattle.clock_sim.specs.inside.Blocks as one_by_one;
@@ -192,22 +192,6 @@ fn push_priced(
     Ok(())
 }
 
-/// The first product from one on for which there may be bids, or their number where there is none: in the first round the
-/// product itself, and later the first that is held.
-#[inline(always)]
-fn next_product(round: u64, demands: &Row, from: usize) -> usize
-    requires { from ≤ length demands.now }
-    ensures least { from ≤ result }
-    ensures most { result ≤ length demands.now }
-    ensures passed { (product : ℕ) → from ≤ product → product < result
-        → ((round == 1) ≡ false) × (slice_index demands.now product ≡ 0) }
-{
-    if round == 1 {
-        return from;
-    }
-    demands.first_held(from, demands.len())
-}
-
 /// Adds the bids for a product.
 fn push_product(
     bids: &mut Vec<Bid>,
@@ -255,8 +239,30 @@ pub(crate) fn push_sincere(
     ensures { OnOk result (bids.new.items ≡ bids.old.items ++ rules.sincere_sheet own.entry.round
         (prices_after products.now (option_copied last.entry)) own.entry.demands.now limits.now) }
 {
-    let mut product = next_product(own.round, own.demands, 0);
-    'products: while product < products.len() {
+    if own.round == 1 {
+        push_each(bids, products, last, own, limits)?;
+        return Ok(());
+    }
+    push_later_sheet(bids, products, last, own, limits)?;
+    Ok(())
+}
+
+/// Adds the bids for one product after another.
+fn push_each(
+    bids: &mut Vec<Bid>,
+    products: &[Product],
+    last: Option<&RoundSheet>,
+    own: Own,
+    limits: &LimitLists,
+) -> Result<(), NoMemory>
+    requires lines { length (prices_after products.now (option_copied last)) ≡ length products.now }
+    requires held { length own.demands.now ≡ length products.now }
+    requires each { length limits.now ≡ length products.now }
+    requires falling { All NeverRises limits.now }
+    ensures { OnOk result (bids.new.items ≡ bids.old.items ++ rules.sincere_sheet own.entry.round
+        (prices_after products.now (option_copied last.entry)) own.entry.demands.now limits.now) }
+{
+    for product in 0..products.len() {
         push_product(
             bids,
             products,
@@ -266,7 +272,37 @@ pub(crate) fn push_sincere(
             limits,
             product,
         )?;
-        product = next_product(own.round, own.demands, product + 1);
+    }
+    Ok(())
+}
+
+/// Adds the bids for the products that are held, as in each round after the first.
+fn push_later_sheet(
+    bids: &mut Vec<Bid>,
+    products: &[Product],
+    last: Option<&RoundSheet>,
+    own: Own,
+    limits: &LimitLists,
+) -> Result<(), NoMemory>
+    requires later { own.round ≢ 1 }
+    requires lines { length (prices_after products.now (option_copied last)) ≡ length products.now }
+    requires held { length own.demands.now ≡ length products.now }
+    requires each { length limits.now ≡ length products.now }
+    requires falling { All NeverRises limits.now }
+    ensures { OnOk result (bids.new.items ≡ bids.old.items ++ rules.sincere_sheet own.entry.round
+        (prices_after products.now (option_copied last.entry)) own.entry.demands.now limits.now) }
+{
+    let mut held = own.demands.held();
+    'held: while let Some(product) = held.next() {
+        push_product(
+            bids,
+            products,
+            last,
+            own.round,
+            own.demands,
+            limits,
+            product,
+        )?;
     }
     Ok(())
 }

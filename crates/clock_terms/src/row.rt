@@ -1,5 +1,4 @@
 ghost use Rattle.std.specs.Prelude.{◌≡◌, ℕ, ◌+◌, ◌≤◌, ◌<◌, ◌*◌, ◌≢◌, min, length, replicate, All, IfOk, slice_index, slice_set};
-ghost use Rattle.std.specs.List.{AllWithin};
 ghost use Rattle.std.specs.Int.{bit_at};
 ghost use Rattle.clock_terms.specs.Limits.{most_products, most_supply};
 ghost use Rattle.clock_terms.specs.inside.Rows.{AreMarked};
