@@ -1,9 +1,10 @@
--- What a quick reading finds of a body, and the JSON values that sheets and closings are, in serde_json's terms.
---     bid_fields, put_fields, close_fields      what was found of a bid, a sheet, a closing
---     bid_data, bids_data, tie_data, ties_data, put_data, close_data      a whole one, as a value
-use Rattle.std.specs.Prelude.{ℕ, List, [], ◌∷◌, map, Option, Some, None, option_map, codes}
-use Rattle.serde_json.specs.Data.{Data, object, array}
-use Rattle.clock_scan.specs.Reading.{whole, numbers, items_of, Fields, members_of}
+-- What a quick reading finds of a bid, a tie number and increments, in serde_json's terms.
+--     bid_fields      a bid's keys, each with what was found
+--     bid_data, tie_data      a whole bid and a whole tie number, as values
+--     single_of, listed_of      the increment for all products, or those of each, where there are such
+use Rattle.std.specs.Prelude.{ℕ, List, [], ◌∷◌, Option, Some, None, option_map, codes}
+use Rattle.serde_json.specs.Data.{Data, object}
+use Rattle.clock_scan.specs.Reading.{whole, numbers, Fields, members_of}
 use Rattle.clock_bids.specs.declared.sheet.Bid.{Bid}
 use Rattle.clock_order.specs.declared.ties.Tie.{Tie}
 use Rattle.clock_terms.specs.declared.increments.Increments.{Increments}
@@ -22,17 +23,9 @@ bid_fields found =
 abbrev pub bid_data : Bid → Data
 bid_data bid = object (members_of (bid_fields (record { price = Some bid.price; product = Some bid.product; quantity = Some bid.quantity })))
 
--- a list of bids as a value
-abbrev pub bids_data : List Bid → Data
-bids_data bids = array (items_of (map bid_data bids))
-
 -- a tie number as a value
 abbrev pub tie_data : Tie → Data
 tie_data tie = numbers (tie.bidder ∷ tie.product ∷ tie.number ∷ [])
-
--- a list of tie numbers as a value
-abbrev pub ties_data : List Tie → Data
-ties_data ties = array (items_of (map tie_data ties))
 
 -- the increment for all products, where there is one
 abbrev pub single_of : Increments → Option ℕ

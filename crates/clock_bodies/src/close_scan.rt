@@ -3,7 +3,7 @@ ghost use Rattle.std.specs.Prelude.{◌≡◌, [], ◌<◌, length, Ok, IfSome, 
 ghost use Rattle.clock_scan.specs.Reading.{Reads, members_of};
 ghost use Rattle.serde_json.specs.Data.{object};
 ghost use Rattle.clock_bodies.specs.CloseBodies as bodies;
-ghost use Rattle.clock_bodies.specs.QuickBodies.{tie_data, ties_data, single_of, listed_of};
+ghost use Rattle.clock_bodies.specs.QuickBodies.{tie_data, single_of, listed_of};
 ghost use Rattle.clock_bodies.specs.inside.QuickBodies.{close_fields, close_data};
 
 use crate::close_body::CloseBody;

@@ -3,8 +3,8 @@ ghost use Rattle.std.specs.Prelude.{◌≡◌, [], ◌++◌, ◌<◌, List, leng
 ghost use Rattle.clock_scan.specs.Reading.{members_of, Reads, ReadsAll};
 ghost use Rattle.serde_json.specs.Data.{object};
 ghost use Rattle.clock_bodies.specs.Bodies as bodies;
-ghost use Rattle.clock_bodies.specs.QuickBodies.{bid_fields, bid_data, bids_data};
-ghost use Rattle.clock_bodies.specs.inside.QuickBodies.{put_fields, put_data};
+ghost use Rattle.clock_bodies.specs.QuickBodies.{bid_fields, bid_data};
+ghost use Rattle.clock_bodies.specs.inside.QuickBodies.{bids_data, put_fields, put_data};
 
 use crate::put_body::PutBody;
 use clock_bids::Bid;

@@ -19,7 +19,7 @@ use Rattle.clock_replays.specs.declared.script.Script.{Script}
 use Rattle.clock_replays.specs.declared.script.Script.TheVariants.{Literal, Sincere}
 use Rattle.clock_replays.specs.declared.closing.Closing.{Closing}
 use Rattle.clock_replays.specs.ReplayShape.{ReplayParts, sheet_of, literal_of, sincere_of, script_of, closing_from, parts_of}
-use Rattle.clock_replays.specs.ReplayData.{sheet_data, script_data, closing_data}
+use Rattle.clock_replays.specs.inside.PartData.{sheet_data, script_data, closing_data}
 use Rattle.clock_replays.specs.inside.ReplayData.{replay_data, found_data}
 use Rattle.clock_replays.specs.declared.scanned_replay.ScannedReplay.{ScannedReplay}
 use Rattle.clock_replays.specs.Replays.{ReplayFields}

@@ -1,7 +1,6 @@
 pub mod EndedRows
 pub mod Replays
 pub mod ReplayShape
-pub mod ReplayData
 pub mod ReplayChecks
 pub mod ReplayDocument
 pub mod inside

@@ -2,7 +2,7 @@
 ghost use Rattle.std.specs.Prelude.{◌≡◌, IfSome};
 ghost use Rattle.serde_json.specs.Data.{object};
 ghost use Rattle.clock_scan.specs.Reading.{members_of};
-ghost use Rattle.clock_replays.specs.ReplayData.{closing_fields, closing_data};
+ghost use Rattle.clock_replays.specs.inside.PartData.{closing_fields, closing_data};
 
 use crate::closing::{Closing, TieList};
 use clock_bodies::{TieReader, one_form};

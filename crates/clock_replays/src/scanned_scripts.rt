@@ -2,7 +2,7 @@
 ghost use Rattle.std.specs.Prelude.{◌≡◌, Some, IfSome};
 ghost use Rattle.serde_json.specs.Data.{object};
 ghost use Rattle.clock_scan.specs.Reading.{members_of};
-ghost use Rattle.clock_replays.specs.ReplayData.{sheet_data, kind_text, script_fields, script_data};
+ghost use Rattle.clock_replays.specs.inside.PartData.{sheet_data, kind_text, script_fields, script_data};
 
 use crate::limit_lists::{LimitLists, limit_lists};
 use crate::script::{BidList, Script, SheetList};

@@ -1,14 +1,22 @@
 -- The values of JSON that bodies are, as the quick readers find them.
-use Rattle.std.specs.Prelude.{ℕ, List, [], ◌∷◌, Option, Some, option_map, codes}
-use Rattle.serde_json.specs.Data.{Data, object}
-use Rattle.clock_scan.specs.Reading.{whole, numbers, Fields, members_of}
+use Rattle.std.specs.Prelude.{ℕ, List, [], ◌∷◌, map, Option, Some, option_map, codes}
+use Rattle.serde_json.specs.Data.{Data, object, array}
+use Rattle.clock_scan.specs.Reading.{whole, numbers, items_of, Fields, members_of}
 use Rattle.clock_bids.specs.declared.sheet.Bid.{Bid}
 use Rattle.clock_order.specs.declared.ties.Tie.{Tie}
 use Rattle.clock_bodies.specs.declared.put_body.PutBody.{PutBody}
 use Rattle.clock_bodies.specs.declared.put_scan.FoundPut.{FoundPut}
 use Rattle.clock_bodies.specs.declared.close_body.CloseBody.{CloseBody}
 use Rattle.clock_bodies.specs.declared.close_scan.FoundClose.{FoundClose}
-use Rattle.clock_bodies.specs.QuickBodies.{bids_data, ties_data, single_of, listed_of}
+use Rattle.clock_bodies.specs.QuickBodies.{bid_data, tie_data, single_of, listed_of}
+
+-- a list of bids as a value
+abbrev pub bids_data : List Bid → Data
+bids_data bids = array (items_of (map bid_data bids))
+
+-- a list of tie numbers as a value
+abbrev pub ties_data : List Tie → Data
+ties_data ties = array (items_of (map tie_data ties))
 
 -- a sheet's keys, each with a value or none
 abbrev pub put_members : Option ℕ → Option (List Bid) → Fields

@@ -7,7 +7,7 @@ use Rattle.clock_replays.specs.declared.script.Script.{Script}
 use Rattle.clock_replays.specs.declared.closing.Closing.{Closing}
 use Rattle.clock_replays.specs.declared.scanned_replay.FoundReplay.{FoundReplay}
 use Rattle.clock_replays.specs.declared.scanned_replay.ScannedReplay.{ScannedReplay}
-use Rattle.clock_replays.specs.ReplayData.{script_data, closing_data}
+use Rattle.clock_replays.specs.inside.PartData.{script_data, closing_data}
 
 -- a replay's keys, each with its value where one was found
 abbrev pub replay_fields : Option (List Closing) → Option (List Script) → Option Data → Fields

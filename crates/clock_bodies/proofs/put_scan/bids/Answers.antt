@@ -3,7 +3,8 @@ use Rattle.json.specs.Token.{Token}
 use Rattle.clock_scan.specs.Reading.{Reads}
 use Rattle.clock_scan.specs.inside.Reading.{HasItems}
 use Rattle.clock_scan.proofs.Steps.{all_shorter, items_start, items_end, items_push_next, items_push_all}
-use Rattle.clock_bodies.specs.QuickBodies.{bid_data, bids_data}
+use Rattle.clock_bodies.specs.QuickBodies.{bid_data}
+use Rattle.clock_bodies.specs.inside.QuickBodies.{bids_data}
 use Rattle.clock_bodies.proofs.put_scan.bids.Goals as goal
 
 pub items-init : goal.items-init

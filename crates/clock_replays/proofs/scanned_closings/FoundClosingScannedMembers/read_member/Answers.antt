@@ -1,8 +1,8 @@
 use Rattle.std.proofs.Common.{◌≡◌, codes, refl, sym, subst, arith}
 use Rattle.clock_scan.specs.Reading.{whole, numbers, Reads}
 use Rattle.clock_scan.proofs.Steps.{adds_member}
-use Rattle.clock_bodies.specs.QuickBodies.{ties_data}
-use Rattle.clock_replays.specs.ReplayData.{closing_fields}
+use Rattle.clock_bodies.specs.inside.QuickBodies.{ties_data}
+use Rattle.clock_replays.specs.inside.PartData.{closing_fields}
 use Rattle.clock_replays.proofs.scanned_closings.FoundClosingScannedMembers.read_member.Goals as goal
 
 pub returns-then-is_key-clause-value : goal.returns-then-is_key-clause-value

@@ -2,7 +2,7 @@ use Rattle.std.proofs.Common.{◌≡◌, codes, refl, sym, subst, arith}
 use Rattle.serde_json.specs.Data.{string}
 use Rattle.clock_scan.specs.Reading.{rows, Reads}
 use Rattle.clock_scan.proofs.Steps.{adds_member}
-use Rattle.clock_replays.specs.ReplayData.{sheets_data, kind_text, script_fields}
+use Rattle.clock_replays.specs.inside.PartData.{sheets_data, kind_text, script_fields}
 use Rattle.clock_replays.proofs.scanned_scripts.FoundScriptScannedMembers.read_member.Goals as goal
 
 pub returns-then-is_key-clause-value : goal.returns-then-is_key-clause-value

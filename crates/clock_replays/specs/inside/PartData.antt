@@ -1,11 +1,12 @@
 -- The values of JSON that the parts of a replay document are, in serde_json's terms.
---     script_fields, closing_fields, replay_fields      the keys of an object, each with what was found
---     sheet_data, script_data, closing_data, replay_data      a whole one, as a value
+--     script_fields, closing_fields      the keys of an object, each with what was found
+--     sheet_data, script_data, closing_data      a whole one, as a value
 use Rattle.std.specs.Prelude.{ℕ, List, [], ◌∷◌, map, Option, Some, None, option_map, codes}
 use Rattle.serde_json.specs.Data.{Data, null, string, object, array}
 use Rattle.clock_scan.specs.Reading.{whole, numbers, rows, items_of, Fields, members_of}
 use Rattle.clock_bids.specs.declared.sheet.Bid.{Bid}
-use Rattle.clock_bodies.specs.QuickBodies.{bids_data, ties_data, single_of, listed_of}
+use Rattle.clock_bodies.specs.QuickBodies.{single_of, listed_of}
+use Rattle.clock_bodies.specs.inside.QuickBodies.{bids_data, ties_data}
 use Rattle.clock_replays.specs.declared.script.Script.{Script}
 use Rattle.clock_replays.specs.declared.script.Script.TheVariants.{Literal, Sincere}
 use Rattle.clock_replays.specs.declared.closing.Closing.{Closing}
