@@ -27,8 +27,6 @@ use Rattle.clock_replays.specs.ReplayChecks.{replay_checks}
 use Rattle.clock_replays.specs.ReplayDocument.{document_replay}
 use Rattle.clock_replays.proofs.DocumentLaws.{replay_at}
 
-
-
 abbrev pub all_of : ScannedReplay → ReplayFields
 all_of found = record { setup = found.held.setup; scripts = found.scripts; closings = found.closings }
 
