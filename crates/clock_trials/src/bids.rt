@@ -1,6 +1,6 @@
 //! The changes that sheets of small auctions ask for.
 
-ghost use Rattle.std.specs.Prelude.{◌≡◌, ◌≤◌, ◌<◌, length, All, IsTrue};
+ghost use Rattle.std.specs.Prelude.{◌≡◌, ◌≤◌, ◌<◌, length, All, IsTrue, IfOk};
 ghost use Rattle.clock_terms.specs.Limits.{IsRow, most_supply};
 
 use clock_bids::{
@@ -9,7 +9,7 @@ use clock_bids::{
 use clock_device::NoMemory;
 use clock_money::{Point, Price};
 use clock_setup::fixtures::{ONE_PRODUCT, TWO_PRODUCTS};
-use clock_setup::{PricePair, Prices, Product, Row, Setup, read_setup};
+use clock_setup::{Grid, PricePair, Prices, Product, Row, Setup, read_setup};
 use std::alloc::Global;
 use std::process::Abort;
 use std::test::Fail;
@@ -130,11 +130,15 @@ fn are_small(demands: &[u64]) -> bool
     demands.iter().all(|demand| *demand <= 1000)
 }
 
-/// A bidder's demands, of two products at most.
-fn row_of(rt: &impl Abort, alloc: Global, demands: &[u64]) -> Result<Row, NoMemory> {
-    assert!(rt; demands.len() <= 2);
+/// A grid in which the first bidder has these demands.
+fn grid_of(rt: &impl Abort, alloc: Global, setup: &Setup, demands: &[u64]) -> Result<Grid, NoMemory>
+    ensures { IfOk result (λ grid. 0 < length grid) }
+{
+    assert!(rt; demands.len() == setup.products.as_slice().len());
     assert!(rt; are_small(demands));
-    Row::of_numbers(alloc, demands)
+    let mut grid = Grid::zero(alloc, setup)?;
+    grid.set_row(0, demands);
+    Ok(grid)
 }
 
 /// What a bidder holds in the second round.
@@ -187,8 +191,9 @@ fn asks_for(
 ) -> Result<bool, Fail> {
     let setup = read_setup(alloc, round.document.as_bytes())?;
     let prices = prices_of(alloc, &setup)?;
-    let row = row_of(rt, alloc, round.demands)?;
-    let changes = asked_by(rt, alloc, &setup, &prices, held(round, &row), bids)?;
+    let grid = grid_of(rt, alloc, &setup, round.demands)?;
+    let own = held(round, grid.row(0));
+    let changes = asked_by(rt, alloc, &setup, &prices, own, bids)?;
     Ok(changes.as_slice() == wanted)
 }
 
@@ -201,8 +206,9 @@ fn asks_without(
 ) -> Result<bool, Fail> {
     let setup = read_setup(alloc, round.document.as_bytes())?;
     let prices = prices_of(alloc, &setup)?;
-    let row = row_of(rt, alloc, round.demands)?;
-    let changes = asked_without(rt, alloc, &setup, &prices, held(round, &row))?;
+    let grid = grid_of(rt, alloc, &setup, round.demands)?;
+    let own = held(round, grid.row(0));
+    let changes = asked_without(rt, alloc, &setup, &prices, own)?;
     Ok(changes.as_slice() == wanted)
 }
 
