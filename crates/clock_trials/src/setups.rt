@@ -1,8 +1,8 @@
 use clock_setup::fixtures::{ACTIVITY_LIMIT, GRANULES_AND_INCREMENTS, ONE_PRODUCT, TWO_PRODUCTS};
 use clock_setup::{
-    OpeningFault, Place, Product, Setup, SetupFault, products_copy, read_opening, read_setup,
-    setup_of,
+    OpeningFault, Place, Product, Setup, SetupFault, read_opening, read_setup, setup_of,
 };
+use clock_terms::products_copy;
 use serde_json::Value;
 use std::alloc::Global;
 use std::test::Fail;
