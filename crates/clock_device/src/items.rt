@@ -1,4 +1,5 @@
-ghost use Rattle.std.specs.Prelude.{◌≡◌, [], ◌∷◌, ◌++◌, ◌<◌, ◌↔◌, length, replicate, slice_set, IsTrue, OnOk, OnErr, IfOk};
+ghost use Rattle.std.specs.Prelude.{◌≡◌, [], ◌∷◌, ◌++◌, ◌<◌, ◌↔◌, length, replicate, slice_set, IsTrue, OnOk, OnErr};
+ghost use Rattle.std.specs.Prelude.{IfOk};
 
 use crate::bounded::Bounded;
 use crate::no_memory::NoMemory;

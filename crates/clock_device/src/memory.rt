@@ -1,4 +1,5 @@
-ghost use Rattle.std.specs.Prelude.{◌≡◌, ◌≤◌, ◌||◌, ◌++◌, ℕ, length, take, drop, IfOk, OnErr, MatchResult, Some, None, vec_len, vec_capacity, is_err};
+ghost use Rattle.std.specs.Prelude.{◌≡◌, ◌≤◌, ◌||◌, ◌++◌, ℕ, length, take, drop, IfOk, OnErr, MatchResult, Some, None};
+ghost use Rattle.std.specs.Prelude.{vec_len, vec_capacity, is_err};
 ghost use Rattle.std.specs.Result.{result_ok};
 ghost use Rattle.std.specs.Io.{ReadsAtMost};
 ghost use Rattle.std.specs.Io.KnownBytes.{ReadConsumes, WriteAppends};
@@ -129,7 +130,14 @@ pub struct ListSink {
 impl Model for ListSink {
     ghost Value = { SinkState };
 
-    ghost view = { λ s. record { taken = s.taken.items; room = s.room; piece = s.piece; stop = s.stop; calls = s.calls; has_failed = s.has_failed } };
+    ghost view = { λ s. record {
+      taken = s.taken.items;
+      room = s.room;
+      piece = s.piece;
+      stop = s.stop;
+      calls = s.calls;
+      has_failed = s.has_failed;
+    } };
 
     ghost invariant = { λ s. (vec_len s.taken ≤ s.room) × (s.room ≤ vec_capacity s.taken) × (1 ≤ s.piece) };
 }

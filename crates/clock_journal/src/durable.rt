@@ -6,8 +6,8 @@ use clock_device::Failed;
 
 /// A file that is added to and cut off, and whose bytes can be put on the disk for good.
 ///
-/// Contracts see the bytes that stand in it and those that are synced, where it tells them, and whether a call has failed. A
-/// stop of the machine leaves all that is synced, and of the rest some front.
+/// Contracts see the bytes that stand in it and those that are synced, where it tells them, and whether a call has
+/// failed. A stop of the machine leaves all that is synced, and of the rest some front.
 pub trait Durable {
     ghost written: { Self → Option (List ℕ) };
 

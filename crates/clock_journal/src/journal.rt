@@ -15,8 +15,8 @@ use std::marker::Model;
 
 /// A journal whose records so far are on the disk.
 ///
-/// Contracts see what stands on its disk and what of that is synced, where the disk tells it, whether a call of it has failed,
-/// and the digest of the last text.
+/// Contracts see what stands on its disk and what of that is synced, where the disk tells it, whether a call of it has
+/// failed, and the digest of the last text.
 #[derive(Drop)]
 pub struct Journal<D: Durable> {
     disk: D,
@@ -80,9 +80,11 @@ fn append_record<D: Durable>(disk: &mut D, chain: &Link, text: &[u8]) -> Result<
 fn append_synced<D: Durable>(disk: &mut D, chain: &mut Link, text: &[u8]) -> Result<(), Failed>
     requires fits { Fits text.now }
     requires unfailed { D.has_failed disk.old ≡ false }
-    ensures kept { (digest : List ℕ) (texts : List (List ℕ)) → Keeps digest texts (D.written disk.old) (D.synced disk.old) chain.old
+    ensures kept { (digest : List ℕ) (texts : List (List ℕ))
+        → Keeps digest texts (D.written disk.old) (D.synced disk.old) chain.old
         → OnOk result (Keeps digest (texts ++ text.now ∷ []) (D.written disk.new) (D.synced disk.new) chain.new) }
-    ensures any_moment { (digest : List ℕ) (texts : List (List ℕ)) → Keeps digest texts (D.written disk.old) (D.synced disk.old) chain.old
+    ensures any_moment { (digest : List ℕ) (texts : List (List ℕ))
+        → Keeps digest texts (D.written disk.old) (D.synced disk.old) chain.old
         → (left : List ℕ) → MayBeLeft (D.synced disk.old) (D.written disk.new) left
         → LeavesTexts digest left (texts ++ text.now ∷ []) (length texts) }
     ensures link { OnOk result (chain.new ≡ link chain.old text.now) }
@@ -114,13 +116,14 @@ impl<D: Durable> Journal<D> {
         Ok(Journal { disk, chain })
     }
 
-    /// Goes on with the journal of a file that was taken over, for the set-up document of a digest. All that stands in the file is
-    /// put on the disk, and what is torn is then cut off.
+    /// Goes on with the journal of a file that was taken over, for the set-up document of a digest. All that stands in
+    /// the file is put on the disk, and what is torn is then cut off.
     pub fn resume(disk: D, digest: Link, recovered: Recovered) -> Result<Journal<D>, Failed>
     where
         D: Drop,
         requires unfailed { D.has_failed disk ≡ false }
-        ensures kept { (bytes : List ℕ) (texts : List (List ℕ)) → D.written disk ≡ Some bytes → IsPlaced digest bytes texts recovered
+        ensures kept { (bytes : List ℕ) (texts : List (List ℕ))
+            → D.written disk ≡ Some bytes → IsPlaced digest bytes texts recovered
             → IfOk result (λ journal. HasTexts digest texts journal) }
         ensures unfailed { IfOk result (λ journal. journal.has_failed ≡ false) }
     {
@@ -134,8 +137,9 @@ impl<D: Durable> Journal<D> {
         Ok(Journal { disk, chain })
     }
 
-    /// Adds a text. At `Ok` it is on the disk: no stop of the machine takes it. At `Err` it may be there or not, and the journal
-    /// is to be opened anew: nothing more can be added to this one, since a sync that failed says nothing when it is tried again.
+    /// Adds a text. At `Ok` it is on the disk: no stop of the machine takes it. At `Err` it may be there or not, and
+    /// the journal is to be opened anew: nothing more can be added to this one, since a sync that failed says nothing
+    /// when it is tried again.
     ///
     /// It takes no memory.
     pub fn append(&mut self, text: &[u8]) -> Result<(), Failed>

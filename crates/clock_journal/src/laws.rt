@@ -3,8 +3,8 @@
 ghost use Rattle.clock_journal.specs.Chain.{ChainBinds};
 ghost use Rattle.clock_journal.specs.Laws.{CutLeaves, EveryFront, ReadsBack, WhateverFollows};
 
-/// The digest of a journal's last text stands for the set-up and all texts before it: two journals of as many texts that end
-/// with the same digest are the same, or two messages with one SHA-256 digest stand in them.
+/// The digest of a journal's last text stands for the set-up and all texts before it: two journals of as many texts
+/// that end with the same digest are the same, or two messages with one SHA-256 digest stand in them.
 pub fn law_chain_binds()
     ensures { ChainBinds }
 {}

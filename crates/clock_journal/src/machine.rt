@@ -1,8 +1,8 @@
 ghost use Rattle.std.specs.Prelude.{◌≡◌, ◌∷◌, List, ℕ, Err, OnOk};
 ghost use Rattle.clock_journal.specs.declared.machine.Untaken.TheVariants as untaken;
 
-/// Why a text was not taken: it is none that changes the machine as it stands, or there was no memory. The machine is not to be
-/// used any more.
+/// Why a text was not taken: it is none that changes the machine as it stands, or there was no memory. The machine is
+/// not to be used any more.
 #[derive(Clone, Copy, Debug, PartialEq, Eq)]
 pub enum Untaken {
     Refused,
@@ -24,7 +24,9 @@ pub trait Machine {
 
     /// Takes one more text.
     fn take(&mut self, text: &[u8]) -> Result<(), Untaken>
-        ensures taken { OnOk result ((texts : List (List ℕ)) → stands_for self.old texts → stands_for self.new (text.now ∷ texts)) }
-        ensures refused { (texts : List (List ℕ)) → result ≡ Err untaken.Refused → stands_for self.old texts → refuses (rules self.old) texts text.now }
+        ensures taken { OnOk result ((texts : List (List ℕ))
+            → stands_for self.old texts → stands_for self.new (text.now ∷ texts)) }
+        ensures refused { (texts : List (List ℕ))
+            → result ≡ Err untaken.Refused → stands_for self.old texts → refuses (rules self.old) texts text.now }
         ensures rules { rules self.new ≡ rules self.old };
 }

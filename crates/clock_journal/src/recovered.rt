@@ -5,6 +5,7 @@ use crate::link::Link;
 pub struct Recovered {
     /// The digest of its last text.
     pub chain: Link,
-    /// Where its last record ends: what stands behind that is torn, and to be cut off. It is 0 where there is no whole head.
+    /// Where its last record ends: what stands behind that is torn, and to be cut off. It is 0 where there is no whole
+    /// head.
     pub end: usize,
 }

@@ -20,9 +20,11 @@ pub fn recover<M: Machine>(
         (IsRecovered (M.stands_for machine.old) (M.stands_for machine.new) digest.now bytes.now)
         (IsRefusal digest.now bytes.now) }
     ensures crash { (texts : List (List ℕ)) (least : ℕ) → LeavesTexts digest.now bytes.now texts least
-        → MatchResult result (λ _. HasTaken (M.stands_for machine.old) (M.stands_for machine.new) texts least) IsUntaken }
+        → MatchResult result
+        (λ _. HasTaken (M.stands_for machine.old) (M.stands_for machine.new) texts least) IsUntaken }
     ensures refused { MatchResult result (λ _. Unit {0})
-        (IsRefusedRightly (M.refuses (M.rules machine.old)) (M.stands_for machine.old) digest.now (drop 56 bytes.now) (length bytes.now)) }
+        (IsRefusedRightly (M.refuses (M.rules machine.old)) (M.stands_for machine.old) digest.now
+        (drop 56 bytes.now) (length bytes.now)) }
     ensures rules { M.rules machine.new ≡ M.rules machine.old }
 {
     match heading_of(digest, bytes) {

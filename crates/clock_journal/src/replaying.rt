@@ -9,7 +9,8 @@ use crate::next::Next;
 use crate::reading::next_record;
 use crate::recovered::Recovered;
 
-/// Takes all texts of the records of a file of this size, in order. What stands behind its last record is torn, or nothing.
+/// Takes all texts of the records of a file of this size, in order. What stands behind its last record is torn, or
+/// nothing.
 pub fn replay<M: Machine>(
     machine: &mut M,
     first: &Link,

@@ -1,5 +1,7 @@
-//! Bids as most programs write them: without white space, and their keys in one order. Eight bytes are compared at once.
-ghost use Rattle.std.specs.Prelude.{◌≡◌, true, false, ◌+◌, ◌≤◌, ◌<◌, ◌^◌, ◌∷◌, length, take, drop, codes, decimal, IsTrue, IfSome};
+//! Bids as most programs write them: without white space, and their keys in one order. Eight bytes are compared at
+//! once.
+ghost use Rattle.std.specs.Prelude.{◌≡◌, true, false, ◌+◌, ◌≤◌, ◌<◌, ◌^◌, ◌∷◌, length, take, drop, codes, decimal};
+ghost use Rattle.std.specs.Prelude.{IsTrue, IfSome};
 ghost use Rattle.std.specs.Int.{w64, to_le_bytes};
 ghost use Rattle.json.specs.Token.{begin_object, end_object, number, string};
 ghost use Rattle.json.specs.Lex.{lex, between, token, comma, colon};
@@ -94,7 +96,8 @@ fn has_quantity(bytes: &[u8], at: usize) -> bool
 fn ends_bid(bytes: &[u8], at: usize) -> bool
     requires { at + 2 ≤ length bytes.now }
     ensures ends { IsTrue result → ends_word (drop at bytes.now) ≡ true }
-    ensures value { IsTrue result → lex between (drop at bytes.now) ≡ token end_object ∷ comma ∷ lex between (drop (at + 2) bytes.now) }
+    ensures value { IsTrue result
+        → lex between (drop at bytes.now) ≡ token end_object ∷ comma ∷ lex between (drop (at + 2) bytes.now) }
 {
     if bytes[at] != b'}' {
         return false;
@@ -110,8 +113,8 @@ fn has_leading_zero(first: u8, count: usize) -> bool
     first == b'0' && count != 1
 }
 
-/// The number that stands there in at most sixteen digits, with no zero before them, and where they end. It is a number where
-/// its digits end a word.
+/// The number that stands there in at most sixteen digits, with no zero before them, and where they end. It is a number
+/// where its digits end a word.
 #[inline(always)]
 pub(crate) fn digits_at(bytes: &[u8], start: usize) -> Option<(u64, usize)>
     requires { start + 16 ≤ length bytes.now }
@@ -147,7 +150,8 @@ pub struct CompactBid {
     pub quantity: u64,
 }
 
-/// How many bytes a bid has at most that is read so, with its comma: three numbers of sixteen digits, and what is around them.
+/// How many bytes a bid has at most that is read so, with its comma: three numbers of sixteen digits, and what is
+/// around them.
 const MOST_BYTES: usize = 82;
 
 /// The bid that stands there, with a comma behind it, and where that ends.

@@ -1,5 +1,5 @@
-//! JSON texts read byte by byte, without a tree of values, where they have the shape that is wanted. What is read is what
-//! `serde_json` reads; where nothing is read, nothing is said of the text.
+//! JSON texts read byte by byte, without a tree of values, where they have the shape that is wanted. What is read is
+//! what `serde_json` reads; where nothing is read, nothing is said of the text.
 #![tactic(auto)]
 
 mod compact;

@@ -21,7 +21,8 @@ impl<'a> Scan<'a> {
 
     /// Reads a list of numbers as [`numbers`](Scan::numbers) does, behind those that are there.
     pub fn numbers_behind(&mut self, list: &mut Vec<u64>) -> Result<(), ScanStop>
-        ensures value { OnOk result ((row : List ℕ) × (list.new.items ≡ list.old.items ++ row) × Reads 1 self.old (numbers row) self.new) }
+        ensures value { OnOk result ((row : List ℕ) × (list.new.items ≡ list.old.items ++ row)
+            × Reads 1 self.old (numbers row) self.new) }
         ensures shorter { OnOk result (length self.new < length self.old) }
     {
         if !self.opens_array() {

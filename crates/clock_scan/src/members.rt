@@ -29,7 +29,8 @@ pub fn scanned_members<'v, M: ScannedMembers<'v>>(
     nothing: M,
 ) -> Result<M, ScanStop>
     requires { members_of (M.fields nothing) ≡ no_members }
-    ensures value { IfOk result (λ found. Reads (suc M.levels) scan.old (object (members_of (M.fields found))) scan.new) }
+    ensures value { IfOk result (λ found.
+        Reads (suc M.levels) scan.old (object (members_of (M.fields found))) scan.new) }
     ensures shorter { OnOk result (length scan.new < length scan.old) }
 {
     if !scan.opens_object() {

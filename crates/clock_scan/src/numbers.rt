@@ -8,8 +8,8 @@ use std::marker::Model;
 /// The largest number that two bytes hold.
 const MOST_SHORT: u64 = 65_535;
 
-/// A list of numbers. Contracts see the list, and nothing of how it is kept: its numbers stand in two bytes each, and from
-/// the first piece on that has one above 65,535 in eight.
+/// A list of numbers. Contracts see the list, and nothing of how it is kept: its numbers stand in two bytes each, and
+/// from the first piece on that has one above 65,535 in eight.
 #[derive(Drop)]
 pub(crate) struct Numbers {
     short: Vec<u16>,

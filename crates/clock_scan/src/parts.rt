@@ -30,7 +30,8 @@ pub fn scanned_parts<'v, R: PartReader<'v>>(
     scan: &mut Scan<'v>,
     room: usize,
 ) -> Result<Vec<R::Part>, ScanStop>
-    ensures value { IfOk result (λ parts. Reads (suc R.levels) scan.old (array (items_of (map R.shown parts.items))) scan.new) }
+    ensures value { IfOk result (λ parts.
+        Reads (suc R.levels) scan.old (array (items_of (map R.shown parts.items))) scan.new) }
     ensures shorter { OnOk result (length scan.new < length scan.old) }
 {
     if !scan.opens_array() {

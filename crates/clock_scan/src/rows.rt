@@ -1,5 +1,6 @@
 //! Rows of numbers, all in one list.
-ghost use Rattle.std.specs.Prelude.{◌≡◌, ◌==◌, ◌<◌, ◌≤◌, ◌+◌, [], length, take, slice_index, slice_index_or, IfOk, OnOk};
+ghost use Rattle.std.specs.Prelude.{◌≡◌, ◌==◌, ◌<◌, ◌≤◌, ◌+◌, [], length, take, slice_index, slice_index_or, IfOk};
+ghost use Rattle.std.specs.Prelude.{OnOk};
 ghost use Rattle.std.specs.List.{list_all};
 ghost use Rattle.clock_scan.specs.inside.Rows.{numbers_in};
 
@@ -8,8 +9,8 @@ use clock_device::{Items, NoMemory};
 use std::alloc::Global;
 use std::marker::Model;
 
-/// Rows of numbers. Contracts see the list of rows, and nothing of how it is kept: all numbers stand in one list, row by
-/// row, with the length of each row beside it.
+/// Rows of numbers. Contracts see the list of rows, and nothing of how it is kept: all numbers stand in one list, row
+/// by row, with the length of each row beside it.
 #[derive(Drop)]
 pub struct FlatRows {
     pub(crate) lengths: Vec<usize>,

@@ -1,5 +1,6 @@
 //! A text read mark by mark.
-ghost use Rattle.std.specs.Prelude.{◌≡◌, ◌∷◌, ◌++◌, [], ℕ, List, ◌<◌, length, map, replicate, IsTrue, IfSome, IfNone, IfOk, OnOk};
+ghost use Rattle.std.specs.Prelude.{◌≡◌, ◌∷◌, ◌++◌, [], ℕ, List, ◌<◌, length, map, replicate, IsTrue, IfSome, IfNone};
+ghost use Rattle.std.specs.Prelude.{IfOk, OnOk};
 ghost use Rattle.std.specs.Bool.{MatchBool};
 ghost use Rattle.json.specs.Token.{begin_array, begin_object, end_array, end_object, key as key_token};
 ghost use Rattle.json.specs.Lex.{tokens};
@@ -182,8 +183,8 @@ impl<'a> Scan<'a> {
         Ok(())
     }
 
-    /// Passes the empty lists that are next, where each has a comma right behind it and one comma is before them, and tells
-    /// how many they are.
+    /// Passes the empty lists that are next, where each has a comma right behind it and one comma is before them, and
+    /// tells how many they are.
     #[inline(always)]
     pub fn empty_arrays(&mut self) -> usize
         ensures { ReadsAll 1 self.old (replicate result (numbers [])) self.new }

@@ -1,5 +1,6 @@
 //! Items of a list that stand one behind the other with nothing between them but a comma: numbers, and empty lists.
-ghost use Rattle.std.specs.Prelude.{◌≡◌, ◌+◌, ◌≤◌, ◌<◌, ◌^◌, ◌∷◌, ◌++◌, [], ℕ, List, length, drop, map, replicate, decimal, IsTrue, IfSome, IfOk};
+ghost use Rattle.std.specs.Prelude.{◌≡◌, ◌+◌, ◌≤◌, ◌<◌, ◌^◌, ◌∷◌, ◌++◌, [], ℕ, List, length, drop, map, replicate};
+ghost use Rattle.std.specs.Prelude.{decimal, IsTrue, IfSome, IfOk};
 ghost use Rattle.json.specs.Token.{begin_array, end_array, number};
 ghost use Rattle.json.specs.Lex.{lex, between, token, comma};
 ghost use Rattle.clock_scan.specs.Left.{left};
@@ -30,7 +31,8 @@ fn digit_at(bytes: &[u8], at: usize) -> Option<u64>
 /// How many bytes a number has at most that is read so, with its comma.
 const MOST_NUMBER: usize = 17;
 
-/// The number that stands there with a comma right behind it, and where that ends. One of a single digit takes a few steps.
+/// The number that stands there with a comma right behind it, and where that ends. One of a single digit takes a few
+/// steps.
 #[inline(always)]
 fn number_and_comma(bytes: &[u8], at: usize) -> Option<(u64, usize)>
     ensures order { IfSome result (λ r. (at < r.1) × (r.1 ≤ length bytes.now)) }
@@ -51,12 +53,13 @@ fn number_and_comma(bytes: &[u8], at: usize) -> Option<(u64, usize)>
     Some((n, end + 1))
 }
 
-/// Reads the numbers that stand there with a comma right behind each, behind those of a list, and tells where the last comma
-/// ends.
+/// Reads the numbers that stand there with a comma right behind each, behind those of a list, and tells where the last
+/// comma ends.
 #[inline(never)]
 pub(crate) fn numbers_at(bytes: &[u8], start: usize, list: &mut Vec<u64>) -> Result<usize, ScanStop>
     ensures { IfOk result (λ end. (row : List ℕ) × (list.new.items ≡ list.old.items ++ row)
-        × ReadsAll 0 (left Place.AfterComma (drop start bytes.now)) (map whole row) (left Place.AfterComma (drop end bytes.now))) }
+        × ReadsAll 0 (left Place.AfterComma (drop start bytes.now)) (map whole row)
+        (left Place.AfterComma (drop end bytes.now))) }
 {
     let mut at = start;
     'numbers: while let Some((n, end)) = number_and_comma(bytes, at) {

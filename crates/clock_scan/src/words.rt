@@ -1,5 +1,6 @@
 //! Bytes of a text as lexemes: white space, commas, quoted words and numbers.
-ghost use Rattle.std.specs.Prelude.{◌≡◌, ℕ, List, ◌∷◌, [], ◌<◌, ◌^◌, ◌||◌, true, false, None, IsTrue, drop, length, get_or, decimal, IfSome};
+ghost use Rattle.std.specs.Prelude.{◌≡◌, ℕ, List, ◌∷◌, [], ◌<◌, ◌^◌, ◌||◌, true, false, None, IsTrue, drop, length};
+ghost use Rattle.std.specs.Prelude.{get_or, decimal, IfSome};
 ghost use Rattle.std.specs.Str.{IsUtf8};
 ghost use Rattle.json.specs.Token.{null, number, string};
 ghost use Rattle.json.specs.Lex.{lex, between, token, class, begins_colon, after_value as past_value, punctuate};
@@ -45,8 +46,8 @@ pub(crate) fn after_space(bytes: &[u8], start: usize) -> usize
     at
 }
 
-/// Whether a text has nothing but white space. It is then no JSON. Behind a first byte that is white space each one is looked
-/// at, since a loop that may end early is slow.
+/// Whether a text has nothing but white space. It is then no JSON. Behind a first byte that is white space each one is
+/// looked at, since a loop that may end early is slow.
 pub fn is_blank(bytes: &[u8]) -> bool
     ensures { IsTrue result → read bytes.now ≡ None }
 {

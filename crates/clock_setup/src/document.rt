@@ -143,10 +143,11 @@ fn setup_by_tree(alloc: Global, bytes: &[u8]) -> Result<Setup, SetupFault>
 ///
 /// A document is one JSON value (RFC 8259), in any order of keys and with any white space:
 /// `{"version":1,"requirement":R,"operator":TOKEN,"products":[{"name":T,"units":N,"supply":N,"cap":N,"opening":N},..],
-/// "bidders":[{"name":T,"token":T,"eligibility":N},..]}`, and in version 2 with `"limit":N` as well, and `"granule":N` in
-/// each product. Version 1 means a limit of 100 percent and granules of one dollar. Its objects have exactly these keys, and its numbers are whole
-/// numbers below 2^64. [`SetupFault`] has the faults in the order in which they are looked at, and [`Place`] the limits.
-/// Reading takes time and memory in proportion to the document's length. Nothing is kept of a document that is refused.
+/// "bidders":[{"name":T,"token":T,"eligibility":N},..]}`, and in version 2 with `"limit":N` as well, and `"granule":N`
+/// in each product. Version 1 means a limit of 100 percent and granules of one dollar. Its objects have exactly these
+/// keys, and its numbers are whole numbers below 2^64. [`SetupFault`] has the faults in the order in which they are
+/// looked at, and [`Place`] the limits. Reading takes time and memory in proportion to the document's length. Nothing
+/// is kept of a document that is refused.
 pub fn read_setup(alloc: Global, bytes: &[u8]) -> Result<Setup, SetupFault>
     ensures ok { IfOk result (λ setup. document.document_setup bytes.now ≡ Ok setup) }
     ensures err { IfErr result (IsRefusal SetupFault.NoMemory (document.document_setup bytes.now)) }

@@ -20,7 +20,14 @@ impl<'v> Model for ProductEntry<'v> {
 
     ghost Value = { Product };
 
-    ghost view = { λ e. record { name = e.name.now; units = e.units; supply = e.supply; cap = e.cap; opening = e.opening; granule = e.granule } };
+    ghost view = { λ e. record {
+      name = e.name.now;
+      units = e.units;
+      supply = e.supply;
+      cap = e.cap;
+      opening = e.opening;
+      granule = e.granule;
+    } };
 }
 
 /// Products whose keys are those of one version, which is 0 where there are none.

@@ -3,7 +3,8 @@ ghost use Rattle.serde_json.specs.Data.{Data};
 ghost use Rattle.clock_terms.specs.Demands.{IsGrid};
 ghost use Rattle.clock_terms.specs.Eligibility.{activity};
 ghost use Rattle.clock_terms.specs.Faults.{first_fault, in_turn};
-ghost use Rattle.clock_terms.specs.Limits.{IsProduct, IsRow, IsWithin, is_within, least_increment, most_increment, most_products, most_supply};
+ghost use Rattle.clock_terms.specs.Limits.{IsProduct, IsRow, IsWithin, is_within, least_increment, most_increment};
+ghost use Rattle.clock_terms.specs.Limits.{most_products, most_supply};
 ghost use Rattle.clock_setup.specs.OpeningDocument as document;
 ghost use Rattle.clock_setup.specs.OpeningDocument.{demand_checks, row_checks, opening_checks};
 
@@ -22,16 +23,19 @@ fn has_counts(setup: &Setup, demands: &FlatRows) -> bool
         && demands.has_lengths(setup.products.as_slice().len())
 }
 
-/// The bidding units that a row of demands takes, or the least product of which a bidder demands more than its cap. Each demand
-/// is looked at once, those that are 0 as well, since a branch for them is mostly guessed wrong where many are held.
+/// The bidding units that a row of demands takes, or the least product of which a bidder demands more than its cap.
+/// Each demand is looked at once, those that are 0 as well, since a branch for them is mostly guessed wrong where many
+/// are held.
 fn units_within(number: u64, products: &[Product], row: &[u64]) -> Result<u64, OpeningFault>
     requires limits { All IsProduct products.now }
     requires few { length products.now ≤ most_products }
     requires row { length row.now ≡ length products.now }
     ensures units { IfOk result (λ units. units ≡ activity products.now row.now) }
     ensures capped { IfOk result (λ _. IsRow products.now row.now) }
-    ensures passed { IfOk result (λ _. first_fault (in_turn (demand_checks number) 0 (zip products.now row.now)) ≡ None) }
-    ensures fault { IfErr result (λ fault. first_fault (in_turn (demand_checks number) 0 (zip products.now row.now)) ≡ Some fault) }
+    ensures passed { IfOk result (λ _.
+        first_fault (in_turn (demand_checks number) 0 (zip products.now row.now)) ≡ None) }
+    ensures fault { IfErr result (λ fault.
+        first_fault (in_turn (demand_checks number) 0 (zip products.now row.now)) ≡ Some fault) }
     ensures held { IfErr result (λ fault. fault ≢ OpeningFault.Setup SetupFault.NoMemory) }
 {
     let mut units = 0u64;
@@ -62,8 +66,8 @@ fn row_fault(number: u64, setup: &Setup, bidder: &Bidder, row: &[u64]) -> Option
     }
 }
 
-/// Gives each bidder its row of demands in a grid, or tells the first fault that one has. The numbers of a row stand in a
-/// list that is lent.
+/// Gives each bidder its row of demands in a grid, or tells the first fault that one has. The numbers of a row stand in
+/// a list that is lent.
 fn set_rows(
     setup: &Setup,
     demands: &FlatRows,
@@ -117,9 +121,11 @@ pub(crate) fn grid_within(
     ensures grid { IfOk result (λ grid. IsGrid (length setup.now.bidders) (length setup.now.products) grid) }
     ensures increment { IfOk result (λ _. IsWithin least_increment most_increment increment) }
     ensures ok { IfOk result (λ _. (held : Data)
-        → first_fault (opening_checks setup.now (record { setup = held; demands = demands; increment = increment })) ≡ None) }
+        → first_fault (opening_checks setup.now
+        (record { setup = held; demands = demands; increment = increment })) ≡ None) }
     ensures err { IfErr result (λ fault. fault ≢ OpeningFault.NoMemory → (held : Data)
-        → first_fault (opening_checks setup.now (record { setup = held; demands = demands; increment = increment })) ≡ Some fault) }
+        → first_fault (opening_checks setup.now
+        (record { setup = held; demands = demands; increment = increment })) ≡ Some fault) }
     ensures held { IfErr result (λ fault. fault ≢ OpeningFault.Setup SetupFault.NoMemory) }
 {
     if !has_counts(setup, &demands) {

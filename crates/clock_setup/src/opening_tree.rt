@@ -71,7 +71,8 @@ fn parts_in(alloc: Global, value: &Value) -> Result<Option<OpeningEntries<'_>>, 
 fn opening_parts(alloc: Global, value: &Value) -> Result<OpeningEntries<'_>, OpeningFault>
     ensures ok { IfOk result (λ parts. shape.parts_of (view value.now)
         ≡ Some (record { setup = held_data parts.setup; demands = parts.demands; increment = parts.increment })) }
-    ensures err { IfErr result (IsRefusal OpeningFault.NoMemory (or_fault OpeningFault.Shape (shape.parts_of (view value.now)))) }
+    ensures err { IfErr result
+        (IsRefusal OpeningFault.NoMemory (or_fault OpeningFault.Shape (shape.parts_of (view value.now)))) }
     ensures held { IfErr result (λ fault. fault ≢ OpeningFault.Setup SetupFault.NoMemory) }
 {
     match parts_in(alloc, value)? {
@@ -87,7 +88,8 @@ pub(crate) fn source_parts<'v>(
 ) -> Result<OpeningEntries<'v>, OpeningFault>
     ensures ok { IfOk result (λ parts. shape.parts_of (source_data source.entry)
         ≡ Some (record { setup = held_data parts.setup; demands = parts.demands; increment = parts.increment })) }
-    ensures err { IfErr result (IsRefusal OpeningFault.NoMemory (or_fault OpeningFault.Shape (shape.parts_of (source_data source.entry)))) }
+    ensures err { IfErr result
+        (IsRefusal OpeningFault.NoMemory (or_fault OpeningFault.Shape (shape.parts_of (source_data source.entry)))) }
     ensures held { IfErr result (λ fault. fault ≢ OpeningFault.Setup SetupFault.NoMemory) }
 {
     match source {

@@ -3,7 +3,8 @@ ghost use Rattle.std.specs.Prelude.{◌≡◌, ◌⊎◌, ◌<◌, length, IfSom
 ghost use Rattle.serde_json.specs.Data.{object};
 ghost use Rattle.clock_scan.specs.Reading.{members_of, Reads};
 ghost use Rattle.clock_terms.specs.Limits.{IsWithin, IsOfFirstVersion, latest_version, first_granule, first_limit};
-ghost use Rattle.clock_setup.specs.SetupData.{added, product_data, products_data, bidder_data, bidders_data, setup_data};
+ghost use Rattle.clock_setup.specs.SetupData.{added, product_data, products_data, bidder_data, bidders_data};
+ghost use Rattle.clock_setup.specs.SetupData.{setup_data};
 ghost use Rattle.clock_setup.specs.inside.FoundEntries.{found_product, found_bidder};
 ghost use Rattle.clock_setup.specs.inside.FoundSetup.{found_setup};
 
@@ -127,7 +128,8 @@ fn product<'v>(alloc: Global, scan: &mut Scan<'v>) -> Result<(u64, ProductEntry<
     }
 }
 
-/// The version that a list of products and one more have their keys from, where it is the same. It is 0 for no products.
+/// The version that a list of products and one more have their keys from, where it is the same. It is 0 for no
+/// products.
 fn common_version(so_far: u64, next: u64) -> Option<u64>
     ensures { IfSome result (λ version. (version ≡ next) × ((so_far ≡ 0) ⊎ (so_far ≡ next))) }
 {

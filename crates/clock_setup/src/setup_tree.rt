@@ -96,7 +96,8 @@ fn product_entries(
     items: &[Value],
     version: u64,
 ) -> Result<Option<Vec<ProductEntry<'_>>>, NoMemory>
-    ensures { IfOk result (λ entries. option_map (λ list. list.items) entries ≡ each (product_of version) (items_view items.now)) }
+    ensures { IfOk result (λ entries.
+        option_map (λ list. list.items) entries ≡ each (product_of version) (items_view items.now)) }
 {
     let mut entries = Vec::new(alloc);
     for item in items {
@@ -163,7 +164,8 @@ pub(crate) fn setup_entries(alloc: Global, value: &Value) -> Result<SetupEntries
     ensures first_version { IfOk result (λ entries. entries.version ≡ 1 → IsOfFirstVersion entries) }
     ensures version { IfOk result
         (λ entries. members.number_at (codes "version") (view value.now) ≡ Some entries.version) }
-    ensures err { IfErr result (IsRefusal SetupFault.NoMemory (or_fault SetupFault.Shape (fields_of (view value.now)))) }
+    ensures err { IfErr result
+        (IsRefusal SetupFault.NoMemory (or_fault SetupFault.Shape (fields_of (view value.now)))) }
 {
     match entries_of(alloc, value)? {
         Some(entries) => Ok(entries),

@@ -29,8 +29,8 @@ pub fn next_eligibility(held: u64, activity: u64, requirement: u64) -> u64
     held.min((100 * activity + (requirement - 1)) / requirement)
 }
 
-/// The bidding units that a row of demands takes: the sum of units times demand, over the products of which a block is held.
-/// There is one demand for each product, at most its cap. It takes no memory.
+/// The bidding units that a row of demands takes: the sum of units times demand, over the products of which a block is
+/// held. There is one demand for each product, at most its cap. It takes no memory.
 pub fn units_held(products: &[Product], row: &Row) -> u64
     requires limits { All IsProduct products.now }
     requires product_count { length products.now ≤ most_products }
@@ -46,8 +46,8 @@ pub fn units_held(products: &[Product], row: &Row) -> u64
     total
 }
 
-/// The bidding units that demands take, as they stand in a document: the sum of units times demand. There is one demand for each
-/// product, at most its cap. It takes no memory.
+/// The bidding units that demands take, as they stand in a document: the sum of units times demand. There is one demand
+/// for each product, at most its cap. It takes no memory.
 pub fn activity(setup: &Setup, demands: &[u64]) -> u64
     requires { IsRow setup.now.products demands.now }
     ensures { result ≡ eligibility.activity setup.now.products demands.now }

@@ -4,8 +4,8 @@ ghost use Rattle.std.specs.List.{AllWithin};
 use crate::row::Row;
 use std::marker::Model;
 
-/// The products of which a row holds a block, by rising number. Contracts see the row's demands and the place from which on
-/// it has not looked.
+/// The products of which a row holds a block, by rising number. Contracts see the row's demands and the place from
+/// which on it has not looked.
 ///
 /// It takes the lowest mark of a word of 64 at each step, and passes a word that has none left at once.
 #[derive(Drop)]
@@ -57,7 +57,8 @@ impl HeldProducts<'_> {
         ensures passed { AllWithin (λ demand. demand ≡ 0) self.old.demands self.old.from
             (unwrap_or result (length self.old.demands)) }
         ensures given { IfSome result (λ product. product < self.new.from) }
-        ensures ahead { IfSome result (λ product. AllWithin (λ demand. demand ≡ 0) self.old.demands (product + 1) self.new.from) }
+        ensures ahead { IfSome result (λ product.
+            AllWithin (λ demand. demand ≡ 0) self.old.demands (product + 1) self.new.from) }
     {
         let row = self.row;
         let mut word = self.word;

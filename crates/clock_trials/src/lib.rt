@@ -1,5 +1,5 @@
-//! Tests of the lower crates, each with the values that the rules and formats give. They stand here and not beside what they test, since a
-//! crate with tests of its own is proved twice.
+//! Tests of the lower crates, each with the values that the rules and formats give. They stand here and not beside what
+//! they test, since a crate with tests of its own is proved twice.
 #![tactic(auto)]
 
 #[cfg(test)]

@@ -2,7 +2,8 @@ use clock_scan::{Scan, ScanStop, is_blank};
 use std::alloc::Global;
 use std::test::Fail;
 
-/// The number of the rows, the sum of their numbers, and whether the rows have three numbers each; or 9 and what stopped the reading.
+/// The number of the rows, the sum of their numbers, and whether the rows have three numbers each; or 9 and what
+/// stopped the reading.
 fn flat_rows_of(alloc: Global, text: &[u8]) -> (usize, u64, bool) {
     let mut scan = Scan::new(text);
     match scan.flat_rows(alloc) {

@@ -3,7 +3,8 @@ ghost use Rattle.std.specs.Prelude.{◌≡◌, codes, false, IfOk, IfErr};
 ghost use Rattle.clap.specs.Words.{app_of, kind_of, new_app, rule_of, with_subcommand};
 ghost use Rattle.clap.specs.Simple.{on_top};
 ghost use Rattle.clap.specs.declared.builder.Command.TheViews.{out-Command};
-ghost use Rattle.clock_words.specs.Words.{asks_for_a_command, grammar, files_grammar, journal_rule, needed_rule, number_rule, prices_grammar, serve_grammar, serve_needing};
+ghost use Rattle.clock_words.specs.Words.{asks_for_a_command, grammar, files_grammar, journal_rule, needed_rule};
+ghost use Rattle.clock_words.specs.Words.{number_rule, prices_grammar, serve_grammar, serve_needing};
 
 use crate::help::{
     AUDIT_HELP, JOURNAL_HELP, OPENING_HELP, PRICES_HELP, PROGRAM_HELP, REPLAY_HELP, SERVE_HELP,

@@ -1,8 +1,10 @@
 //! What the words after the program's name ask for.
-ghost use Rattle.std.specs.Prelude.{◌≡◌, ◌≢◌, ◌&&◌, if◌then◌else◌, nat_le, Some, None, map, option_map, IfSome, IfOk, IfErr};
+ghost use Rattle.std.specs.Prelude.{◌≡◌, ◌≢◌, ◌&&◌, if◌then◌else◌, nat_le, Some, None, map, option_map, IfSome, IfOk};
+ghost use Rattle.std.specs.Prelude.{IfErr};
 ghost use Rattle.clock_terms.specs.Limits.{IsWithin};
 ghost use Rattle.clap.specs.Words.{first_of, found_of, kind_of, rows_of, subcommand_rows_of};
-ghost use Rattle.clock_words.specs.Words.{IsJob, files_from, files_told, job_meant, job_met, job_of, number_of, serving_from, serving_told, task_met, task_of, task_told};
+ghost use Rattle.clock_words.specs.Words.{IsJob, files_from, files_told, job_meant, job_met, job_of, number_of};
+ghost use Rattle.clock_words.specs.Words.{serving_from, serving_told, task_met, task_of, task_told};
 
 use crate::commands::{MOST_CONNECTIONS, MOST_PORT, NumberHelps, number_helps, program};
 use clap::error::ErrorKind;
