@@ -1,6 +1,7 @@
 ghost use Rattle.std.specs.Prelude.{◌≡◌, IsTrue, not};
 ghost use Rattle.clock_views.specs.Refusals.{has_place, has_round, is_refusal};
-ghost use Rattle.clock_views.specs.Refusals.{alone as code_alone, at_place as code_at_place, wrong_round as shown_wrong_round};
+ghost use Rattle.clock_views.specs.Refusals.{alone as code_alone, at_place as code_at_place};
+ghost use Rattle.clock_views.specs.Refusals.{wrong_round as shown_wrong_round};
 
 use clock_bids::BidFault;
 use clock_house::{CloseFault, PutFault};

@@ -1,6 +1,7 @@
 //! What a house tells: no call here takes memory or changes anything.
 
-ghost use Rattle.std.specs.Prelude.{◌≡◌, ◌<◌, ◌≤◌, ◌-◌, ℕ, List, None, false, length, slice_get, slice_index_or, IfSome, option_map, option_copied};
+ghost use Rattle.std.specs.Prelude.{◌≡◌, ◌<◌, ◌≤◌, ◌-◌, ℕ, List, None, false, length, slice_get, slice_index_or};
+ghost use Rattle.std.specs.Prelude.{IfSome, option_map, option_copied};
 ghost use Rattle.clock_terms.specs.Limits.{SetupFields, IsSetup, public_setup};
 ghost use Rattle.clock_bids.specs.Holding.{holding_of};
 ghost use Rattle.clock_house.specs.Command.{Command, other};
