@@ -12,21 +12,24 @@ use Rattle.clock_posting.specs.declared.sheet.RoundSheet.{RoundSheet}
 use Rattle.clock_closing.specs.declared.slip.Slip.{Slip}
 use Rattle.clock_views.specs.Values.{whole, whole_or_null, list_of, items_of}
 use Rattle.clock_views.specs.Rooms.{most_text, most_items}
+use Rattle.clock_views.specs.PageRooms.{room_of_status, room_of_account, room_around_bids, room_of_accepted, room_of_slip, room_of_closed}
+use Rattle.clock_views.specs.PageRooms.{room_around_results, room_of_sheet}
+use Rattle.clock_views.specs.inside.Rooms.{room_of_item, room_of_bid, room_of_bids, room_of_line, room_of_result}
 use Rattle.clock_views.specs.PublicPages.{status_value, line_value, sheet_value}
 use Rattle.clock_views.specs.BidderPages.{account_value, bid_value, bids_value, sheet_or_null, accepted_value, slip_value}
 use Rattle.clock_views.specs.OperatorPages.{closed_value, result_value, result_in, results_value}
 
 -- ---- lists
 
-pub numbers_most : (numbers : List ℕ) → most_items (items_of whole numbers) ≡ 21 * length numbers
+pub numbers_most : (numbers : List ℕ) → most_items (items_of whole numbers) ≡ room_of_item * length numbers
 numbers_most [] = refl
 numbers_most (n ∷ numbers) = omega (arith, numbers_most numbers)
 
-bid_most : (bid : Bid) → most_text (bid_value bid) ≡ 94
+bid_most : (bid : Bid) → 1 + most_text (bid_value bid) ≡ room_of_bid
 unfolding bid_value
 bid_most bid = refl
 
-pub bids_most : (bids : List Bid) → most_items (items_of bid_value bids) ≡ 95 * length bids
+pub bids_most : (bids : List Bid) → most_items (items_of bid_value bids) ≡ room_of_bid * length bids
 bids_most [] = refl
 bids_most (bid ∷ bids) = omega (arith, bid_most bid, bids_most bids)
 
@@ -34,11 +37,11 @@ or_null_most : (n : Option ℕ) → most_text (whole_or_null n) ≡ 20
 or_null_most None = refl
 or_null_most (Some n) = refl
 
-line_most : (product : Product) (line : Line) → most_text (line_value product line) ≡ 190
+line_most : (product : Product) (line : Line) → 1 + most_text (line_value product line) ≡ room_of_line
 unfolding line_value
 line_most product line = omega (arith, or_null_most line.demand, or_null_most line.next)
 
-pub rows_most : (rows : List (Product × Line)) → most_items (items_of (λ row. line_value row.0 row.1) rows) ≡ 191 * length rows
+pub rows_most : (rows : List (Product × Line)) → most_items (items_of (λ row. line_value row.0 row.1) rows) ≡ room_of_line * length rows
 rows_most [] = refl
 rows_most (row ∷ rows) = omega (arith, line_most row.0 row.1, rows_most rows)
 
@@ -62,40 +65,40 @@ same_zip (x ∷ xs) (y ∷ ys) e = ap suc (same_zip xs ys (omega (arith, e)))
 
 -- ---- pages
 
-pub status_most : (setup : PublicSetup) (round : ℕ) (ended : Bool) → most_text (status_value setup round ended) ≡ 76
+pub status_most : (setup : PublicSetup) (round : ℕ) (ended : Bool) → most_text (status_value setup round ended) ≡ room_of_status
 unfolding status_value
 status_most setup round ended = refl
 
 pub account_most : (products : List Product) (name : List ℕ) (round : ℕ) (held : Holding) (ended : Bool)
-    → most_text (account_value products name round held ended) ≡ 167 + 21 * length held.demands
+    → most_text (account_value products name round held ended) ≡ room_of_account (length held.demands)
 unfolding account_value
 account_most products name round held ended = omega (arith, numbers_most held.demands)
 
-pub bids_page_most : (round : ℕ) (sheet : Option (List Bid)) → most_text (bids_value round sheet) ≡ 39 + most_text (sheet_or_null sheet)
+pub bids_page_most : (round : ℕ) (sheet : Option (List Bid)) → most_text (bids_value round sheet) ≡ room_around_bids + most_text (sheet_or_null sheet)
 unfolding bids_value
 bids_page_most round sheet = omega arith
 
-pub some_bids_most : (bids : List Bid) → most_text (sheet_or_null (Some bids)) ≡ 2 + 95 * length bids
+pub some_bids_most : (bids : List Bid) → most_text (sheet_or_null (Some bids)) ≡ room_of_bids (length bids)
 some_bids_most bids = omega (arith, bids_most bids)
 
-pub accepted_most : (round count : ℕ) → most_text (accepted_value round count) ≡ 76
+pub accepted_most : (round count : ℕ) → most_text (accepted_value round count) ≡ room_of_accepted
 unfolding accepted_value
 accepted_most round count = refl
 
-pub slip_most : (slip : Slip) → most_text (slip_value slip) ≡ 111 + 21 * length slip.demands
+pub slip_most : (slip : Slip) → most_text (slip_value slip) ≡ room_of_slip (length slip.demands)
 unfolding slip_value
 slip_most slip = omega (arith, numbers_most slip.demands)
 
-pub closed_most : (round : ℕ) (ended : Bool) → most_text (closed_value round ended) ≡ 46
+pub closed_most : (round : ℕ) (ended : Bool) → most_text (closed_value round ended) ≡ room_of_closed
 unfolding closed_value
 closed_most round ended = refl
 
-pub result_most : (name : List ℕ) (held : Holding) → most_text (result_value name held) ≡ 92 + 21 * length held.demands
+pub result_most : (name : List ℕ) (held : Holding) → 1 + most_text (result_value name held) ≡ room_of_result (length held.demands)
 unfolding result_value
 result_most name held = omega (arith, numbers_most held.demands)
 
 pub sheet_most : (setup : PublicSetup) (sheet : RoundSheet) → length sheet.lines ≡ length setup.products
-    → most_text (sheet_value setup sheet) ≡ 59 + 191 * length sheet.lines
+    → most_text (sheet_value setup sheet) ≡ room_of_sheet (length sheet.lines)
 unfolding sheet_value
 sheet_most setup sheet each =
     let rows = zip setup.products sheet.lines in
@@ -103,6 +106,6 @@ sheet_most setup sheet each =
     omega (arith, rows_most rows, many)
 
 pub results_most : (house : HouseFields)
-    → most_text (results_value house) ≡ 56 + most_text (list_of (result_in house) (range_with_len 0 (length house.setup.bidders)))
+    → most_text (results_value house) ≡ room_around_results + most_text (list_of (result_in house) (range_with_len 0 (length house.setup.bidders)))
 unfolding results_value
 results_most house = omega arith

@@ -1,5 +1,6 @@
 pub mod BidderPages
 pub mod OperatorPages
+pub mod PageRooms
 pub mod PublicPages
 pub mod RefusalPage
 pub mod Refusals

@@ -1,25 +1,45 @@
 //! The pages of one bidder.
 
-ghost use Rattle.std.specs.Prelude.{◌≡◌, ◌≤◌, ◌<◌, ◌+◌, ◌*◌, ℕ, Bool, List, length, option_copied, IfOk};
+ghost use Rattle.std.specs.Prelude.{◌≡◌, ◌≤◌, ◌<◌, ◌+◌, ℕ, Bool, List, length, option_copied, IfOk};
 ghost use Rattle.serde_json.specs.Written.{compact_text};
 ghost use Rattle.clock_terms.specs.Limits.{IsName, IsRow};
 ghost use Rattle.clock_terms.specs.declared.setup.Product.{Product};
 ghost use Rattle.clock_house.specs.History.{bidder_at};
 ghost use Rattle.clock_views.specs.BidderPages.{account_value, bids_value, bid_value, sheet_or_null, accepted_value};
 ghost use Rattle.clock_views.specs.BidderPages.{accepted_bytes, slip_value};
+ghost use Rattle.clock_views.specs.PageRooms.{room_of_account, room_around_bids, room_of_accepted, room_of_slip};
 ghost use Rattle.clock_views.specs.Rooms.{most_text};
 ghost use Rattle.clock_views.specs.Values.{list_of, IsPage, Adds};
+ghost use Rattle.clock_views.specs.inside.Rooms.{room_of_bid, room_of_bids};
 ghost use Rattle.clock_views.specs.inside.Values.{item_text};
 
 use crate::pieces::{
     push_blocks, push_comma_if, push_label, push_name, push_number, push_row, push_truth,
 };
-use crate::room::{blocks_in_all, page_with_room};
+use crate::room::{ITEM_ROOM, blocks_in_all, page_with_room};
 use clock_bids::{Bid, Own, Sheet};
 use clock_device::{Bounded, NoMemory, Text};
 use clock_house::Slip;
 use clock_terms::{Row, Setup, units_held};
 use std::alloc::Global;
+
+/// How many bytes the page of an account takes at most besides its demands.
+const ACCOUNT_ROOM: u128 = 167;
+
+/// How many bytes the page of a sheet takes at most besides its bids.
+const EMPTY_SHEET_ROOM: u128 = 41;
+
+/// How many bytes the page of a bidder without a sheet takes at most.
+const NO_SHEET_ROOM: u128 = 59;
+
+/// How many bytes a bid takes at most, with the comma before it.
+const BID_ROOM: u128 = 95;
+
+/// How many bytes what answers a sheet takes at most.
+const ACCEPTED_ROOM: u128 = 76;
+
+/// How many bytes a slip takes at most besides its demands.
+const SLIP_ROOM: u128 = 111;
 
 /// What a bidder holds before the current round. The bidder is one of the set-up's, and there is a
 /// demand for each product, none above its cap.
@@ -46,19 +66,19 @@ pub fn account_page(
 
 /// How many bytes the page takes at most.
 pub fn account_room(demands: &Row) -> u128
-    ensures is { result ≡ 167 + 21 * length demands.now }
+    ensures is { result ≡ room_of_account (length demands.now) }
     ensures most { (products : List Product) (name : List ℕ) (round eligibility : ℕ) (ended : Bool)
         → result ≡ most_text (account_value products name round
         (record { eligibility = eligibility; demands = demands.now }) ended) }
 {
-    167 + 21 * demands.len() as u128
+    ACCOUNT_ROOM + ITEM_ROOM * demands.len() as u128
 }
 
 /// Adds the same page to a text that has room for it.
 pub fn push_account_page(text: &mut Bounded<u8>, setup: &Setup, bidder: u32, own: Own, ended: bool)
     requires bidder { bidder < length setup.now.bidders }
     requires row { IsRow setup.now.products own.demands.now }
-    requires room { 167 + 21 * length own.demands.now ≤ text.old.room }
+    requires room { room_of_account (length own.demands.now) ≤ text.old.room }
     ensures { Adds (compact_text (account_value setup.now.products (bidder_at setup.now bidder).name own.entry.round
         (record { eligibility = own.entry.eligibility; demands = own.entry.demands.now }) ended)) text.old.items
         text.new.items }
@@ -100,18 +120,18 @@ pub fn bids_page(alloc: Global, round: u64, sheet: Option<&Sheet>) -> Result<Tex
 
 /// How many bytes the page takes at most.
 pub fn bids_room(sheet: Option<&Sheet>) -> u128
-    ensures is { result ≡ 39 + most_text (sheet_or_null (option_copied sheet.entry)) }
+    ensures is { result ≡ room_around_bids + most_text (sheet_or_null (option_copied sheet.entry)) }
     ensures most { (round : ℕ) → result ≡ most_text (bids_value round (option_copied sheet.entry)) }
 {
     match sheet {
-        Some(sheet) => 41 + 95 * sheet.bids().len() as u128,
-        None => 59,
+        Some(sheet) => EMPTY_SHEET_ROOM + BID_ROOM * sheet.bids().len() as u128,
+        None => NO_SHEET_ROOM,
     }
 }
 
 /// Adds the same page to a text that has room for it.
 pub fn push_bids_page(text: &mut Bounded<u8>, round: u64, sheet: Option<&Sheet>)
-    requires { 39 + most_text (sheet_or_null (option_copied sheet)) ≤ text.old.room }
+    requires { room_around_bids + most_text (sheet_or_null (option_copied sheet)) ≤ text.old.room }
     ensures { Adds (compact_text (bids_value round (option_copied sheet.entry))) text.old.items text.new.items }
 {
     push_label(text, b"{\"bids\":");
@@ -134,9 +154,9 @@ fn push_sheet_or_null(text: &mut Bounded<u8>, sheet: Option<&Sheet>)
 
 /// Adds the array of some bids.
 fn push_bids(text: &mut Bounded<u8>, bids: &[Bid])
-    requires { 2 + 95 * length bids.now ≤ text.old.room }
+    requires { room_of_bids (length bids.now) ≤ text.old.room }
     ensures adds { Adds (compact_text (list_of bid_value bids.now)) text.old.items text.new.items }
-    ensures room { text.old.room ≤ text.new.room + (2 + 95 * length bids.now) }
+    ensures room { text.old.room ≤ text.new.room + room_of_bids (length bids.now) }
 {
     text.push(b'[');
     for (i, bid) in bids.iter().enumerate() {
@@ -147,9 +167,9 @@ fn push_bids(text: &mut Bounded<u8>, bids: &[Bid])
 
 /// Adds a bid, behind a comma where it is not the first.
 fn push_bid(text: &mut Bounded<u8>, later: bool, bid: &Bid)
-    requires { 95 ≤ text.old.room }
+    requires { room_of_bid ≤ text.old.room }
     ensures adds { Adds (item_text later (bid_value bid.now)) text.old.items text.new.items }
-    ensures room { text.old.room ≤ text.new.room + 95 }
+    ensures room { text.old.room ≤ text.new.room + room_of_bid }
 {
     push_comma_if(text, later);
     push_number(text, b"{\"price\":", bid.price);
@@ -175,15 +195,15 @@ pub fn accepted_page(alloc: Global, round: u64, bids: u64) -> Result<Text, NoMem
 
 /// How many bytes the page takes at most.
 pub fn accepted_room() -> u128
-    ensures is { result ≡ 76 }
+    ensures is { result ≡ room_of_accepted }
     ensures most { (round bids : ℕ) → result ≡ most_text (accepted_value round bids) }
 {
-    76
+    ACCEPTED_ROOM
 }
 
 /// Adds the same page to a text that has room for it.
 pub fn push_accepted_page(text: &mut Bounded<u8>, round: u64, bids: u64)
-    requires { 76 ≤ text.old.room }
+    requires { room_of_accepted ≤ text.old.room }
     ensures { Adds (compact_text (accepted_value round bids)) text.old.items text.new.items }
 {
     push_number(text, b"{\"accepted\":true,\"bids\":", bids);
@@ -207,15 +227,15 @@ pub fn slip_page(alloc: Global, slip: &Slip) -> Result<Text, NoMemory>
 
 /// How many bytes the page takes at most.
 pub fn slip_room(slip: &Slip) -> u128
-    ensures is { result ≡ 111 + 21 * length slip.now.demands }
+    ensures is { result ≡ room_of_slip (length slip.now.demands) }
     ensures most { result ≡ most_text (slip_value slip.now) }
 {
-    111 + 21 * blocks_in_all(&slip.demands)
+    SLIP_ROOM + ITEM_ROOM * blocks_in_all(&slip.demands)
 }
 
 /// Adds the same page to a text that has room for it.
 pub fn push_slip_page(text: &mut Bounded<u8>, slip: &Slip)
-    requires { 111 + 21 * length slip.now.demands ≤ text.old.room }
+    requires { room_of_slip (length slip.now.demands) ≤ text.old.room }
     ensures { Adds (compact_text (slip_value slip.now)) text.old.items text.new.items }
 {
     push_number(text, b"{\"activity\":", slip.activity);

@@ -1,21 +1,32 @@
 //! The pages of the operator.
 
-ghost use Rattle.std.specs.Prelude.{◌≡◌, ◌≤◌, ◌<◌, ◌+◌, ◌*◌, ℕ, Bool, nat_lt, length, IfOk};
+ghost use Rattle.std.specs.Prelude.{◌≡◌, ◌≤◌, ◌<◌, ◌+◌, ℕ, Bool, nat_lt, length, IfOk};
 ghost use Rattle.std.specs.List.{range_with_len};
 ghost use Rattle.serde_json.specs.Written.{compact_text};
 ghost use Rattle.clock_house.specs.House.{holding_in};
 ghost use Rattle.clock_views.specs.OperatorPages.{closed_value, closed_bytes, results_value, result_in};
+ghost use Rattle.clock_views.specs.PageRooms.{room_of_closed, room_around_results};
 ghost use Rattle.clock_views.specs.Rooms.{most_text};
 ghost use Rattle.clock_views.specs.Values.{list_of, IsPage, Adds};
+ghost use Rattle.clock_views.specs.inside.Rooms.{room_of_result};
 ghost use Rattle.clock_views.specs.inside.Values.{item_text};
 
 use crate::bidder::name_of;
 use crate::pieces::{push_comma_if, push_label, push_name, push_number, push_row, push_truth};
-use crate::room::page_with_room;
+use crate::room::{ITEM_ROOM, page_with_room};
 use clock_device::{Bounded, NoMemory, Text};
 use clock_house::House;
 use clock_terms::Setup;
 use std::alloc::Global;
+
+/// How many bytes what answers a closing takes at most.
+const CLOSED_ROOM: u128 = 46;
+
+/// How many bytes the page of results takes at most besides what the bidders hold.
+const RESULTS_ROOM: u128 = 58;
+
+/// How many bytes what a bidder holds takes at most besides its demands, with the comma before it.
+const RESULT_ROOM: u128 = 93;
 
 /// What answers a closing that was accepted: the round that was closed, and whether the auction ends
 /// with it.
@@ -35,15 +46,15 @@ pub fn closed_page(alloc: Global, round: u64, ended: bool) -> Result<Text, NoMem
 
 /// How many bytes the page takes at most.
 pub fn closed_room() -> u128
-    ensures is { result ≡ 46 }
+    ensures is { result ≡ room_of_closed }
     ensures most { (round : ℕ) (ended : Bool) → result ≡ most_text (closed_value round ended) }
 {
-    46
+    CLOSED_ROOM
 }
 
 /// Adds the same page to a text that has room for it.
 pub fn push_closed_page(text: &mut Bounded<u8>, round: u64, ended: bool)
-    requires { 46 ≤ text.old.room }
+    requires { room_of_closed ≤ text.old.room }
     ensures { Adds (compact_text (closed_value round ended)) text.old.items text.new.items }
 {
     push_number(text, b"{\"closed\":", round);
@@ -67,20 +78,20 @@ pub fn results_page<P>(alloc: Global, house: &House<P>) -> Result<Text, NoMemory
 
 /// How many bytes the page takes at most.
 pub fn results_room<P>(house: &House<P>) -> u128
-    ensures is { result ≡ 56 + most_text (list_of (result_in house.now)
+    ensures is { result ≡ room_around_results + most_text (list_of (result_in house.now)
         (range_with_len 0 (length house.now.setup.bidders))) }
     ensures most { result ≡ most_text (results_value house.now) }
 {
-    let mut room = 58;
+    let mut room = RESULTS_ROOM;
     for bidder in 0..bidder_count(house.setup()) {
-        room += 93 + 21 * house.own(bidder).demands.len() as u128;
+        room += RESULT_ROOM + ITEM_ROOM * house.own(bidder).demands.len() as u128;
     }
     room
 }
 
 /// Adds the same page to a text that has room for it.
 pub fn push_results_page<P>(text: &mut Bounded<u8>, house: &House<P>)
-    requires { 56 + most_text (list_of (result_in house.now) (range_with_len 0 (length house.now.setup.bidders)))
+    requires { room_around_results + most_text (list_of (result_in house.now) (range_with_len 0 (length house.now.setup.bidders)))
         ≤ text.old.room }
     ensures { Adds (compact_text (results_value house.now)) text.old.items text.new.items }
 {
@@ -111,9 +122,9 @@ fn push_results<P>(text: &mut Bounded<u8>, house: &House<P>)
 /// Adds what a bidder holds, behind a comma where it is not the first bidder.
 fn push_result<P>(text: &mut Bounded<u8>, house: &House<P>, bidder: u32)
     requires bidder { bidder < length house.now.setup.bidders }
-    requires room { 93 + 21 * length (holding_in house.now bidder).demands ≤ text.old.room }
+    requires room { room_of_result (length (holding_in house.now bidder).demands) ≤ text.old.room }
     ensures adds { Adds (item_text (nat_lt 0 bidder) (result_in house.now bidder)) text.old.items text.new.items }
-    ensures room { text.old.room ≤ text.new.room + (93 + 21 * length (holding_in house.now bidder).demands) }
+    ensures room { text.old.room ≤ text.new.room + room_of_result (length (holding_in house.now bidder).demands) }
 {
     let own = house.own(bidder);
     push_comma_if(text, bidder > 0);

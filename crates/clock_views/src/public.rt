@@ -1,11 +1,14 @@
 //! The pages that everyone may see. Their texts are functions of what is public of a set-up.
 
-ghost use Rattle.std.specs.Prelude.{◌≡◌, ◌≤◌, ◌+◌, ◌*◌, ℕ, Bool, length, zip, All, IfOk};
+ghost use Rattle.std.specs.Prelude.{◌≡◌, ◌≤◌, ◌+◌, ℕ, Bool, length, zip, All, IfOk};
 ghost use Rattle.serde_json.specs.Written.{compact_text};
 ghost use Rattle.clock_terms.specs.Limits.{IsProduct, PublicSetup, public_setup};
 ghost use Rattle.clock_views.specs.PublicPages.{status_value, status_bytes, line_value, sheet_value};
 ghost use Rattle.clock_views.specs.PublicPages.{products_value, product_value, from_version_2 as number_from_version_2};
 ghost use Rattle.clock_views.specs.inside.PublicPages.{limit_text};
+ghost use Rattle.clock_views.specs.inside.Rooms.{room_of_product, room_of_products, room_of_limit, room_of_offer};
+ghost use Rattle.clock_views.specs.inside.Rooms.{room_of_line, room_of_lines};
+ghost use Rattle.clock_views.specs.PageRooms.{room_of_status, room_of_sheet};
 ghost use Rattle.clock_views.specs.Rooms.{most_text};
 ghost use Rattle.clock_views.specs.Values.{list_of, IsPage, Adds};
 ghost use Rattle.clock_views.specs.inside.Values.{item_text};
@@ -19,6 +22,21 @@ use clock_device::{Bounded, NoMemory, Text};
 use clock_posting::{Line, RoundSheet};
 use clock_terms::{Product, Setup};
 use std::alloc::Global;
+
+/// How many bytes the page of where the auction stands takes at most.
+const STATUS_ROOM: u128 = 76;
+
+/// How many bytes the page of products takes at most besides the products.
+const OFFER_ROOM: u128 = 111;
+
+/// How many bytes a product takes at most, with the comma before it.
+const PRODUCT_ROOM: u128 = 193;
+
+/// How many bytes the page of a closed round takes at most besides its lines.
+const SHEET_ROOM: u128 = 59;
+
+/// How many bytes the line of a product takes at most, with the comma before it.
+const LINE_ROOM: u128 = 191;
 
 /// Where the auction stands: the current round, and whether the auction has ended.
 ///
@@ -37,16 +55,16 @@ pub fn status_page(alloc: Global, setup: &Setup, round: u64, ended: bool) -> Res
 
 /// How many bytes the page takes at most.
 pub fn status_room() -> u128
-    ensures is { result ≡ 76 }
+    ensures is { result ≡ room_of_status }
     ensures most { (setup : PublicSetup) (round : ℕ) (ended : Bool) → result
         ≡ most_text (status_value setup round ended) }
 {
-    76
+    STATUS_ROOM
 }
 
 /// Adds the same page to a text that has room for it.
 pub fn push_status_page(text: &mut Bounded<u8>, setup: &Setup, round: u64, ended: bool)
-    requires { 76 ≤ text.old.room }
+    requires { room_of_status ≤ text.old.room }
     ensures { Adds (compact_text (status_value (public_setup setup.now) round ended)) text.old.items text.new.items }
 {
     push_truth(text, b"{\"ended\":", ended);
@@ -64,7 +82,10 @@ pub fn push_status_page(text: &mut Bounded<u8>, setup: &Setup, round: u64, ended
 pub fn products_page(alloc: Global, setup: &Setup) -> Result<Text, NoMemory>
     ensures { IfOk result (IsPage (products_value (public_setup setup.now))) }
 {
-    let mut text = page_with_room(alloc, 111 + 193 * setup.products.len() as u128)?;
+    let mut text = page_with_room(
+        alloc,
+        OFFER_ROOM + PRODUCT_ROOM * setup.products.len() as u128,
+    )?;
     push_offer(
         &mut text,
         setup.version,
@@ -84,7 +105,7 @@ fn push_offer(
     products: &[Product],
 )
     requires limits { All IsProduct products.now }
-    requires room { 111 + 193 * length products.now ≤ text.old.room }
+    requires room { room_of_offer (length products.now) ≤ text.old.room }
     ensures { Adds (compact_text (products_value
         (record { version = version; limit = limit; requirement = requirement; products = products.now })))
         text.old.items text.new.items }
@@ -100,9 +121,9 @@ fn push_offer(
 
 /// Adds the activity limit and the comma behind it, where there is one.
 fn push_limit(text: &mut Bounded<u8>, limit: Option<u64>)
-    requires { 29 ≤ text.old.room }
+    requires { room_of_limit ≤ text.old.room }
     ensures adds { Adds (limit_text limit) text.old.items text.new.items }
-    ensures room { text.old.room ≤ text.new.room + 29 }
+    ensures room { text.old.room ≤ text.new.room + room_of_limit }
 {
     if let Some(limit) = limit {
         push_number(text, b"\"limit\":", limit);
@@ -113,9 +134,9 @@ fn push_limit(text: &mut Bounded<u8>, limit: Option<u64>)
 /// Adds the array of some products.
 fn push_products(text: &mut Bounded<u8>, version: u64, products: &[Product])
     requires limits { All IsProduct products.now }
-    requires room { 2 + 193 * length products.now ≤ text.old.room }
+    requires room { room_of_products (length products.now) ≤ text.old.room }
     ensures adds { Adds (compact_text (list_of (product_value version) products.now)) text.old.items text.new.items }
-    ensures room { text.old.room ≤ text.new.room + (2 + 193 * length products.now) }
+    ensures room { text.old.room ≤ text.new.room + room_of_products (length products.now) }
 {
     text.push(b'[');
     for (i, product) in products.iter().enumerate() {
@@ -127,9 +148,9 @@ fn push_products(text: &mut Bounded<u8>, version: u64, products: &[Product])
 /// Adds a product, behind a comma where it is not the first.
 fn push_product(text: &mut Bounded<u8>, later: bool, version: u64, product: &Product)
     requires limits { IsProduct product.now }
-    requires room { 193 ≤ text.old.room }
+    requires room { room_of_product ≤ text.old.room }
     ensures adds { Adds (item_text later (product_value version product.now)) text.old.items text.new.items }
-    ensures room { text.old.room ≤ text.new.room + 193 }
+    ensures room { text.old.room ≤ text.new.room + room_of_product }
 {
     push_comma_if(text, later);
     push_number(text, b"{\"cap\":", product.cap);
@@ -161,17 +182,17 @@ pub fn sheet_page(alloc: Global, setup: &Setup, sheet: &RoundSheet) -> Result<Te
 
 /// How many bytes the page takes at most. There is a line for each product of the set-up.
 pub fn sheet_room(sheet: &RoundSheet) -> u128
-    ensures is { result ≡ 59 + 191 * length sheet.now.lines }
+    ensures is { result ≡ room_of_sheet (length sheet.now.lines) }
     ensures most { (setup : PublicSetup) → length sheet.now.lines ≡ length setup.products → result
         ≡ most_text (sheet_value setup sheet.now) }
 {
-    59 + 191 * sheet.lines.len() as u128
+    SHEET_ROOM + LINE_ROOM * sheet.lines.len() as u128
 }
 
 /// Adds the same page to a text that has room for it.
 pub fn push_sheet_page(text: &mut Bounded<u8>, setup: &Setup, sheet: &RoundSheet)
     requires each { length sheet.now.lines ≡ length setup.now.products }
-    requires room { 59 + 191 * length sheet.now.lines ≤ text.old.room }
+    requires room { room_of_sheet (length sheet.now.lines) ≤ text.old.room }
     ensures { Adds (compact_text (sheet_value (public_setup setup.now) sheet.now)) text.old.items text.new.items }
 {
     push_truth(text, b"{\"ended\":", sheet.ended);
@@ -185,10 +206,10 @@ pub fn push_sheet_page(text: &mut Bounded<u8>, setup: &Setup, sheet: &RoundSheet
 fn push_lines(text: &mut Bounded<u8>, products: &[Product], lines: &[Line])
     requires limits { All IsProduct products.now }
     requires each { length lines.now ≡ length products.now }
-    requires room { 2 + 191 * length lines.now ≤ text.old.room }
+    requires room { room_of_lines (length lines.now) ≤ text.old.room }
     ensures adds { Adds (compact_text (list_of (λ row. line_value row.0 row.1) (zip products.now lines.now)))
         text.old.items text.new.items }
-    ensures room { text.old.room ≤ text.new.room + (2 + 191 * length lines.now) }
+    ensures room { text.old.room ≤ text.new.room + room_of_lines (length lines.now) }
 {
     text.push(b'[');
     for (i, line) in lines.iter().enumerate() {
@@ -200,9 +221,9 @@ fn push_lines(text: &mut Bounded<u8>, products: &[Product], lines: &[Line])
 /// Adds the line of a product, behind a comma where it is not the first.
 fn push_line(text: &mut Bounded<u8>, later: bool, product: &Product, line: &Line)
     requires limits { IsProduct product.now }
-    requires room { 191 ≤ text.old.room }
+    requires room { room_of_line ≤ text.old.room }
     ensures adds { Adds (item_text later (line_value product.now line.now)) text.old.items text.new.items }
-    ensures room { text.old.room ≤ text.new.room + 191 }
+    ensures room { text.old.room ≤ text.new.room + room_of_line }
 {
     push_comma_if(text, later);
     push_number(text, b"{\"clock\":", line.clock.get());

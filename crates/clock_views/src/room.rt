@@ -6,6 +6,9 @@ use clock_device::{Bounded, NoMemory, Text};
 use clock_house::{Blocks, zeros_in};
 use std::alloc::Global;
 
+/// How many bytes an item of an array of numbers takes at most, with the comma before it.
+pub(crate) const ITEM_ROOM: u128 = 21;
+
 /// An empty text with room for so many bytes.
 pub(crate) fn page_with_room(alloc: Global, bytes: u128) -> Result<Bounded<u8>, NoMemory>
     ensures { IfOk result (λ text. text ≡ record { items = []; room = bytes }) }

@@ -1,6 +1,7 @@
 use Rattle.std.proofs.Common.{◌≡◌, ◌≤◌, ◌+◌, ◌*◌, ◌++◌, drop, nat_lt, false}
 use Rattle.clock_views.specs.PublicPages.{product_value}
 use Rattle.clock_views.proofs.Lists.{rest_text}
+use Rattle.clock_views.specs.inside.Rooms.{room_of_product}
 use Rattle.clock_views.proofs.public.push_products.Given as goal
 
 -- with the other products it is the whole array
@@ -8,5 +9,5 @@ abbrev pub invariant-loop-i : goal.invariant-loop-i
 invariant-loop-i l = record {
   adds : l.text.items ++ rest_text (product_value l.version) (nat_lt 0 l.i) (drop l.i l.products)
       ≡ l.initial.text.items ++ rest_text (product_value l.version) false l.products;
-  room : l.initial.text.room ≤ l.text.room + 193 * l.i;
+  room : l.initial.text.room ≤ l.text.room + room_of_product * l.i;
 }

@@ -1,0 +1,59 @@
+-- How many bytes the pieces of pages are given.
+--     room_of_number, room_of_name, room_of_truth      of a value by itself
+--     room_of_item, room_of_bid, room_of_product, room_of_line, room_of_result demands      of an item, with the comma before it
+--     room_of_numbers, room_of_bids, room_of_products, room_of_lines count      of an array of so many items
+--     room_of_limit, room_of_offer products      of the page of products: of its limit, and of all
+use Rattle.std.specs.Prelude.{ℕ, ◌+◌, ◌*◌}
+
+-- 20 digits
+abbrev pub room_of_number : ℕ
+room_of_number = 20
+
+-- 32 characters and two quotes
+abbrev pub room_of_name : ℕ
+room_of_name = 34
+
+-- the word false
+abbrev pub room_of_truth : ℕ
+room_of_truth = 5
+
+-- a number and the comma before it
+abbrev pub room_of_item : ℕ
+room_of_item = 21
+
+-- two brackets, and the items
+abbrev pub room_of_numbers : ℕ → ℕ
+room_of_numbers count = 2 + room_of_item * count
+
+-- three numbers with their keys, in braces, and the comma before them
+abbrev pub room_of_bid : ℕ
+room_of_bid = 95
+
+abbrev pub room_of_bids : ℕ → ℕ
+room_of_bids count = 2 + room_of_bid * count
+
+-- five numbers and a name with their keys, in braces, and the comma before them
+abbrev pub room_of_product : ℕ
+room_of_product = 193
+
+abbrev pub room_of_products : ℕ → ℕ
+room_of_products count = 2 + room_of_product * count
+
+-- a number with its key, and the comma behind it
+abbrev pub room_of_limit : ℕ
+room_of_limit = 29
+
+-- three numbers and the array with their keys, in braces, and the products
+abbrev pub room_of_offer : ℕ → ℕ
+room_of_offer products = 111 + room_of_product * products
+
+-- five numbers and a name with their keys, in braces, and the comma before them
+abbrev pub room_of_line : ℕ
+room_of_line = 191
+
+abbrev pub room_of_lines : ℕ → ℕ
+room_of_lines count = 2 + room_of_line * count
+
+-- a number, a name and the array of demands with their keys, in braces, and the comma before them
+abbrev pub room_of_result : ℕ → ℕ
+room_of_result demands = 93 + room_of_item * demands
