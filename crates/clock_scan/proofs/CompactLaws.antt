@@ -1,7 +1,6 @@
 -- Laws of bids that are written without white space.
 use Rattle.std.proofs.Common.{◌≡◌, ℕ, ◌+◌, ◌<◌, ◌≤◌, ◌^◌, true, List, ◌∷◌, ◌++◌, length, take, drop, get_or, decimal, codes, [], replicate, zero, suc, ◌*◌, refl, sym, ap, ap₂, ◌∙◌, arith}
 use Rattle.std.proofs.Math.Nat.{pow-suc, pow-le-pow_right}
-use Rattle.std.proofs.lemmas.Bool.{false≢true}
 use Rattle.std.proofs.lemmas.List.{take-append-drop, drop-drop}
 use Rattle.json.specs.Token.{Token, key, begin_object, end_object, begin_array, end_array, number, string}
 use Rattle.json.specs.Text.{content}
@@ -13,7 +12,7 @@ use Rattle.clock_scan.specs.Reading.{whole, numbers, Reads}
 use Rattle.clock_scan.specs.Members.{HasMembers}
 use Rattle.clock_scan.specs.Compact.{compact_bid}
 use Rattle.clock_scan.specs.declared.compact.CompactBid.{CompactBid}
-use Rattle.clock_scan.proofs.LexLaws.{at_byte}
+use Rattle.clock_scan.proofs.LexLaws.{at_byte, begun}
 use Rattle.clock_scan.proofs.Steps.{number_reads, items_start, items_end, members_start, members_next, members_end}
 
 -- eight known bytes, and those behind them
@@ -99,10 +98,7 @@ tokens_of bid rest =
 pub punctuated : (p : Place) (bid : CompactBid) (ls rest : List Lexeme) → may_begin p ≡ true → ls ≡ lexemes_of bid rest
     → punctuate p ls ≡ tokens_of bid (punctuate lexer.after_comma rest)
 unfolding punctuate
-punctuated lexer.fresh bid ls rest h is = ap (punctuate lexer.fresh) is
-punctuated lexer.after_value bid ls rest h is = absurd (false≢true h)
-punctuated lexer.after_comma bid ls rest h is = ap (punctuate lexer.after_comma) is
-punctuated lexer.after_key bid ls rest h is = absurd (false≢true h)
+punctuated p bid ls rest h is = begun p ls _ h (ap (punctuate lexer.fresh) is) (ap (punctuate lexer.after_comma) is)
 
 -- the tokens are read as the bid
 pub bid_reads : (bid : CompactBid) (old new : List Token) → (bid.price < 2 ^ 64) × (bid.product < 2 ^ 64) × (bid.quantity < 2 ^ 64)
@@ -133,10 +129,7 @@ bid_reads bid old new small is =
 pub number_and_comma : (p : Place) (ls rest : List Lexeme) (s : List ℕ) → may_begin p ≡ true → ls ≡ token (number s) ∷ comma ∷ rest
     → punctuate p ls ≡ number s ∷ punctuate lexer.after_comma rest
 unfolding punctuate
-number_and_comma lexer.fresh ls rest s h is = ap (punctuate lexer.fresh) is
-number_and_comma lexer.after_value ls rest s h is = absurd (false≢true h)
-number_and_comma lexer.after_comma ls rest s h is = ap (punctuate lexer.after_comma) is
-number_and_comma lexer.after_key ls rest s h is = absurd (false≢true h)
+number_and_comma p ls rest s h is = begun p ls _ h (ap (punctuate lexer.fresh) is) (ap (punctuate lexer.after_comma) is)
 
 -- a comma
 pub comma_first : (rest : List ℕ) → lex between (44 ∷ rest) ≡ comma ∷ lex between rest

@@ -8,7 +8,7 @@ use Rattle.std.proofs.lemmas.Str.Parse.{numerals_by_value, tells_digits}
 use Rattle.std.proofs.lemmas.Str.{digit_value_digit}
 use Rattle.std.specs.Char.{digit_value}
 use Rattle.std.specs.Str.Parse.{AllDigits, digits_value}
-use Rattle.json.specs.Token.{key, begin_object, end_object, begin_array, end_array, number, string, null, bad}
+use Rattle.json.specs.Token.{Token, key, begin_object, end_object, begin_array, end_array, number, string, null, bad}
 use Rattle.json.specs.Text as text
 use Rattle.json.specs.Text.{content}
 use Rattle.json.specs.Print.{escape, escape_byte}
@@ -102,66 +102,58 @@ lex-digits ds rest n digits is small some lead ended =
 
 -- ---- what a place lets begin or close
 
+-- what begins a value is read alike wherever one may begin
+pub begun : (p : Place) (ls : List Lexeme) (read : List Token) → may_begin p ≡ true → punctuate lexer.fresh ls ≡ read → punctuate lexer.after_comma ls ≡ read
+    → punctuate p ls ≡ read
+begun lexer.fresh ls read h fresh later = fresh
+begun lexer.after_value ls read h fresh later = absurd (false≢true h)
+begun lexer.after_comma ls read h fresh later = later
+begun lexer.after_key ls read h fresh later = absurd (false≢true h)
+
+-- and what closes a list wherever it may close
+closed : (p : Place) (ls : List Lexeme) (read : List Token) → may_close p ≡ true → punctuate lexer.fresh ls ≡ read → punctuate lexer.after_value ls ≡ read
+    → punctuate p ls ≡ read
+closed lexer.fresh ls read h fresh behind = fresh
+closed lexer.after_value ls read h fresh behind = behind
+closed lexer.after_comma ls read h fresh behind = absurd (false≢true h)
+closed lexer.after_key ls read h fresh behind = absurd (false≢true h)
+
 object_begins : (p : Place) (ls ms : List Lexeme) → may_begin p ≡ true → ls ≡ token begin_object ∷ ms → punctuate p ls ≡ begin_object ∷ punctuate lexer.fresh ms
 unfolding punctuate
-object_begins lexer.fresh ls ms h is = ap (punctuate lexer.fresh) is
-object_begins lexer.after_value ls ms h is = absurd (false≢true h)
-object_begins lexer.after_comma ls ms h is = ap (punctuate lexer.after_comma) is
-object_begins lexer.after_key ls ms h is = absurd (false≢true h)
+object_begins p ls ms h is = begun p ls _ h (ap (punctuate lexer.fresh) is) (ap (punctuate lexer.after_comma) is)
 
 array_begins : (p : Place) (ls ms : List Lexeme) → may_begin p ≡ true → ls ≡ token begin_array ∷ ms → punctuate p ls ≡ begin_array ∷ punctuate lexer.fresh ms
 unfolding punctuate
-array_begins lexer.fresh ls ms h is = ap (punctuate lexer.fresh) is
-array_begins lexer.after_value ls ms h is = absurd (false≢true h)
-array_begins lexer.after_comma ls ms h is = ap (punctuate lexer.after_comma) is
-array_begins lexer.after_key ls ms h is = absurd (false≢true h)
+array_begins p ls ms h is = begun p ls _ h (ap (punctuate lexer.fresh) is) (ap (punctuate lexer.after_comma) is)
 
 pub object_closes : (p : Place) (ls ms : List Lexeme) → may_close p ≡ true → ls ≡ token end_object ∷ ms
     → punctuate p ls ≡ end_object ∷ punctuate lexer.after_value ms
 unfolding punctuate
-object_closes lexer.fresh ls ms h is = ap (punctuate lexer.fresh) is
-object_closes lexer.after_value ls ms h is = ap (punctuate lexer.after_value) is
-object_closes lexer.after_comma ls ms h is = absurd (false≢true h)
-object_closes lexer.after_key ls ms h is = absurd (false≢true h)
+object_closes p ls ms h is = closed p ls _ h (ap (punctuate lexer.fresh) is) (ap (punctuate lexer.after_value) is)
 
 pub array_closes : (p : Place) (ls ms : List Lexeme) → may_close p ≡ true → ls ≡ token end_array ∷ ms
     → punctuate p ls ≡ end_array ∷ punctuate lexer.after_value ms
 unfolding punctuate
-array_closes lexer.fresh ls ms h is = ap (punctuate lexer.fresh) is
-array_closes lexer.after_value ls ms h is = ap (punctuate lexer.after_value) is
-array_closes lexer.after_comma ls ms h is = absurd (false≢true h)
-array_closes lexer.after_key ls ms h is = absurd (false≢true h)
+array_closes p ls ms h is = closed p ls _ h (ap (punctuate lexer.fresh) is) (ap (punctuate lexer.after_value) is)
 
 pub number_begins : (p : Place) (ls ms : List Lexeme) (s : List ℕ) → may_begin p ≡ true → ls ≡ token (number s) ∷ ms
     → punctuate p ls ≡ number s ∷ punctuate lexer.after_value ms
 unfolding punctuate
-number_begins lexer.fresh ls ms s h is = ap (punctuate lexer.fresh) is
-number_begins lexer.after_value ls ms s h is = absurd (false≢true h)
-number_begins lexer.after_comma ls ms s h is = ap (punctuate lexer.after_comma) is
-number_begins lexer.after_key ls ms s h is = absurd (false≢true h)
+number_begins p ls ms s h is = begun p ls _ h (ap (punctuate lexer.fresh) is) (ap (punctuate lexer.after_comma) is)
 
 pub null_begins : (p : Place) (ls ms : List Lexeme) → may_begin p ≡ true → ls ≡ token null ∷ ms → punctuate p ls ≡ null ∷ punctuate lexer.after_value ms
 unfolding punctuate
-null_begins lexer.fresh ls ms h is = ap (punctuate lexer.fresh) is
-null_begins lexer.after_value ls ms h is = absurd (false≢true h)
-null_begins lexer.after_comma ls ms h is = ap (punctuate lexer.after_comma) is
-null_begins lexer.after_key ls ms h is = absurd (false≢true h)
+null_begins p ls ms h is = begun p ls _ h (ap (punctuate lexer.fresh) is) (ap (punctuate lexer.after_comma) is)
 
 pub text_begins : (p : Place) (ls ms : List Lexeme) (s : List ℕ) → may_begin p ≡ true → ls ≡ token (string s) ∷ ms → lexer.begins_colon ms ≡ false
     → punctuate p ls ≡ string s ∷ punctuate lexer.after_value ms
 unfolding punctuate
-text_begins lexer.fresh ls ms s h is next = ap (punctuate lexer.fresh) is ∙ rw next refl
-text_begins lexer.after_value ls ms s h is next = absurd (false≢true h)
-text_begins lexer.after_comma ls ms s h is next = ap (punctuate lexer.after_comma) is ∙ rw next refl
-text_begins lexer.after_key ls ms s h is next = absurd (false≢true h)
+text_begins p ls ms s h is next = begun p ls _ h (ap (punctuate lexer.fresh) is ∙ rw next refl) (ap (punctuate lexer.after_comma) is ∙ rw next refl)
 
 pub key_begins : (p : Place) (ls ms : List Lexeme) (s : List ℕ) → may_begin p ≡ true → ls ≡ token (string s) ∷ colon ∷ ms
     → punctuate p ls ≡ key s ∷ punctuate lexer.fresh ms
 unfolding punctuate
-key_begins lexer.fresh ls ms s h is = ap (punctuate lexer.fresh) is
-key_begins lexer.after_value ls ms s h is = absurd (false≢true h)
-key_begins lexer.after_comma ls ms s h is = ap (punctuate lexer.after_comma) is
-key_begins lexer.after_key ls ms s h is = absurd (false≢true h)
+key_begins p ls ms s h is = begun p ls _ h (ap (punctuate lexer.fresh) is) (ap (punctuate lexer.after_comma) is)
 
 pub comma_follows : (ls ms : List Lexeme) → ls ≡ comma ∷ ms → punctuate lexer.after_value ls ≡ punctuate lexer.after_comma ms
 unfolding punctuate
