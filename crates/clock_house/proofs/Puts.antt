@@ -12,7 +12,14 @@ use Rattle.clock_house.specs.Command.{Command, put}
 use Rattle.clock_house.specs.Standing.{put_fault}
 use Rattle.clock_house.specs.History.{ClosedRound, history, standing, holding, sheet_in_force}
 use Rattle.clock_house.specs.House.{HouseFields, StandsFor, put_fault_in, with_sheet}
+use Rattle.clock_house.specs.Prepared.{PreparedSheet, FitsSheet}
 use Rattle.clock_house.proofs.Steps.{in_force-accepted, in_force-skipped}
+
+-- a prepared sheet that a house accepts, by the fields of both
+pub fits_inside : (prepared inside : PreparedSheet) (house held : HouseFields) → inside ≡ prepared → held ≡ house → FitsSheet prepared house
+    → FitsSheet inside held
+fits_inside prepared inside house held p h fits =
+    subst (λ (of : HouseFields). FitsSheet inside of) (sym h) (subst (λ (sheet : PreparedSheet). FitsSheet sheet house) (sym p) fits)
 
 skip_by : (own good : Bool) → good ≡ false → own && good ≡ false
 skip_by true good e = e

@@ -20,11 +20,4 @@ returns-clause-is g c =
     rw (← c.self.view_is) (c.as_ref.ensures.value ∙ (get_or_read c.self.inside.sheets c.args.bidder _ in_range is None))
 
 pub returns-clause-seen : goal.returns-clause-seen
-returns-clause-seen g c =
-    let many = stands_sheets _ c.self.invariant.commands c.self.invariant.stands in
-    let known = rw (← c.self.view_is) at c.requires in
-    let in_range : c.args.bidder < length c.self.inside.sheets = omega (arith, many, known) in
-    let is = rw c.as_slice.ensures at c.index-as_slice-bidder.is in
-    rw (← c.self.view_is)
-    (λ commands stands. c.as_ref.ensures.value ∙ get_or_read c.self.inside.sheets c.args.bidder _ in_range is None
-    ∙ in_force_seen _ c.args.bidder commands stands known)
+returns-clause-seen g c = λ commands stands. returns-clause-is g c ∙ in_force_seen _ c.args.bidder commands stands c.requires
