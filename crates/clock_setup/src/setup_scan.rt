@@ -63,6 +63,18 @@ impl<'v> ScannedMembers<'v> for ProductParts<'v> {
     }
 }
 
+/// The first version of documents in which a product may have such a granule or none, and the granule that it means.
+fn version_with(granule: Option<u64>) -> (u64, u64)
+    ensures found { granule ≡ added result.0 result.1 }
+    ensures version { IsWithin 1 latest_version result.0 }
+    ensures first_version { result.0 ≡ 1 → result.1 ≡ first_granule }
+{
+    match granule {
+        None => (1, FIRST_GRANULE),
+        Some(granule) => (2, granule),
+    }
+}
+
 impl<'v> ProductParts<'v> {
     /// The product, and the first version of documents in which one has these keys.
     fn entry(self) -> Option<(u64, ProductEntry<'v>)>
@@ -79,30 +91,18 @@ impl<'v> ProductParts<'v> {
         ) else {
             return None;
         };
-        match self.granule {
-            None => Some((
-                1,
-                ProductEntry {
-                    name,
-                    units,
-                    supply,
-                    cap,
-                    opening,
-                    granule: FIRST_GRANULE,
-                },
-            )),
-            Some(granule) => Some((
-                2,
-                ProductEntry {
-                    name,
-                    units,
-                    supply,
-                    cap,
-                    opening,
-                    granule,
-                },
-            )),
-        }
+        let (version, granule) = version_with(self.granule);
+        Some((
+            version,
+            ProductEntry {
+                name,
+                units,
+                supply,
+                cap,
+                opening,
+                granule,
+            },
+        ))
     }
 }
 
