@@ -14,21 +14,25 @@ use std::alloc::Global;
 
 /// A settling on its way.
 #[derive(Drop)]
-pub(crate) struct Queue {
-    board: Board,
+pub(crate) struct Queue<'a> {
+    board: Board<'a>,
     left: Amounts,
     admitted: usize,
     ready: Ready,
     lines: Lines,
 }
 
-impl Queue {
+impl<'a> Queue<'a> {
     /// A settling in which no request is admitted yet.
-    pub(crate) fn new(alloc: Global, board: Board, changes: &[Change]) -> Result<Queue, NoMemory>
+    pub(crate) fn new(
+        alloc: Global,
+        board: Board<'a>,
+        changes: &[Change],
+    ) -> Result<Queue<'a>, NoMemory>
         requires { CanSettle board changes.now }
         ensures queue { IfOk result (IsQueue changes.now) }
         ensures counts { IfOk result (StaysWithinTests changes.now) }
-        ensures board { IfOk result (λ queue. queue.board ≡ board) }
+        ensures board { IfOk result (λ queue. queue.board ≡ board.entry) }
         ensures left { IfOk result (λ queue. queue.left ≡ map (λ change. change.amount) changes.now) }
         ensures none { IfOk result (λ queue. (queue.ready ≡ []) × (queue.admitted ≡ 0)) }
     {
@@ -159,8 +163,8 @@ impl Queue {
     /// Ends the settling.
     pub(crate) fn end(self) -> Settled
         ensures settled { result
-            ≡ record { grid = self.board.grid; left = self.left; applied = self.board.applied; tests = self.board.tests } }
-        ensures kept { IsBoard self.board.products self.board.eligibilities self.board.grid }
+            ≡ record { grid = self.entry.board.grid; left = self.entry.left; applied = self.entry.board.applied; tests = self.entry.board.tests } }
+        ensures kept { IsBoard self.entry.board.products self.entry.board.eligibilities self.entry.board.grid }
     {
         let Queue {
             board,

@@ -21,8 +21,8 @@ impl Processor for Woken {
     /// as often as there are requests of one product or of one bidder.
     fn settle(&self, alloc: Global, board: Board, changes: &Changes) -> Result<Settled, NoMemory>
         requires { CanSettle board changes.now }
-        ensures settlement { IfOk result (λ settled. IsSettlement board changes.now settled) }
-        ensures proper { IfOk result (λ settled. IsProperEnd board changes.now settled) }
+        ensures settlement { IfOk result (λ settled. IsSettlement board.entry changes.now settled) }
+        ensures proper { IfOk result (λ settled. IsProperEnd board.entry changes.now settled) }
         ensures tests { IfOk result (λ settled. IsWithinTests changes.now settled) }
     {
         let requests = changes.as_slice();

@@ -9,7 +9,7 @@ use Rattle.clock_processor.proofs.board.Board.raise.Goals as goal
 
 pub invariant_of-self : goal.invariant_of-self
 invariant_of-self c =
-    kept_raised c.self.inside.products c.self.inside.eligibilities c.self.inside.grid c.self.inside.unused c.args.bidder c.args.product
+    kept_raised c.self.inside.products.now c.self.inside.eligibilities.now c.self.inside.grid c.self.inside.unused c.args.bidder c.args.product
     c.args.amount _ _ _ _ _ c.self.invariant
     (subst (λ (board : BoardFields). c.args.bidder < length board.eligibilities) (sym c.self.view_is) c.requires.bidder)
     (subst (λ (board : BoardFields). c.args.product < length board.products) (sym c.self.view_is) c.requires.product)
@@ -17,10 +17,10 @@ invariant_of-self c =
     ≤ cap_of board.products c.args.product) (sym c.self.view_is) c.requires.capped)
     (subst (λ (board : BoardFields). c.args.amount ≤ affordable_blocks board.products board.eligibilities board.grid c.args.bidder
     c.args.product) (sym c.self.view_is) c.requires.paid)
-    (units_read c.self.inside.products c.as_slice.result.now c.args.product c.index-as_slice-product.result
-    (subst (λ (board : BoardFields). c.args.product < length board.products) (sym c.self.view_is) c.requires.product) c.as_slice.ensures
-    c.index-as_slice-product.is)
-    (ap (λ list. get_or list c.args.bidder 0) c.as_slice-2.ensures)
+    (units_read c.self.inside.products.now c.args.product c.index-self-product.result
+    (subst (λ (board : BoardFields). c.args.product < length board.products) (sym c.self.view_is) c.requires.product)
+    c.index-self-product.is)
+    (ap (λ list. get_or list c.args.bidder 0) c.as_slice.ensures)
     c.get-held.ensures
     c.set.ensures
     c.set-2.ensures

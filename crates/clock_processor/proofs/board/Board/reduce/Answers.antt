@@ -7,35 +7,34 @@ use Rattle.clock_processor.proofs.board.Board.reduce.Goals as goal
 
 pub overflow_add-unused : goal.overflow_add-unused
 overflow_add-unused c =
-    let bidder : c.args.bidder < length c.self.inside.eligibilities =
+    let bidder : c.args.bidder < length c.self.inside.eligibilities.now =
     subst (λ (board : BoardFields). c.args.bidder < length board.eligibilities) (sym c.self.view_is) c.requires.bidder in
-    let product : c.args.product < length c.self.inside.products =
+    let product : c.args.product < length c.self.inside.products.now =
     subst (λ (board : BoardFields). c.args.product < length board.products) (sym c.self.view_is) c.requires.product in
     let held : c.args.amount ≤ demand_at c.self.inside.grid c.args.bidder c.args.product =
     subst (λ (board : BoardFields). c.args.amount ≤ demand_at board.grid c.args.bidder c.args.product) (sym c.self.view_is) c.requires.most in
-    let units = units_read c.self.inside.products c.as_slice.result.now c.args.product c.index-as_slice-product.result product
-    c.as_slice.ensures c.index-as_slice-product.is in
-    let within = unused_within c.self.inside.products c.self.inside.eligibilities c.self.inside.grid c.self.inside.unused c.args.bidder
+    let units = units_read c.self.inside.products.now c.args.product c.index-self-product.result product c.index-self-product.is in
+    let within = unused_within c.self.inside.products.now c.self.inside.eligibilities.now c.self.inside.grid c.self.inside.unused c.args.bidder
     c.args.product c.args.amount c.self.invariant.is_board c.self.invariant.keeps_unused bidder product held in
     omega (
       arith,
       c.self.invariant.keeps_unused.fits c.args.bidder bidder,
       within,
       ap (λ n. n * c.args.amount) units,
-      ap (λ list. get_or list c.args.bidder 0) c.as_slice-2.ensures,
+      ap (λ list. get_or list c.args.bidder 0) c.as_slice.ensures,
     )
 
 pub invariant_of-self : goal.invariant_of-self
 invariant_of-self c =
-    kept_reduced c.self.inside.products c.self.inside.eligibilities c.self.inside.grid c.self.inside.unused c.args.bidder c.args.product
+    kept_reduced c.self.inside.products.now c.self.inside.eligibilities.now c.self.inside.grid c.self.inside.unused c.args.bidder c.args.product
     c.args.amount _ _ _ _ _ c.self.invariant
     (subst (λ (board : BoardFields). c.args.bidder < length board.eligibilities) (sym c.self.view_is) c.requires.bidder)
     (subst (λ (board : BoardFields). c.args.product < length board.products) (sym c.self.view_is) c.requires.product)
     (subst (λ (board : BoardFields). c.args.amount ≤ demand_at board.grid c.args.bidder c.args.product) (sym c.self.view_is) c.requires.most)
-    (units_read c.self.inside.products c.as_slice.result.now c.args.product c.index-as_slice-product.result
-    (subst (λ (board : BoardFields). c.args.product < length board.products) (sym c.self.view_is) c.requires.product) c.as_slice.ensures
-    c.index-as_slice-product.is)
-    (ap (λ list. get_or list c.args.bidder 0) c.as_slice-2.ensures)
+    (units_read c.self.inside.products.now c.args.product c.index-self-product.result
+    (subst (λ (board : BoardFields). c.args.product < length board.products) (sym c.self.view_is) c.requires.product)
+    c.index-self-product.is)
+    (ap (λ list. get_or list c.args.bidder 0) c.as_slice.ensures)
     c.get-held.ensures
     c.set.ensures
     c.set-2.ensures
