@@ -13,11 +13,11 @@ use std::alloc::Global;
 pub(crate) fn opening_posted(alloc: Global, products: &[Product]) -> Result<Items<Price>, NoMemory>
     ensures { IfOk result (λ posted. posted ≡ opening_posted products.now) }
 {
-    let mut posted = Items::new(alloc);
+    let mut posted = Items::with_capacity(alloc, products.len())?;
     for product in products {
-        posted.push(product.opening)?;
+        posted.push(product.opening);
     }
-    Ok(posted)
+    Ok(posted.into_items())
 }
 
 /// The posted price of each product in a round after the first.
@@ -72,11 +72,11 @@ fn start_prices(alloc: Global, prices: &[PricePair]) -> Result<Items<Price>, NoM
     ensures price { IfOk result (λ starts. (p : ℕ) → p < length prices.now →
         slice_index starts p ≡ (prices_at prices.now p).start) }
 {
-    let mut starts = Items::new(alloc);
+    let mut starts = Items::with_capacity(alloc, prices.len())?;
     for pair in prices {
-        starts.push(pair.start)?;
+        starts.push(pair.start);
     }
-    Ok(starts)
+    Ok(starts.into_items())
 }
 
 /// Takes the price of a change into account, where it is a reduction of which a part was applied.

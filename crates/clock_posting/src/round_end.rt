@@ -80,11 +80,11 @@ impl RoundEnd<'_> {
             self.now.posted.now self.now.increments.now) }
     {
         // Each closed round keeps its lines, so they have no more room than they take.
-        let mut lines = Lines::from_vec(Vec::with_capacity(alloc, self.products.len())?);
+        let mut lines = Lines::with_capacity(alloc, self.products.len())?;
         for product in 0..self.products.len() {
-            lines.push(self.line(product, next))?;
+            lines.push(self.line(product, next));
         }
-        Ok(lines)
+        Ok(lines.into_items())
     }
 
     /// The line of a product.
@@ -152,7 +152,7 @@ fn next_prices(
     ensures err { IfErr result (IsFirstFault PostFault.NoMemory
         (rules.post_fault (first_at_limit products.now increments.now posted.now))) }
 {
-    let mut next = Prices::new(alloc);
+    let mut next = Prices::with_capacity(alloc, products.len())?;
     for product in 0..products.len() {
         let Some(clock) = next_clock(products, increments, posted, product) else {
             return Err(PostFault::PriceLimit(product as u64));
@@ -160,9 +160,9 @@ fn next_prices(
         next.push(PricePair {
             start: posted[product],
             clock,
-        })?;
+        });
     }
-    Ok(next)
+    Ok(next.into_items())
 }
 
 /// The next clock price of a product: its posted price raised by its increment, to a whole multiple of

@@ -1,10 +1,11 @@
-ghost use Rattle.std.specs.Prelude.{◌≡◌, ◌<◌, ◌≤◌, ◌-◌, length, IfOk, IfSome, IfNone, OnSome, All, Some, None, ℕ, map, slice_index, slice_index_or, slice_set};
+ghost use Rattle.std.specs.Prelude.{◌≡◌, ◌<◌, ◌≤◌, ◌-◌, length, IfSome, IfNone, OnSome, All, Some, None, ℕ, slice_index, slice_index_or, slice_set};
 ghost use Rattle.clock_processor.specs.Board.{IsBoard, one_more};
 ghost use Rattle.clock_processor.specs.Room.{with_change};
 ghost use Rattle.clock_processor.specs.Settling as settling;
 ghost use Rattle.clock_processor.specs.Requests.{IsRequest};
 ghost use Rattle.clock_processor.specs.inside.UnderWay.{IsUnderWay, SameButTests, StaysWithinCaps, progress_of};
 
+use crate::amounts::amounts_of;
 use crate::board::Board;
 use crate::processor::Processor;
 use crate::settled::Settled;
@@ -23,17 +24,6 @@ impl Processor for Plain {
         rescan(&mut board, changes.as_slice(), &mut left);
         Ok(board.end(left))
     }
-}
-
-/// The whole amount of each request.
-fn amounts_of(alloc: Global, changes: &[Change]) -> Result<Amounts, NoMemory>
-    ensures { IfOk result (λ amounts. amounts ≡ map (λ change. change.amount) changes.now) }
-{
-    let mut amounts = Amounts::new(alloc);
-    for change in changes {
-        amounts.push(change.amount)?;
-    }
-    Ok(amounts)
 }
 
 /// Steps to the end.

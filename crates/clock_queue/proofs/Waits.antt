@@ -7,7 +7,7 @@ use Rattle.std.specs.List.Sorted.{IsPermutation}
 use Rattle.std.proofs.lemmas.Bool.{cases_lt}
 use Rattle.std.proofs.lemmas.List.{get_or-set_same, get_or-set_other, length-set, length_push}
 use Rattle.std.proofs.lemmas.List.Sums.{sum_by-cons, sum_by_more}
-use Rattle.std.proofs.lemmas.List.Sorted.{sum_by-IsPermutation, sum_by_pushed, All-permutation, Contains-permutation}
+use Rattle.std.proofs.lemmas.List.Sorted.{sum_by-IsPermutation, All-permutation, Contains-permutation}
 use Rattle.std.proofs.lemmas.List.Elements.{All-cons, All-tail, All-push, All-weaker, Contains-append_left, Contains-push}
 use Rattle.clock_terms.specs.declared.change.Change.{Change}
 use Rattle.clock_processor.specs.Settling.{no_change}
@@ -35,12 +35,11 @@ module _ (changes : List Change) where
     counted = λ line. omega (arith, is.counted line, sum_by-IsPermutation (λ place. cond (line_at changes place == line) 1 0) queue.ready ready moved);
   }
 
-  -- one more request is admitted, and is ready
-  pub admitted_next : (queue : Queue) (ready : List ℕ) → IsQueue changes queue → queue.ready ≡ [] → queue.admitted < length changes → IsPermutation
-      (queue.admitted ∷ queue.ready) ready →
-      IsQueue changes (record queue { admitted = queue.admitted + 1; ready = ready })
-  admitted_next queue ready is none more moved =
-      let new : Queue = record queue { admitted = queue.admitted + 1; ready = ready } in
+  -- one more request is admitted, and is the first that is ready
+  pub admitted_next : (queue : Queue) → IsQueue changes queue → queue.ready ≡ [] → queue.admitted < length changes →
+      IsQueue changes (with_first queue.admitted (record queue { admitted = queue.admitted + 1 }))
+  admitted_next queue is none more =
+      let new : Queue = with_first queue.admitted (record queue { admitted = queue.admitted + 1 }) in
       record {
         under_way = record {
           admitted_within = omega (arith, more);
@@ -50,9 +49,8 @@ module _ (changes : List Change) where
           countable = is.under_way.countable;
         };
         lines = is.lines;
-        ready = All-permutation (λ place. place < queue.admitted + 1) (queue.admitted ∷ queue.ready) ready moved
-            (All-cons (λ place. place < queue.admitted + 1) queue.admitted queue.ready (omega arith)
-            (All-weaker (λ place. place < queue.admitted) (λ place. place < queue.admitted + 1) (λ place lt. omega (arith, lt)) queue.ready is.ready));
+        ready = All-cons (λ place. place < queue.admitted + 1) queue.admitted queue.ready (omega arith)
+            (All-weaker (λ place. place < queue.admitted) (λ place. place < queue.admitted + 1) (λ place lt. omega (arith, lt)) queue.ready is.ready);
         waiting = λ line. All-weaker (IsInLine changes queue.admitted line) (IsInLine changes (queue.admitted + 1) line)
             (λ place at. record { admitted_before = omega (arith, at.admitted_before); own_line = at.own_line }) (get_or queue.lines line []) (is.waiting line);
         tracked = λ place lt. elim (cases_lt place queue.admitted) as (λ _. IsTracked changes new place) [
@@ -63,12 +61,12 @@ module _ (changes : List Change) where
               | inr waiting ↦ inr (inr (record { in_line = waiting.in_line; no_room = waiting.no_room }))
             ]
           ]
-          | inr at ↦ inl (Contains-permutation (queue.admitted ∷ queue.ready) ready place moved (0, omega arith, omega (arith, lt, at)))
+          | inr at ↦ inl (0, omega arith, omega (arith, lt, at))
         ];
         counted = λ line. omega (
           arith,
           is.counted line,
-          sum_by_pushed (λ place. cond (line_at changes place == line) 1 0) queue.admitted queue.ready ready moved,
+          sum_by-cons (λ place. cond (line_at changes place == line) 1 0) queue.admitted queue.ready,
           sum_by_more (λ (change : Change). cond (line_of change == line) 1 0) changes queue.admitted no_change more,
         );
       }

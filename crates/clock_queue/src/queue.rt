@@ -8,7 +8,7 @@ ghost use Rattle.clock_queue.specs.inside.Queue.{IsQueue, LeadsTo, SameTerms, St
 use crate::lines::{Lines, line_of, lines_for, woken_line};
 use crate::ready::Ready;
 use clock_device::NoMemory;
-use clock_processor::{Board, Settled};
+use clock_processor::{Board, Settled, amounts_of};
 use clock_terms::{Amounts, Change};
 use std::alloc::Global;
 
@@ -45,7 +45,8 @@ impl<'a> Queue<'a> {
         })
     }
 
-    /// Admits the next request, and tests until none is ready.
+    /// Admits the next request and tests it, and then tests until none is ready. Mostly none is after its own test, so
+    /// it goes past the ready requests, and takes no memory of theirs.
     pub(crate) fn settle_next(&mut self, changes: &[Change]) -> Result<(), NoMemory>
         requires queue { IsQueue changes.now self.old }
         requires counts { StaysWithinTests changes.now self.old }
@@ -58,8 +59,9 @@ impl<'a> Queue<'a> {
         ensures terms { OnOk result (SameTerms self.old self.new) }
         ensures reached { OnOk result (LeadsTo changes.now self.old self.new) }
     {
-        self.ready.push(self.admitted)?;
+        let place = self.admitted;
         self.admitted += 1;
+        self.test(changes, place)?;
         self.run(changes)?;
         Ok(())
     }
@@ -175,15 +177,4 @@ impl<'a> Queue<'a> {
         } = self;
         board.end(left)
     }
-}
-
-/// The whole amount of each request.
-fn amounts_of(alloc: Global, changes: &[Change]) -> Result<Amounts, NoMemory>
-    ensures { IfOk result (λ amounts. amounts ≡ map (λ change. change.amount) changes.now) }
-{
-    let mut amounts = Amounts::new(alloc);
-    for change in changes {
-        amounts.push(change.amount)?;
-    }
-    Ok(amounts)
 }

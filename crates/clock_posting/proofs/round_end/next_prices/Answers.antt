@@ -29,17 +29,18 @@ loop-product-preserved c =
     let pair : item ≡ f product = λ k. record { start = start k; clock = unwrap_or (c.in-Some.ensures.exact k) 0 } in
     let rises : IsRising item = omega (arith, start, c.in-Some.ensures.above) in
     record {
-      lengths = ap length c.in_ok-push.ensures.ok ∙ length-append c.loop-product.next (item ∷ []) ∙ ap (λ n. n + 1) c.loop-product.invariant.lengths;
-      so_far = c.in_ok-push.ensures.ok
+      lengths = ap length c.push.ensures.items ∙ length-append c.loop-product.next.items (item ∷ []) ∙ ap (λ n. n + 1) c.loop-product.invariant.lengths;
+      room = omega (arith, c.loop-product.invariant.room, c.push.ensures.room);
+      so_far = c.push.ensures.items
           ∙ ap (λ (xs : List PricePair). xs ++ item ∷ []) c.loop-product.invariant.so_far
           ∙ ap (λ (one : PricePair). map f (range_with_len 0 product) ++ one ∷ []) pair
           ∙ sym (map-range_with_len_more f 0 product product (omega arith));
       clocks = map-range_with_len_more clock 0 product product (omega arith)
           ∙ ap (λ xs. xs ++ clock product ∷ []) c.loop-product.invariant.clocks
-          ∙ ap (λ one. map g c.loop-product.next ++ one ∷ []) (sym c.in-Some.ensures.exact)
-          ∙ sym (map-append g c.loop-product.next (item ∷ []))
-          ∙ ap (map g) (sym c.in_ok-push.ensures.ok);
-      rising = rw c.in_ok-push.ensures.ok (All-push IsRising c.loop-product.next item c.loop-product.invariant.rising rises);
+          ∙ ap (λ one. map g c.loop-product.next.items ++ one ∷ []) (sym c.in-Some.ensures.exact)
+          ∙ sym (map-append g c.loop-product.next.items (item ∷ []))
+          ∙ ap (map g) (sym c.push.ensures.items);
+      rising = rw c.push.ensures.items (All-push IsRising c.loop-product.next.items item c.loop-product.invariant.rising rises);
       rest = sym (first_is_later (λ (k : ℕ). is_none (clock k)) product (length c.args.products.now) below (ap is_none (sym c.in-Some.ensures.exact)))
           ∙ c.loop-product.invariant.rest;
     }

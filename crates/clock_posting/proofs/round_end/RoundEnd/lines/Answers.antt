@@ -14,5 +14,6 @@ loop-product-preserved c =
     map-range_with_len_more f 0 product product (omega arith) in
     record {
       lengths = grind (arith, common_steps);
-      so_far = cc (c.in_ok-push.ensures.ok);
+      room = grind (arith, common_steps);
+      so_far = cc (c.push.ensures.items);
     }
