@@ -6,3 +6,4 @@ pub mod Applies
 pub mod Start
 pub mod Steps
 pub mod Ended
+mod Shown

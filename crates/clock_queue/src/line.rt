@@ -39,6 +39,13 @@ impl Line {
         Ok(())
     }
 
+    /// Takes all places out. The line keeps its room for those that come next.
+    pub(crate) fn clear(&mut self)
+        ensures { self.new ≡ [] }
+    {
+        self.places.clear();
+    }
+
     /// The places in order.
     pub(crate) fn as_slice(&self) -> &[usize]
         ensures { result.now ≡ self.now }

@@ -7,22 +7,28 @@ use clock_device::NoMemory;
 use clock_terms::{Change, Kind};
 use std::alloc::Global;
 use std::marker::Model;
-use std::mem;
 
 /// The lines in which requests wait: for each product one of its reductions, for each bidder one of its increases.
 /// Contracts see the list of the lines.
+///
+/// In most lines nobody ever waits. So a line is a slot alone, which is 0 until a first request waits in it, and from then
+/// on the place of its list. The list at 0 stays empty.
 #[derive(Drop)]
 pub(crate) struct Lines {
     alloc: Global,
-    waiting: Vec<Line>,
+    slots: Vec<usize>,
+    lists: Vec<Line>,
 }
 
 impl Model for Lines {
     ghost use Rattle.std.specs.Prelude.{List, ℕ};
+    ghost use Rattle.clock_queue.specs.inside.Lines.{AreKept, lines_shown};
 
     ghost Value = { List (List ℕ) };
 
-    ghost view = { λ a. a.waiting.items };
+    ghost view = { λ a. lines_shown a.slots.items a.lists.items };
+
+    ghost invariant = { λ a. AreKept a.slots.items a.lists.items };
 }
 
 impl Lines {
@@ -30,11 +36,13 @@ impl Lines {
     pub(crate) fn new(alloc: Global, count: usize) -> Result<Lines, NoMemory>
         ensures { IfOk result (λ new. new ≡ replicate count []) }
     {
-        let mut waiting = Vec::with_capacity(alloc, count)?;
-        for _line in 0..count {
-            waiting.push(Line::new(alloc))?;
-        }
-        Ok(Lines { alloc, waiting })
+        let mut lists = Vec::new(alloc);
+        lists.push(Line::new(alloc))?;
+        Ok(Lines {
+            alloc,
+            slots: vec![in alloc; 0; count]?,
+            lists,
+        })
     }
 
     /// Adds a place at the end of a line.
@@ -42,17 +50,46 @@ impl Lines {
         requires { line < length self.old }
         ensures { OnOk result (self.new ≡ slice_set self.old line (slice_index_or self.old line [] ++ place ∷ [])) }
     {
-        let places = &mut self.waiting[line];
+        let slot = self.slots[line];
+        if slot == 0 {
+            return self.begin(line, place);
+        }
+        let places = &mut self.lists[slot];
         places.push(place)
     }
 
-    /// Takes all places out of a line.
-    pub(crate) fn take(&mut self, line: usize) -> Line
-        requires { line < length self.old }
-        ensures taken { result ≡ slice_index_or self.old line [] }
-        ensures rest { self.new ≡ slice_set self.old line [] }
+    /// Makes a list for a line, with its first place.
+    fn begin(&mut self, line: usize, place: usize) -> Result<(), NoMemory>
+        requires line { line < length self.old }
+        requires nobody { slice_index_or self.old line [] ≡ [] }
+        ensures { OnOk result (self.new ≡ slice_set self.old line (place ∷ [])) }
     {
-        mem::replace(&mut self.waiting[line], Line::new(self.alloc))
+        let mut places = Line::new(self.alloc);
+        places.push(place)?;
+        let slot = self.lists.len();
+        self.lists.push(places)?;
+        self.slots[line] = slot;
+        Ok(())
+    }
+
+    /// The places in a line.
+    pub(crate) fn at(&self, line: usize) -> &[usize]
+        requires { line < length self.now }
+        ensures { result.now ≡ slice_index_or self.now line [] }
+    {
+        self.lists[self.slots[line]].as_slice()
+    }
+
+    /// Takes all places out of a line. Its list keeps its room.
+    pub(crate) fn clear(&mut self, line: usize)
+        requires { line < length self.old }
+        ensures { self.new ≡ slice_set self.old line [] }
+    {
+        let slot = self.slots[line];
+        if slot > 0 {
+            let places = &mut self.lists[slot];
+            places.clear();
+        }
     }
 }
 

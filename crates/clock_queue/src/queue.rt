@@ -144,8 +144,9 @@ impl<'a> Queue<'a> {
         ensures rest { OnOk result
             (self.new ≡ record self.old { ready = self.new.ready; lines = slice_set self.old.lines line [] }) }
     {
-        let woken = self.lines.take(line);
-        self.ready.extend(woken.as_slice())?;
+        let woken = self.lines.at(line);
+        self.ready.extend(woken)?;
+        self.lines.clear(line);
         Ok(())
     }
 
