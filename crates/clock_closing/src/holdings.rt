@@ -77,11 +77,11 @@ impl<'a> Holdings<'a> {
     pub(crate) fn eligibilities(&self, alloc: Global) -> Result<Amounts, NoMemory>
         ensures { IfOk result (λ list. list ≡ map (λ holding. holding.eligibility) self.now) }
     {
-        let mut list = Amounts::new(alloc);
+        let mut list = Vec::with_capacity(alloc, self.count() as usize)?;
         for bidder in 0..self.count() {
             list.push(self.eligibility(bidder))?;
         }
-        Ok(list)
+        Ok(Amounts::from_vec(list))
     }
 
     /// How many bidders there are.

@@ -15,7 +15,7 @@ ghost use Rattle.clock_closing.specs.inside.Postings.{AreRequests, AreResults, p
 use crate::fault::CloseFault;
 use crate::open_round::OpenRound;
 use crate::results::Results;
-use clock_bids::{Changes, changes_of};
+use clock_bids::{Changes, with_changes_of};
 use clock_device::NoMemory;
 use clock_order::{Ties, ordered};
 use clock_posting::post;
@@ -76,15 +76,15 @@ impl OpenRound<'_> {
     {
         let mut changes = Changes::new(alloc);
         for bidder in 0..self.bidders() {
-            let own = changes_of(
+            changes = with_changes_of(
                 alloc,
+                changes,
                 self.setup,
                 self.prices,
                 self.own(bidder),
                 bidder,
                 self.sheet(bidder),
             )?;
-            changes.extend_from_slice(own.as_slice())?;
         }
         Ok(changes)
     }

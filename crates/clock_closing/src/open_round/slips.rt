@@ -51,11 +51,11 @@ impl OpenRound<'_> {
         ensures demands { IfOk result (λ slips. demands.now ≡ demands_of slips) }
     {
         let mut cells = Vec::new(alloc);
-        let mut slips = Slips::new(alloc);
+        let mut slips = Vec::with_capacity(alloc, self.bidders() as usize)?;
         for bidder in 0..self.bidders() {
             slips.push(self.slip_after(alloc, &mut cells, bidder, demands.row(bidder as usize))?)?;
         }
-        Ok(slips)
+        Ok(Slips::from_vec(slips))
     }
 
     /// A bidder's slip after a round that leaves it these demands. The list is lent for their cells.

@@ -15,10 +15,9 @@ loop-bidder-preserved c =
     ap (λ (round : OpenRoundFields). round.before.standing.prices) c.self.view_is in
     let demands : c.own.result.demands.now ≡ (holding_at c.args.self.now.before.holdings c.loop-bidder.bidder).demands =
     ap (λ (held : Holding). held.demands) c.own.ensures.held in
-    let own = rw (prices, demands, c.sheet.ensures) at c.in_ok-own.ensures.exact in
-    c.in_ok-extend_from_slice.ensures.ok
-    ∙ ap (λ (xs : List Change). xs ++ c.as_slice.result.now) c.loop-bidder.invariant
-    ∙ ap (λ (xs : List Change). flat_map (requests_by c.args.self.now.before) (range_with_len 0 c.loop-bidder.bidder) ++ xs) (c.as_slice.ensures ∙ own)
+    let added = rw (prices, demands, c.sheet.ensures) at c.in_ok-changes.ensures.exact in
+    added
+    ∙ ap (λ (xs : List Change). xs ++ requests_by c.args.self.now.before c.loop-bidder.bidder) c.loop-bidder.invariant
     ∙ sym (flat_map-range_more (requests_by c.args.self.now.before) c.loop-bidder.bidder)
 
 pub returns-clause-all : goal.returns-clause-all
