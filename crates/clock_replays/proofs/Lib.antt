@@ -1,4 +1,5 @@
 pub mod EndedRowLaws
+pub mod KeptLimitLaws
 pub mod CheckLaws
 pub mod DocumentLaws
 mod ReplayDataLaws

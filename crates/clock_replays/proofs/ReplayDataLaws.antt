@@ -1,5 +1,5 @@
 -- What is read of a replay document without a tree is what the document means.
-use Rattle.std.proofs.Common.{◌≡◌, ℕ, List, Option, Some, None, option_map, refl, ap, ◌∙◌}
+use Rattle.std.proofs.Common.{◌≡◌, ℕ, List, Option, Some, None, option_map, refl, ap}
 use Rattle.serde_json.specs.Data.{Data}
 use Rattle.clock_scan.specs.Reading.{whole, numbers}
 use Rattle.clock_terms.specs.Faults.{first_fault, unless}

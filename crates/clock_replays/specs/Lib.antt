@@ -1,4 +1,5 @@
 pub mod EndedRows
+pub mod KeptLimits
 pub mod Replays
 pub mod ReplayShape
 pub mod ReplayChecks

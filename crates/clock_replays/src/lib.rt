@@ -6,6 +6,7 @@ mod closing;
 mod fault;
 mod held_setup;
 mod limit_lists;
+mod limit_rows;
 mod part;
 mod read;
 mod replay;

@@ -1,37 +1,44 @@
-//! The limits of a sincere bidder, which are mostly none: all in one list.
-ghost use Rattle.std.specs.Prelude.{◌≡◌, ◌<◌, ◌≤◌, ◌∷◌, ◌++◌, length, replicate, slice_index, IfOk, OnOk};
+//! The limits of a sincere bidder, which are mostly none.
+ghost use Rattle.std.specs.Prelude.{◌≡◌, ◌<◌, ◌≤◌, ◌*◌, ◌∷◌, ◌++◌, length, slice_index, IfOk, OnOk};
 ghost use Rattle.clock_scan.specs.Reading.{rows, Reads};
 ghost use Rattle.clock_terms.specs.Demands.{row_of};
 ghost use Rattle.clock_replays.specs.EndedRows.{rows_from};
 ghost use Rattle.clock_replays.specs.inside.EndedRows.{AreEnds};
+ghost use Rattle.clock_replays.specs.inside.KeptLimits.{AreKept, AreStarts, IsStart, kept_limits};
 
+use crate::limit_rows::{LimitRows, short_of};
 use clock_device::NoMemory;
 use clock_scan::{Scan, ScanStop};
 use clock_terms::Amounts;
 use std::alloc::Global;
 use std::marker::Model;
 
+/// How many products a block has. A search for a product's row begins where those of its block begin.
+const BLOCK: usize = 64;
+
 /// For each product a list of prices that never rises: the one at place k, from 0, is the price in whole dollars up to
 /// which block k is wanted.
 ///
 /// Contracts see the list of these lists, and nothing of how it is kept: a bidder has limits for few of the products, and
-/// so all prices stand in one list, product by product, with the place beside it where those for each product end.
+/// only for those a row is kept. The rows stand by rising product, and a place beside them for each 64 products tells where
+/// their rows begin.
 #[derive(Drop)]
 pub struct LimitLists {
-    ends: Vec<u32>,
-    prices: Vec<u64>,
+    rows: LimitRows,
+    starts: Vec<u32>,
 }
 
 impl Model for LimitLists {
-    ghost use Rattle.std.specs.Prelude.{List, ℕ, length};
+    ghost use Rattle.std.specs.Prelude.{List, ℕ};
     ghost use Rattle.clock_replays.specs.EndedRows.{rows_from};
-    ghost use Rattle.clock_replays.specs.inside.EndedRows.{AreEnds};
+    ghost use Rattle.clock_replays.specs.KeptLimits.{limits_of};
+    ghost use Rattle.clock_replays.specs.inside.KeptLimits.{AreKept, AreStarts};
 
     ghost Value = { List (List ℕ) };
 
-    ghost view = { λ a. rows_from 0 a.ends.items a.prices.items };
+    ghost view = { λ a. limits_of a.rows.count a.rows.products.items (rows_from 0 a.rows.ends.items a.rows.prices.items) };
 
-    ghost invariant = { λ a. AreEnds 0 a.ends.items (length a.prices.items) };
+    ghost invariant = { λ a. AreKept a.rows × AreStarts a.rows.count a.rows.products.items a.starts.items };
 }
 
 /// Where the row of a place begins: where the one before it ends.
@@ -67,24 +74,43 @@ fn row_at<'a>(ends: &[u32], numbers: &'a [u64], place: usize) -> &'a [u64]
     &numbers[start..end]
 }
 
-/// Where a row of so many numbers and those before it ends. One that would end past 2^32 numbers has no room.
-fn end_of(count: usize) -> Result<u32, NoMemory>
-    ensures { IfOk result (λ end. end ≡ count) }
+/// The first of some products, by their places from one on, that is not below a product, or how many there are.
+#[inline(always)]
+fn first_from(products: &[u32], from: usize, product: usize) -> usize
+    requires { IsStart products.now product from }
+    ensures start { IsStart products.now product result }
+    ensures first { result < length products.now → product ≤ slice_index products.now result }
 {
-    match u32::try_from(count) {
-        Ok(end) => Ok(end),
-        Err(_) => Err(NoMemory),
+    for place in from..products.len() {
+        if products[place] as usize >= product {
+            return place;
+        }
     }
+    products.len()
 }
 
-/// The limits that stand in a list, in memory that just holds them.
-fn limits_in(alloc: Global, ends: &[u32], prices: &[u64]) -> Result<LimitLists, NoMemory>
-    requires { AreEnds 0 ends.now (length prices.now) }
-    ensures { IfOk result (λ limits. limits ≡ rows_from 0 ends.now prices.now) }
+/// For each block of so many products the place where the rows of its products begin.
+fn starts_of(alloc: Global, products: &[u32], count: u32) -> Result<Vec<u32>, NoMemory>
+    ensures { IfOk result (λ starts. AreStarts count products.now starts.items) }
 {
-    let ends = Vec::from_slice(alloc, ends)?;
-    let prices = Vec::from_slice(alloc, prices)?;
-    Ok(LimitLists { ends, prices })
+    let blocks = count as usize / BLOCK + 1;
+    let mut starts = Vec::with_capacity(alloc, blocks)?;
+    let mut start = 0;
+    for block in 0..blocks {
+        start = first_from(products, start, block * BLOCK);
+        starts.push(short_of(start)?)?;
+    }
+    Ok(starts)
+}
+
+/// The limits that stand in rows.
+fn limits_in(alloc: Global, rows: &LimitRows) -> Result<LimitLists, NoMemory>
+    requires { AreKept rows.now }
+    ensures { IfOk result (λ limits. limits ≡ kept_limits rows.now) }
+{
+    let rows = rows.copy(alloc)?;
+    let starts = starts_of(alloc, rows.products.as_slice(), rows.count)?;
+    Ok(LimitLists { rows, starts })
 }
 
 impl LimitLists {
@@ -92,21 +118,18 @@ impl LimitLists {
     pub fn from_lists(alloc: Global, lists: &[Amounts]) -> Result<LimitLists, NoMemory>
         ensures { IfOk result (λ limits. limits ≡ lists.now) }
     {
-        let mut ends = Vec::with_capacity(alloc, lists.len())?;
-        let mut prices = Vec::new(alloc);
+        let mut rows = LimitRows::new(alloc);
         for list in lists {
-            prices.extend_from_slice(list.as_slice())?;
-            let end = end_of(prices.as_slice().len())?;
-            ends.push(end)?;
+            rows.push(list.as_slice())?;
         }
-        Ok(LimitLists { ends, prices })
+        limits_in(alloc, &rows)
     }
 
     /// How many lists there are.
     pub fn count(&self) -> usize
         ensures { result ≡ length self.now }
     {
-        self.ends.as_slice().len()
+        self.rows.count as usize
     }
 
     /// The limits for a product.
@@ -114,20 +137,16 @@ impl LimitLists {
         requires { product < length self.now }
         ensures { result.now ≡ row_of self.now product }
     {
-        row_at(self.ends.as_slice(), self.prices.as_slice(), product)
+        let rows = &self.rows;
+        let products = rows.products.as_slice();
+        let starts = self.starts.as_slice();
+        let start = starts[product / BLOCK] as usize;
+        let place = first_from(products, start, product);
+        if place == products.len() || products[place] as usize != product {
+            return &[];
+        }
+        row_at(rows.ends.as_slice(), rows.prices.as_slice(), place)
     }
-}
-
-/// Adds the end of so many rows that all end there. More than can be counted have no room.
-#[inline(always)]
-fn push_ends(ends: &mut Vec<u32>, end: u32, count: usize) -> Result<(), ScanStop>
-    ensures { OnOk result (ends.new.items ≡ ends.old.items ++ replicate count end) }
-{
-    let Some(after) = ends.as_slice().len().checked_add(count) else {
-        return Err(ScanStop::NoMemory);
-    };
-    ends.resize(after, end)?;
-    Ok(())
 }
 
 /// The limits that are next. Most are empty, and so all those are passed at once that follow a list.
@@ -138,14 +157,14 @@ pub(crate) fn limit_lists(alloc: Global, scan: &mut Scan<'_>) -> Result<LimitLis
     if !scan.opens_array() {
         return Err(ScanStop::Unusual);
     }
-    let mut ends = Vec::new(alloc);
-    let mut prices = Vec::new(alloc);
+    let mut limits = LimitRows::new(alloc);
+    let mut row = Vec::new(alloc);
     'items: while !scan.closes_array() {
-        scan.numbers_behind(&mut prices)?;
-        let end = end_of(prices.as_slice().len())?;
-        ends.push(end)?;
+        row.clear();
+        scan.numbers_behind(&mut row)?;
+        limits.push(row.as_slice())?;
         let empty = scan.empty_arrays();
-        push_ends(&mut ends, end, empty)?;
+        limits.push_empty(empty)?;
     }
-    Ok(limits_in(alloc, ends.as_slice(), prices.as_slice())?)
+    Ok(limits_in(alloc, &limits)?)
 }

@@ -10,16 +10,16 @@ use Rattle.clock_views.specs.BidderPages.{bid_value}
 use Rattle.clock_views.specs.Values.{list_of}
 use Rattle.clock_views.proofs.Texts.{bid_in_pieces}
 use Rattle.clock_sim.specs.RequestTexts.{tie_value, close_value}
-use Rattle.clock_sim.specs.inside.BidPieces.{bid_piece}
+use Rattle.clock_sim.specs.inside.BidPieces.{bid_front}
 use Rattle.clock_sim.specs.inside.RequestTexts.{increments_text}
 
 regrouped : (a b c d e : List ℕ) → a ++ (b ++ ((c ++ d) ++ e)) ≡ (a ++ (b ++ c)) ++ (d ++ e)
 regrouped a b c d e = simp append_assoc
 
--- a bid, with the piece of its price and product
-pub bid_by_piece : (bid : Bid)
-    → compact_text (bid_value bid) ≡ bid_piece bid.price bid.product ++ (decimal bid.quantity ++ codes "}")
-bid_by_piece bid =
+-- a bid, with the front of its price and product
+pub bid_by_front : (bid : Bid)
+    → compact_text (bid_value bid) ≡ bid_front bid.price bid.product ++ (decimal bid.quantity ++ codes "}")
+bid_by_front bid =
     bid_in_pieces bid
     ∙ regrouped (codes "{\"price\":" ++ decimal bid.price) (codes ",\"product\":" ++ decimal bid.product)
     (codes ",\"quantity\":") (decimal bid.quantity) (codes "}")

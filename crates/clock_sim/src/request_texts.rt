@@ -38,7 +38,7 @@ pub(crate) fn push_number(text: &mut Vec<u8>, label: &[u8], number: u64) -> Resu
 
 /// Adds the comma before an item, where it is a later one than the first.
 #[inline(always)]
-fn push_comma_if(text: &mut Vec<u8>, later: bool) -> Result<(), NoMemory>
+pub(crate) fn push_comma_if(text: &mut Vec<u8>, later: bool) -> Result<(), NoMemory>
     ensures { OnOk result (Adds (comma_if later) text.old.items text.new.items) }
 {
     if later {
@@ -68,40 +68,13 @@ fn push_numbers(text: &mut Vec<u8>, numbers: &[u64]) -> Result<(), NoMemory>
     Ok(())
 }
 
-/// Adds a quantity, which has one digit mostly, and the end of its bid.
-#[inline(always)]
-fn push_quantity(text: &mut Vec<u8>, quantity: u64) -> Result<(), NoMemory>
-    ensures { OnOk result (Adds (decimal quantity ++ codes "}") text.old.items text.new.items) }
-{
-    if quantity < 10 {
-        return push_label(text, &[b'0' + quantity as u8, b'}']);
-    }
-    push_number(text, b"", quantity)?;
-    push_label(text, b"}")
-}
-
-/// Adds a bid, behind a comma where it is not the first.
-fn push_bid(
-    text: &mut Vec<u8>,
-    pieces: &mut BidPieces,
-    later: bool,
-    bid: &Bid,
-) -> Result<(), NoMemory>
-    ensures { OnOk result (Adds (item_text later (bid_value bid.now)) text.old.items text.new.items) }
-{
-    push_comma_if(text, later)?;
-    pieces.push_to(text, bid.price, bid.product)?;
-    push_quantity(text, bid.quantity)?;
-    Ok(())
-}
-
 /// Adds an array of bids.
 fn push_bids(text: &mut Vec<u8>, pieces: &mut BidPieces, bids: &[Bid]) -> Result<(), NoMemory>
     ensures { OnOk result (Adds (compact_text (list_of bid_value bids.now)) text.old.items text.new.items) }
 {
     push_label(text, b"[")?;
     for (i, bid) in bids.iter().enumerate() {
-        push_bid(text, pieces, i > 0, bid)?;
+        pieces.push_bid(text, i > 0, bid)?;
     }
     push_label(text, b"]")?;
     Ok(())

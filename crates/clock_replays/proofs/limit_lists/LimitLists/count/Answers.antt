@@ -1,9 +1,11 @@
 use Rattle.std.proofs.Common.{List, ℕ, length, sym, ap, ◌∙◌}
-use Rattle.clock_replays.proofs.EndedRowLaws.{length-rows}
+use Rattle.std.proofs.lemmas.List.FromFn.{length-map-range_with_len}
+use Rattle.clock_replays.specs.EndedRows.{rows_from}
+use Rattle.clock_replays.specs.KeptLimits.{limits_for}
 use Rattle.clock_replays.proofs.limit_lists.LimitLists.count.Goals as goal
 
 pub returns : goal.returns
 returns c =
-    let limits = c.self.inside in
-    ap (λ (ends : List ℕ). length ends) c.as_slice.ensures.value
-    ∙ sym (length-rows 0 limits.ends.items limits.prices.items) ∙ ap (λ (list : List (List ℕ)). length list) c.self.view_is
+    let rows = c.self.inside.rows in
+    sym (length-map-range_with_len (limits_for rows.products.items (rows_from 0 rows.ends.items rows.prices.items)) 0 rows.count)
+    ∙ ap (λ (lists : List (List ℕ)). length lists) c.self.view_is

@@ -1,11 +1,10 @@
-use Rattle.std.proofs.Common.{◌≡◌, length, take}
-use Rattle.clock_replays.specs.EndedRows.{rows_from}
-use Rattle.clock_replays.specs.inside.EndedRows.{AreEnds}
+use Rattle.std.proofs.Common.{◌≡◌, take}
+use Rattle.clock_replays.specs.inside.KeptLimits.{AreKept, kept_limits}
 use Rattle.clock_replays.proofs.limit_lists.LimitLists.from_lists.Given as goal
 
--- the lists so far are the rows
+-- the lists so far are the limits
 abbrev pub invariant-loop-list : goal.invariant-loop-list
 invariant-loop-list l = record {
-  rows : rows_from 0 l.ends.items l.prices.items ≡ take l.list-index l.lists;
-  are : AreEnds 0 l.ends.items (length l.prices.items);
+  limits : kept_limits l.rows ≡ take l.list-index l.lists;
+  kept : AreKept l.rows;
 }

@@ -1,4 +1,4 @@
-use Rattle.std.proofs.Common.{◌≡◌, codes, refl, sym, subst, arith}
+use Rattle.std.proofs.Common.{codes, refl, sym, subst, arith}
 use Rattle.clock_scan.specs.Reading.{whole, numbers, Reads}
 use Rattle.clock_scan.proofs.Steps.{adds_member}
 use Rattle.clock_bodies.specs.inside.QuickBodies.{ties_data}

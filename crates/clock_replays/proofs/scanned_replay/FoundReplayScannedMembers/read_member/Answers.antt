@@ -1,4 +1,4 @@
-use Rattle.std.proofs.Common.{◌≡◌, codes, map, refl, sym, subst, arith}
+use Rattle.std.proofs.Common.{codes, map, refl, sym, subst, arith}
 use Rattle.serde_json.specs.Data.{array}
 use Rattle.clock_setup.specs.SetupData.{setup_data}
 use Rattle.clock_scan.specs.Reading.{items_of, Reads}

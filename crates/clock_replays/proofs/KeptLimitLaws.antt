@@ -1,0 +1,139 @@
+-- Laws of limits that are kept for the products that have some.
+use Rattle.std.proofs.Common.{◌≡◌, ◌≢◌, ℕ, ◌+◌, ◌<◌, ◌≤◌, ◌==◌, zero, suc, List, [], ◌∷◌, ◌++◌, length, map, get_or, replicate, if◌then◌else◌, refl, sym, ap, ap₂, subst, ◌∙◌, append_assoc, append-nil, arith}
+use Rattle.std.proofs.lemmas.Bool.{ne_eqb, eq-eqb}
+use Rattle.std.proofs.lemmas.List.FromFn.{length-map-range_with_len, get_or-map-range_with_len, map-range_with_len_more, fill_by_all}
+use Rattle.std.specs.List.{range_with_len, AllWithin}
+use Rattle.clock_replays.specs.KeptLimits.{limits_for, limits_of}
+use Rattle.clock_replays.specs.inside.KeptLimits.{AreRising}
+
+-- a product that comes first has the first row
+at_first : (limited : ℕ) (products row : List ℕ) (rows : List (List ℕ)) (product : ℕ) → limited ≡ product
+    → limits_for (limited ∷ products) (row ∷ rows) product ≡ row
+unfolding limits_for
+at_first limited products row rows product same = ap (λ test. if test then row else limits_for products rows product) (eq-eqb limited product same)
+
+-- every other product has none of it
+behind : (limited : ℕ) (products row : List ℕ) (rows : List (List ℕ)) (product : ℕ) → limited ≢ product
+    → limits_for (limited ∷ products) (row ∷ rows) product ≡ limits_for products rows product
+unfolding limits_for
+behind limited products row rows product other = ap (λ test. if test then row else limits_for products rows product) (ne_eqb limited product other)
+
+-- a product that stands behind smaller ones has the row at its place
+pub found : (products : List ℕ) (rows : List (List ℕ)) (product place : ℕ) → length products ≡ length rows
+    → AllWithin (λ other. other < product) products 0 place → place < length products → get_or products place 0 ≡ product
+    → limits_for products rows product ≡ get_or rows place []
+found [] rows product place each smaller within here = absurd (omega (arith, within))
+found (limited ∷ products) [] product place each smaller within here = absurd (omega (arith, each))
+found (limited ∷ products) (row ∷ rows) product zero each smaller within here = at_first limited products row rows product here
+found (limited ∷ products) (row ∷ rows) product (suc place) each smaller within here =
+    behind limited products row rows product (λ same. omega (arith, same, smaller 0 0 (omega arith) (omega arith)))
+    ∙ found products rows product place (omega (arith, each)) (λ k d low high. smaller (suc k) d (omega arith) (omega (arith, high)))
+    (omega (arith, within)) here
+
+-- products below the first have no row
+none_before : (from : ℕ) (products : List ℕ) (rows : List (List ℕ)) (count product : ℕ) → AreRising from products count → product < from
+    → limits_for products rows product ≡ []
+unfolding AreRising limits_for
+none_before from [] rows count product rising below = refl
+none_before from (limited ∷ products) [] count product rising below = refl
+none_before from (limited ∷ products) (row ∷ rows) count product rising below =
+    behind limited products row rows product (λ same. omega (arith, same, rising.0, below))
+    ∙ none_before (limited + 1) products rows count product rising.1 (omega (arith, rising.0, below))
+
+-- from rises to the count
+from_within : (from : ℕ) (products : List ℕ) (count : ℕ) → AreRising from products count → from ≤ count
+unfolding AreRising
+from_within from [] count rising = rising
+from_within from (limited ∷ products) count rising = omega (arith, rising.0, from_within (limited + 1) products count rising.1)
+
+-- products from the count on have no row
+none_past : (from : ℕ) (products : List ℕ) (rows : List (List ℕ)) (count product : ℕ) → AreRising from products count → count ≤ product
+    → limits_for products rows product ≡ []
+unfolding AreRising limits_for
+none_past from [] rows count product rising above = refl
+none_past from (limited ∷ products) [] count product rising above = refl
+none_past from (limited ∷ products) (row ∷ rows) count product rising above =
+    behind limited products row rows product (λ same. omega (arith, same, from_within (limited + 1) products count rising.1, above))
+    ∙ none_past (limited + 1) products rows count product rising.1 above
+
+-- a product has no row where smaller ones stand before a place, and a greater one or none stands there
+pub missing : (from : ℕ) (products : List ℕ) (rows : List (List ℕ)) (count product place : ℕ) → AreRising from products count
+    → AllWithin (λ other. other < product) products 0 place → (place < length products → product < get_or products place 0)
+    → limits_for products rows product ≡ []
+unfolding AreRising limits_for
+missing from [] rows count product place rising smaller next = refl
+missing from (limited ∷ products) [] count product place rising smaller next = refl
+missing from (limited ∷ products) (row ∷ rows) count product zero rising smaller next =
+    let above : product < limited = next (omega arith) in
+    behind limited products row rows product (λ same. omega (arith, same, above))
+    ∙ none_before (limited + 1) products rows count product rising.1 (omega (arith, above))
+missing from (limited ∷ products) (row ∷ rows) count product (suc place) rising smaller next =
+    behind limited products row rows product (λ same. omega (arith, same, smaller 0 0 (omega arith) (omega arith)))
+    ∙ missing (limited + 1) products rows count product place rising.1 (λ k d low high. smaller (suc k) d (omega arith) (omega (arith, high)))
+    (λ within. next (omega (arith, within)))
+
+-- a row more is none of another product
+others : (products : List ℕ) (rows : List (List ℕ)) (new : ℕ) (row : List ℕ) (product : ℕ) → length products ≡ length rows → new ≢ product
+    → limits_for (products ++ new ∷ []) (rows ++ row ∷ []) product ≡ limits_for products rows product
+unfolding limits_for
+others [] [] new row product each other = behind new [] row [] product other
+others [] (first ∷ rows) new row product each other = absurd (omega (arith, each))
+others (limited ∷ products) [] new row product each other = absurd (omega (arith, each))
+others (limited ∷ products) (first ∷ rows) new row product each other =
+    ap (λ rest. if limited == product then first else rest) (others products rows new row product (omega (arith, each)) other)
+
+-- it is that of its product
+own : (from : ℕ) (products : List ℕ) (rows : List (List ℕ)) (count : ℕ) (row : List ℕ) → AreRising from products count → length products ≡ length rows
+    → limits_for (products ++ count ∷ []) (rows ++ row ∷ []) count ≡ row
+unfolding AreRising
+own from [] [] count row rising each = at_first count [] row [] count refl
+own from [] (first ∷ rows) count row rising each = absurd (omega (arith, each))
+own from (limited ∷ products) [] count row rising each = absurd (omega (arith, each))
+own from (limited ∷ products) (first ∷ rows) count row rising each =
+    behind limited (products ++ count ∷ []) first (rows ++ row ∷ []) count
+    (λ same. omega (arith, same, from_within (limited + 1) products count rising.1))
+    ∙ own (limited + 1) products rows count row rising.1 (omega (arith, each))
+
+-- with a row for the next product there is a list more
+pub limits_more : (count : ℕ) (products : List ℕ) (rows : List (List ℕ)) (row : List ℕ) → AreRising 0 products count → length products ≡ length rows
+    → limits_of (count + 1) (products ++ count ∷ []) (rows ++ row ∷ []) ≡ limits_of count products rows ++ row ∷ []
+limits_more count products rows row rising each =
+    let old = limits_for products rows in
+    let new = limits_for (products ++ count ∷ []) (rows ++ row ∷ []) in
+    let same : map new (range_with_len 0 count) ≡ map old (range_with_len 0 count) =
+    fill_by_all old (map new (range_with_len 0 count)) count [] (length-map-range_with_len new 0 count)
+    (λ k below. get_or-map-range_with_len new 0 count k k [] below (omega arith)
+    ∙ others products rows count row k each (λ at. omega (arith, at, below))) in
+    map-range_with_len_more new 0 count count (omega arith)
+    ∙ ap₂ (λ lists last. lists ++ last ∷ []) same (own 0 products rows count row rising each)
+
+-- products without a row have no limits
+pub rising_more : (from : ℕ) (products : List ℕ) (count more : ℕ) → AreRising from products count → count ≤ more → AreRising from products more
+unfolding AreRising
+rising_more from [] count more rising above = omega (arith, rising, above)
+rising_more from (limited ∷ products) count more rising above = (rising.0, rising_more (limited + 1) products count more rising.1 above)
+
+pub rising_push : (from : ℕ) (products : List ℕ) (count : ℕ) → AreRising from products count → AreRising from (products ++ count ∷ []) (count + 1)
+unfolding AreRising
+rising_push from [] count rising = (rising, omega arith)
+rising_push from (limited ∷ products) count rising = (rising.0, rising_push (limited + 1) products count rising.1)
+
+pub limits_empty : (more count : ℕ) (products : List ℕ) (rows : List (List ℕ)) → AreRising 0 products count
+    → limits_of (count + more) products rows ≡ limits_of count products rows ++ replicate more []
+limits_empty zero count products rows rising =
+    let same : count + 0 ≡ count = omega arith in
+    ap (λ n. limits_of n products rows) same ∙ sym (append-nil (limits_of count products rows))
+limits_empty (suc more) count products rows rising =
+    let old = limits_for products rows in
+    let on : count + suc more ≡ (count + 1) + more = omega arith in
+    ap (λ n. limits_of n products rows) on
+    ∙ limits_empty more (count + 1) products rows (rising_more 0 products count (count + 1) rising (omega arith))
+    ∙ ap (λ lists. lists ++ replicate more [])
+    (map-range_with_len_more old 0 count count (omega arith)
+    ∙ ap (λ last. limits_of count products rows ++ last ∷ []) (none_past 0 products rows count count rising (omega arith)))
+    ∙ append_assoc (limits_of count products rows) ([] ∷ []) (replicate more [])
+
+-- no products rise
+pub rising_none : (products : List ℕ) → products ≡ [] → AreRising 0 products 0
+unfolding AreRising
+rising_none products none = subst (λ (list : List ℕ). AreRising 0 list 0) (sym none) (omega arith)

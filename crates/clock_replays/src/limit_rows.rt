@@ -1,0 +1,102 @@
+//! Limits while they are read, one product after the other: rows of prices, for the products that have some.
+ghost use Rattle.std.specs.Prelude.{◌≡◌, ◌+◌, [], ◌++◌, ◌∷◌, replicate, IfOk, OnOk};
+ghost use Rattle.clock_replays.specs.inside.KeptLimits.{AreKept, kept_limits};
+
+use clock_device::NoMemory;
+use std::alloc::Global;
+
+/// The limits for so many products. Most have none: those of the others stand as rows in one list, by rising product, each
+/// with its product and with the place where it ends beside it.
+#[derive(Drop)]
+pub(crate) struct LimitRows {
+    pub(crate) count: u32,
+    pub(crate) products: Vec<u32>,
+    pub(crate) ends: Vec<u32>,
+    pub(crate) prices: Vec<u64>,
+}
+
+/// A count or a place in a list, in four bytes. One of 2^32 or above has no room.
+pub(crate) fn short_of(number: usize) -> Result<u32, NoMemory>
+    ensures { IfOk result (λ short. short ≡ number) }
+{
+    match u32::try_from(number) {
+        Ok(short) => Ok(short),
+        Err(_) => Err(NoMemory),
+    }
+}
+
+/// A count and so many more.
+fn count_with(count: u32, more: usize) -> Result<u32, NoMemory>
+    ensures { IfOk result (λ after. after ≡ count + more) }
+{
+    match (count as usize).checked_add(more) {
+        Some(after) => short_of(after),
+        None => Err(NoMemory),
+    }
+}
+
+impl LimitRows {
+    /// Those for no product.
+    pub(crate) fn new(alloc: Global) -> LimitRows
+        ensures none { kept_limits result ≡ [] }
+        ensures kept { AreKept result }
+    {
+        LimitRows {
+            count: 0,
+            products: Vec::new(alloc),
+            ends: Vec::new(alloc),
+            prices: Vec::new(alloc),
+        }
+    }
+
+    /// Equal ones, in memory that just holds them.
+    pub(crate) fn copy(&self, alloc: Global) -> Result<LimitRows, NoMemory>
+        requires { AreKept self.now }
+        ensures same { IfOk result (λ copy. kept_limits copy ≡ kept_limits self.now) }
+        ensures kept { IfOk result AreKept }
+    {
+        Ok(LimitRows {
+            count: self.count,
+            products: Vec::from_slice(alloc, self.products.as_slice())?,
+            ends: Vec::from_slice(alloc, self.ends.as_slice())?,
+            prices: Vec::from_slice(alloc, self.prices.as_slice())?,
+        })
+    }
+
+    /// Adds the row of the next product.
+    fn push_row(&mut self, limits: &[u64]) -> Result<(), NoMemory>
+        requires { AreKept self.old }
+        ensures limits { OnOk result (kept_limits self.new ≡ kept_limits self.old ++ limits.now ∷ []) }
+        ensures kept { OnOk result (AreKept self.new) }
+    {
+        let after = count_with(self.count, 1)?;
+        self.prices.extend_from_slice(limits)?;
+        let end = short_of(self.prices.as_slice().len())?;
+        self.ends.push(end)?;
+        self.products.push(self.count)?;
+        self.count = after;
+        Ok(())
+    }
+
+    /// Adds that the next products, so many, have no limits.
+    pub(crate) fn push_empty(&mut self, count: usize) -> Result<(), NoMemory>
+        requires { AreKept self.old }
+        ensures limits { OnOk result (kept_limits self.new ≡ kept_limits self.old ++ replicate count []) }
+        ensures kept { OnOk result (AreKept self.new) }
+    {
+        self.count = count_with(self.count, count)?;
+        Ok(())
+    }
+
+    /// Adds the limits for the next product.
+    pub(crate) fn push(&mut self, limits: &[u64]) -> Result<(), NoMemory>
+        requires { AreKept self.old }
+        ensures limits { OnOk result (kept_limits self.new ≡ kept_limits self.old ++ limits.now ∷ []) }
+        ensures kept { OnOk result (AreKept self.new) }
+    {
+        if limits.is_empty() {
+            return self.push_empty(1);
+        }
+        self.push_row(limits)
+    }
+}
