@@ -129,7 +129,8 @@ fn push_whole(text: &mut Vec<u8>, later: bool, bid: &Bid) -> Result<(), NoMemory
     push_comma_if(text, later)?;
     push_front(text, bid.price, bid.product)?;
     push_number(text, b"", bid.quantity)?;
-    push_label(text, b"}")
+    push_label(text, b"}")?;
+    Ok(())
 }
 
 /// What begins with a comma, without it where it is to be the first of its array.
@@ -143,12 +144,7 @@ fn as_item(piece: &[u8], later: bool) -> &[u8]
 
 /// Adds a bid by the piece of its price and its product, whose one block stands in one digit: so does the quantity mostly.
 #[inline(always)]
-fn push_by_piece(
-    text: &mut Vec<u8>,
-    piece: &[u8],
-    later: bool,
-    bid: &Bid,
-) -> Result<(), NoMemory>
+fn push_by_piece(text: &mut Vec<u8>, piece: &[u8], later: bool, bid: &Bid) -> Result<(), NoMemory>
     requires { piece.now ≡ bid_piece bid.now.price bid.now.product }
     ensures { OnOk result (Adds (item_text later (bid_value bid.now)) text.old.items text.new.items) }
 {
@@ -156,7 +152,7 @@ fn push_by_piece(
         return push_whole(text, later, bid);
     }
     push_label(text, as_item(piece, later))?;
-    let digit = text.len() - 2;
+    let digit = text.as_slice().len() - 2;
     text[digit] = b'0' + bid.quantity as u8;
     Ok(())
 }

@@ -6,4 +6,4 @@ pub returns : goal.returns
 returns c =
     before c.in_ok-push_comma_if.ensures
     (together (bid_by_front c.args.bid.now)
-    (before c.in_ok-push_front.ensures (before c.in_ok-push_number.ensures c.push_label.ensures)))
+    (before c.in_ok-push_front.ensures (before c.in_ok-push_number.ensures c.in_ok-push_label.ensures)))
