@@ -1,11 +1,12 @@
 -- One step of each scan.
-use Rattle.std.proofs.Common.{◌≡◌, ℕ, ◌+◌, ◌-◌, ◌<◌, ◌≤◌, suc, zero, Bool, true, false, cond, List, [], ◌∷◌, ◌++◌, length, get_or, take}
+use Rattle.std.proofs.Common.{◌≡◌, ℕ, ◌+◌, ◌-◌, ◌<◌, ◌≤◌, ◌≢◌, ◌&&◌, ◌==◌, suc, zero, Bool, true, false, cond, List, [], ◌∷◌, ◌++◌, length, get_or, take}
 use Rattle.std.proofs.Common.{drop, length-drop, Option, Some, None, refl, sym, ◌∙◌, ap, arith, add-one}
 use Rattle.std.specs.Prelude.{option_map, nat_eq}
 use Rattle.std.specs.List.{starts_with}
 use Rattle.std.proofs.Math.Seq.{drop-cons}
 use Rattle.std.specs.Cmp.Lexicographic.{pointwise}
-use Rattle.std.proofs.lemmas.List.{take_all, take-append-le}
+use Rattle.std.proofs.lemmas.Bool.{ne_eqb, eq-eqb}
+use Rattle.std.proofs.lemmas.List.{take_all, take-append-le, get_or-drop, drop_all}
 use Rattle.clock_http.specs.Scans.{head_length}
 use Rattle.clock_http.specs.inside.HeadTests.{empty_line}
 
@@ -38,9 +39,46 @@ stops text i lt holds =
     ap (λ t. option_map (λ k. i + k) (head_length t)) split
     ∙ ap (λ t. option_map (λ k. i + k) (cond t (Some 4) (option_map (λ k. suc k) (head_length rest)))) test
 
+-- no empty line begins with another byte than a CR
+other_byte : (text : List ℕ) (i : ℕ) → i < length text → get_or text i 0 ≢ 13 → starts_with nat_eq (drop i text) empty_line ≡ false
+other_byte text i lt other =
+    let split : drop i text ≡ get_or text i 0 ∷ drop (i + 1) text = drop-cons text i 0 lt ∙ ap (λ n. get_or text i 0 ∷ drop n text) (sym (add-one i)) in
+    ap (λ t. starts_with nat_eq t empty_line) split
+    ∙ ap (λ t. t && pointwise nat_eq (10 ∷ 13 ∷ 10 ∷ []) (take 3 (drop (i + 1) text))) (ne_eqb 13 (get_or text i 0) (λ same. other (sym same)))
+
+-- none begins up to the next CR
+pub passed : (text : List ℕ) (from count : ℕ) → from + count ≤ length text
+    → ((k : ℕ) → from ≤ k → k < from + count → get_or text k 0 ≢ 13)
+    → option_map (λ k. from + k) (head_length (drop from text)) ≡ option_map (λ k. (from + count) + k) (head_length (drop (from + count) text))
+passed text from zero within others =
+    let same : from ≡ from + 0 = omega arith in
+    ap (λ (n : ℕ). option_map (λ k. n + k) (head_length (drop n text))) same
+passed text from (suc count) within others =
+    let same : (from + 1) + count ≡ from + suc count = omega arith in
+    goes_on text from (omega (arith, within)) (other_byte text from (omega (arith, within)) (others from (omega arith) (omega arith)))
+    ∙ passed text (from + 1) count (omega (arith, within)) (λ k low high. others k (omega (arith, low)) (omega (arith, high)))
+    ∙ ap (λ (n : ℕ). option_map (λ k. n + k) (head_length (drop n text))) same
+
 -- the slice from i on
 pub tail : (text : List ℕ) (i : ℕ) → take (length text - i) (drop i text) ≡ drop i text
 tail text i = take_all (length text - i) (drop i text) (omega (arith, length-drop i text))
+
+-- none begins before the byte that a search for a CR finds
+pub searched : (text : List ℕ) (from ahead : ℕ) → from + ahead ≤ length text
+    → ((k : ℕ) → k < ahead → (get_or (take (length text - from) (drop from text)) k 0 == 13) ≡ true → ⊥)
+    → option_map (λ k. from + k) (head_length (drop from text)) ≡ option_map (λ k. (from + ahead) + k) (head_length (drop (from + ahead) text))
+searched text from ahead within none =
+    passed text from ahead within
+    (λ k low high same.
+    let place : from + (k - from) ≡ k = omega (arith, low) in
+    let at : get_or (take (length text - from) (drop from text)) (k - from) 0 ≡ get_or text k 0 =
+    ap (λ t. get_or t (k - from) 0) (tail text from) ∙ get_or-drop from text (k - from) 0 ∙ ap (λ n. get_or text n 0) place in
+    none (k - from) (omega (arith, low, high)) (eq-eqb (get_or (take (length text - from) (drop from text)) (k - from) 0) 13 (at ∙ same)))
+
+-- none begins at the end
+pub at_end : (text : List ℕ) (place : ℕ) → place ≡ length text → option_map (λ k. place + k) (head_length (drop place text)) ≡ None
+at_end text place end =
+    ap (λ t. option_map (λ k. place + k) (head_length t)) (drop_all place text (omega (arith, end)))
 
 -- no empty line begins before the last three of bytes in which none ends
 pub skipped : (k : ℕ) (front more : List ℕ) → head_length front ≡ None → k ≤ length front - 3

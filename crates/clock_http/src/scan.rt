@@ -7,15 +7,22 @@
 ghost use Rattle.std.specs.Prelude.{◌≡◌, ◌+◌, ◌≤◌, None, take, drop, length, option_map};
 ghost use Rattle.clock_http.specs.Scans.{head_length as length_of_head, line_ends as count_of_line_ends, is_loose as is_loose_text};
 
-/// How many bytes there are up to and with the first empty line, where none begins before a place.
+use memchr::memchr;
+
+/// How many bytes there are up to and with the first empty line, where none begins before a place. It is looked for at each CR,
+/// since each begins with one.
 pub(crate) fn head_length(text: &[u8], start: usize) -> Option<usize>
-    requires { length_of_head text.now ≡ option_map (λ n. start + n) (length_of_head (drop start text.now)) }
+    requires within { start ≤ length text.now }
+    requires none { length_of_head text.now ≡ option_map (λ n. start + n) (length_of_head (drop start text.now)) }
     ensures { result ≡ length_of_head text.now }
 {
-    for i in start..text.len() {
+    let mut from = start;
+    'returns: while let Some(ahead) = memchr(b'\r', &text[from..]) {
+        let i = from + ahead;
         if text[i..].starts_with(b"\r\n\r\n") {
             return Some(i + 4);
         }
+        from = i + 1;
     }
     None
 }

@@ -2,8 +2,8 @@ use Rattle.std.proofs.Common.{sym, ◌∙◌, arith}
 use Rattle.clock_http.proofs.ProgressLaws.{scan_from, known_unended, known_long, known_refused, known_headed, all_taken}
 use Rattle.clock_http.proofs.progress.read_on.Goals as goal
 
-pub head_length-requires : goal.head_length-requires
-head_length-requires c =
+pub head_length-requires-clause-none : goal.head_length-requires-clause-none
+head_length-requires-clause-none c =
     scan_from c.args.text.now c.min-limit.result c.args.looked_at _ c.min-limit.ensures c.requires.within c.requires.short c.requires.unended (omega arith)
 
 pub returns-then-text-lt-HEAD_LIMIT : goal.returns-then-text-lt-HEAD_LIMIT

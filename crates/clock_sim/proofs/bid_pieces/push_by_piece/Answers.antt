@@ -1,8 +1,7 @@
-use Rattle.std.proofs.Common.{◌≡◌, ◌-◌, ◌+◌, ◌≤◌, ◌<◌, ℕ, List, [], ◌∷◌, ◌++◌, length, codes, refl, sym, ap, ◌∙◌, append_assoc, arith, set}
+use Rattle.std.proofs.Common.{◌≡◌, ◌-◌, ◌+◌, ◌≤◌, ℕ, List, ◌∷◌, ◌++◌, length, codes, refl, sym, ap, ◌∙◌, append_assoc, arith, set}
 use Rattle.std.proofs.lemmas.Fmt.{decimal_digit}
 use Rattle.std.proofs.lemmas.List.{length-append, set_at}
-use Rattle.serde_json.specs.Written.{comma_if, compact_text}
-use Rattle.clock_views.specs.BidderPages.{bid_value}
+use Rattle.serde_json.specs.Written.{comma_if}
 use Rattle.clock_sim.specs.inside.BidPieces.{bid_front}
 use Rattle.clock_sim.proofs.TextPieces.{bid_by_front}
 use Rattle.clock_sim.proofs.bid_pieces.push_by_piece.Goals as goal
