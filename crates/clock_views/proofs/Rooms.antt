@@ -14,7 +14,7 @@ use Rattle.clock_views.specs.Values.{whole, whole_or_null, list_of, items_of}
 use Rattle.clock_views.specs.Rooms.{most_text, most_items}
 use Rattle.clock_views.specs.PageRooms.{room_of_status, room_of_account, room_around_bids, room_of_accepted, room_of_slip, room_of_closed}
 use Rattle.clock_views.specs.PageRooms.{room_around_results, room_of_sheet}
-use Rattle.clock_views.specs.inside.Rooms.{room_of_item, room_of_bid, room_of_bids, room_of_line, room_of_result}
+use Rattle.clock_views.specs.inside.Rooms.{room_of_item, room_of_bid, room_of_array, room_of_line, room_of_result}
 use Rattle.clock_views.specs.PublicPages.{status_value, line_value, sheet_value}
 use Rattle.clock_views.specs.BidderPages.{account_value, bid_value, bids_value, sheet_or_null, accepted_value, slip_value}
 use Rattle.clock_views.specs.OperatorPages.{closed_value, result_value, result_in, results_value}
@@ -78,7 +78,7 @@ pub bids_page_most : (round : ℕ) (sheet : Option (List Bid)) → most_text (bi
 unfolding bids_value
 bids_page_most round sheet = omega arith
 
-pub some_bids_most : (bids : List Bid) → most_text (sheet_or_null (Some bids)) ≡ room_of_bids (length bids)
+pub some_bids_most : (bids : List Bid) → most_text (sheet_or_null (Some bids)) ≡ room_of_array room_of_bid (length bids)
 some_bids_most bids = omega (arith, bids_most bids)
 
 pub accepted_most : (round count : ℕ) → most_text (accepted_value round count) ≡ room_of_accepted

@@ -10,7 +10,7 @@ ghost use Rattle.clock_views.specs.BidderPages.{accepted_bytes, slip_value};
 ghost use Rattle.clock_views.specs.PageRooms.{room_of_account, room_around_bids, room_of_accepted, room_of_slip};
 ghost use Rattle.clock_views.specs.Rooms.{most_text};
 ghost use Rattle.clock_views.specs.Values.{list_of, IsPage, Adds};
-ghost use Rattle.clock_views.specs.inside.Rooms.{room_of_bid, room_of_bids};
+ghost use Rattle.clock_views.specs.inside.Rooms.{room_of_bid, room_of_array};
 ghost use Rattle.clock_views.specs.inside.Values.{item_text};
 
 use crate::pieces::{
@@ -154,9 +154,9 @@ fn push_sheet_or_null(text: &mut Bounded<u8>, sheet: Option<&Sheet>)
 
 /// Adds the array of some bids.
 fn push_bids(text: &mut Bounded<u8>, bids: &[Bid])
-    requires { room_of_bids (length bids.now) ≤ text.old.room }
+    requires { room_of_array room_of_bid (length bids.now) ≤ text.old.room }
     ensures adds { Adds (compact_text (list_of bid_value bids.now)) text.old.items text.new.items }
-    ensures room { text.old.room ≤ text.new.room + room_of_bids (length bids.now) }
+    ensures room { text.old.room ≤ text.new.room + room_of_array room_of_bid (length bids.now) }
 {
     text.push(b'[');
     for (i, bid) in bids.iter().enumerate() {

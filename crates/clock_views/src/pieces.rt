@@ -7,7 +7,7 @@ ghost use Rattle.clock_terms.specs.Limits.{IsName};
 ghost use Rattle.clock_closing.specs.Blocks.{numbers_in, zeros_in as zeros_of};
 ghost use Rattle.clock_views.specs.Values.{whole, whole_or_null, list_of, number_if, true_or_false, Adds};
 ghost use Rattle.clock_views.specs.inside.Rooms.{room_of_number, room_of_name, room_of_truth, room_of_item};
-ghost use Rattle.clock_views.specs.inside.Rooms.{room_of_numbers};
+ghost use Rattle.clock_views.specs.inside.Rooms.{room_of_array};
 ghost use Rattle.clock_views.specs.inside.Values.{AddsNumbers, item_text};
 
 use clock_device::Bounded;
@@ -109,9 +109,9 @@ fn push_item(text: &mut Bounded<u8>, later: bool, number: u64)
 
 /// Adds a label and the array of demands behind it.
 pub(crate) fn push_row(text: &mut Bounded<u8>, label: &[u8], row: &Row)
-    requires { length label.now + room_of_numbers (length row.now) ≤ text.old.room }
+    requires { length label.now + room_of_array room_of_item (length row.now) ≤ text.old.room }
     ensures adds { Adds (label.now ++ compact_text (list_of whole row.now)) text.old.items text.new.items }
-    ensures room { text.old.room ≤ text.new.room + (length label.now + room_of_numbers (length row.now)) }
+    ensures room { text.old.room ≤ text.new.room + (length label.now + room_of_array room_of_item (length row.now)) }
 {
     text.extend_from_slice(label);
     text.push(b'[');
@@ -137,9 +137,9 @@ fn push_cell(text: &mut Bounded<u8>, later: bool, cell: u16)
 
 /// Adds a label and the array of numbers of blocks behind it.
 pub(crate) fn push_blocks(text: &mut Bounded<u8>, label: &[u8], blocks: &Blocks)
-    requires { length label.now + room_of_numbers (length blocks.now) ≤ text.old.room }
+    requires { length label.now + room_of_array room_of_item (length blocks.now) ≤ text.old.room }
     ensures adds { Adds (label.now ++ compact_text (list_of whole blocks.now)) text.old.items text.new.items }
-    ensures room { text.old.room ≤ text.new.room + (length label.now + room_of_numbers (length blocks.now)) }
+    ensures room { text.old.room ≤ text.new.room + (length label.now + room_of_array room_of_item (length blocks.now)) }
 {
     let cells = blocks.cells();
     text.extend_from_slice(label);

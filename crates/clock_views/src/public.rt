@@ -6,8 +6,8 @@ ghost use Rattle.clock_terms.specs.Limits.{IsProduct, PublicSetup, public_setup}
 ghost use Rattle.clock_views.specs.PublicPages.{status_value, status_bytes, line_value, sheet_value};
 ghost use Rattle.clock_views.specs.PublicPages.{products_value, product_value, from_version_2 as number_from_version_2};
 ghost use Rattle.clock_views.specs.inside.PublicPages.{limit_text};
-ghost use Rattle.clock_views.specs.inside.Rooms.{room_of_product, room_of_products, room_of_limit, room_of_offer};
-ghost use Rattle.clock_views.specs.inside.Rooms.{room_of_line, room_of_lines};
+ghost use Rattle.clock_views.specs.inside.Rooms.{room_of_product, room_of_array, room_of_limit, room_of_offer};
+ghost use Rattle.clock_views.specs.inside.Rooms.{room_of_line};
 ghost use Rattle.clock_views.specs.PageRooms.{room_of_status, room_of_sheet};
 ghost use Rattle.clock_views.specs.Rooms.{most_text};
 ghost use Rattle.clock_views.specs.Values.{list_of, IsPage, Adds};
@@ -134,9 +134,9 @@ fn push_limit(text: &mut Bounded<u8>, limit: Option<u64>)
 /// Adds the array of some products.
 fn push_products(text: &mut Bounded<u8>, version: u64, products: &[Product])
     requires limits { All IsProduct products.now }
-    requires room { room_of_products (length products.now) ≤ text.old.room }
+    requires room { room_of_array room_of_product (length products.now) ≤ text.old.room }
     ensures adds { Adds (compact_text (list_of (product_value version) products.now)) text.old.items text.new.items }
-    ensures room { text.old.room ≤ text.new.room + room_of_products (length products.now) }
+    ensures room { text.old.room ≤ text.new.room + room_of_array room_of_product (length products.now) }
 {
     text.push(b'[');
     for (i, product) in products.iter().enumerate() {
@@ -206,10 +206,10 @@ pub fn push_sheet_page(text: &mut Bounded<u8>, setup: &Setup, sheet: &RoundSheet
 fn push_lines(text: &mut Bounded<u8>, products: &[Product], lines: &[Line])
     requires limits { All IsProduct products.now }
     requires each { length lines.now ≡ length products.now }
-    requires room { room_of_lines (length lines.now) ≤ text.old.room }
+    requires room { room_of_array room_of_line (length lines.now) ≤ text.old.room }
     ensures adds { Adds (compact_text (list_of (λ row. line_value row.0 row.1) (zip products.now lines.now)))
         text.old.items text.new.items }
-    ensures room { text.old.room ≤ text.new.room + room_of_lines (length lines.now) }
+    ensures room { text.old.room ≤ text.new.room + room_of_array room_of_line (length lines.now) }
 {
     text.push(b'[');
     for (i, line) in lines.iter().enumerate() {

@@ -1,7 +1,7 @@
 -- How many bytes the pieces of pages are given.
 --     room_of_number, room_of_name, room_of_truth      of a value by itself
 --     room_of_item, room_of_bid, room_of_product, room_of_line, room_of_result demands      of an item, with the comma before it
---     room_of_numbers, room_of_bids, room_of_products, room_of_lines count      of an array of so many items
+--     room_of_array item count      of an array of so many items
 --     room_of_limit, room_of_offer products      of the page of products: of its limit, and of all
 use Rattle.std.specs.Prelude.{ℕ, ◌+◌, ◌*◌}
 
@@ -21,23 +21,17 @@ room_of_truth = 5
 abbrev pub room_of_item : ℕ
 room_of_item = 21
 
--- two brackets, and the items
-abbrev pub room_of_numbers : ℕ → ℕ
-room_of_numbers count = 2 + room_of_item * count
+-- two brackets, and the items, each with the comma before it
+abbrev pub room_of_array : ℕ → ℕ → ℕ
+room_of_array item count = 2 + item * count
 
 -- three numbers with their keys, in braces, and the comma before them
 abbrev pub room_of_bid : ℕ
 room_of_bid = 95
 
-abbrev pub room_of_bids : ℕ → ℕ
-room_of_bids count = 2 + room_of_bid * count
-
 -- five numbers and a name with their keys, in braces, and the comma before them
 abbrev pub room_of_product : ℕ
 room_of_product = 193
-
-abbrev pub room_of_products : ℕ → ℕ
-room_of_products count = 2 + room_of_product * count
 
 -- a number with its key, and the comma behind it
 abbrev pub room_of_limit : ℕ
@@ -50,9 +44,6 @@ room_of_offer products = 111 + room_of_product * products
 -- five numbers and a name with their keys, in braces, and the comma before them
 abbrev pub room_of_line : ℕ
 room_of_line = 191
-
-abbrev pub room_of_lines : ℕ → ℕ
-room_of_lines count = 2 + room_of_line * count
 
 -- a number, a name and the array of demands with their keys, in braces, and the comma before them
 abbrev pub room_of_result : ℕ → ℕ
