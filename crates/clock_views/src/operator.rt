@@ -91,8 +91,8 @@ pub fn results_room<P>(house: &House<P>) -> u128
 
 /// Adds the same page to a text that has room for it.
 pub fn push_results_page<P>(text: &mut Bounded<u8>, house: &House<P>)
-    requires { room_around_results + most_text (list_of (result_in house.now) (range_with_len 0 (length house.now.setup.bidders)))
-        ≤ text.old.room }
+    requires { room_around_results + most_text (list_of (result_in house.now)
+        (range_with_len 0 (length house.now.setup.bidders))) ≤ text.old.room }
     ensures { Adds (compact_text (results_value house.now)) text.old.items text.new.items }
 {
     push_label(text, b"{\"bidders\":");
