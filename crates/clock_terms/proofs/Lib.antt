@@ -3,6 +3,7 @@ pub mod IncrementLaws
 pub mod FaultLaws
 pub mod DemandLaws
 mod Zeros
-mod Walks
+mod HeldLaws
+mod StartLaws
 pub mod ActivityLaws
 pub mod Examples

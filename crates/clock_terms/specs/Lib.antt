@@ -3,6 +3,7 @@ pub mod Demands
 pub mod Prices
 pub mod Increments
 pub mod Held
+pub mod HeldDemands
 pub mod Eligibility
 pub mod Faults
 pub mod Requests

@@ -1,52 +1,50 @@
 ghost use Rattle.std.specs.Prelude.{◌≡◌, ◌+◌, ◌≤◌, ◌<◌, length, slice_index, unwrap_or, IfSome};
 ghost use Rattle.std.specs.List.{AllWithin};
+ghost use Rattle.clock_terms.specs.HeldDemands.{demands_of, next_of};
+ghost use Rattle.clock_terms.specs.inside.Rows.{IsKeptWalk};
 
-use crate::row::Row;
+use crate::row::HeldDemand;
 use std::marker::Model;
 
 /// The products of which a row holds a block, by rising number. Contracts see the row's demands and the place from
 /// which on it has not looked.
-///
-/// It takes the lowest mark of a word of 64 at each step, and passes a word that has none left at once.
 #[derive(Drop)]
 pub struct HeldProducts<'a> {
-    row: &'a Row,
-    word: usize,
-    left: u64,
+    count: usize,
+    held: &'a [HeldDemand],
+    given: usize,
 }
 
 impl<'a> Model for HeldProducts<'a> {
-    ghost use Rattle.std.specs.Prelude.{◌+◌, ◌*◌, min, length};
-    ghost use Rattle.std.specs.Int.{trailing_zeros, w64};
+    ghost use Rattle.std.specs.Prelude.{drop};
     ghost use Rattle.clock_terms.specs.Held.{Walk};
+    ghost use Rattle.clock_terms.specs.HeldDemands.{demands_of, next_of};
     ghost use Rattle.clock_terms.specs.inside.Rows.{IsKeptWalk};
 
     ghost Value = { Walk };
 
     ghost view = { λ h. record {
-      demands = h.row.now;
-      from = min (length h.row.now) (h.word * 64 + trailing_zeros w64 h.left);
+      demands = demands_of h.count h.held.now;
+      from = next_of h.count (drop h.given h.held.now);
     } };
 
-    ghost invariant = { λ h. IsKeptWalk h.row.now h.word h.left };
+    ghost invariant = { λ h. IsKeptWalk h.count h.held.now h.given };
 }
 
-impl Row {
-    /// The products of which a block is held.
+impl<'a> HeldProducts<'a> {
+    /// A walk over demands that are held, in order, of so many products.
     #[inline(always)]
-    pub fn held(&self) -> HeldProducts<'_>
-        ensures row { result.demands ≡ self.now }
-        ensures passed { AllWithin (λ demand. demand ≡ 0) self.now 0 result.from }
+    pub(crate) fn of(count: usize, held: &'a [HeldDemand]) -> HeldProducts<'a>
+        requires { IsKeptWalk count held.now 0 }
+        ensures { result ≡ record { demands = demands_of count held.now; from = next_of count held.now } }
     {
         HeldProducts {
-            row: self,
-            word: 0,
-            left: self.marks_in(0),
+            count,
+            held,
+            given: 0,
         }
     }
-}
 
-impl HeldProducts<'_> {
     /// The least product that is held and was not yet given, or None where no further one is held.
     #[inline(always)]
     pub fn next(&mut self) -> Option<usize>
@@ -60,18 +58,12 @@ impl HeldProducts<'_> {
         ensures ahead { IfSome result (λ product.
             AllWithin (λ demand. demand ≡ 0) self.old.demands (product + 1) self.new.from) }
     {
-        let row = self.row;
-        let mut word = self.word;
-        let mut left = self.left;
-        'words: while left == 0 {
-            if row.len() < (word + 1) * 64 {
-                return None;
-            }
-            word += 1;
-            left = row.marks_in(word);
+        let held = self.held;
+        if self.given == held.len() {
+            return None;
         }
-        self.word = word;
-        self.left = left & (left - 1);
-        Some(word * 64 + left.trailing_zeros() as usize)
+        let product = held[self.given].product as usize;
+        self.given += 1;
+        Some(product)
     }
 }

@@ -1,29 +1,46 @@
--- What the types of rows and of walks over them keep: a mark for each demand that is held.
---     mark_at marks place      1 where the place has a mark, and else 0
---     AreMarked demands marks      the places of the demands that are held have marks, and no others
---     IsKeptRow demands marks      what the type of rows keeps
---     IsKeptWalk demands word left      what a walk over the held demands keeps
-use Rattle.std.specs.Prelude.{◌≡◌, ℕ, ◌+◌, ◌*◌, ◌/◌, ◌%◌, ◌≤◌, ◌<◌, min, List, length, slice_index, All}
-use Rattle.std.specs.Int.{bit_at, trailing_zeros, w64}
+-- What the types of rows and of walks over them keep: the demands that are held, by rising product, and where to look for one.
+--     AreHeld from held count      demands of some blocks, by rising product, from one on and below a count
+--     IsStart held product start      before a place stand only products below one
+--     StandsAt held product place, WouldStandAt held product place      where a product stands, and where it would
+--     AreStarts held starts      for each 64 products a place before which none of them stands
+--     IsKeptRow count held starts capacity      what the type of rows keeps
+--     IsKeptWalk count held given      what a walk keeps
+use Rattle.std.specs.Prelude.{◌≡◌, ℕ, ◌+◌, ◌*◌, ◌≤◌, ◌<◌, List, [], ◌∷◌, length, slice_index, slice_index_or}
+use Rattle.std.specs.List.{AllWithin}
+use Rattle.clock_terms.specs.declared.row.HeldDemand.{HeldDemand}
 use Rattle.clock_terms.specs.Limits.{most_products, most_supply}
 
--- the bit of the place, where each word has the bits of 64 places
-abbrev pub mark_at : List ℕ → ℕ → ℕ
-mark_at marks place = bit_at (slice_index marks (place / 64)) (place % 64)
+-- products rise, from one on, and are below a count; of each some blocks are held, and at most a thousand
+unfoldable pub AreHeld : ℕ → List HeldDemand → ℕ → Type 0
+AreHeld from [] count = from ≤ count
+AreHeld from (one ∷ held) count = (from ≤ one.product) × (0 < one.demand) × (one.demand ≤ most_supply) × AreHeld (one.product + 1) held count
 
--- a place has a mark exactly where a block is held
-abbrev pub AreMarked : List ℕ → List ℕ → Type 0
-AreMarked demands marks = (place : ℕ) → mark_at marks place ≡ min 1 (slice_index demands place)
+-- before a place stand only products below one
+abbrev pub IsStart : List HeldDemand → ℕ → ℕ → Type 0
+IsStart held product start = (start ≤ length held) × AllWithin (λ one. one.product < product) held 0 start
 
--- no demand is above a thousand, and those that are held have marks
-pub record IsKeptRow (demands marks : List ℕ) : Type 0 where
-  pub count : length demands ≤ most_products
-  pub small : All (λ demand. demand ≤ most_supply) demands
-  pub words : length demands < 64 * length marks
-  pub held : AreMarked demands marks
+-- a product stands at a place
+abbrev pub StandsAt : List HeldDemand → ℕ → ℕ → Type 0
+StandsAt held product place =
+    IsStart held product place × (place < length held) × ((d : HeldDemand) → (slice_index_or held place d).product ≡ product)
 
--- a walk that is in a word of marks has those that are left of it: from the lowest of them on they are the word's
-pub record IsKeptWalk (demands : List ℕ) (word left : ℕ) : Type 0 where
-  pub count : length demands ≤ most_products
-  pub within : word * 64 ≤ length demands
-  pub marks : (bit : ℕ) → trailing_zeros w64 left ≤ bit → bit < 64 → bit_at left bit ≡ min 1 (slice_index demands (word * 64 + bit))
+-- a product does not stand there, but would
+abbrev pub WouldStandAt : List HeldDemand → ℕ → ℕ → Type 0
+WouldStandAt held product place =
+    IsStart held product place × ((d : HeldDemand) → place < length held → product < (slice_index_or held place d).product)
+
+-- for each 64 products a place before which none of them stands
+abbrev pub AreStarts : List HeldDemand → List ℕ → Type 0
+AreStarts held starts = (block : ℕ) → block < length starts → IsStart held (block * 64) (slice_index starts block)
+
+-- what is held is in order, there is room for each product, and a start for each 64 of them
+pub record IsKeptRow (count : ℕ) (held : List HeldDemand) (places : List ℕ) (capacity : ℕ) : Type 0 where
+  pub few : count ≤ most_products
+  pub order : AreHeld 0 held count
+  pub room : count ≤ capacity
+  pub searched : count < 64 * length places
+  pub starts : AreStarts held places
+
+-- a walk goes over what is held, in order, and has given so many
+abbrev pub IsKeptWalk : ℕ → List HeldDemand → ℕ → Type 0
+IsKeptWalk count held given = AreHeld 0 held count × (given ≤ length held)

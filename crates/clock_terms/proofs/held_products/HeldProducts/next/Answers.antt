@@ -1,74 +1,106 @@
-use Rattle.std.proofs.Common.{◌≡◌, ◌≢◌, ◌<◌, ◌+◌, ◌*◌, ◌-◌, min, List, ℕ, length, ap, subst, ◌∙◌, arith, w64}
-use Rattle.std.specs.Prelude.{slice_index, bit_and}
+use Rattle.std.proofs.Common.{◌≡◌, ◌<◌, ◌≤◌, ◌+◌, ℕ, List, length, drop, get_or, refl, ap, sym, ◌∙◌, ⊎_elim, arith}
+use Rattle.std.proofs.lemmas.Bool.{cases_lt}
+use Rattle.std.proofs.lemmas.List.{get_or_default}
 use Rattle.std.specs.List.{AllWithin}
-use Rattle.std.specs.Int.{trailing_zeros}
-use Rattle.clock_terms.proofs.Walks.{all_zero, next_word, none_left, taken_held, taken_within, taken_given, taken_kept, taken_ahead}
+use Rattle.clock_terms.specs.declared.row.HeldDemand.{HeldDemand}
+use Rattle.clock_terms.specs.HeldDemands.{demand_for, demands_of, next_of}
+use Rattle.clock_terms.specs.inside.Rows.{IsKeptWalk}
+use Rattle.clock_terms.proofs.HeldLaws.{shown, length-demands, found, rising, held_at, next_at, next_none, gap}
 use Rattle.clock_terms.proofs.held_products.HeldProducts.next.Goals as goal
 
-pub returns-then-len-word-clause-passed : goal.returns-then-len-word-clause-passed
-returns-then-len-word-clause-passed c =
-    let row = c.self.inside.row.now in
-    let from = c.args.self.now.from in
-    let whole : trailing_zeros w64 c.words.left ≡ 64 = ap (trailing_zeros w64) c.words-test.true ∙ none_left in
-    subst (λ (demands : List ℕ). AllWithin (λ demand. demand ≡ 0) demands from (length demands)) (ap (λ walk. walk.demands) c.self.view_is)
-    (all_zero row from (length row) (omega arith)
-    (λ place low high. c.words.invariant.passed place low (omega (arith, high, whole, c.if-len-word.true, c.len.ensures.is))))
+-- as it stands in the goals
+abbrev no_one : HeldDemand
+no_one = record { product = 0; demand = 0 }
 
-pub words-preserved : goal.words-preserved
-words-preserved c =
-    next_word c.self.inside.row.now c.args.self.now.from c.words.word c.words.left c.marks_in-left.result c.words.invariant c.words-test.true
-    (omega (arith, c.if-len-word.false, c.len.ensures.is)) c.marks_in-left.type_inv c.marks_in-left.ensures.marks
+-- of the product that a walk gives next some blocks are held
+is_held : (count : ℕ) (held : List HeldDemand) (given : ℕ) (d : HeldDemand) → IsKeptWalk count held given → given < length held
+    → 0 < demand_for held (get_or held given d).product
+is_held count held given d kept more =
+    let blocks = (held_at 0 held count given d kept.0 more).0 in
+    omega (arith, blocks, found held (get_or held given d).product given d (λ k e low high. rising 0 held count k given e d kept.0 high more) more refl)
 
--- a mark is left
-some : (left : ℕ) → left ≢ 0 → 0 < left
-some left differ = omega (arith, differ)
+-- what it gives after that is above it
+above : (count : ℕ) (held : List HeldDemand) (given : ℕ) (d : HeldDemand) → IsKeptWalk count held given → given < length held
+    → (get_or held given d).product < next_of count (drop (given + 1) held)
+above count held given d kept more =
+    ⊎_elim
+    (λ (goes_on : given + 1 < length held).
+    omega (arith, next_at count held (given + 1) d goes_on, rising 0 held count given (given + 1) d d kept.0 (omega arith) goes_on))
+    (λ (ends : length held ≤ given + 1).
+    omega (arith, next_none count held (given + 1) ends, (held_at 0 held count given d kept.0 more).1))
+    (cases_lt (given + 1) (length held))
 
-pub overflow_mul-result : goal.overflow_mul-result
-overflow_mul-result c = omega (arith, c.words.invariant.kept.count, c.words.invariant.kept.within)
+-- and is no greater than the count
+most : (count : ℕ) (held : List HeldDemand) (given : ℕ) → IsKeptWalk count held given → next_of count (drop given held) ≤ count
+most count held given kept =
+    ⊎_elim
+    (λ (goes_on : given < length held).
+    omega (arith, next_at count held given no_one goes_on, (held_at 0 held count given no_one kept.0 goes_on).1))
+    (λ (ends : length held ≤ given). omega (arith, next_none count held given ends))
+    (cases_lt given (length held))
 
-pub overflow_add-result : goal.overflow_add-result
-overflow_add-result c =
-    omega (
+-- nothing is held of the products between
+between : (count : ℕ) (held : List HeldDemand) (given : ℕ) (d : HeldDemand) (product e : ℕ) → IsKeptWalk count held given → given < length held
+    → (get_or held given d).product < product → product < next_of count (drop (given + 1) held) → get_or (demands_of count held) product e ≡ 0
+between count held given d product e kept more low high =
+    let smaller : AllWithin (λ one. one.product < product) held 0 (given + 1) =
+    λ k f from to.
+    ⊎_elim
+    (λ (before : k < given). omega (arith, low, rising 0 held count k given f d kept.0 before more))
+    (λ (last : given ≤ k).
+    let same : k ≡ given = omega (arith, last, to) in
+    omega (arith, low, ap (λ (n : ℕ). (get_or held n f).product) same, ap (λ (one : HeldDemand). one.product) (get_or_default held given f d more)))
+    (cases_lt k given) in
+    shown count held product e (omega (arith, high, most count held (given + 1) (kept.0, omega (arith, more))))
+    ∙ gap count held (given + 1) product kept.0 smaller high
+
+pub returns-then-self-held-clause-passed : goal.returns-then-self-held-clause-passed
+returns-then-self-held-clause-passed c =
+    let walk = c.self.inside in
+    let ended = next_none walk.count walk.held.now walk.given (omega (arith, c.if-self-held.true)) in
+    let long = length-demands walk.count walk.held.now in
+    λ k d low high.
+    absurd (omega (
       arith,
-      c.words.invariant.kept.count,
-      taken_within c.self.inside.row.now c.words.word c.words.left c.words.invariant.kept (some c.words.left c.words-test.false) (omega (arith, c.words.auto.left-fits)),
-    )
-
-pub invariant_of-self : goal.invariant_of-self
-invariant_of-self c = taken_kept c.self.inside.row.now c.words.word c.words.left c.words.invariant.kept (some c.words.left c.words-test.false) (omega (arith, c.words.auto.left-fits))
+      low,
+      high,
+      ended,
+      long,
+      ap (λ w. w.from) c.self.view_is,
+      ap (λ w. length w.demands) c.self.view_is,
+    ))
 
 pub returns-clause-within : goal.returns-clause-within
 returns-clause-within c =
-    subst (λ (demands : List ℕ). c.words.word * 64 + trailing_zeros w64 c.words.left < length demands) (ap (λ walk. walk.demands) c.self.view_is)
-    (taken_within c.self.inside.row.now c.words.word c.words.left c.words.invariant.kept (some c.words.left c.words-test.false) (omega (arith, c.words.auto.left-fits)))
+    let walk = c.self.inside in
+    omega (
+      arith,
+      (held_at 0 walk.held.now walk.count walk.given no_one c.self.invariant.0 (omega (arith, c.self.invariant.1, c.if-self-held.false))).1,
+      length-demands walk.count walk.held.now,
+      ap (λ w. length w.demands) c.self.view_is,
+    )
 
 pub returns-clause-held : goal.returns-clause-held
 returns-clause-held c =
-    subst (λ (demands : List ℕ). 0 < slice_index demands (c.words.word * 64 + trailing_zeros w64 c.words.left)) (ap (λ walk. walk.demands) c.self.view_is)
-    (taken_held c.self.inside.row.now c.words.word c.words.left c.words.invariant.kept (some c.words.left c.words-test.false) (omega (arith, c.words.auto.left-fits)))
-
-pub returns-clause-passed : goal.returns-clause-passed
-returns-clause-passed c =
-    let to = c.words.word * 64 + trailing_zeros w64 c.words.left in
-    let within = taken_within c.self.inside.row.now c.words.word c.words.left c.words.invariant.kept (some c.words.left c.words-test.false) (omega (arith, c.words.auto.left-fits)) in
-    subst (λ (demands : List ℕ). AllWithin (λ demand. demand ≡ 0) demands c.args.self.now.from to) (ap (λ walk. walk.demands) c.self.view_is)
-    (all_zero c.self.inside.row.now c.args.self.now.from to (omega (arith, within)) c.words.invariant.passed)
+    let walk = c.self.inside in
+    let more : walk.given < length walk.held.now = omega (arith, c.self.invariant.1, c.if-self-held.false) in
+    let product = (get_or walk.held.now walk.given no_one).product in
+    omega (
+      arith,
+      is_held walk.count walk.held.now walk.given no_one c.self.invariant more,
+      shown walk.count walk.held.now product 0 (held_at 0 walk.held.now walk.count walk.given no_one c.self.invariant.0 more).1,
+      ap (λ w. get_or w.demands product 0) c.self.view_is,
+    )
 
 pub returns-clause-given : goal.returns-clause-given
 returns-clause-given c =
-    omega (
-      arith,
-      taken_within c.self.inside.row.now c.words.word c.words.left c.words.invariant.kept (some c.words.left c.words-test.false) (omega (arith, c.words.auto.left-fits)),
-      taken_given c.self.inside.row.now c.words.word c.words.left c.words.invariant.kept (some c.words.left c.words-test.false) (omega (arith, c.words.auto.left-fits)),
-    )
+    let walk = c.self.inside in
+    above walk.count walk.held.now walk.given no_one c.self.invariant (omega (arith, c.self.invariant.1, c.if-self-held.false))
 
 pub returns-clause-ahead : goal.returns-clause-ahead
 returns-clause-ahead c =
-    let row = c.self.inside.row.now in
-    let place = c.words.word * 64 + trailing_zeros w64 c.words.left in
-    let to = min (length row) (c.words.word * 64 + trailing_zeros w64 (bit_and c.words.left (c.words.left - 1))) in
-    let ahead : AllWithin (λ demand. demand ≡ 0) row (place + 1) to =
-    all_zero row (place + 1) to (omega arith)
-    (λ one low high. taken_ahead row c.words.word c.words.left c.words.invariant.kept (some c.words.left c.words-test.false)
-    (omega (arith, c.words.auto.left-fits)) one low (omega (arith, high))) in
-    subst (λ (demands : List ℕ). AllWithin (λ demand. demand ≡ 0) demands (place + 1) to) (ap (λ walk. walk.demands) c.self.view_is) ahead
+    let walk = c.self.inside in
+    let more : walk.given < length walk.held.now = omega (arith, c.self.invariant.1, c.if-self-held.false) in
+    λ k d low high.
+    ap (λ w. get_or w.demands k d) (sym c.self.view_is)
+    ∙ between walk.count walk.held.now walk.given no_one k d c.self.invariant more (omega (arith, low)) high

@@ -1,0 +1,282 @@
+-- Laws of demands that are kept for the products that are held.
+use Rattle.std.proofs.Common.{◌≡◌, ◌≢◌, ℕ, ◌+◌, ◌<◌, ◌≤◌, ◌==◌, zero, suc, List, [], ◌∷◌, length, drop, get_or, set, insert, remove, replicate, if◌then◌else◌, refl, sym, ap, subst, ◌∙◌, ⊎_elim, ne_eqb, eq-eqb, arith}
+use Rattle.std.proofs.lemmas.Bool.{cases_eq}
+use Rattle.std.proofs.lemmas.List.{drop_more, drop_all, ext_get_or, length-set, length-replicate, get_or-replicate, get_or-set_same, get_or-set_other}
+use Rattle.std.proofs.lemmas.List.FromFn.{length-map-range_with_len, get_or-map-range_with_len}
+use Rattle.std.specs.List.{AllWithin}
+use Rattle.clock_terms.specs.Limits.{most_supply}
+use Rattle.clock_terms.specs.declared.row.HeldDemand.{HeldDemand}
+use Rattle.clock_terms.specs.HeldDemands.{demand_for, demands_of, next_of}
+use Rattle.clock_terms.specs.inside.Rows.{AreHeld}
+
+-- what is held of the product that comes first
+at_first : (one : HeldDemand) (held : List HeldDemand) (product : ℕ) → one.product ≡ product → demand_for (one ∷ held) product ≡ one.demand
+unfolding demand_for
+at_first one held product same = ap (λ test. if test then one.demand else demand_for held product) (eq-eqb one.product product same)
+
+-- of another one
+behind : (one : HeldDemand) (held : List HeldDemand) (product : ℕ) → one.product ≢ product → demand_for (one ∷ held) product ≡ demand_for held product
+unfolding demand_for
+behind one held product other = ap (λ test. if test then one.demand else demand_for held product) (ne_eqb one.product product other)
+
+-- of one that stands behind smaller ones
+pub found : (held : List HeldDemand) (product place : ℕ) (other : HeldDemand) → AllWithin (λ one. one.product < product) held 0 place
+    → place < length held → (get_or held place other).product ≡ product → demand_for held product ≡ (get_or held place other).demand
+found [] product place other smaller within here = absurd (omega (arith, within))
+found (one ∷ held) product zero other smaller within here = at_first one held product here
+found (one ∷ held) product (suc place) other smaller within here =
+    behind one held product (λ same. omega (arith, same, smaller 0 other (omega arith) (omega arith)))
+    ∙ found held product place other (λ k d low high. smaller (suc k) d (omega arith) (omega (arith, high))) (omega (arith, within)) here
+
+-- nothing is held of products below the first
+pub none_before : (from : ℕ) (held : List HeldDemand) (count product : ℕ) → AreHeld from held count → product < from → demand_for held product ≡ 0
+unfolding AreHeld demand_for
+none_before from [] count product are below = refl
+none_before from (one ∷ held) count product are below =
+    behind one held product (λ same. omega (arith, same, are.0, below))
+    ∙ none_before (one.product + 1) held count product are.3 (omega (arith, are.0, below))
+
+-- nor of one behind smaller ones, where a greater one or none comes next
+pub missing : (from : ℕ) (held : List HeldDemand) (count product place : ℕ) (other : HeldDemand) → AreHeld from held count
+    → AllWithin (λ one. one.product < product) held 0 place → (place < length held → product < (get_or held place other).product)
+    → demand_for held product ≡ 0
+unfolding AreHeld demand_for
+missing from [] count product place other are smaller next = refl
+missing from (one ∷ held) count product zero other are smaller next =
+    let above : product < one.product = next (omega arith) in
+    behind one held product (λ same. omega (arith, same, above)) ∙ none_before (one.product + 1) held count product are.3 (omega (arith, above))
+missing from (one ∷ held) count product (suc place) other are smaller next =
+    behind one held product (λ same. omega (arith, same, smaller 0 other (omega arith) (omega arith)))
+    ∙ missing (one.product + 1) held count product place other are.3 (λ k d low high. smaller (suc k) d (omega arith) (omega (arith, high)))
+    (λ within. next (omega (arith, within)))
+
+-- there are no more of them than products
+pub counted : (from : ℕ) (held : List HeldDemand) (count : ℕ) → AreHeld from held count → from + length held ≤ count
+unfolding AreHeld
+counted from [] count are = omega (arith, are)
+counted from (one ∷ held) count are = omega (arith, are.0, counted (one.product + 1) held count are.3)
+
+-- none is above a thousand
+pub small : (from : ℕ) (held : List HeldDemand) (count product : ℕ) → AreHeld from held count → demand_for held product ≤ most_supply
+unfolding AreHeld demand_for
+small from [] count product are = omega arith
+small from (one ∷ held) count product are =
+    ⊎_elim
+    (λ same. omega (arith, at_first one held product same, are.2))
+    (λ other. omega (arith, behind one held product other, small (one.product + 1) held count product are.3))
+    (cases_eq one.product product)
+
+-- the first is from there on
+first_least : (from : ℕ) (held : List HeldDemand) (count place : ℕ) (d : HeldDemand) → AreHeld from held count → place < length held
+    → from ≤ (get_or held place d).product
+unfolding AreHeld
+first_least from [] count place d are within = absurd (omega (arith, within))
+first_least from (one ∷ held) count zero d are within = are.0
+first_least from (one ∷ held) count (suc place) d are within =
+    omega (arith, are.0, first_least (one.product + 1) held count place d are.3 (omega (arith, within)))
+
+-- they rise
+pub rising : (from : ℕ) (held : List HeldDemand) (count k place : ℕ) (d e : HeldDemand) → AreHeld from held count → k < place → place < length held
+    → (get_or held k d).product < (get_or held place e).product
+unfolding AreHeld
+rising from [] count k place d e are before within = absurd (omega (arith, within))
+rising from (one ∷ held) count k zero d e are before within = absurd (omega (arith, before))
+rising from (one ∷ held) count zero (suc place) d e are before within =
+    omega (arith, first_least (one.product + 1) held count place e are.3 (omega (arith, within)))
+rising from (one ∷ held) count (suc k) (suc place) d e are before within =
+    rising (one.product + 1) held count k place d e are.3 (omega (arith, before)) (omega (arith, within))
+
+-- each is of some blocks and below the count
+pub held_at : (from : ℕ) (held : List HeldDemand) (count place : ℕ) (d : HeldDemand) → AreHeld from held count → place < length held
+    → (0 < (get_or held place d).demand) × ((get_or held place d).product < count)
+unfolding AreHeld
+held_at from [] count place d are within = absurd (omega (arith, within))
+held_at from (one ∷ held) count zero d are within = (are.1, omega (arith, counted (one.product + 1) held count are.3))
+held_at from (one ∷ held) count (suc place) d are within = held_at (one.product + 1) held count place d are.3 (omega (arith, within))
+
+-- the demand in a row of so many products
+pub shown : (count : ℕ) (held : List HeldDemand) (product d : ℕ) → product < count → get_or (demands_of count held) product d ≡ demand_for held product
+shown count held product d within = get_or-map-range_with_len (demand_for held) 0 count product product d within (omega arith)
+
+pub length-demands : (count : ℕ) (held : List HeldDemand) → length (demands_of count held) ≡ count
+length-demands count held = length-map-range_with_len (demand_for held) 0 count
+
+-- nothing is in order
+pub order_none : (held : List HeldDemand) (count : ℕ) → held ≡ [] → AreHeld 0 held count
+unfolding AreHeld
+order_none held count none = subst (λ (list : List HeldDemand). AreHeld 0 list count) (sym none) (omega arith)
+
+-- where nothing is held each demand is 0
+pub none_held : (count : ℕ) → demands_of count [] ≡ replicate count 0
+unfolding demand_for
+none_held count =
+    ext_get_or 0 (demands_of count []) (replicate count 0) (length-demands count [] ∙ sym (length-replicate count 0))
+    (λ k below.
+    let inside : k < count = omega (arith, below, length-demands count []) in
+    shown count [] k 0 inside ∙ sym (get_or-replicate count k 0 0 inside))
+
+-- ---- walks
+
+-- a walk that has not ended gives what stands next
+pub next_at : (count : ℕ) (held : List HeldDemand) (given : ℕ) (d : HeldDemand) → given < length held
+    → next_of count (drop given held) ≡ (get_or held given d).product
+next_at count held given d within = ap (λ left. next_of count left) (drop_more held given d within)
+
+-- one that has ended gives none
+pub next_none : (count : ℕ) (held : List HeldDemand) (given : ℕ) → length held ≤ given → next_of count (drop given held) ≡ count
+next_none count held given past = ap (λ left. next_of count left) (drop_all given held past)
+
+-- the first is below the count, where there is one
+pub most_next : (count : ℕ) (held : List HeldDemand) → AreHeld 0 held count → next_of count held ≤ count
+unfolding AreHeld
+most_next count [] are = omega arith
+most_next count (one ∷ held) are = omega (arith, counted (one.product + 1) held count are.3)
+
+-- nothing is held of a product behind those that were given and before the next one
+pub gap : (count : ℕ) (held : List HeldDemand) (given product : ℕ) → AreHeld 0 held count → AllWithin (λ one. one.product < product) held 0 given
+    → product < next_of count (drop given held) → demand_for held product ≡ 0
+gap count held given product are smaller below =
+    let none : HeldDemand = record { product = 0; demand = 0 } in
+    missing 0 held count product given none are smaller
+    (λ within. omega (arith, below, next_at count held given none within))
+
+-- ---- one demand changed
+
+-- of a product there is another demand, and of the others as before
+abbrev pub Updates : List HeldDemand → List HeldDemand → ℕ → ℕ → Type 0
+Updates held after product demand = (other : ℕ) → demand_for after other ≡ (if product == other then demand else demand_for held other)
+
+-- so it is behind a smaller product
+updates_behind : (first : HeldDemand) (held after : List HeldDemand) (product demand : ℕ) → first.product < product → Updates held after product demand
+    → Updates (first ∷ held) (first ∷ after) product demand
+updates_behind first held after product demand smaller updates other =
+    ⊎_elim
+    (λ (here : first.product ≡ other).
+    at_first first after other here ∙ sym (at_first first held other here)
+    ∙ sym (ap (λ test. if test then demand else demand_for (first ∷ held) other) (ne_eqb product other (λ same. omega (arith, same, here, smaller)))))
+    (λ (elsewhere : first.product ≢ other).
+    behind first after other elsewhere ∙ updates other
+    ∙ ap (λ (rest : ℕ). if product == other then demand else rest) (sym (behind first held other elsewhere)))
+    (cases_eq first.product other)
+
+-- where it was first
+updates_first : (one first : HeldDemand) (held : List HeldDemand) → first.product ≡ one.product → Updates (first ∷ held) (one ∷ held) one.product one.demand
+updates_first one first held same other =
+    ⊎_elim
+    (λ (here : one.product ≡ other).
+    at_first one held other here ∙ sym (ap (λ test. if test then one.demand else demand_for (first ∷ held) other) (eq-eqb one.product other here)))
+    (λ (elsewhere : one.product ≢ other).
+    behind one held other elsewhere ∙ sym (behind first held other (λ (at : first.product ≡ other). elsewhere (sym same ∙ at)))
+    ∙ sym (ap (λ test. if test then one.demand else demand_for (first ∷ held) other) (ne_eqb one.product other elsewhere)))
+    (cases_eq one.product other)
+
+-- set at its place
+pub updates_set : (held : List HeldDemand) (place : ℕ) (one : HeldDemand) → AllWithin (λ other. other.product < one.product) held 0 place
+    → place < length held → (get_or held place one).product ≡ one.product → Updates held (set held place one) one.product one.demand
+updates_set [] place one smaller within same = absurd (omega (arith, within))
+updates_set (first ∷ held) zero one smaller within same = updates_first one first held same
+updates_set (first ∷ held) (suc place) one smaller within same =
+    updates_behind first held (set held place one) one.product one.demand (smaller 0 one (omega arith) (omega arith))
+    (updates_set held place one (λ k d low high. smaller (suc k) d (omega arith) (omega (arith, high))) (omega (arith, within)) same)
+
+-- put in at its place
+pub updates_insert : (held : List HeldDemand) (place : ℕ) (one : HeldDemand) → AllWithin (λ other. other.product < one.product) held 0 place
+    → place ≤ length held → Updates held (insert held place one) one.product one.demand
+unfolding demand_for
+updates_insert held zero one smaller within other = refl
+updates_insert [] (suc place) one smaller within other = absurd (omega (arith, within))
+updates_insert (first ∷ held) (suc place) one smaller within other =
+    updates_behind first held (insert held place one) one.product one.demand (smaller 0 one (omega arith) (omega arith))
+    (updates_insert held place one (λ k d low high. smaller (suc k) d (omega arith) (omega (arith, high))) (omega (arith, within))) other
+
+-- taken out at its place
+pub updates_remove : (from : ℕ) (held : List HeldDemand) (count place product : ℕ) (d : HeldDemand) → AreHeld from held count
+    → AllWithin (λ other. other.product < product) held 0 place → place < length held → (get_or held place d).product ≡ product
+    → Updates held (remove held place) product 0
+unfolding AreHeld
+updates_remove from [] count place product d are smaller within same other = absurd (omega (arith, within))
+updates_remove from (first ∷ held) count zero product d are smaller within same other =
+    ⊎_elim
+    (λ (here : product ≡ other).
+    none_before (first.product + 1) held count other are.3 (omega (arith, same, here))
+    ∙ sym (ap (λ test. if test then 0 else demand_for (first ∷ held) other) (eq-eqb product other here)))
+    (λ (elsewhere : product ≢ other).
+    sym (behind first held other (λ (at : first.product ≡ other). elsewhere (sym same ∙ at)))
+    ∙ sym (ap (λ test. if test then 0 else demand_for (first ∷ held) other) (ne_eqb product other elsewhere)))
+    (cases_eq product other)
+updates_remove from (first ∷ held) count (suc place) product d are smaller within same other =
+    updates_behind first held (remove held place) product 0 (smaller 0 d (omega arith) (omega arith))
+    (updates_remove (first.product + 1) held count place product d are.3 (λ k e low high. smaller (suc k) e (omega arith) (omega (arith, high)))
+    (omega (arith, within)) same) other
+
+-- one demand changed in a row of so many products
+pub updated : (count : ℕ) (held after : List HeldDemand) (product demand : ℕ) → Updates held after product demand → product < count
+    → demands_of count after ≡ set (demands_of count held) product demand
+updated count held after product demand updates within =
+    let row = demands_of count held in
+    ext_get_or 0 (demands_of count after) (set row product demand)
+    (length-demands count after ∙ sym (length-demands count held) ∙ sym (length-set row product demand))
+    (λ other below.
+    let inside : other < count = omega (arith, below, length-demands count after) in
+    shown count after other 0 inside ∙ updates other
+    ∙ ⊎_elim
+    (λ (here : product ≡ other).
+    ap (λ test. if test then demand else demand_for held other) (eq-eqb product other here)
+    ∙ sym (get_or-set_same row product demand 0 (omega (arith, within, length-demands count held)))
+    ∙ ap (λ (n : ℕ). get_or (set row product demand) n 0) here)
+    (λ (elsewhere : product ≢ other).
+    ap (λ test. if test then demand else demand_for held other) (ne_eqb product other elsewhere)
+    ∙ sym (shown count held other 0 inside)
+    ∙ sym (get_or-set_other row product other demand 0 (λ (same : other ≡ product). elsewhere (sym same))))
+    (cases_eq product other))
+
+-- a row in which nothing changes
+pub unchanged : (count : ℕ) (held : List HeldDemand) (product : ℕ) → demand_for held product ≡ 0 → product < count
+    → demands_of count held ≡ set (demands_of count held) product 0
+unchanged count held product none within =
+    updated count held held product 0
+    (λ other. ⊎_elim
+    (λ (here : product ≡ other).
+    ap (demand_for held) (sym here) ∙ none ∙ sym (ap (λ test. if test then 0 else demand_for held other) (eq-eqb product other here)))
+    (λ (elsewhere : product ≢ other). sym (ap (λ test. if test then 0 else demand_for held other) (ne_eqb product other elsewhere)))
+    (cases_eq product other)) within
+
+-- ---- the order of what is held is kept
+
+-- from a lower product on too
+held_lower : (from low : ℕ) (held : List HeldDemand) (count : ℕ) → AreHeld from held count → low ≤ from → AreHeld low held count
+unfolding AreHeld
+held_lower from low [] count are below = omega (arith, are, below)
+held_lower from low (one ∷ held) count are below = (omega (arith, are.0, below), are.1, are.2, are.3)
+
+pub held_set : (from : ℕ) (held : List HeldDemand) (count place : ℕ) (one : HeldDemand) → AreHeld from held count → place < length held
+    → (get_or held place one).product ≡ one.product → 0 < one.demand → one.demand ≤ most_supply → AreHeld from (set held place one) count
+unfolding AreHeld
+held_set from [] count place one are within same some few = absurd (omega (arith, within))
+held_set from (first ∷ held) count zero one are within same some few =
+    (omega (arith, are.0, same), some, few, held_lower (first.product + 1) (one.product + 1) held count are.3 (omega (arith, same)))
+held_set from (first ∷ held) count (suc place) one are within same some few =
+    (are.0, are.1, are.2, held_set (first.product + 1) held count place one are.3 (omega (arith, within)) same some few)
+
+pub held_insert : (from : ℕ) (held : List HeldDemand) (count place : ℕ) (one : HeldDemand) → AreHeld from held count → from ≤ one.product
+    → one.product < count → 0 < one.demand → one.demand ≤ most_supply → AllWithin (λ other. other.product < one.product) held 0 place
+    → place ≤ length held → (place < length held → one.product < (get_or held place one).product) → AreHeld from (insert held place one) count
+unfolding AreHeld
+held_insert from [] count zero one are low high some few smaller within next = (low, some, few, omega (arith, high))
+held_insert from (first ∷ held) count zero one are low high some few smaller within next =
+    (low, some, few, (omega (arith, next (omega arith)), are.1, are.2, are.3))
+held_insert from [] count (suc place) one are low high some few smaller within next = absurd (omega (arith, within))
+held_insert from (first ∷ held) count (suc place) one are low high some few smaller within next = (
+  are.0,
+  are.1,
+  are.2,
+  held_insert (first.product + 1) held count place one are.3 (omega (arith, smaller 0 one (omega arith) (omega arith))) high some few
+      (λ k d below above. smaller (suc k) d (omega arith) (omega (arith, above))) (omega (arith, within)) (λ inside. next (omega (arith, inside))),
+)
+
+pub held_remove : (from : ℕ) (held : List HeldDemand) (count place : ℕ) → AreHeld from held count → place < length held → AreHeld from (remove held place) count
+unfolding AreHeld
+held_remove from [] count place are within = absurd (omega (arith, within))
+held_remove from (first ∷ held) count zero are within = held_lower (first.product + 1) from held count are.3 (omega (arith, are.0))
+held_remove from (first ∷ held) count (suc place) are within =
+    (are.0, are.1, are.2, held_remove (first.product + 1) held count place are.3 (omega (arith, within)))
