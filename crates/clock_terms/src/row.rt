@@ -10,7 +10,7 @@ use std::alloc::Global;
 use std::marker::Model;
 
 /// How many products a block has. A search for a product begins where those of its block begin.
-const BLOCK: usize = 64;
+const BLOCK: usize = 16;
 
 /// What a bidder demands of a product of which it holds a block.
 #[derive(Clone, Copy)]
@@ -23,7 +23,7 @@ pub(crate) struct HeldDemand {
 /// nothing of how it is kept.
 ///
 /// Most bidders hold few of the products. So those demands alone are kept of which a block is held, by rising product, and
-/// for each 64 products the place from which on to look for them. There is room for a demand for each product, so that one
+/// for each 16 products the place from which on to look for them. There is room for a demand for each product, so that one
 /// can be changed without more memory.
 #[derive(Drop)]
 pub struct Row {
@@ -61,8 +61,8 @@ fn first_from(held: &[HeldDemand], from: usize, product: usize) -> usize
 /// Where the first demand stands for a product that is not below one.
 fn first_at(held: &[HeldDemand], starts: &[u16], product: usize) -> usize
     requires held { (count : ℕ) × AreHeld 0 held.now count }
-    requires start { IsStart held.now (product / 64 * 64) (slice_index starts.now (product / 64)) }
-    requires within { product / 64 < length starts.now }
+    requires start { IsStart held.now (product / 16 * 16) (slice_index starts.now (product / 16)) }
+    requires within { product / 16 < length starts.now }
     ensures start { IsStart held.now product result }
     ensures first { (d : HeldDemand) → result < length held.now → product ≤ (slice_index_or held.now result d).product }
 {
@@ -76,8 +76,8 @@ fn first_at(held: &[HeldDemand], starts: &[u16], product: usize) -> usize
 /// Where the demand for a product stands, or else where it would stand.
 fn place_of(held: &[HeldDemand], starts: &[u16], product: usize) -> Result<usize, usize>
     requires held { (count : ℕ) × AreHeld 0 held.now count }
-    requires start { IsStart held.now (product / 64 * 64) (slice_index starts.now (product / 64)) }
-    requires within { product / 64 < length starts.now }
+    requires start { IsStart held.now (product / 16 * 16) (slice_index starts.now (product / 16)) }
+    requires within { product / 16 < length starts.now }
     ensures stands { IfOk result (λ place. StandsAt held.now product place) }
     ensures lacks { IfErr result (λ place. WouldStandAt held.now product place) }
 {

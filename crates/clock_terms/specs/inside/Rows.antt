@@ -2,7 +2,7 @@
 --     AreHeld from held count      demands of some blocks, by rising product, from one on and below a count
 --     IsStart held product start      before a place stand only products below one
 --     StandsAt held product place, WouldStandAt held product place      where a product stands, and where it would
---     AreStarts held starts      for each 64 products a place before which none of them stands
+--     AreStarts held starts      for each 16 products a place before which none of them stands
 --     IsKeptRow count held starts capacity      what the type of rows keeps
 --     IsKeptWalk count held given      what a walk keeps
 use Rattle.std.specs.Prelude.{◌≡◌, ℕ, ◌+◌, ◌*◌, ◌≤◌, ◌<◌, List, [], ◌∷◌, length, slice_index, slice_index_or}
@@ -29,16 +29,16 @@ abbrev pub WouldStandAt : List HeldDemand → ℕ → ℕ → Type 0
 WouldStandAt held product place =
     IsStart held product place × ((d : HeldDemand) → place < length held → product < (slice_index_or held place d).product)
 
--- for each 64 products a place before which none of them stands
+-- for each 16 products a place before which none of them stands
 abbrev pub AreStarts : List HeldDemand → List ℕ → Type 0
-AreStarts held starts = (block : ℕ) → block < length starts → IsStart held (block * 64) (slice_index starts block)
+AreStarts held starts = (block : ℕ) → block < length starts → IsStart held (block * 16) (slice_index starts block)
 
--- what is held is in order, there is room for each product, and a start for each 64 of them
+-- what is held is in order, there is room for each product, and a start for each 16 of them
 pub record IsKeptRow (count : ℕ) (held : List HeldDemand) (places : List ℕ) (capacity : ℕ) : Type 0 where
   pub few : count ≤ most_products
   pub order : AreHeld 0 held count
   pub room : count ≤ capacity
-  pub searched : count < 64 * length places
+  pub searched : count < 16 * length places
   pub starts : AreStarts held places
 
 -- a walk goes over what is held, in order, and has given so many

@@ -54,7 +54,7 @@ invariant_of-self c =
       order = held_set 0 row.held.items row.count c.in-Ok.place one c.self.invariant.order stands.1 (stands.2 one) c.if-demand-gt0.true c.requires.small;
       room = c.self.invariant.room;
       searched = c.self.invariant.searched;
-      starts = λ block within. set_kept row.held.items one c.in-Ok.place (block * 64) (get_or row.starts.items block 0) stands (c.self.invariant.starts block within);
+      starts = λ block within. set_kept row.held.items one c.in-Ok.place (block * 16) (get_or row.starts.items block 0) stands (c.self.invariant.starts block within);
     }
 
 pub invariant_of-self-in-Ok-2 : goal.invariant_of-self-in-Ok-2

@@ -13,7 +13,7 @@ take_none (suc n) = refl
 
 pub invariant_of-result : goal.invariant_of-result
 invariant_of-result c =
-    let blocks = c.args.products / 64 + 1 in
+    let blocks = c.args.products / 16 + 1 in
     let all : blocks - 0 ≡ blocks = omega arith in
     let zeros : c.resize.new.self.items ≡ replicate blocks 0 =
     c.in_ok-resize.ensures.items
