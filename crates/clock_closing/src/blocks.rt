@@ -56,6 +56,7 @@ fn fill(cells: &mut Vec<u16>, demands: &Row) -> Result<(), NoMemory>
     ensures { OnOk result (rules.numbers_of cells.new.items ≡ demands.now) }
 {
     cells.clear();
+    let count = demands.len();
     let mut from = 0;
     let mut held = demands.held();
     'held: while let Some(place) = held.next() {
@@ -63,7 +64,7 @@ fn fill(cells: &mut Vec<u16>, demands: &Row) -> Result<(), NoMemory>
         cells.push(cell_of((place - from) as u64, demands.get(place)))?;
         from = place + 1;
     }
-    push_last(cells, from, demands.len())?;
+    push_last(cells, from, count)?;
     Ok(())
 }
 

@@ -41,7 +41,7 @@ returns c =
     joined (λ demand. demand ≡ 0) demands from c.held.held.from (length demands) c.held.invariant.none
     (subst (λ (row : List ℕ). AllWithin (λ demand. demand ≡ 0) row c.held.held.from (length row)) c.held.invariant.row c.in_default.ensures.passed) in
     c.in_ok-push_last.ensures
-    ∙ ap (λ list. list ++ replicate (c.len.result - from) 0) c.held.invariant.done
-    ∙ ap (λ n. take from demands ++ replicate (n - from) 0) c.len.ensures.is
+    ∙ ap (λ list. list ++ replicate (c.len-count.result - from) 0) c.held.invariant.done
+    ∙ ap (λ n. take from demands ++ replicate (n - from) 0) c.len-count.ensures.is
     ∙ taken_more demands from (length demands) c.held.invariant.within (omega arith) none
     ∙ take_all (length demands) demands (omega arith)
