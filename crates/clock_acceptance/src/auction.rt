@@ -1,12 +1,13 @@
 //! An auction as data: what is done to it and what is seen of it, step by step.
 
 use clock_bids::Bid;
-use clock_house::{Blocks, CloseFault, House, PutFault, blocks_in, zeros_in};
+use clock_house::{CloseFault, House, PutFault};
 use clock_order::Tie;
 use clock_posting::sheet_lines;
 use clock_processor::{Plain, Processor};
 use clock_queue::Woken;
 use clock_setup::{Amounts, Increments, Row, read_setup};
+use clock_terms::KeptRow;
 use std::alloc::{AllocError, Global};
 use std::fmt::Debug;
 use std::process::Abort;
@@ -264,21 +265,16 @@ fn see_in_force<P: Processor>(
 }
 
 /// Whether these are the numbers that a closed round has kept.
-fn are_numbers(kept: &Blocks, numbers: &[u64]) -> bool {
-    let mut rest = numbers;
-    for cell in kept.cells() {
-        for _zero in 0..zeros_in(*cell) {
-            rest = match rest {
-                [0, others @ ..] => others,
-                _ => return false,
-            };
-        }
-        rest = match rest {
-            [number, others @ ..] if *number == blocks_in(*cell) => others,
-            _ => return false,
-        };
+fn is_kept(row: &KeptRow, numbers: &[u64]) -> bool {
+    if row.len() != numbers.len() {
+        return false;
     }
-    rest.is_empty()
+    for (product, number) in numbers.iter().enumerate() {
+        if row.get(product) != *number {
+            return false;
+        }
+    }
+    true
 }
 
 /// Asserts what the slip of a round tells a bidder: activity and eligibility, and demands.
@@ -294,7 +290,7 @@ fn see_slip<P: Processor>(
     let slip = house.slip(bidder, round).ok_or("no slip")?;
     assert_eq!(rt; slip.round, round);
     assert_eq!(rt; (slip.activity, slip.eligibility), activity_and_eligibility);
-    assert!(rt; are_numbers(&slip.demands, demands));
+    assert!(rt; is_kept(&slip.demands, demands));
     Ok(())
 }
 

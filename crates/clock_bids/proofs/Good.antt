@@ -1,6 +1,6 @@
 -- What a sheet without a fault is, and what it asks for.
 use Rattle.std.proofs.Common.{◌≡◌, ℕ, zero, suc, ◌+◌, ◌*◌, ◌<◌, ◌≤◌, List, [], ◌∷◌, ◌++◌, Bool, cond, map}
-use Rattle.std.proofs.Common.{length, take, inl, inr, refl, ap, sym, subst, ◌∙◌, arith, get_or, set, All}
+use Rattle.std.proofs.Common.{length, take, inl, inr, refl, ap, sym, subst, ◌∙◌, arith, get_or, All}
 use Rattle.std.specs.Prelude.{Option, Some, None, nat_le, slice_index, zip}
 use Rattle.std.specs.List.{range_with_len}
 use Rattle.std.proofs.lemmas.Bool.{leb-true, ltb-true, le-leb, lt-leb, and_parts, cases_Bool, cases_eq}
@@ -24,7 +24,7 @@ use Rattle.clock_bids.specs.Sheet.{chain_of, last_quantity, asked_demands, most_
 use Rattle.clock_bids.specs.Sheet.{bid_checks, is_within_limit, sheet_fault, IsGoodSheet}
 use Rattle.clock_bids.specs.inside.Chains.{IsInRange, IsGoodChain, AreGoodChains, up, last_of, last_bids, step_checks, checks_by_last}
 use Rattle.clock_bids.proofs.Chains.{passes, chain_checks, good_chain-push, checks_by_last_of}
-use Rattle.clock_bids.proofs.Tables.{no_bid, chain_of-own, chain_of-other, last_bids-more, length-asked_demands}
+use Rattle.clock_bids.proofs.Tables.{no_bid, chain_of-own, chain_of-other, length-asked_demands}
 
 -- a sheet without bids
 pub good_chains-nil : (products : List Product) (prices : List PricePair) (demands : List ℕ) → AreGoodChains products prices demands []
@@ -228,9 +228,6 @@ module _ (products : List Product) (prices : List PricePair) (demands : List ℕ
 
     pub known_here : here.product < length products
     known_here = (so_far_good products prices demands (take i bids) i here (checks_here ∙ none)).known
-
-    pub table-more : set last here.product (Some here) ≡ last_bids (length products) (take (i + 1) bids)
-    table-more = ap (λ entries. set entries here.product (Some here)) table ∙ sym (last_bids-more (length products) bids i within known_here)
 
 -- what a good sheet asks for is a row of demands, of an activity within the limit; in round 1 that is the eligibility
 module _ (setup : PublicSetup) (round : ℕ) (prices : List PricePair) (holding : Holding) (bids : List Bid)

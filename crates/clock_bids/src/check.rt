@@ -1,4 +1,4 @@
-ghost use Rattle.std.specs.Prelude.{◌≡◌, ◌≤◌, ◌+◌, ◌*◌, None, length, map, OnOk, IfOk, IfErr, slice_index_or};
+ghost use Rattle.std.specs.Prelude.{◌≡◌, ◌≤◌, ◌+◌, ◌*◌, None, length, OnOk, IfOk, IfErr};
 ghost use Rattle.clock_terms.specs.Limits.{IsRow, most_supply, most_units, public_setup, is_within};
 ghost use Rattle.clock_terms.specs.Faults.{first_fault, IsFirstFault};
 ghost use Rattle.clock_terms.specs.Eligibility as eligibilities;
@@ -6,9 +6,11 @@ ghost use Rattle.clock_bids.specs.Holding as rules;
 ghost use Rattle.clock_bids.specs.Holding.{holding_of};
 ghost use Rattle.clock_bids.specs.inside.Parts.{checks_of_bids};
 ghost use Rattle.clock_bids.specs.Sheet.{IsGoodSheet, asked_demands, most_bids, sheet_fault};
-ghost use Rattle.clock_bids.specs.inside.Chains.{bid_at, checks_by_last, quantity_of, step_checks};
+ghost use Rattle.clock_bids.specs.inside.Chains.{checks_by_last, quantity_of, step_checks};
 
+use crate::last_bids::{keep_place, last_before};
 use crate::sheet::{Bid, BidFault, Own, Sheet};
+use clock_device::Items;
 use clock_terms::{PricePair, Prices, Product, Row, Setup};
 use std::alloc::Global;
 
@@ -41,6 +43,45 @@ pub fn check_sheet(
     ensures fault { IfErr result (IsFirstFault BidFault.NoMemory
         (sheet_fault (public_setup setup.now) own.entry.round prices.now (holding_of own.entry) bids.now)) }
 {
+    judge_sheet(alloc, setup, prices, own, bids)?;
+    Ok(Sheet::of(Items::from_slice(alloc, bids)?))
+}
+
+/// Judges a sheet as [`check_sheet`] does, and takes its bids over: none is copied.
+pub fn take_sheet(
+    alloc: Global,
+    setup: &Setup,
+    prices: &Prices,
+    own: Own,
+    bids: Items<Bid>,
+) -> Result<Sheet, BidFault>
+    requires prices { length prices.now ≡ length setup.now.products }
+    requires demands { IsRow setup.now.products own.demands.now }
+    ensures bids { IfOk result (λ sheet. sheet ≡ bids) }
+    ensures good { OnOk result
+        (IsGoodSheet (public_setup setup.now) own.entry.round prices.now (holding_of own.entry) bids) }
+    ensures fault { IfErr result (IsFirstFault BidFault.NoMemory
+        (sheet_fault (public_setup setup.now) own.entry.round prices.now (holding_of own.entry) bids)) }
+{
+    judge_sheet(alloc, setup, prices, own, bids.as_slice())?;
+    Ok(Sheet::of(bids))
+}
+
+/// Judges the bids of a sheet as [`check_sheet`] does.
+fn judge_sheet(
+    alloc: Global,
+    setup: &Setup,
+    prices: &Prices,
+    own: Own,
+    bids: &[Bid],
+) -> Result<(), BidFault>
+    requires prices { length prices.now ≡ length setup.now.products }
+    requires demands { IsRow setup.now.products own.demands.now }
+    ensures good { OnOk result
+        (IsGoodSheet (public_setup setup.now) own.entry.round prices.now (holding_of own.entry) bids.now) }
+    ensures fault { IfErr result (IsFirstFault BidFault.NoMemory
+        (sheet_fault (public_setup setup.now) own.entry.round prices.now (holding_of own.entry) bids.now)) }
+{
     if bids.len() > MOST_BIDS {
         return Err(BidFault::TooMany);
     }
@@ -48,7 +89,7 @@ pub fn check_sheet(
     if taken as u128 > activity_limit(setup, own.round, own.eligibility) {
         return Err(BidFault::OverActivity);
     }
-    Ok(Sheet::from_bids(alloc, bids)?)
+    Ok(())
 }
 
 /// The most activity that a sheet may ask for, in bidding units: in round 1 the eligibility, and from
@@ -65,9 +106,8 @@ fn activity_limit(setup: &Setup, round: u64, eligibility: u64) -> u128
 
 /// Judges each bid by the last one before it for the same product. Where the earlier bids are
 /// good, their prices rise and their quantities move one way, so that the last one tells whether
-/// the next price is higher and the next step goes on. That one is kept as its place in the sheet,
-/// from 1 on, so that little must be cleared for each sheet, however many products there are.
-/// Good bids ask for demands that take so many bidding units.
+/// the next price is higher and the next step goes on. Good bids ask for demands that take so many
+/// bidding units.
 fn judge(
     alloc: Global,
     setup: &Setup,
@@ -86,16 +126,16 @@ fn judge(
 {
     let products = setup.products.as_slice();
     let mut places = Vec::new(alloc);
-    places.resize(products.len(), 0)?;
+    let mut near = 0;
     let mut taken: u64 = 0;
     for (i, bid) in bids.iter().enumerate() {
-        let last = last_bid(bids, &places, bid.product);
-        if let Some(fault) = bid_fault(products, prices, demands, last, i as u64, bid) {
+        let last = last_before(bids, &mut places, products.len(), i, bid.product)?;
+        if let Some(fault) = bid_fault(products, prices, demands, &mut near, last, i as u64, bid) {
             return Err(fault);
         }
         let product = bid.product as usize;
         taken = taken_with(taken, products[product].units, last, bid.quantity);
-        places[product] = i as u16 + 1;
+        keep_place(&mut places, i, product);
     }
     Ok(taken)
 }
@@ -115,22 +155,13 @@ fn taken_with(taken: u64, units: u64, last: Option<Bid>, quantity: u64) -> u64
     }
 }
 
-/// The bid at the place that is kept for a product, if any.
-fn last_bid(bids: &[Bid], places: &[u16], product: u64) -> Option<Bid>
-    ensures { result ≡ slice_index_or (map (bid_at bids.now) places.now) product None }
-{
-    let place = *places.get(product as usize)?;
-    match place {
-        0 => None,
-        _ => bids.get(place as usize - 1).copied(),
-    }
-}
-
-/// The fault of the bid at a place of the sheet, by the last bid before it for the same product.
+/// The fault of the bid at a place of the sheet, by the last bid before it for the same product. Most sheets stand by rising
+/// product, so what is held is looked for near where it was found for the bid before.
 fn bid_fault(
     products: &[Product],
     prices: &[PricePair],
     demands: &Row,
+    near: &mut usize,
     last: Option<Bid>,
     place: u64,
     bid: &Bid,
@@ -150,7 +181,8 @@ fn bid_fault(
     if bid.quantity > products[product].cap {
         return Some(BidFault::OverCap(place));
     }
-    step_fault(last, demands.get(product), pair.clock.get(), place, bid)
+    let held = demands.get_near(near, product);
+    step_fault(last, held, pair.clock.get(), place, bid)
 }
 
 /// Whether a price is from the start price to the clock price.

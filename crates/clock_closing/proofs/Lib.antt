@@ -4,8 +4,6 @@ pub mod OpenRounds
 pub mod Sums
 pub mod Eligible
 pub mod RoundResults
-pub mod Filled
 pub mod Posts
-mod Cells
 mod SlipDemands
 mod Steps

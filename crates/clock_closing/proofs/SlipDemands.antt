@@ -1,11 +1,9 @@
 -- The demands on slips.
-use Rattle.std.proofs.Common.{◌≡◌, ℕ, ◌≤◌, List, [], refl, sym, ◌∙◌, arith, length, All, get_or}
+use Rattle.std.proofs.Common.{◌≡◌, ℕ, List, [], refl, sym, ◌∙◌, length}
 use Rattle.std.specs.List.{range_with_len}
-use Rattle.std.proofs.lemmas.List.{get_or_default}
 use Rattle.std.proofs.lemmas.List.FromFn.{fill_by_all}
 use Rattle.std.proofs.lemmas.Simd.{map-map}
-use Rattle.clock_terms.specs.declared.setup.Product.{Product}
-use Rattle.clock_terms.specs.Limits.{PublicSetup, IsProduct, IsRow, most_supply, no_product}
+use Rattle.clock_terms.specs.Limits.{PublicSetup}
 use Rattle.clock_terms.specs.Demands.{row_of}
 use Rattle.clock_closing.specs.declared.slip.Slip.{Slip}
 use Rattle.clock_closing.specs.OpenRound.{OpenRound, holding_at}
@@ -20,9 +18,3 @@ slips_demands setup now grid many =
     ∙ sym (map-map (λ (slip : Slip). slip.demands)
     (λ (bidder : ℕ). slip_after setup now.standing.round (holding_at now.holdings bidder).eligibility (row_of grid bidder))
     (range_with_len 0 (length now.holdings)))
-
--- no demand of a row is above the most blocks of a product
-pub row_small : (products : List Product) → All IsProduct products → (row : List ℕ) → IsRow products row → All (λ demand. demand ≤ most_supply) row
-row_small products limits row is = λ k d lt.
-    let good : IsProduct (get_or products k no_product) = limits k no_product (omega (arith, lt, is.each)) in
-    omega (arith, is.capped k lt, good.cap.1, good.supply.1, get_or_default row k 0 d lt)

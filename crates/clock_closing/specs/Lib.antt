@@ -1,7 +1,6 @@
 pub mod Standing
 pub mod Holdings
 pub mod Faults
-pub mod Blocks
 pub mod OpenRound
 pub mod Closing
 pub mod Prepared

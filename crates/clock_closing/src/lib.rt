@@ -4,7 +4,6 @@
 //! no matter here: neither earlier rounds, nor who put which sheet when.
 #![tactic(auto)]
 
-mod blocks;
 mod closed_round;
 mod fault;
 mod holdings;
@@ -13,7 +12,6 @@ mod prepared;
 mod results;
 mod slip;
 
-pub use blocks::{Blocks, blocks_in, zeros_in};
 pub use closed_round::ClosedRound;
 pub use fault::CloseFault;
 pub use holdings::Holdings;

@@ -24,7 +24,7 @@ use crate::results::Results;
 use clock_bids::{Own, Sheet};
 use clock_order::{Tie, Ties};
 use clock_processor::Processor;
-use clock_terms::{Increments, Prices, Setup};
+use clock_terms::{Grid, Increments, Prices, Setup};
 use std::alloc::Global;
 use std::marker::Model;
 
@@ -75,7 +75,8 @@ impl<'a> OpenRound<'a> {
     }
 
     /// Closes the round: settles it by a processor, and makes its sheet, its slips and the next prices. An increment is a
-    /// percentage from 1 to 50; there is one for all products, or one for each.
+    /// percentage from 1 to 50; there is one for all products, or one for each. A grid that is no longer needed may be given: the
+    /// demands are settled in its memory.
     ///
     /// The refusals, in this order: an increment is not 1 to 50, or the list has not one for each product; the tie numbers
     /// have a fault; the auction would go on, and a product can have no next clock price. Want of memory may come in place
@@ -86,6 +87,7 @@ impl<'a> OpenRound<'a> {
         processor: &P,
         increments: &Increments,
         ties: &[Tie],
+        old: Option<Grid>,
     ) -> Result<Prepared, CloseFault>
         ensures asked { IfOk result (λ prepared. (prepared.round ≡ self.now.before.standing.round)
             × (prepared.increments ≡ increments.now) × (prepared.ties ≡ ties.now)) }
@@ -98,7 +100,7 @@ impl<'a> OpenRound<'a> {
         }
         let copy = copy_of(alloc, increments)?;
         let ties = Ties::new(alloc, setup, ties)?;
-        let results = self.results(alloc, processor, increments, &ties)?;
+        let results = self.results(alloc, processor, increments, &ties, old)?;
         Ok(Prepared {
             round: self.round,
             increments: copy,
@@ -114,6 +116,7 @@ impl<'a> OpenRound<'a> {
         processor: &P,
         increments: &Increments,
         ties: &Ties,
+        old: Option<Grid>,
     ) -> Result<Results, CloseFault>
         requires { AreIncrements (length self.now.setup.products) increments.now }
         ensures ok { IfOk result (AreResults
@@ -124,7 +127,7 @@ impl<'a> OpenRound<'a> {
         if self.round == 1 {
             self.first_results(alloc, increments)
         } else {
-            self.later_results(alloc, processor, increments, ties)
+            self.later_results(alloc, processor, increments, ties, old)
         }
     }
 

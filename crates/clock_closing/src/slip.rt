@@ -1,5 +1,5 @@
-use crate::blocks::Blocks;
 use clock_device::Items;
+use clock_terms::KeptRow;
 
 /// What a round leaves a bidder with: its slip.
 #[derive(Drop)]
@@ -11,7 +11,7 @@ pub struct Slip {
     /// The eligibility, in bidding units, for the next round.
     pub eligibility: u64,
     /// The demand for each product, in blocks.
-    pub demands: Blocks,
+    pub demands: KeptRow,
 }
 
 /// A slip for each bidder.

@@ -8,8 +8,8 @@ use Rattle.clock_front.specs.declared.connections.Conn.{Conn}
 use Rattle.clock_front.specs.declared.hub_fault.HubFault.{HubFault}
 use Rattle.clock_front.specs.declared.fed.Fed.{Fed}
 use Rattle.clock_front.specs.declared.fed.Fed.TheVariants.{More, Reply}
-use Rattle.clock_front.specs.Hubs.{ConnectionFields, HubFields, IsConnected, IsTaken, IsGone, IsAnswered, IsFed, KeepsOthers, text_of}
-use Rattle.clock_front.specs.inside.Hubs.{IsReply, AllNeedMore}
+use Rattle.clock_front.specs.Hubs.{ConnectionFields, HubFields, IsConnected, IsTaken, IsAnswered, IsFed, KeepsOthers, text_of}
+use Rattle.clock_front.specs.inside.Hubs.{AllNeedMore}
 
 -- what is some has a text
 pub some_text : (o : Option (List ℕ)) → is_some o ≡ true → (text : List ℕ) × (o ≡ Some text)
@@ -33,22 +33,6 @@ fed_and_answered house old taken new conn text reply first second = record {
   private = second.private;
   setup = second.setup;
 }
-
-module _ (old new : HubFields) (conn : Conn) (text : List ℕ) where
-  -- the reply that a piece has led to
-  pub fed_reply : (fed : Fed) → needs_more text ≡ false → IsReply fed (IsAnswered old new conn text) → IsFed old new conn text fed
-  fed_reply More whole is = absurd is
-  fed_reply (Reply reply) whole is = (whole, is)
-
-  pub gone_with : (fed : Fed) → IsReply fed (IsAnswered old new conn text) → IsGone old.connections new.connections conn
-  gone_with More is = absurd is
-  gone_with (Reply reply) is = is.gone
-
--- the piece was taken first
-pub taken_and_replied : (house : HouseFields) (old taken : ConnectionFields) (new : HubFields) (conn : Conn) (text : List ℕ) (fed : Fed)
-    → IsTaken old taken conn text → IsReply fed (IsAnswered (hub_of house taken) new conn text) → IsReply fed (IsAnswered (hub_of house old) new conn text)
-taken_and_replied house old taken new conn text More first is = absurd is
-taken_and_replied house old taken new conn text (Reply reply) first is = fed_and_answered house old taken new conn text reply first is
 
 -- ---- the text of each connection that stands needs more
 
@@ -81,6 +65,14 @@ pub waits_no_more : (new : ConnectionFields) (conn : Conn) → text_of new conn 
     → (text : List ℕ) → text_of new conn ≡ Some text → needs_more text ≡ true
 waits_no_more new conn gone text at = absurd (true≢false (sym (ap is_some (sym gone ∙ at))))
 
+-- a piece was taken
+pub fed_keeps : (old new : HubFields) (conn : Conn) (text : List ℕ) (fed : Fed) → AllNeedMore old.connections → IsFed old new conn text fed
+    → AllNeedMore new.connections
+fed_keeps old new conn text More before is =
+    keeps_waiting old.connections new.connections conn before is.1.others (waits_with new.connections conn text is.1.stands is.0)
+fed_keeps old new conn text (Reply reply) before is =
+    keeps_waiting old.connections new.connections conn before is.1.gone.others (waits_no_more new.connections conn is.1.gone.gone)
+
 no_bytes_wait : needs_more [] ≡ true
 unfolding framing
 no_bytes_wait = refl
@@ -91,7 +83,3 @@ pub connect_keeps : (r : Result Conn HubFault) (old new : ConnectionFields) → 
 connect_keeps (Ok conn) old new before made same =
     keeps_waiting old new conn before made.others (waits_with new conn [] made.stands no_bytes_wait)
 connect_keeps (Err fault) old new before made same = subst AllNeedMore (sym same) before
-
--- no connection stands
-pub none_wait : (next : ℕ) → AllNeedMore (record { slots = []; next = next })
-none_wait next conn text at = absurd (true≢false (sym (ap is_some at)))

@@ -1,11 +1,11 @@
 -- What a front stands for, and which texts are refused by constant bytes.
-use Rattle.std.proofs.Common.{◌≡◌, true, List, ℕ, ◌∷◌, Option, None, Ok, Err, Result, refl, sym, ◌∙◌, ap, subst}
+use Rattle.std.proofs.Common.{◌≡◌, true, List, ℕ, Option, None, Ok, Err, Result, refl, sym, ◌∙◌, ap, subst}
 use Rattle.std.specs.Prelude.{option_and_then}
 use Rattle.clock_terms.specs.Limits.{SetupFields}
 use Rattle.clock_house.specs.Command.{Command}
 use Rattle.clock_closing.specs.declared.closed_round.ClosedRound.{ClosedRound}
 use Rattle.clock_house.specs.History.{history}
-use Rattle.clock_house.specs.House.{HouseFields, StandsFor, IsFollowedBy, StandsStill}
+use Rattle.clock_house.specs.House.{HouseFields, StandsFor}
 use Rattle.clock_bids.specs.declared.sheet.Bid.{Bid}
 use Rattle.clock_http.specs.declared.code.Code.{Code}
 use Rattle.clock_http.specs.Framing.{Head, Framing, incomplete, refusal, whole, framing, is_incomplete, needs_more}
@@ -17,11 +17,12 @@ use Rattle.clock_views.proofs.Codes.{refusal_in_bytes}
 use Rattle.clock_http.specs.Replies.{Answer, reply_bytes}
 use Rattle.clock_front.specs.FixedReplies.{cut_short}
 use Rattle.clock_front.specs.inside.FixedReplies.{refusal_of, is_fixed}
+use Rattle.clock_front.specs.Askers.{asker}
 use Rattle.clock_front.specs.Requests.{Ask, Request, ask_of, ask_by_route, request_of}
 use Rattle.clock_http.specs.Routes.{page_of}
 use Rattle.clock_front.specs.declared.tokens.Asker.{Asker}
 use Rattle.clock_front.specs.Outcomes.{Outcome, outcome, answer_of}
-use Rattle.clock_front.specs.Fronts.{house_after, text_command, commands_of, StandsForTexts}
+use Rattle.clock_front.specs.Fronts.{house_after}
 
 -- a text that is refused at its head or at its length is refused by a reply that is always the same
 pub refused_fixed : (text : List ℕ) (code : Code) → framing text ≡ refusal code → is_fixed code ≡ true
@@ -48,18 +49,6 @@ outcome_after house commands asker ask stands =
     ap (λ closed. shown_by house.setup asker ask closed house.sheets) stands.closed
     ∙ ap (shown_by house.setup asker ask (history house.setup commands).closed) stands.sheets
 
--- a text that a house has done stands before the others
-pub text_followed : (text : List ℕ) (texts : List (List ℕ)) (old new : HouseFields) → IsFollowedBy (text_command old.setup text) old new
-    → StandsForTexts texts old
-    → StandsForTexts (text ∷ texts) new
-text_followed text texts old new followed stands =
-    subst (λ setup. StandsFor (commands_of setup (text ∷ texts)) new) (sym followed.setup) (followed.stands (commands_of old.setup texts) stands)
-
--- a text that found no memory is no text
-pub text_still : (texts : List (List ℕ)) (old new : HouseFields) → StandsStill old new → StandsForTexts texts old → StandsForTexts texts new
-text_still texts old new still stands =
-    subst (λ setup. StandsFor (commands_of setup texts) new) (sym still.setup) (still.stands (commands_of old.setup texts) stands)
-
 -- ---- what a text asks for, by its framing
 
 pub whole_request : (text : List ℕ) (head : Head) (body : List ℕ) → whole head body ≡ framing text
@@ -74,6 +63,14 @@ pub ask_by : (text : List ℕ) (f : Framing) → f ≡ framing text → ask_of f
 unfolding request_of
 ask_by text f is = ap ask_of is
 
+-- what holds of who sends a whole request and what it asks for holds of its text
+pub of_text : (setup : SetupFields) (text : List ℕ) (P : Asker → Ask → Type 0) (who : Asker) (ask : Ask) (head : Head) (body : List ℕ)
+    → who ≡ asker setup head.token → ask ≡ ask_by_route (page_of head.path) head body → whole head body ≡ framing text
+    → P who ask → P (asker setup (request_of text).token) (request_of text).ask
+of_text setup text P who ask head body sender asks is holds =
+    subst (λ request. P (asker setup request.token) request.ask) (whole_request text head body is)
+    (subst (λ a. P (asker setup head.token) a) asks (subst (λ w. P w ask) sender holds))
+
 -- the code of the reply to a text that is refused at its head
 pub refused_code : (house : HouseFields) (who : Asker) (text : List ℕ) (code : Code) → framing text ≡ refusal code
     → (answer_of (outcome house who (request_of text).ask)).code ≡ code
@@ -85,10 +82,6 @@ refused_code house who text code is =
 pub told_as : {N : Type 0} (told : Result Answer N) (a b : Answer) → a ≡ b → IfOk told (λ reply. reply ≡ a) → IfOk told (λ reply. reply ≡ b)
 told_as (Ok reply) a b same is = is ∙ same
 told_as (Err e) a b same is = tt
-
-pub done_as : {A N : Type 0} {P Q : Type 0} (told : Result A N) → (P → Q) → OnOk told P → OnOk told Q
-done_as (Ok reply) next is = next is
-done_as (Err e) next is = tt
 
 pub if_done : {A N : Type 0} {P : Type 0} (told : Result A N) → P → OnOk told P
 if_done (Ok reply) is = is

@@ -5,7 +5,7 @@ use Rattle.std.proofs.Common.{length-append}
 use Rattle.std.specs.Prelude.{is_some, IsSome, option_and_then, count_by, nat_lt, nat_le, ◌||◌}
 use Rattle.std.proofs.lemmas.Bool.{cases_Bool, eqb-false}
 use Rattle.std.proofs.lemmas.Bool.Decides.{nat_tests}
-use Rattle.std.proofs.lemmas.List.{get_or_append_left, get_or_push, get_or_past, get_or-set_same, get_or-set_other, set-get_or, length-set}
+use Rattle.std.proofs.lemmas.List.{get_or_append_left, get_or_push, get_or_past, get_or-set_same, get_or-set_other, length-set}
 use Rattle.std.proofs.lemmas.List.Sums.{sum_by_push, sum_by-set}
 use Rattle.clock_front.specs.declared.connections.Conn.{Conn}
 use Rattle.clock_front.specs.declared.fed.Fed.TheVariants.{More, Reply}
@@ -250,10 +250,6 @@ gone_stands numbered old new conns number conn text stands at has is =
       next = is.next;
       count = (let c = is.count in let e : one_if (text_at numbered number) ≡ 1 = ap one_if has in omega arith);
     })
-
--- what does not stand is not changed
-pub nothing_set : (numbered : Numbered) (number : ℕ) → text_at numbered number ≡ None → set numbered number None ≡ numbered
-nothing_set numbered number is = ap (set numbered number) (sym is) ∙ set-get_or numbered number None
 
 -- ---- what the hub has told
 

@@ -1,6 +1,6 @@
 -- What is told of a closed round, and of none; which requests are no commands.
-use Rattle.std.proofs.Common.{◌≡◌, ℕ, Option, Some, None, refl, sym, ◌∙◌, ap}
-use Rattle.std.specs.Prelude.{option_map, Result}
+use Rattle.std.proofs.Common.{◌≡◌, Option, Some, None, refl, sym, ◌∙◌, ap}
+use Rattle.std.specs.Prelude.{option_map}
 use Rattle.serde_json.specs.Data.{Data}
 use Rattle.clock_terms.specs.Limits.{SetupFields}
 use Rattle.clock_house.specs.Command.{other}
@@ -8,14 +8,10 @@ use Rattle.clock_closing.specs.declared.closed_round.ClosedRound.{ClosedRound}
 use Rattle.clock_http.specs.declared.code.Code.{Code}
 use Rattle.clock_views.specs.Refusals.{Shown}
 use Rattle.clock_http.specs.Replies.{Answer}
-use Rattle.clock_http.specs.declared.routes.Page.{Page}
 use Rattle.clock_front.specs.declared.tokens.Asker.{Asker}
 use Rattle.clock_front.specs.declared.tokens.Asker.TheVariants.{Nobody, Operator, Bidder}
 use Rattle.clock_front.specs.declared.asked.Reading.{Reading}
 use Rattle.clock_front.specs.declared.asked.Reading.TheVariants as reading
-use Rattle.clock_bodies.specs.declared.put_body.PutBody.{PutBody}
-use Rattle.clock_bodies.specs.declared.close_body.CloseBody.{CloseBody}
-use Rattle.clock_bodies.specs.declared.body_fault.BodyFault.{BodyFault}
 use Rattle.clock_front.specs.Requests as asked
 use Rattle.clock_front.specs.inside.ShownAsked.{shown_reading}
 use Rattle.clock_front.specs.Outcomes.{Outcome, answer_of, done, refused, page_or_no_round, command_of}
@@ -34,6 +30,8 @@ turned answer away outcome is told = told ∙ sym (ap answer_of is)
 
 pub reading_other : (setup : SetupFields) (asker : Asker) (what : Reading) → command_of setup asker (shown_reading what) ≡ other
 reading_other setup Nobody what = refl
+reading_other setup Operator reading.NoPage = refl
+reading_other setup Operator (reading.NoMethod page) = refl
 reading_other setup Operator reading.Status = refl
 reading_other setup Operator reading.Products = refl
 reading_other setup Operator (reading.Sheet segment) = refl
@@ -41,6 +39,8 @@ reading_other setup Operator reading.Account = refl
 reading_other setup Operator reading.Bids = refl
 reading_other setup Operator (reading.Slip segment) = refl
 reading_other setup Operator reading.Results = refl
+reading_other setup (Bidder b) reading.NoPage = refl
+reading_other setup (Bidder b) (reading.NoMethod page) = refl
 reading_other setup (Bidder b) reading.Status = refl
 reading_other setup (Bidder b) reading.Products = refl
 reading_other setup (Bidder b) (reading.Sheet segment) = refl
@@ -49,24 +49,7 @@ reading_other setup (Bidder b) reading.Bids = refl
 reading_other setup (Bidder b) (reading.Slip segment) = refl
 reading_other setup (Bidder b) reading.Results = refl
 
-pub put_other : (setup : SetupFields) (asker : Asker) (body : Result PutBody BodyFault) → ((bidder : ℕ) → asker ≡ Bidder bidder → ⊥)
-    → command_of setup asker (asked.put body) ≡ other
-put_other setup Nobody body none = refl
-put_other setup Operator body none = refl
-put_other setup (Bidder b) body none = absurd (none b refl)
-
-pub close_other : (setup : SetupFields) (asker : Asker) (body : Result CloseBody BodyFault) → (asker ≡ Operator → ⊥)
-    → command_of setup asker (asked.close body) ≡ other
-close_other setup Nobody body none = refl
-close_other setup Operator body none = absurd (none refl)
-close_other setup (Bidder b) body none = refl
-
 pub away_other : (setup : SetupFields) (asker : Asker) (code : Code) → command_of setup asker (asked.turned_away code) ≡ other
 away_other setup Nobody code = refl
 away_other setup Operator code = refl
 away_other setup (Bidder b) code = refl
-
-pub no_method_other : (setup : SetupFields) (asker : Asker) (page : Page) → command_of setup asker (asked.no_method page) ≡ other
-no_method_other setup Nobody page = refl
-no_method_other setup Operator page = refl
-no_method_other setup (Bidder b) page = refl

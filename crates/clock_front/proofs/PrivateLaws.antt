@@ -1,12 +1,11 @@
 -- What a right answer tells, it tells by the bidder's view alone.
-use Rattle.std.proofs.Common.{◌≡◌, ◌≢◌, ℕ, ◌<◌, List, length, Option, Some, None, Result, Ok, Err, sym, ◌∙◌, ap}
+use Rattle.std.proofs.Common.{◌≡◌, ◌≢◌, ℕ, ◌<◌, List, length, Some, None, Result, Ok, Err, sym, ◌∙◌, ap}
 use Rattle.std.specs.Prelude.{IfOk, IfErr, OnOk}
 use Rattle.clock_terms.specs.Limits.{IsSetup, public_setup}
 use Rattle.clock_terms.specs.Faults.{IsFirstFault}
-use Rattle.clock_bids.specs.declared.sheet.Bid.{Bid}
 use Rattle.clock_house.specs.History.{bidder_at}
 use Rattle.clock_house.specs.House.{HouseFields, ToView}
-use Rattle.clock_house.specs.View.{view_of, seen_put_fault}
+use Rattle.clock_house.specs.View.{seen_put_fault}
 use Rattle.clock_house.specs.declared.fault.PutFault.{PutFault}
 use Rattle.clock_house.specs.declared.fault.PutFault.TheVariants.{NoMemory}
 use Rattle.clock_views.specs.Refusals.{shown_put}
@@ -15,7 +14,7 @@ use Rattle.clock_front.specs.inside.Askers.{IsKnown}
 use Rattle.clock_front.specs.Fronts.{commands_of}
 use Rattle.clock_front.specs.Outcomes.{outcome, answer_of, put_outcome, refused}
 use Rattle.clock_front.specs.Private.{IsPrivateReply}
-use Rattle.clock_front.specs.Rooms.{IsPrivateWant, IsWantOf, asks_for_page, room_of}
+use Rattle.clock_front.specs.Rooms.{IsPrivateWant, IsWantOf, asks_for_page, reply_room}
 use Rattle.clock_front.specs.declared.unanswered.Unanswered.{Unanswered}
 use Rattle.clock_front.specs.declared.unanswered.Unanswered.TheVariants.{Room}
 use Rattle.clock_front.specs.inside.Private.{IsToldByView, IsToldAsker}
@@ -62,11 +61,6 @@ pub if_private : {N : Type 0} (told : Result Answer N) (house : HouseFields) (te
 if_private (Ok reply) house text limits is = private_reply house text reply limits is
 if_private (Err e) house text limits is = tt
 
-pub if_told_by_view : {N : Type 0} (told : Result Answer N) (house : HouseFields) (bidder : ℕ) (ask : Ask) → bidder < length house.setup.bidders
-    → IfOk told (λ reply. reply ≡ answer_of (outcome house (Bidder bidder) ask)) → IfOk told (IsToldByView house bidder ask)
-if_told_by_view (Ok reply) house bidder ask lt is = told_by_view house bidder ask reply lt is
-if_told_by_view (Err e) house bidder ask lt is = tt
-
 -- ---- what want of memory tells
 
 pub want_as : {T : Type 0} (told : Result T Unanswered) (P Q : Unanswered → Type 0) → ((why : Unanswered) → P why → Q why) → IfErr told P → IfErr told Q
@@ -78,7 +72,7 @@ private_want : (house : HouseFields) (text : List ℕ) (why : Unanswered) → Is
 private_want house text why limits want =
     λ texts bidder stands lt own asks.
     want (ap (λ who. asks_for_page who (request_of text).ask) (asker_own house.setup limits.tokens bidder lt (request_of text).token own) ∙ asks)
-    ∙ ap (λ told. Room (room_of (request_of text).ask told))
+    ∙ ap (λ told. Room (reply_room (request_of text).ask told))
     (outcome_after house (commands_of house.setup texts) (asker house.setup (request_of text).token) (request_of text).ask stands
     ∙ told_from_view house.setup bidder texts text limits.tokens lt own)
 
@@ -90,31 +84,25 @@ if_private_want told house text limits =
 -- ---- a sheet is judged by what the bidder sees
 
 -- the answer to an accepted sheet
-pub accepted_by_view : (house : HouseFields) (bidder : ℕ) (sent : PutBody) (bids : List Bid) (answer : Answer) → bids ≡ sent.bids
-    → ToView house bidder (λ view. seen_put_fault (public_setup house.setup) (bidder_at house.setup bidder) view sent.round bids ≡ None)
+pub accepted_by_view : (house : HouseFields) (bidder : ℕ) (sent : PutBody) (answer : Answer)
+    → ToView house bidder (λ view. seen_put_fault (public_setup house.setup) (bidder_at house.setup bidder) view sent.round sent.bids ≡ None)
     → answer ≡ answer_of (put_outcome sent None) → IsToldByView house bidder (put (Ok sent)) answer
 unfolding known_outcome
-accepted_by_view house bidder sent bids answer same seen is =
-    λ commands stands.
-    let judged : List Bid → Option PutFault = seen_put_fault (public_setup house.setup) (bidder_at house.setup bidder)
-    (view_of house.setup bidder commands) sent.round in
-    is ∙ ap (λ fault. answer_of (put_outcome sent fault)) (sym (seen commands stands) ∙ ap judged same)
+accepted_by_view house bidder sent answer seen is =
+    λ commands stands. is ∙ ap (λ fault. answer_of (put_outcome sent fault)) (sym (seen commands stands))
 
-refused_answer : (house : HouseFields) (bidder : ℕ) (sent : PutBody) (bids : List Bid) (fault : PutFault) (answer : Answer) → bids ≡ sent.bids
-    → ToView house bidder (λ view. seen_put_fault (public_setup house.setup) (bidder_at house.setup bidder) view sent.round bids ≡ Some fault)
+refused_answer : (house : HouseFields) (bidder : ℕ) (sent : PutBody) (fault : PutFault) (answer : Answer)
+    → ToView house bidder (λ view. seen_put_fault (public_setup house.setup) (bidder_at house.setup bidder) view sent.round sent.bids ≡ Some fault)
     → answer ≡ answer_of (refused (shown_put fault)) → IsToldByView house bidder (put (Ok sent)) answer
 unfolding known_outcome
-refused_answer house bidder sent bids fault answer same seen is =
-    λ commands stands.
-    let judged : List Bid → Option PutFault = seen_put_fault (public_setup house.setup) (bidder_at house.setup bidder)
-    (view_of house.setup bidder commands) sent.round in
-    is ∙ ap (λ first. answer_of (put_outcome sent first)) (sym (seen commands stands) ∙ ap judged same)
+refused_answer house bidder sent fault answer seen is =
+    λ commands stands. is ∙ ap (λ first. answer_of (put_outcome sent first)) (sym (seen commands stands))
 
 -- the answer to a sheet that is not put in force
-pub refused_by_view : {N : Type 0} (told : Result Answer N) (house : HouseFields) (bidder : ℕ) (sent : PutBody) (bids : List Bid) (fault : PutFault)
-    → bids ≡ sent.bids
-    → ToView house bidder (λ view. IsFirstFault NoMemory (seen_put_fault (public_setup house.setup) (bidder_at house.setup bidder) view sent.round bids) fault)
+pub refused_by_view : {N : Type 0} (told : Result Answer N) (house : HouseFields) (bidder : ℕ) (sent : PutBody) (fault : PutFault)
+    → ToView house bidder (λ view. IsFirstFault NoMemory
+    (seen_put_fault (public_setup house.setup) (bidder_at house.setup bidder) view sent.round sent.bids) fault)
     → IfOk told (λ reply. reply ≡ answer_of (refused (shown_put fault))) → OnOk told (fault ≢ NoMemory) → IfOk told (IsToldByView house bidder (put (Ok sent)))
-refused_by_view (Ok reply) house bidder sent bids fault same seen is known =
-    refused_answer house bidder sent bids fault reply same (λ commands stands. seen commands stands known) is
-refused_by_view (Err e) house bidder sent bids fault same seen is known = tt
+refused_by_view (Ok reply) house bidder sent fault seen is known =
+    refused_answer house bidder sent fault reply (λ commands stands. seen commands stands known) is
+refused_by_view (Err e) house bidder sent fault seen is known = tt

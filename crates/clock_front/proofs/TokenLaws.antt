@@ -1,11 +1,10 @@
 -- Tables of tokens.
-use Rattle.std.proofs.Common.{◌≡◌, ℕ, ◌+◌, ◌<◌, ◌≤◌, suc, Bool, true, false, cond, List, [], ◌∷◌, length, get_or, drop, Vec, Option, Some, None}
-use Rattle.std.proofs.Common.{refl, sym, ◌∙◌, ap, arith, add-one}
+use Rattle.std.proofs.Common.{◌≡◌, ℕ, ◌+◌, ◌≤◌, suc, Bool, true, false, cond, List, [], ◌∷◌, length, Vec, Option, Some, None}
+use Rattle.std.proofs.Common.{refl, sym, ◌∙◌, ap, arith}
 use Rattle.std.specs.Prelude.{nat_eq, unwrap_or}
 use Rattle.std.specs.declared.alloc.Global.{Global}
 use Rattle.std.specs.Cmp.Lexicographic.{pointwise, bytes_decides}
 use Rattle.std.specs.Map.{lookup}
-use Rattle.std.proofs.lemmas.List.{drop_more}
 use Rattle.indexmap.specs.IndexMap.{insert_entry}
 use Rattle.clock_terms.specs.declared.setup.Bidder.{Bidder as BidderRow}
 use Rattle.clock_terms.specs.Limits.{SetupFields}
@@ -66,14 +65,6 @@ found-lookup (entry ∷ entries) token = by (same_bytes token entry.0.items) (fo
         → unwrap_or (cond t (Some entry.1) (lookup (λ key. pointwise nat_eq token key.items) entries)) Nobody ≡ cond t entry.1 (found entries token)
     by true later = refl
     by false later = later
-
--- one more bidder, from the last on
-pub one_more_bidder : (bidders : List BidderRow) (n : ℕ) (d : BidderRow) (token : List ℕ) → n < length bidders
-    → holder (bidder_tokens n (drop n bidders)) token
-    ≡ cond (same_bytes token (get_or bidders n d).token) (Bidder n) (holder (bidder_tokens (n + 1) (drop (n + 1) bidders)) token)
-one_more_bidder bidders n d token lt =
-    ap (λ rows. holder (bidder_tokens n rows) token) (drop_more bidders n d lt)
-    ∙ ap (λ k. cond (same_bytes token (get_or bidders n d).token) (Bidder n) (holder (bidder_tokens k (drop (n + 1) bidders)) token)) (sym (add-one n))
 
 -- ---- a bidder that asks is one of the set-up's
 

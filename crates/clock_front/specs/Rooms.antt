@@ -1,7 +1,7 @@
 -- What want of memory may tell. Room for the page of a reply is taken by a call that sees how much alone, and how much is a function of
 -- what the asker is told: so that there is none tells of the system's memory.
 --     asks_for_page asker ask      the request changes nothing, whatever stands in the house
---     room_of ask outcome      how much room the page of its reply is given
+--     reply_room ask outcome      how much room the page of its reply is given
 --     IsWantOf text house why      a text that asks for a page alone is not answered only where just so much was wanted
 --     IsPrivateWant text house why      and for a bidder's own request that is a function of its view
 use Rattle.std.specs.Prelude.{◌≡◌, ◌<◌, ℕ, Bool, true, false, List, length}
@@ -48,24 +48,24 @@ asks_for_page who (asked.slip segment) = true
 asks_for_page who (asked.close body) = is_no_operator who
 asks_for_page who asked.results = true
 
--- what the page of any refusal may take
-abbrev pub refusal_room : ℕ
-refusal_room = 132
-
 -- the page of products is kept as text, and is given what this takes
 abbrev pub page_room : Ask → Data → ℕ
 page_room asked.products value = length (compact_text value)
 page_room ask value = most_text value
 
+-- what the page of any refusal may take: REFUSAL_ROOM of clock_views
+abbrev pub refusal_room : ℕ
+refusal_room = 132
+
 -- the room for the page of an outcome
-abbrev pub room_of : Ask → Outcome → ℕ
-room_of ask (done value) = page_room ask value
-room_of ask (refused shown) = refusal_room
-room_of ask (not_allowed page) = refusal_room
+abbrev pub reply_room : Ask → Outcome → ℕ
+reply_room ask (done value) = page_room ask value
+reply_room ask (refused shown) = refusal_room
+reply_room ask (not_allowed page) = refusal_room
 
 -- a request for a page alone is not answered only where just so much room was wanted as the page of the right reply is given
 abbrev pub WantsRoom : Asker → Ask → Outcome → Unanswered → Type 0
-WantsRoom who ask right why = asks_for_page who ask ≡ true → why ≡ Room (room_of ask right)
+WantsRoom who ask right why = asks_for_page who ask ≡ true → why ≡ Room (reply_room ask right)
 
 -- the same of a text, by what its sender is told as the house stands
 abbrev pub IsWantOf : List ℕ → HouseFields → Unanswered → Type 0

@@ -1,5 +1,5 @@
 -- How a stream is served: its request is read, answered, and the reply written.
---     IsUnanswered reading old new      no request could be read, and the front is as it was
+--     IsLeftUnread reading old new      no request could be read, and the front is as it was
 --     IsAnswerTo reading answer old new      the reply to what was read, or that of want of memory for it
 --     IsServed reading writing old new result      how a stream is served
 --     HasServed most texts house      the front stands for these texts, and for so many more at most
@@ -17,8 +17,8 @@ use Rattle.clock_front.specs.declared.stream_fault.StreamFault.{StreamFault}
 use Rattle.clock_front.specs.declared.stream_fault.StreamFault.TheVariants as fault
 
 -- a read failed or all were made, and the front is as it was
-abbrev pub IsUnanswered : Reading → HouseFields → HouseFields → Type 0
-IsUnanswered reading old new = IsNotRead reading × (new ≡ old)
+abbrev pub IsLeftUnread : Reading → HouseFields → HouseFields → Type 0
+IsLeftUnread reading old new = IsNotRead reading × (new ≡ old)
 
 -- the reply to the text that was read, private to each bidder whose own request it is; or that of want of memory for the text
 -- itself, and the front is as it was
@@ -32,7 +32,7 @@ IsAnswerTo reading answer old new =
 abbrev pub IsServed : Reading → Writing → HouseFields → HouseFields → Result Code StreamFault → Type 0
 IsServed reading writing old new (Ok code) =
     (answer : Answer) × IsAnswerTo reading answer old new × (answer.code ≡ code) × WritesWhole writing answer.bytes
-IsServed reading writing old new (Err fault.Read) = IsUnanswered reading old new × WritesNothing writing
+IsServed reading writing old new (Err fault.Read) = IsLeftUnread reading old new × WritesNothing writing
 IsServed reading writing old new (Err (fault.Write code)) =
     (answer : Answer) × IsAnswerTo reading answer old new × (answer.code ≡ code) × WritesFront writing answer.bytes
 

@@ -1,15 +1,20 @@
-//! What a request asks for, once its path and method are known.
+//! What a request asks for, by its path and method.
 
 ghost use Rattle.std.specs.Prelude.{◌≡◌};
 ghost use Rattle.clock_front.specs.Requests as spec;
+ghost use Rattle.clock_http.specs.Routes.{page_of};
 ghost use Rattle.clock_http.specs.Shown.{shown_head};
 ghost use Rattle.clock_front.specs.inside.ShownAsked.{shown_asked};
 
-use clock_http::{Head, Page, last_segment};
+use clock_http::{Head, Page, Routes, last_segment};
 
 /// What is asked to be told. It changes nothing.
 #[derive(Clone, Copy, Debug)]
 pub(crate) enum Reading<'a> {
+    /// The path names no page.
+    NoPage,
+    /// The page is not for the method.
+    NoMethod(Page),
     Status,
     Products,
     Sheet(&'a [u8]),
@@ -28,7 +33,7 @@ pub(crate) enum Asked<'a> {
 }
 
 /// What is asked of a page by one of its methods.
-pub(crate) fn asked_of<'a>(page: Page, head: &Head<'a>, body: &'a [u8]) -> Asked<'a>
+fn asked_of_page<'a>(page: Page, head: &Head<'a>, body: &'a [u8]) -> Asked<'a>
     ensures { shown_asked result ≡ spec.ask_of_page page (shown_head head.now) body.now }
 {
     match page {
@@ -47,4 +52,17 @@ pub(crate) fn asked_of<'a>(page: Page, head: &Head<'a>, body: &'a [u8]) -> Asked
         Page::Close => Asked::Close(body),
         Page::Results => Asked::Read(Reading::Results),
     }
+}
+
+/// What a request asks for, by its path and method.
+pub(crate) fn asked_of<'a>(routes: &Routes, head: &Head<'a>, body: &'a [u8]) -> Asked<'a>
+    ensures { shown_asked result ≡ spec.ask_by_route (page_of head.now.path.now) (shown_head head.now) body.now }
+{
+    let Some(page) = routes.page_of(head.path) else {
+        return Asked::Read(Reading::NoPage);
+    };
+    if !page.has_method(head.method) {
+        return Asked::Read(Reading::NoMethod(page));
+    }
+    asked_of_page(page, head, body)
 }

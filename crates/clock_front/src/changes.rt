@@ -10,6 +10,7 @@ ghost use Rattle.clock_front.specs.Outcomes as told;
 ghost use Rattle.clock_front.specs.Outcomes.{answer_of};
 ghost use Rattle.clock_front.specs.inside.Private.{IsToldByView};
 ghost use Rattle.clock_front.specs.Requests as asked;
+ghost use Rattle.clock_views.specs.BidderPages.{accepted_value};
 ghost use Rattle.clock_views.specs.OperatorPages.{closed_value};
 
 use crate::pages::{refusal, written};
@@ -30,12 +31,12 @@ fn refused(alloc: Global, why: Refusal) -> Result<Reply, NoMemory>
     Ok(refusal(alloc, why)?)
 }
 
-/// That a sheet was accepted.
-fn accepted(alloc: Global, sheet: &PutBody) -> Result<Reply, NoMemory>
-    ensures { IfOk result (λ reply. reply ≡ answer_of (told.put_outcome sheet.now None)) }
+/// That a sheet of so many bids was accepted.
+fn accepted(alloc: Global, round: u64, bids: u64) -> Result<Reply, NoMemory>
+    ensures { IfOk result (λ reply. reply ≡ answer_of (told.done (accepted_value round bids))) }
 {
     let mut text = text_with_room(alloc, accepted_room())?;
-    push_accepted_page(&mut text, sheet.round, sheet.bids.as_slice().len() as u64);
+    push_accepted_page(&mut text, round, bids);
     Ok(written(Code::Done, None, text))
 }
 
@@ -46,9 +47,7 @@ fn put_refusal(alloc: Global, fault: PutFault) -> Result<Reply, NoMemory>
 {
     match fault {
         PutFault::NoMemory => Err(NoMemory),
-        PutFault::Ended => refused(alloc, Refusal::from(PutFault::Ended)),
-        PutFault::WrongRound(round) => refused(alloc, Refusal::from(PutFault::WrongRound(round))),
-        PutFault::Bid(fault) => refused(alloc, Refusal::from(PutFault::Bid(fault))),
+        _ => refused(alloc, Refusal::from(fault)),
     }
 }
 
@@ -66,9 +65,10 @@ fn put_sheet<P: Processor>(
     ensures followed { OnOk result (IsFollowedBy (command.put bidder sheet.round sheet.bids) house.old house.new) }
     ensures still { OnErr result (StandsStill house.old house.new) }
 {
-    match house.prepare_put(bidder, sheet.round, sheet.bids.as_slice()) {
+    let count = sheet.bids.as_slice().len() as u64;
+    match house.prepare_sheet(bidder, sheet.round, sheet.bids) {
         Ok(prepared) => {
-            let reply = accepted(alloc, &sheet)?;
+            let reply = accepted(alloc, sheet.round, count)?;
             house.commit_put(prepared);
             Ok(reply)
         }
@@ -113,17 +113,7 @@ fn close_refusal(alloc: Global, fault: CloseFault) -> Result<Reply, NoMemory>
 {
     match fault {
         CloseFault::NoMemory => Err(NoMemory),
-        CloseFault::Ended => refused(alloc, Refusal::from(CloseFault::Ended)),
-        CloseFault::WrongRound(round) => refused(
-            alloc,
-            Refusal::from(CloseFault::WrongRound(round)),
-        ),
-        CloseFault::Increment => refused(alloc, Refusal::from(CloseFault::Increment)),
-        CloseFault::Tie(fault) => refused(alloc, Refusal::from(CloseFault::Tie(fault))),
-        CloseFault::PriceLimit(product) => refused(
-            alloc,
-            Refusal::from(CloseFault::PriceLimit(product)),
-        ),
+        _ => refused(alloc, Refusal::from(fault)),
     }
 }
 

@@ -1,13 +1,14 @@
-ghost use Rattle.std.specs.Prelude.{◌≡◌, ◌⊎◌, ◌++◌, ℕ, true, List, [], Some, IfOk, IfErr, OnOk, OnErr, ◌==◌, is_some, IsSome};
+ghost use Rattle.std.specs.Prelude.{◌≡◌, ◌⊎◌, ◌++◌, ℕ, true, false, List, [], Some, IfOk, IfErr, IfSome, OnOk, OnErr, OnSome, ◌==◌, is_some, IsSome};
 ghost use Rattle.clock_front.specs.Fronts.{AnswersText, IsCutShort, IsStruckOut};
 ghost use Rattle.clock_front.specs.Private.{IsPrivateReply};
 ghost use Rattle.clock_http.specs.Framing.{needs_more};
+ghost use Rattle.clock_http.specs.Shown.{IsFramed};
 ghost use Rattle.clock_front.specs.Hubs.{text_of, is_full as is_full_of, standing_count, IsConnected, IsConnectFault, IsTaken, IsGone};
 
 use crate::front::Front;
 use crate::hub_fault::HubFault;
 use clock_device::NoMemory;
-use clock_http::{Arriving, Reply};
+use clock_http::{Arriving, Framing, Reply};
 use clock_processor::Processor;
 use slab::Slab;
 use std::alloc::Global;
@@ -67,6 +68,14 @@ impl Partial {
         Ok(short)
     }
 
+    /// What the text is with a piece that has its whole body, where its head alone has come.
+    fn framing_with<'a>(&'a self, piece: &'a [u8]) -> Option<Framing<'a>>
+        ensures is { IfSome result (IsFramed (self.now.text ++ piece.now)) }
+        ensures whole { OnSome result (needs_more (self.now.text ++ piece.now) ≡ false) }
+    {
+        self.request.framing_with(piece)
+    }
+
     /// The reply to the text, after which the input has ended.
     pub fn answer<P: Processor>(&self, front: &mut Front<P>) -> Reply
         ensures answered { AnswersText self.now.text result front.old front.new }
@@ -74,7 +83,7 @@ impl Partial {
         ensures setup { front.new.setup ≡ front.old.setup }
         ensures cut_short { needs_more self.now.text ≡ true → IsCutShort result }
     {
-        front.answer_known(self.request.as_slice(), self.request.progress())
+        front.answer_framed(self.request.framing())
     }
 }
 
@@ -152,6 +161,18 @@ impl Connections {
         ensures err { OnErr result (self.new ≡ self.old) }
     {
         self.slab[conn.slot].take(piece)
+    }
+
+    /// What the text of a connection is with a piece that has its whole body, where its head alone has come. The piece
+    /// is not taken.
+    pub fn framing_with<'a>(&'a self, conn: Conn, piece: &'a [u8]) -> Option<Framing<'a>>
+        requires { IsSome (text_of self.now conn) }
+        ensures is { (text : List ℕ) → text_of self.now conn ≡ Some text
+            → IfSome result (IsFramed (text ++ piece.now)) }
+        ensures whole { (text : List ℕ) → text_of self.now conn ≡ Some text
+            → OnSome result (needs_more (text ++ piece.now) ≡ false) }
+    {
+        self.slab[conn.slot].framing_with(piece)
     }
 
     /// Takes a connection out.

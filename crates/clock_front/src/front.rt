@@ -1,9 +1,9 @@
-ghost use Rattle.std.specs.Prelude.{◌≡◌, ◌⊎◌, true, [], length, IfOk, IfErr, IsOk, OnOk, OnErr};
+ghost use Rattle.std.specs.Prelude.{◌≡◌, ◌⊎◌, ℕ, List, true, [], length, IfOk, IfErr, IsOk, OnOk, OnErr};
 ghost use Rattle.clock_house.specs.House.{IsFollowedBy, StandsStill};
 ghost use Rattle.clock_http.specs.declared.code.Code.{Code as ReplyCode};
 ghost use Rattle.clock_front.specs.Askers.{asker as asker_with};
 ghost use Rattle.clock_front.specs.inside.Askers.{IsKnown};
-ghost use Rattle.clock_http.specs.Framing.{framing as framing_of, needs_more, refusal as refusal_of};
+ghost use Rattle.clock_http.specs.Framing.{framing as framing_of, incomplete, needs_more, refusal as refusal_of};
 ghost use Rattle.clock_front.specs.Fronts.{AnswersText, IsCutShort, IsDoneBy, IsStruckOut, StandsForTexts};
 ghost use Rattle.clock_front.specs.Outcomes.{answer_of, outcome, command_of, not_allowed as told_not_allowed, refused};
 ghost use Rattle.clock_front.specs.Rooms.{IsPrivateWant, IsWantOf, WantsRoom, refusal_room};
@@ -12,7 +12,7 @@ ghost use Rattle.clock_front.specs.Private.{IsPrivateReply};
 ghost use Rattle.clock_front.specs.inside.Private.{IsToldAsker};
 ghost use Rattle.clock_front.specs.Requests.{ask_by_route, request_of};
 ghost use Rattle.clock_http.specs.Routes.{page_of};
-ghost use Rattle.clock_http.specs.Shown.{Knows, shown_head};
+ghost use Rattle.clock_http.specs.Shown.{IsFramed, Knows, shown_framing, shown_head};
 ghost use Rattle.clock_front.specs.inside.ShownAsked.{shown_asked};
 ghost use Rattle.clock_front.specs.inside.TokenTable.{IsTableOf};
 ghost use Rattle.clock_front.specs.inside.KeptPage.{IsProductsPage};
@@ -20,13 +20,13 @@ ghost use Rattle.clock_front.specs.inside.KeptPage.{IsProductsPage};
 use crate::asked::{Asked, asked_of};
 use crate::changes::{close, put};
 use crate::fixed_replies::{fixed_reply, no_memory_reply};
-use crate::pages::{not_allowed, refusal};
+use crate::pages::refusal;
 use crate::telling::{bidder_of, operator_of, tell};
 use crate::tokens::{Asker, Tokens};
 use crate::unanswered::Unanswered;
 use clock_device::{NoMemory, Text};
 use clock_house::House;
-use clock_http::{Framing, Head, Page, Progress, Reply, Routes};
+use clock_http::{Framing, Progress, Reply, Routes, frame};
 use clock_processor::Processor;
 use clock_terms::Setup;
 use clock_views::{Code, Refusal, products_page};
@@ -67,80 +67,6 @@ fn turn_away(alloc: Global, why: Refusal) -> Result<Reply, Unanswered>
     Ok(refusal(alloc, why)?)
 }
 
-/// The refusal of a method that the page has not.
-fn refuse_method(alloc: Global, page: Page) -> Result<Reply, Unanswered>
-    ensures reply { IfOk result (λ reply. reply ≡ answer_of (told_not_allowed page)) }
-    ensures wanted { IfErr result (λ wanted. wanted ≡ unanswered.Room refusal_room) }
-{
-    Ok(not_allowed(alloc, page)?)
-}
-
-/// What an asker asks for is told or done, or it is told why not.
-fn answer_asked<P: Processor>(
-    alloc: Global,
-    house: &mut House<P>,
-    products: &[u8],
-    asker: Asker,
-    what: Asked<'_>,
-) -> Result<Reply, Unanswered>
-    requires known { IsKnown (length house.old.setup.bidders) asker }
-    requires page { IsProductsPage house.old.setup products.now }
-    ensures reply { IfOk result (λ reply. reply ≡ answer_of (outcome house.old asker (shown_asked what.entry))) }
-    ensures wanted { IfErr result (WantsRoom asker (shown_asked what.entry)
-        (outcome house.old asker (shown_asked what.entry))) }
-    ensures followed { OnOk result (IsFollowedBy (command_of house.old.setup asker (shown_asked what.entry))
-        house.old house.new) }
-    ensures still { OnErr result (StandsStill house.old house.new) }
-{
-    house.law_of_house();
-    match what {
-        Asked::Read(what) => Ok(tell(alloc, house, products, asker, what)?),
-        Asked::Put(body) => match bidder_of(asker) {
-            Ok(bidder) => Ok(put(alloc, house, bidder, body)?),
-            Err(away) => turn_away(alloc, away),
-        },
-        Asked::Close(body) => match operator_of(asker) {
-            Ok(()) => Ok(close(alloc, house, body)?),
-            Err(away) => turn_away(alloc, away),
-        },
-    }
-}
-
-/// What a request asks for, by its path and method.
-fn answer_head<P: Processor>(
-    alloc: Global,
-    house: &mut House<P>,
-    routes: &Routes,
-    products: &[u8],
-    asker: Asker,
-    head: &Head<'_>,
-    body: &[u8],
-) -> Result<Reply, Unanswered>
-    requires known { IsKnown (length house.old.setup.bidders) asker }
-    requires page { IsProductsPage house.old.setup products.now }
-    ensures reply { IfOk result (λ reply. reply
-        ≡ answer_of (outcome house.old asker (ask_by_route (page_of head.now.path.now) (shown_head head.now)
-        body.now))) }
-    ensures wanted { IfErr result (WantsRoom asker (ask_by_route (page_of head.now.path.now)
-        (shown_head head.now) body.now)
-        (outcome house.old asker (ask_by_route (page_of head.now.path.now) (shown_head head.now) body.now))) }
-    ensures private { IfOk result (IsToldAsker house.old asker (ask_by_route (page_of head.now.path.now)
-        (shown_head head.now) body.now)) }
-    ensures followed { OnOk result (IsFollowedBy
-        (command_of house.old.setup asker (ask_by_route (page_of head.now.path.now) (shown_head head.now) body.now))
-        house.old house.new) }
-    ensures still { OnErr result (StandsStill house.old house.new) }
-{
-    house.law_of_house();
-    let Some(page) = routes.page_of(head.path) else {
-        return turn_away(alloc, Refusal::alone(Code::NoPage));
-    };
-    if !page.has_method(head.method) {
-        return refuse_method(alloc, page);
-    }
-    answer_asked(alloc, house, products, asker, asked_of(page, head, body))
-}
-
 /// Whose the tokens of a set-up are, the routes of all pages, and the page of products, which never changes.
 fn tables(alloc: Global, setup: &Setup) -> Result<(Tokens, Routes, Text), NoMemory>
     ensures tokens { IfOk result (λ all. IsTableOf setup.now all.0) }
@@ -174,39 +100,78 @@ impl<P: Processor> Front<P> {
         }
     }
 
-    /// The reply to a text of which this is known, where there is memory for it; otherwise what was refused, and
-    /// nothing has changed. A text that asks for a page alone goes without a reply only with the refusal of room for
-    /// it, of a size that follows from the right reply: so for a bidder's own text it follows from its view.
-    pub fn try_answer(&mut self, text: &[u8], progress: Progress) -> Result<Reply, Unanswered>
-        requires { Knows text.now progress }
-        ensures reply { IfOk result (λ reply. reply
-            ≡ answer_of (outcome self.old (asker_with self.old.setup (request_of text.now).token)
-            (request_of text.now).ask)) }
-        ensures followed { OnOk result (IsFollowedBy
-            (command_of self.old.setup (asker_with self.old.setup (request_of text.now).token)
-            (request_of text.now).ask) self.old self.new) }
+    /// What an asker asks for is told or done, or it is told why not.
+    fn answer_asked(&mut self, asker: Asker, what: Asked<'_>) -> Result<Reply, Unanswered>
+        requires { IsKnown (length self.old.setup.bidders) asker }
+        ensures reply { IfOk result (λ reply. reply ≡ answer_of (outcome self.old asker (shown_asked what.entry))) }
+        ensures wanted { IfErr result (WantsRoom asker (shown_asked what.entry)
+            (outcome self.old asker (shown_asked what.entry))) }
+        ensures private { IfOk result (IsToldAsker self.old asker (shown_asked what.entry)) }
+        ensures followed { OnOk result (IsFollowedBy (command_of self.old.setup asker (shown_asked what.entry))
+            self.old self.new) }
         ensures still { OnErr result (StandsStill self.old self.new) }
-        ensures private { IfOk result (IsPrivateReply text.now self.old) }
-        ensures wanted { IfErr result (IsWantOf text.now self.old) }
-        ensures wanted_privately { IfErr result (IsPrivateWant text.now self.old) }
-        ensures refused { (code : ReplyCode) → framing_of text.now ≡ refusal_of code → IsOk result }
     {
         self.house.law_of_house();
-        match progress.framing(text) {
+        match what {
+            Asked::Read(what) => {
+                let page = self.products.as_slice();
+                Ok(tell(self.alloc, &self.house, page, asker, what)?)
+            }
+            Asked::Put(body) => match bidder_of(asker) {
+                Ok(bidder) => Ok(put(self.alloc, &mut self.house, bidder, body)?),
+                Err(away) => turn_away(self.alloc, away),
+            },
+            Asked::Close(body) => match operator_of(asker) {
+                Ok(()) => Ok(close(self.alloc, &mut self.house, body)?),
+                Err(away) => turn_away(self.alloc, away),
+            },
+        }
+    }
+
+    /// The reply to a text that is framed so, where there is memory for it; otherwise what was refused, and nothing has
+    /// changed. A text that asks for a page alone goes without a reply only with the refusal of room for it, of a size
+    /// that follows from the right reply: so for a bidder's own text it follows from its view.
+    pub fn try_answer(&mut self, framing: Framing<'_>) -> Result<Reply, Unanswered>
+        requires { (text : List ℕ) × IsFramed text framing }
+        ensures reply { (text : List ℕ) → IsFramed text framing.entry → IfOk result (λ reply. reply
+            ≡ answer_of (outcome self.old (asker_with self.old.setup (request_of text).token) (request_of text).ask)) }
+        ensures followed { (text : List ℕ) → IsFramed text framing.entry → OnOk result (IsFollowedBy
+            (command_of self.old.setup (asker_with self.old.setup (request_of text).token) (request_of text).ask)
+            self.old self.new) }
+        ensures still { OnErr result (StandsStill self.old self.new) }
+        ensures private { (text : List ℕ) → IsFramed text framing.entry → IfOk result (IsPrivateReply text self.old) }
+        ensures wanted { (text : List ℕ) → IsFramed text framing.entry → IfErr result (IsWantOf text self.old) }
+        ensures wanted_privately { (text : List ℕ) → IsFramed text framing.entry
+            → IfErr result (IsPrivateWant text self.old) }
+        ensures refused { (code : ReplyCode) → shown_framing framing.entry ≡ refusal_of code → IsOk result }
+    {
+        self.house.law_of_house();
+        match framing {
             Framing::NeedMore => turn_away(self.alloc, Refusal::alone(Code::CutShort)),
             Framing::Refused(code) => Ok(fixed_reply(code)),
             Framing::Whole { head, body } => {
                 let asker = self.tokens.asker(head.token);
-                answer_head(
-                    self.alloc,
-                    &mut self.house,
-                    &self.routes,
-                    self.products.as_slice(),
-                    asker,
-                    &head,
-                    body,
-                )
+                let what = asked_of(&self.routes, &head, body);
+                self.answer_asked(asker, what)
             }
+        }
+    }
+
+    /// The reply to a text that is framed so, after which the input has ended. It is that of [`Front::answer`]; head and
+    /// body need not stand together.
+    pub fn answer_framed(&mut self, framing: Framing<'_>) -> Reply
+        requires { (text : List ℕ) × IsFramed text framing }
+        ensures answered { (text : List ℕ) → IsFramed text framing.entry → AnswersText text result self.old self.new }
+        ensures done { (text : List ℕ) → IsFramed text framing.entry → IsDoneBy text result self.old self.new }
+        ensures private { (text : List ℕ) → IsFramed text framing.entry
+            → IsStruckOut text result ⊎ IsPrivateReply text self.old result }
+        ensures setup { self.new.setup ≡ self.old.setup }
+        ensures refused { (code : ReplyCode) → shown_framing framing.entry ≡ refusal_of code → result.code ≡ code }
+        ensures cut_short { shown_framing framing.entry ≡ incomplete → IsCutShort result }
+    {
+        match self.try_answer(framing) {
+            Ok(reply) => reply,
+            Err(_) => no_memory_reply(),
         }
     }
 
@@ -221,10 +186,7 @@ impl<P: Processor> Front<P> {
         ensures refused { (code : ReplyCode) → framing_of text.now ≡ refusal_of code → result.code ≡ code }
         ensures cut_short { needs_more text.now ≡ true → IsCutShort result }
     {
-        match self.try_answer(text, progress) {
-            Ok(reply) => reply,
-            Err(_) => no_memory_reply(),
-        }
+        self.answer_framed(progress.framing(text))
     }
 
     /// The reply to a text, after which the input has ended: a request, less than one, or none at all.
@@ -238,7 +200,7 @@ impl<P: Processor> Front<P> {
         ensures setup { self.new.setup ≡ self.old.setup }
         ensures refused { (code : ReplyCode) → framing_of text.now ≡ refusal_of code → result.code ≡ code }
     {
-        self.answer_known(text, Progress::new().advance(text))
+        self.answer_framed(frame(text))
     }
 
     /// The house that is asked.

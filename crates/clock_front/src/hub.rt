@@ -1,13 +1,14 @@
-ghost use Rattle.std.specs.Prelude.{◌≡◌, ◌++◌, ℕ, true, List, [], Some, IfOk, IfErr, OnErr, OnOk, IsSome};
+ghost use Rattle.std.specs.Prelude.{◌≡◌, ◌++◌, ℕ, true, List, [], Some, IfNone, IfOk, IfErr, IfSome, OnErr, OnOk, IsSome};
 ghost use Rattle.clock_front.specs.Fronts.{IsCutShort};
 ghost use Rattle.clock_http.specs.Framing.{needs_more};
 ghost use Rattle.clock_front.specs.Hubs.{text_of, IsConnected, IsConnectFault, IsFed, IsFeedFault, IsAnswered, IsFinishFault};
-ghost use Rattle.clock_front.specs.inside.Hubs.{IsReply};
+ghost use Rattle.clock_front.specs.declared.fed.Fed.TheVariants as fed;
 
 use crate::connections::{Conn, Connections};
 use crate::fed::Fed;
 use crate::front::Front;
 use crate::hub_fault::HubFault;
+use clock_device::NoMemory;
 use clock_http::Reply;
 use clock_processor::Processor;
 use std::alloc::Global;
@@ -48,19 +49,67 @@ fn complete<P: Processor>(front: &mut Front<P>, connections: &mut Connections, c
     partial.answer(front)
 }
 
-/// The same, as what a piece has led to. The place of the reply is made here, and so only where there is one.
+/// Takes a piece of the request of a connection that stands, or nothing of it.
 #[inline(always)]
-fn complete_fed<P: Processor>(
+fn feed_on<P: Processor>(
     front: &mut Front<P>,
     connections: &mut Connections,
     conn: Conn,
-) -> Fed
+    piece: &[u8],
+) -> Result<Fed, NoMemory>
     requires { IsSome (text_of connections.old conn) }
-    ensures { (text : List ℕ) → text_of connections.old conn ≡ Some text
-        → IsReply result (IsAnswered (record { house = front.old; connections = connections.old })
-        (record { house = front.new; connections = connections.new }) conn text) }
+    ensures fed { (text : List ℕ) → text_of connections.old conn ≡ Some text
+        → IfOk result (IsFed (record { house = front.old; connections = connections.old })
+        (record { house = front.new; connections = connections.new }) conn (text ++ piece.now)) }
+    ensures front { OnErr result (front.new ≡ front.old) }
+    ensures connections { OnErr result (connections.new ≡ connections.old) }
 {
-    Fed::Reply(complete(front, connections, conn))
+    if connections.take(conn, piece)? {
+        return Ok(Fed::More);
+    }
+    Ok(Fed::Reply(complete(front, connections, conn)))
+}
+
+/// Answers the request of a connection of which the head alone has come, with a piece that has its whole body: nothing
+/// of it is kept, and the connection is gone. None where more has come, or more is awaited.
+fn complete_with<P: Processor>(
+    front: &mut Front<P>,
+    connections: &mut Connections,
+    conn: Conn,
+    piece: &[u8],
+) -> Option<Reply>
+    requires { IsSome (text_of connections.old conn) }
+    ensures fed { (text : List ℕ) → text_of connections.old conn ≡ Some text
+        → IfSome result (λ reply. IsFed (record { house = front.old; connections = connections.old })
+        (record { house = front.new; connections = connections.new }) conn (text ++ piece.now) (fed.Reply reply)) }
+    ensures front { IfNone result (front.new ≡ front.old) }
+    ensures connections { IfNone result (connections.new ≡ connections.old) }
+{
+    let framing = connections.framing_with(conn, piece)?;
+    let reply = front.answer_framed(framing);
+    let _answered = connections.remove(conn);
+    Some(reply)
+}
+
+/// The same as [`feed_on`], of more than one byte. It stands apart, so that what a single byte costs stays small.
+#[inline(never)]
+fn feed_piece<P: Processor>(
+    front: &mut Front<P>,
+    connections: &mut Connections,
+    conn: Conn,
+    piece: &[u8],
+) -> Result<Fed, NoMemory>
+    requires { IsSome (text_of connections.old conn) }
+    ensures fed { (text : List ℕ) → text_of connections.old conn ≡ Some text
+        → IfOk result (IsFed (record { house = front.old; connections = connections.old })
+        (record { house = front.new; connections = connections.new }) conn (text ++ piece.now)) }
+    ensures front { OnErr result (front.new ≡ front.old) }
+    ensures connections { OnErr result (connections.new ≡ connections.old) }
+{
+    match complete_with(front, connections, conn, piece) {
+        Some(reply) => Ok(Fed::Reply(reply)),
+        None => feed_on(front, connections, conn, piece),
+    }
 }
 
 impl<P: Processor> Hub<P> {
@@ -98,10 +147,10 @@ impl<P: Processor> Hub<P> {
         if !self.connections.stands(conn) {
             return Err(HubFault::Unknown);
         }
-        if self.connections.take(conn, piece)? {
-            return Ok(Fed::More);
-        }
-        let fed = complete_fed(&mut self.front, &mut self.connections, conn);
+        let fed = match piece {
+            [_] => feed_on(&mut self.front, &mut self.connections, conn, piece)?,
+            _ => feed_piece(&mut self.front, &mut self.connections, conn, piece)?,
+        };
         Ok(fed)
     }
 

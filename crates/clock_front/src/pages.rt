@@ -3,7 +3,7 @@
 ghost use Rattle.std.specs.Prelude.{◌≡◌, ◌≤◌, ◌<◌, drop, length, Some, None, IfOk, IfErr};
 ghost use Rattle.clock_front.specs.declared.tokens.Asker.TheVariants as who;
 ghost use Rattle.clock_front.specs.Outcomes.{answer_of, done, not_allowed as told_not_allowed, refused, told};
-ghost use Rattle.clock_front.specs.Rooms.{room_of, refusal_room};
+ghost use Rattle.clock_front.specs.Rooms.{refusal_room, reply_room};
 ghost use Rattle.clock_http.specs.Replies.{reply_bytes};
 ghost use Rattle.clock_front.specs.inside.KeptPage.{IsProductsPage};
 ghost use Rattle.clock_terms.specs.Limits.{SetupFields, public_setup};
@@ -53,7 +53,7 @@ pub(crate) fn not_allowed(alloc: Global, page: Page) -> Result<Reply, NoRoom>
 /// Where the auction stands.
 pub(crate) fn status<P>(alloc: Global, house: &House<P>) -> Result<Reply, NoRoom>
     ensures reply { IfOk result (λ reply. reply ≡ answer_of (told house.now who.Nobody asked.status)) }
-    ensures room { IfErr result (λ room. room ≡ room_of asked.status (told house.now who.Nobody asked.status)) }
+    ensures room { IfErr result (λ room. room ≡ reply_room asked.status (told house.now who.Nobody asked.status)) }
 {
     let mut text = text_with_room(alloc, status_room())?;
     push_status_page(&mut text, house.setup(), house.round(), house.ended());
@@ -74,7 +74,7 @@ pub(crate) fn products(alloc: Global, page: &[u8]) -> Result<Reply, NoRoom>
 /// The sheet of the round that a segment names.
 pub(crate) fn sheet<P>(alloc: Global, house: &House<P>, segment: &[u8]) -> Result<Reply, NoRoom>
     ensures reply { IfOk result (λ reply. reply ≡ answer_of (told house.now who.Nobody (asked.sheet segment.now))) }
-    ensures room { IfErr result (λ room. room ≡ room_of (asked.sheet segment.now) (told house.now who.Nobody
+    ensures room { IfErr result (λ room. room ≡ reply_room (asked.sheet segment.now) (told house.now who.Nobody
         (asked.sheet segment.now))) }
 {
     let Some(round) = plain_number(segment) else {
@@ -93,7 +93,7 @@ pub(crate) fn account<P>(alloc: Global, house: &House<P>, bidder: u32) -> Result
     requires { bidder < length house.now.setup.bidders }
     ensures reply { IfOk result (λ reply. reply ≡ answer_of (told house.now (who.Bidder bidder) asked.account)) }
     ensures private { IfOk result (IsToldByView house.now bidder asked.account) }
-    ensures room { IfErr result (λ room. room ≡ room_of asked.account (told house.now (who.Bidder bidder)
+    ensures room { IfErr result (λ room. room ≡ reply_room asked.account (told house.now (who.Bidder bidder)
         asked.account)) }
 {
     let own = house.own(bidder);
@@ -106,7 +106,7 @@ pub(crate) fn account<P>(alloc: Global, house: &House<P>, bidder: u32) -> Result
 pub(crate) fn bids<P>(alloc: Global, house: &House<P>, bidder: u32) -> Result<Reply, NoRoom>
     requires { bidder < length house.now.setup.bidders }
     ensures reply { IfOk result (λ reply. reply ≡ answer_of (told house.now (who.Bidder bidder) asked.bids)) }
-    ensures room { IfErr result (λ room. room ≡ room_of asked.bids (told house.now (who.Bidder bidder) asked.bids)) }
+    ensures room { IfErr result (λ room. room ≡ reply_room asked.bids (told house.now (who.Bidder bidder) asked.bids)) }
 {
     let sheet = house.bids(bidder);
     let mut text = text_with_room(alloc, bids_room(sheet))?;
@@ -124,7 +124,7 @@ pub(crate) fn slip<P>(
     requires { bidder < length house.now.setup.bidders }
     ensures reply { IfOk result (λ reply. reply
         ≡ answer_of (told house.now (who.Bidder bidder) (asked.slip segment.now))) }
-    ensures room { IfErr result (λ room. room ≡ room_of (asked.slip segment.now) (told house.now (who.Bidder bidder)
+    ensures room { IfErr result (λ room. room ≡ reply_room (asked.slip segment.now) (told house.now (who.Bidder bidder)
         (asked.slip segment.now))) }
 {
     let Some(round) = plain_number(segment) else {
@@ -143,7 +143,7 @@ pub(crate) fn slip<P>(
 pub(crate) fn results<P>(alloc: Global, house: &House<P>) -> Result<Reply, NoRoom>
     ensures reply { IfOk result (λ reply. reply
         ≡ answer_of (told (without_room house.now) who.Operator asked.results)) }
-    ensures room { IfErr result (λ room. room ≡ room_of asked.results (told (without_room house.now) who.Operator
+    ensures room { IfErr result (λ room. room ≡ reply_room asked.results (told (without_room house.now) who.Operator
         asked.results)) }
 {
     let mut text = text_with_room(alloc, results_room(house))?;

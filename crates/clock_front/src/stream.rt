@@ -3,7 +3,7 @@ ghost use Rattle.clock_device.specs.Calls.{IsUnread, IsUnused};
 ghost use Rattle.clock_device.specs.Readings.{Reading};
 ghost use Rattle.clock_front.specs.Arrivals.{most_request_reads};
 ghost use Rattle.clock_front.specs.Fronts.{StandsForTexts};
-ghost use Rattle.clock_front.specs.Streamed.{HasServed, IsAnswerTo, IsServed, IsUnanswered};
+ghost use Rattle.clock_front.specs.Streamed.{HasServed, IsAnswerTo, IsServed, IsLeftUnread};
 
 use crate::fixed_replies::no_memory_reply;
 use crate::front::Front;
@@ -28,14 +28,14 @@ fn answer_source<P: Processor, R: Source>(
       calls = R.calls source.new;
       interruptions = R.interruptions source.new;
       has_failed = R.has_failed source.new;
-    } in MatchOption result (IsUnanswered reading front.old front.new) (λ reply. IsAnswerTo reading reply
+    } in MatchOption result (IsLeftUnread reading front.old front.new) (λ reply. IsAnswerTo reading reply
         front.old front.new) }
     ensures stands { (texts : List (List ℕ)) → StandsForTexts texts front.old → HasServed 1 texts front.new }
     ensures calls { R.calls source.new ≤ most_request_reads }
     ensures setup { front.new.setup ≡ front.old.setup }
 {
     match read_request(alloc, source) {
-        Ok(request) => Some(front.answer_known(request.as_slice(), request.progress())),
+        Ok(request) => Some(front.answer_framed(request.framing())),
         Err(Unread::Memory) => Some(no_memory_reply()),
         Err(Unread::Read) => None,
     }

@@ -3,12 +3,12 @@
 ghost use Rattle.std.specs.Prelude.{◌≡◌, ◌<◌, ℕ, length, IfOk, IfErr, OnOk, OnErr};
 ghost use Rattle.clock_front.specs.inside.Askers.{IsKnown};
 ghost use Rattle.clock_front.specs.Outcomes.{Outcome, answer_of, outcome, refused, to_bidder, to_operator};
-ghost use Rattle.clock_front.specs.Rooms.{room_of};
+ghost use Rattle.clock_front.specs.Rooms.{reply_room};
 ghost use Rattle.clock_front.specs.inside.ShownAsked.{shown_reading};
 ghost use Rattle.clock_front.specs.inside.KeptPage.{IsProductsPage};
 
 use crate::asked::Reading;
-use crate::pages::{account, bids, products, refusal, results, sheet, slip, status};
+use crate::pages::{account, bids, not_allowed, products, refusal, results, sheet, slip, status};
 use crate::tokens::Asker;
 use clock_house::House;
 use clock_http::{NoRoom, Reply};
@@ -52,10 +52,12 @@ pub(crate) fn tell<P>(
     requires page { IsProductsPage house.now.setup page.now }
     requires known { IsKnown (length house.now.setup.bidders) asker }
     ensures reply { IfOk result (λ reply. reply ≡ answer_of (outcome house.now asker (shown_reading what.entry))) }
-    ensures room { IfErr result (λ room. room ≡ room_of (shown_reading what.entry)
+    ensures room { IfErr result (λ room. room ≡ reply_room (shown_reading what.entry)
         (outcome house.now asker (shown_reading what.entry))) }
 {
     match what {
+        Reading::NoPage => refusal(alloc, Refusal::alone(Code::NoPage)),
+        Reading::NoMethod(page) => not_allowed(alloc, page),
         Reading::Status => status(alloc, house),
         Reading::Products => products(alloc, page),
         Reading::Sheet(segment) => sheet(alloc, house, segment),

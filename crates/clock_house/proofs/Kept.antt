@@ -1,12 +1,11 @@
 -- What a house that stands for a list of commands keeps.
-use Rattle.std.proofs.Common.{◌≡◌, ℕ, zero, suc, ◌-◌, ◌≤◌, List, [], ◌∷◌, Bool, false, length, refl, ap, sym, subst, ◌∙◌, arith, All}
+use Rattle.std.proofs.Common.{◌≡◌, ℕ, zero, suc, ◌-◌, ◌≤◌, List, [], ◌∷◌, false, length, refl, ap, sym, subst, ◌∙◌, arith, All}
 use Rattle.std.specs.Prelude.{Option, Some, None, reverse, slice_get}
 use Rattle.std.proofs.lemmas.Option.{none-some, slice_get_within, get_or_from_slice_get}
 use Rattle.std.proofs.lemmas.List.Elements.{All-nil, All-cons, All-head, All-tail, All-append}
 use Rattle.std.proofs.lemmas.List.{reverse-reverse}
 use Rattle.std.proofs.lemmas.List.FromFn.{length-map-range_with_len}
-use Rattle.clock_terms.specs.Limits.{SetupFields, IsSetup, public_setup}
-use Rattle.clock_terms.specs.declared.prices.PricePair.{PricePair}
+use Rattle.clock_terms.specs.Limits.{IsSetup, public_setup}
 use Rattle.clock_bids.specs.declared.sheet.Bid.{Bid}
 use Rattle.clock_house.specs.Command.{Command}
 use Rattle.clock_terms.specs.Prices.{opening_prices}
@@ -15,7 +14,6 @@ use Rattle.clock_house.specs.History.{ClosedRound, round_at, history, standing, 
 use Rattle.clock_house.specs.inside.OpenRounds.{open_round}
 use Rattle.clock_house.specs.House.{HouseFields, StandsFor, standing_in, holding_in}
 use Rattle.clock_house.specs.inside.OpenRounds.{open_round_in}
-use Rattle.clock_house.specs.inside.Kept.{IsKept}
 use Rattle.clock_house.specs.Laws.{AreNumbered, IsSound, IsOpen}
 use Rattle.clock_house.proofs.Sound.{sound, open_sound}
 use Rattle.clock_house.proofs.Numbers.{numbered, round-closed, first_prices, reverse_cons}
@@ -38,24 +36,6 @@ module _ (house : HouseFields) (commands : List Command) (stands : StandsFor com
         sheets = sheets;
       } in round in
       ap (λ (closed : List ClosedRound). at closed house.sheets) stands.closed ∙ ap (at (history house.setup commands).closed) stands.sheets
-
--- what a house keeps is the same with other room for further rounds
-pub kept_items : (setup : SetupFields) (sheets : List (Option (List Bid))) (items like : List ClosedRound) (spare more : ℕ) (ended : Bool) (round : ℕ)
-    (prices : List PricePair) (demands : List (List ℕ)) → like ≡ items →
-    IsKept (record { setup = setup; closed = reverse items; sheets = sheets; spare = spare }) ended round prices demands →
-    IsKept (record { setup = setup; closed = reverse like; sheets = sheets; spare = more }) ended round prices demands
-kept_items setup sheets items like spare more ended round prices demands same kept =
-    subst (λ (list : List ClosedRound). IsKept (record { setup = setup; closed = reverse list; sheets = sheets; spare = more }) ended round prices demands)
-    (sym same)
-    (record {
-      limits = kept.limits;
-      commands = kept.commands;
-      stands = record { closed = kept.stands.closed; sheets = kept.stands.sheets };
-      ended_is = kept.ended_is;
-      round_is = kept.round_is;
-      prices_are = kept.prices_are;
-      demands_are = kept.demands_are;
-    })
 
 -- what is looked up by number among rounds in order is the round of that number
 pub found_round : (n : ℕ) (items : List ClosedRound) (found : Option ClosedRound) →

@@ -1,5 +1,6 @@
 pub mod Prefixes
 mod HeadLaws
+mod LineLaws
 mod ScanLaws
 mod DecimalLaws
 mod HeaderLaws

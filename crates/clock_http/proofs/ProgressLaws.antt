@@ -1,10 +1,10 @@
 -- What the code's values show of a text and of what follows it.
 use Rattle.std.proofs.Common.{◌≡◌, ℕ, ◌+◌, ◌-◌, ◌≤◌, ◌<◌, true, false, cond, List, ◌++◌, length, take, drop, min, Option, Some, None}
-use Rattle.std.proofs.Common.{Ok, Err, Result, refl, sym, ◌∙◌, ap, subst, arith, inl, inr, length-drop, append_assoc}
+use Rattle.std.proofs.Common.{Ok, Err, Result, refl, sym, ◌∙◌, ap, subst, arith, inl, inr, length-append, length-drop}
 use Rattle.std.specs.Prelude.{option_map, nat_lt}
 use Rattle.std.proofs.lemmas.Bool.Decides.{nat_tests}
 use Rattle.std.proofs.lemmas.List.{take-append-le, drop-append-le, length-take, take-append-drop, take_all, take_min}
-use Rattle.std.proofs.Math.Seq.{take-add, take-append_seam}
+use Rattle.std.proofs.Math.Seq.{take-add, take-append_seam, drop-append_seam}
 use Rattle.httparse.specs.Spans.{span_bytes, IsWithin}
 use Rattle.httparse.specs.declared.spans.Span.{Span}
 use Rattle.clock_http.specs.declared.code.Code.{Code}
@@ -201,6 +201,20 @@ whole_of text shown head n body same is =
     ap (λ h. whole h (take (n + body - n) (drop n text))) same
     ∙ ap (λ k. whole head (take k (drop n text))) (let e : n + body - n ≡ body = omega arith in e) ∙ framed_of text _ is
 
+-- a text that is its head alone is whole with a piece that has its body
+pub whole_with : (text piece : List ℕ) (shown : Head) (head : EndedHead)
+    → waiting (shown_ended text head) head.length head.body ≡ known text → shown ≡ shown_ended text head
+    → head.length ≡ length text → head.body ≤ length piece → whole shown (take head.body piece) ≡ framing (text ++ piece)
+whole_with text piece shown head is same all fits =
+    let joined = text ++ piece in
+    let come : nat_lt (length joined) (head.length + head.body) ≡ false = grind (arith, nat_tests, length-append text piece) in
+    let behind : drop head.length joined ≡ piece = ap (λ n. drop n joined) all ∙ drop-append_seam text piece in
+    let Shown : Head → Known = λ h. known_with_body (length joined) h head.length head.body in
+    let knows : Shown (shown_ended text head) ≡ known joined = sym (known_by_parts text piece ∙ ap (λ k. advanced k joined) (sym is)) in
+    ap (λ rest. whole shown (take head.body rest)) (sym behind)
+    ∙ framed_of joined (complete shown head.length head.body)
+    (sym (ap (λ t. cond t (waiting shown head.length head.body) (complete shown head.length head.body)) come) ∙ ap Shown same ∙ knows)
+
 pub request_longer : (n m : ℕ) (head : EndedHead) → n ≤ m → IsRequestWithin n head → IsRequestWithin m head
 request_longer n m head le is = record { head = head_longer n m head le is.head; body = (let fits = is.body in omega arith) }
 
@@ -215,10 +229,3 @@ knows_start text more progress knows = (length text, subst (λ front. Knows fron
 -- no text has fewer bytes than none
 pub none_below : (text : List ℕ) (progress : Progress) → WaitsBelow 0 text progress
 none_below text progress more less = absurd (omega arith)
-
--- what follows a text follows each that begins with it
-pub below_longer : (text piece : List ℕ) (progress : Progress) (awaited : ℕ) → WaitsBelow awaited text progress
-    → WaitsBelow awaited (text ++ piece) progress
-below_longer text piece progress awaited below more less =
-    let same = append_assoc text piece more in
-    subst (λ t. Waits t progress) (sym same) (below (piece ++ more) (subst (λ (t : List ℕ). length t < awaited) same less))

@@ -1,12 +1,9 @@
 -- The steps of reading a text.
-use Rattle.std.proofs.Common.{◌≡◌, ℕ, ◌-◌, ◌≤◌, Bool, true, false, cond, List, [], ◌++◌, length, map, take, drop, Option, Some, None}
+use Rattle.std.proofs.Common.{◌≡◌, ℕ, ◌-◌, ◌≤◌, false, cond, List, [], ◌++◌, length, map, take, drop, Option, Some, None}
 use Rattle.std.proofs.Common.{Result, Ok, Err, refl, sym, ◌∙◌, ap, arith}
 use Rattle.std.specs.Prelude.{nat_lt}
-use Rattle.std.specs.List.{position, position_or_len}
-use Rattle.std.proofs.lemmas.List.{take_all}
 use Rattle.std.proofs.Math.ListN.{drop_of_length-le}
 use Rattle.std.proofs.lemmas.Bool.Decides.{nat_tests}
-use Rattle.std.proofs.lemmas.Option.{cond_some}
 use Rattle.httparse.specs.declared.Error.{Error}
 use Rattle.httparse.specs.declared.Status.{Status}
 use Rattle.httparse.specs.declared.Status.TheVariants.{Complete, Partial}
@@ -23,16 +20,6 @@ use Rattle.clock_http.specs.HeaderLines.{pairs_of, body_length, token_of}
 use Rattle.clock_http.specs.Framing.{ended_head, or_bad_head, Head, length_read, and_length}
 use Rattle.clock_http.specs.inside.HeadParts.{path_of_target, head_with_length}
 use Rattle.clock_http.proofs.HeadLaws.{head_of_reads, found_of_reads, append_none}
-
-pub before_some : (p : ℕ → Bool) (xs : List ℕ) (i : ℕ) → Some i ≡ position p xs → take i xs ≡ take (position_or_len p xs) xs
-before_some p xs i is = ap (λ n. take n xs) (sym (cond_some (nat_lt (position_or_len p xs) (length xs)) _ _ (sym is)).1)
-
-pub before_none : (p : ℕ → Bool) (xs : List ℕ) → None ≡ position p xs → xs ≡ take (position_or_len p xs) xs
-before_none p xs is = by (nat_lt (position_or_len p xs) (length xs)) refl
-  where
-    by : (t : Bool) → nat_lt (position_or_len p xs) (length xs) ≡ t → xs ≡ take (position_or_len p xs) xs
-    by true e = absurd (let bad : None ≡ Some (position_or_len p xs) = is ∙ ap (λ t. cond t (Some (position_or_len p xs)) None) e in cc)
-    by false e = sym (take_all (position_or_len p xs) xs (grind (arith, nat_tests)))
 
 -- a parse that is complete at the end of the bytes has found their head
 pub parsed : (bytes : List ℕ) (headers : List HeaderSpan) (r : RequestSpans) → is_loose bytes ≡ false → r.len ≡ length bytes

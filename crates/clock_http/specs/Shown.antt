@@ -2,6 +2,7 @@
 --     Knows text progress      the progress is what is known of the text
 --     KnowsOfStart text progress      it is what is known of some beginning of the text
 --     shown_head head, shown_framing framing      a head and a framing whose parts are slices of a text
+--     IsFramed text framing      the framing is what the text is
 use Rattle.std.specs.Prelude.{◌≡◌, ◌≤◌, ◌+◌, ℕ, List, take, length, Option, Some, None, option_map}
 use Rattle.std.specs.Borrow.{Bor}
 use Rattle.httparse.specs.Spans.{span_bytes, IsWithin}
@@ -70,3 +71,7 @@ abbrev pub shown_framing : Framing → spec.Framing
 shown_framing framed.NeedMore = spec.incomplete
 shown_framing (framed.Refused fault) = spec.refusal fault
 shown_framing (framed.Whole head body) = spec.whole (shown_head head) body.now
+
+-- the framing is what the text is, wherever its parts stand
+abbrev pub IsFramed : List ℕ → Framing → Type 0
+IsFramed text framing = shown_framing framing ≡ spec.framing text

@@ -1,8 +1,9 @@
-ghost use Rattle.std.specs.Prelude.{◌≡◌, ◌+◌, ◌≤◌, ◌++◌, ℕ, List, [], length, take, IfOk, OnOk, OnErr};
+ghost use Rattle.std.specs.Prelude.{◌≡◌, ◌+◌, ◌≤◌, ◌++◌, ℕ, List, [], false, length, take, IfOk, IfSome, OnErr, OnOk, OnSome};
 ghost use Rattle.clock_http.specs.Framing.{needs_more};
-ghost use Rattle.clock_http.specs.Shown.{Knows, KnowsOfStart};
+ghost use Rattle.clock_http.specs.Shown.{IsFramed, Knows, KnowsOfStart};
 ghost use Rattle.clock_http.specs.inside.Followed.{IsFollowed};
 
+use crate::framing::{Framing, head_in};
 use crate::progress::Progress;
 use clock_device::NoMemory;
 use std::alloc::Global;
@@ -148,6 +149,30 @@ impl Arriving {
         self.count = self.room.len();
         let short = look_on(&mut self.room, &mut self.progress, &mut self.quiet);
         Ok(short)
+    }
+
+    /// What the bytes are.
+    pub fn framing(&self) -> Framing<'_>
+        ensures { IsFramed self.now result }
+    {
+        self.progress.framing(self.as_slice())
+    }
+
+    /// What the bytes are with a piece that has the whole body, where they are its head and no more: so nothing of it
+    /// need be kept.
+    pub fn framing_with<'a>(&'a self, piece: &'a [u8]) -> Option<Framing<'a>>
+        ensures is { IfSome result (IsFramed (self.now ++ piece.now)) }
+        ensures whole { OnSome result (needs_more (self.now ++ piece.now) ≡ false) }
+    {
+        match self.progress {
+            Progress::Waiting(head) if head.length == self.count && head.body <= piece.len() => {
+                Some(Framing::Whole {
+                    head: head_in(self.as_slice(), head),
+                    body: &piece[..head.body],
+                })
+            }
+            _ => None,
+        }
     }
 
     /// The bytes.

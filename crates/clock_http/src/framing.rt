@@ -1,8 +1,8 @@
 ghost use Rattle.std.specs.Prelude.{◌≡◌, ◌≤◌, ℕ, List, length, option_map, codes};
 ghost use Rattle.httparse.specs.Spans.{span_bytes};
-ghost use Rattle.clock_http.specs.Framing.{framing as framing_of, needs_more as needs_more_of};
+ghost use Rattle.clock_http.specs.Framing.{needs_more as needs_more_of};
 ghost use Rattle.clock_http.specs.Heads.{same_bytes};
-ghost use Rattle.clock_http.specs.Shown.{Knows, IsHeadWithin, IsSomeWithin, shown_ended, shown_head, shown_bytes, shown_framing};
+ghost use Rattle.clock_http.specs.Shown.{Knows, IsFramed, IsHeadWithin, IsSomeWithin, shown_ended, shown_head, shown_bytes};
 
 use crate::code::Code;
 use crate::head::EndedHead;
@@ -52,7 +52,7 @@ fn token_in(text: &[u8], token: Option<Span>) -> Option<&[u8]>
 }
 
 /// The parts of an ended head.
-fn head_in(text: &[u8], head: EndedHead) -> Head<'_>
+pub(crate) fn head_in(text: &[u8], head: EndedHead) -> Head<'_>
     requires { IsHeadWithin (length text.now) head }
     ensures { shown_head result ≡ shown_ended text.now head }
 {
@@ -79,7 +79,7 @@ impl Progress {
     /// What the text is of which this is known. It takes no memory, and all slices are of the text.
     pub fn framing(self, text: &[u8]) -> Framing<'_>
         requires { Knows text.now self }
-        ensures { shown_framing result ≡ framing_of text.now }
+        ensures { IsFramed text.now result }
     {
         match self {
             Progress::Unended(_) => Framing::NeedMore,
@@ -99,7 +99,7 @@ impl Progress {
 /// body has come whole. Then the first that applies is answered: 64 header lines, a head of the grammar, no transfer
 /// coding, one length of digits, up to 1,048,576. What is decided stays, whatever bytes follow.
 pub fn frame(text: &[u8]) -> Framing<'_>
-    ensures { shown_framing result ≡ framing_of text.now }
+    ensures { IsFramed text.now result }
 {
     Progress::new().advance(text).framing(text)
 }

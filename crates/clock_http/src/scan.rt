@@ -44,16 +44,14 @@ pub(crate) fn line_ends(text: &[u8]) -> LineEnds
 {
     let mut count = 0;
     let mut loose = text.first() == Some(&b'\r');
-    let mut before = 0;
-    for byte in text {
-        if *byte == b'\n' {
-            if before == b'\r' {
-                count += 1;
-            } else {
-                loose = true;
-            }
+    let mut from = 0;
+    'lines: while let Some(ahead) = memchr(b'\n', &text[from..]) {
+        if text[from..from + ahead].ends_with(b"\r") {
+            count += 1;
+        } else {
+            loose = true;
         }
-        before = *byte;
+        from += ahead + 1;
     }
     LineEnds { count, loose }
 }

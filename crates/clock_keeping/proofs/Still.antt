@@ -69,14 +69,3 @@ stands_without commands command house nothing stands = record {
       (range_with_len 0 (length house.setup.bidders))
       (λ bidder. sheet_stays house.setup (history house.setup commands) command bidder nothing);
 }
-
--- and the other way round
-pub stands_with : (commands : List Command) (command : Command) (house : HouseFields) → ChangesNothing house.setup (history house.setup commands) command
-    → StandsFor commands house → StandsFor (command ∷ commands) house
-stands_with commands command house nothing stands = record {
-  closed = stands.closed ∙ sym (closed_stay house.setup (history house.setup commands) command nothing);
-  sheets = stands.sheets
-      ∙ sym (map_same (sheet_in_force house.setup (history house.setup (command ∷ commands))) (sheet_in_force house.setup (history house.setup commands))
-      (range_with_len 0 (length house.setup.bidders))
-      (λ bidder. sheet_stays house.setup (history house.setup commands) command bidder nothing));
-}

@@ -65,8 +65,9 @@ fn limits_fault(bidder: u64, products: &[Product], limits: &LimitLists) -> Optio
     ensures fault { result ≡ first_fault (in_turn (limit_checks bidder) 0 (zip products.now limits.now)) }
     ensures held { result ≢ Some (ScriptFault.Setup SetupFault.NoMemory) }
 {
+    let mut walk = limits.walk();
     for product in 0..limits.count() {
-        if !are_limits(&products[product], limits.list(product)) {
+        if !are_limits(&products[product], walk.list(product)) {
             return Some(ScriptFault::Limits(bidder, product as u64));
         }
     }

@@ -16,7 +16,7 @@ pub(crate) struct LimitRows {
 }
 
 /// A count or a place in a list, in four bytes. One of 2^32 or above has no room.
-pub(crate) fn short_of(number: usize) -> Result<u32, NoMemory>
+fn short_of(number: usize) -> Result<u32, NoMemory>
     ensures { IfOk result (λ short. short ≡ number) }
 {
     match u32::try_from(number) {

@@ -31,22 +31,22 @@ module _ (bytes : List ℕ) (at : ℕ) where
       ap (lex between)
       (eight_then bytes _ at is ∙ ap (λ rest. codes "{\"price\"" ++ rest) (one_then bytes (at + 8) (at + 9) 58 (omega (arith, room)) mark (omega arith)))
 
-  pub product_bytes : at + 11 ≤ length bytes → take 8 (drop at bytes) ≡ codes ",\"produc" → get_or bytes (at + 8) 0 ≡ 116 → get_or bytes (at + 9) 0 ≡ 34
-      → get_or bytes (at + 10) 0 ≡ 58 → drop at bytes ≡ codes ",\"product\":" ++ drop (at + 11) bytes
-  product_bytes room is t quote mark =
-      eight_then bytes _ at is ∙ ap (λ rest. codes ",\"produc" ++ rest)
-      (one_then bytes (at + 8) (at + 9) 116 (omega (arith, room)) t (omega arith)
-      ∙ ap (λ rest. 116 ∷ rest) (one_then bytes (at + 9) (at + 10) 34 (omega (arith, room)) quote (omega arith)
-      ∙ ap (λ rest. 34 ∷ rest) (one_then bytes (at + 10) (at + 11) 58 (omega (arith, room)) mark (omega arith))))
+  -- a first part of eight known bytes, and eight that begin behind it
+  eights_then : (part : ℕ) (first second : List ℕ) → take 8 (drop at bytes) ≡ first → take 8 (drop (at + part) bytes) ≡ second
+      → drop at bytes ≡ take part (first ++ drop (at + 8) bytes) ++ (second ++ drop (at + part + 8) bytes)
+  eights_then part first second is more =
+      sym (take-append-drop part (drop at bytes))
+      ∙ ap₂ (λ front rest. front ++ rest) (ap (take part) (eight_then bytes first at is)) (drop-drop part at bytes ∙ eight_then bytes second (at + part) more)
 
-  pub quantity_bytes : at + 12 ≤ length bytes → take 8 (drop at bytes) ≡ codes ",\"quanti" → get_or bytes (at + 8) 0 ≡ 116 → get_or bytes (at + 9) 0 ≡ 121
-      → get_or bytes (at + 10) 0 ≡ 34 → get_or bytes (at + 11) 0 ≡ 58 → drop at bytes ≡ codes ",\"quantity\":" ++ drop (at + 12) bytes
-  quantity_bytes room is t y quote mark =
-      eight_then bytes _ at is ∙ ap (λ rest. codes ",\"quanti" ++ rest)
-      (one_then bytes (at + 8) (at + 9) 116 (omega (arith, room)) t (omega arith)
-      ∙ ap (λ rest. 116 ∷ rest) (one_then bytes (at + 9) (at + 10) 121 (omega (arith, room)) y (omega arith)
-      ∙ ap (λ rest. 121 ∷ rest) (one_then bytes (at + 10) (at + 11) 34 (omega (arith, room)) quote (omega arith)
-      ∙ ap (λ rest. 34 ∷ rest) (one_then bytes (at + 11) (at + 12) 58 (omega (arith, room)) mark (omega arith)))))
+  pub product_bytes : take 8 (drop at bytes) ≡ codes ",\"produc" → take 8 (drop (at + 3) bytes) ≡ codes "roduct\":"
+      → drop at bytes ≡ codes ",\"product\":" ++ drop (at + 11) bytes
+  product_bytes is more =
+      eights_then 3 _ _ is more ∙ ap (λ n. codes ",\"product\":" ++ drop n bytes) (let same : at + 3 + 8 ≡ at + 11 = omega arith in same)
+
+  pub quantity_bytes : take 8 (drop at bytes) ≡ codes ",\"quanti" → take 8 (drop (at + 4) bytes) ≡ codes "antity\":"
+      → drop at bytes ≡ codes ",\"quantity\":" ++ drop (at + 12) bytes
+  quantity_bytes is more =
+      eights_then 4 _ _ is more ∙ ap (λ n. codes ",\"quantity\":" ++ drop n bytes) (let same : at + 4 + 8 ≡ at + 12 = omega arith in same)
 
   pub end_bytes : at + 2 ≤ length bytes → get_or bytes at 0 ≡ 125 → get_or bytes (at + 1) 0 ≡ 44 → drop at bytes ≡ 125 ∷ 44 ∷ drop (at + 2) bytes
   end_bytes room brace mark =

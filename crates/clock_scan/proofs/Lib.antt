@@ -4,4 +4,5 @@ mod FieldLaws
 pub mod Steps
 mod RowSteps
 mod CompactLaws
+mod DigitLaws
 mod PieceLaws

@@ -7,6 +7,8 @@ ghost use Rattle.json.specs.Token.{begin_object, end_object, number, string};
 ghost use Rattle.json.specs.Lex.{lex, between, token, comma, colon};
 ghost use Rattle.json.specs.Word.{ends_word};
 
+use crate::digits::{digits_at, uneven_digits_at};
+
 /// Eight bytes as one number.
 #[inline(always)]
 fn number_of(eight: [u8; 8]) -> u64
@@ -56,16 +58,7 @@ fn has_product(bytes: &[u8], at: usize) -> bool
     ensures value { IsTrue result → lex between (drop at bytes.now)
         ≡ comma ∷ token (string (codes "product")) ∷ colon ∷ lex between (drop (at + 11) bytes.now) }
 {
-    if !has_eight(bytes, at, b",\"produc") {
-        return false;
-    }
-    if bytes[at + 8] != b't' {
-        return false;
-    }
-    if bytes[at + 9] != b'"' {
-        return false;
-    }
-    bytes[at + 10] == b':'
+    has_eight(bytes, at, b",\"produc") && has_eight(bytes, at + 3, b"roduct\":")
 }
 
 /// Whether the third key stands there, behind its comma.
@@ -76,19 +69,7 @@ fn has_quantity(bytes: &[u8], at: usize) -> bool
     ensures value { IsTrue result → lex between (drop at bytes.now)
         ≡ comma ∷ token (string (codes "quantity")) ∷ colon ∷ lex between (drop (at + 12) bytes.now) }
 {
-    if !has_eight(bytes, at, b",\"quanti") {
-        return false;
-    }
-    if bytes[at + 8] != b't' {
-        return false;
-    }
-    if bytes[at + 9] != b'y' {
-        return false;
-    }
-    if bytes[at + 10] != b'"' {
-        return false;
-    }
-    bytes[at + 11] == b':'
+    has_eight(bytes, at, b",\"quanti") && has_eight(bytes, at + 4, b"antity\":")
 }
 
 /// Whether a bid ends there, with a comma behind it.
@@ -103,40 +84,6 @@ fn ends_bid(bytes: &[u8], at: usize) -> bool
         return false;
     }
     bytes[at + 1] == b','
-}
-
-/// Whether digits begin with a zero that is not the only one.
-#[inline(always)]
-fn has_leading_zero(first: u8, count: usize) -> bool
-    ensures { result ≡ false → first ≡ 48 → count ≡ 1 }
-{
-    first == b'0' && count != 1
-}
-
-/// The number that stands there in at most sixteen digits, with no zero before them, and where they end. It is a number
-/// where its digits end a word.
-#[inline(always)]
-pub(crate) fn digits_at(bytes: &[u8], start: usize) -> Option<(u64, usize)>
-    requires { start + 16 ≤ length bytes.now }
-    ensures few { IfSome result (λ r. (start < r.1) × (r.1 ≤ start + 16)) }
-    ensures small { IfSome result (λ r. r.0 < 2 ^ 64) }
-    ensures value { IfSome result (λ r. ends_word (drop r.1 bytes.now) ≡ true
-        → lex between (drop start bytes.now) ≡ token (number (decimal r.0)) ∷ lex between (drop r.1 bytes.now)) }
-{
-    let mut end = start;
-    let mut value = 0u64;
-    'digits: while end < start + 16 {
-        let byte = bytes[end];
-        if byte < b'0' || byte > b'9' {
-            break;
-        }
-        value = value * 10 + byte as u64 - 48;
-        end += 1;
-    }
-    if end == start || has_leading_zero(bytes[start], end - start) {
-        return None;
-    }
-    Some((value, end))
 }
 
 /// The numbers of a bid that is written so.
@@ -170,7 +117,7 @@ pub(crate) fn compact_bid_at(bytes: &[u8], start: usize) -> Option<(CompactBid, 
     if !begins_bid(bytes, start) {
         return None;
     }
-    let (price, behind_price) = digits_at(bytes, start + 9)?;
+    let (price, behind_price) = uneven_digits_at(bytes, start + 9)?;
     if !has_product(bytes, behind_price) {
         return None;
     }

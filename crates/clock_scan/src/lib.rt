@@ -3,6 +3,7 @@
 #![tactic(auto)]
 
 mod compact;
+mod digits;
 mod lists;
 mod members;
 mod numbers;

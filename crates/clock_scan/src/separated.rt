@@ -6,7 +6,8 @@ ghost use Rattle.json.specs.Lex.{lex, between, token, comma};
 ghost use Rattle.clock_scan.specs.Left.{left};
 ghost use Rattle.clock_scan.specs.Reading.{whole, numbers, ReadsAll};
 
-use crate::compact::{digits_at, has_room};
+use crate::compact::has_room;
+use crate::digits::digits_at;
 use crate::place::Place;
 use crate::stop::ScanStop;
 

@@ -1,4 +1,4 @@
-ghost use Rattle.std.specs.Prelude.{◌≡◌, ◌≤◌, ℕ, List, IfOk, OnOk, OnErr, MatchOption, false, length};
+ghost use Rattle.std.specs.Prelude.{◌≡◌, ◌≤◌, ℕ, List, OnOk, MatchOption, MatchResult, false, length};
 ghost use Rattle.clock_device.specs.Calls.{IsUnread, IsUnused};
 ghost use Rattle.clock_device.specs.Readings.{Reading};
 ghost use Rattle.clock_serving.specs.Exchanges.{Exchange, HasClosed};
@@ -28,16 +28,11 @@ fn answer_source<P: Processor, K: Keeper, R: Source>(
       calls = R.calls source.new;
       interruptions = R.interruptions source.new;
       has_failed = R.has_failed source.new;
-    } in IfOk result (λ given. MatchOption given
+    } in MatchResult result
+        (λ given. MatchOption given
         (IsLeftAlone reading (K.journal keeper.old) (K.journal keeper.new) front.old front.new)
-        (λ answer. IsAnswered reading answer (K.journal keeper.old) (K.journal keeper.new) front.old front.new)) }
-    ensures unkept { let reading : Reading = record {
-      before = R.bytes_left source.old;
-      after = R.bytes_left source.new;
-      calls = R.calls source.new;
-      interruptions = R.interruptions source.new;
-      has_failed = R.has_failed source.new;
-    } in OnErr result (FailsToKeep K.takes reading (K.journal keeper.old) (K.journal keeper.new)) }
+        (λ answer. IsAnswered reading answer (K.journal keeper.old) (K.journal keeper.new) front.old front.new))
+        (λ failed. FailsToKeep K.takes reading (K.journal keeper.old) (K.journal keeper.new)) }
     ensures unfailed { OnOk result ((K.journal keeper.new).has_failed ≡ false) }
     ensures setup { front.new.setup ≡ front.old.setup }
 {
@@ -76,22 +71,9 @@ fn serve_one<P: Processor, K: Keeper, R: Source, W: Sink>(
         calls = W.calls sink.new;
         has_failed = W.has_failed sink.new;
       };
-    } in OnOk result (IsServed one (K.journal keeper.old) (K.journal keeper.new) front.old front.new) }
-    ensures unkept { let one : Exchange = record {
-      reading = record {
-        before = R.bytes_left source.old;
-        after = R.bytes_left source.new;
-        calls = R.calls source.new;
-        interruptions = R.interruptions source.new;
-        has_failed = R.has_failed source.new;
-      };
-      writing = record {
-        before = W.bytes_taken sink.old;
-        after = W.bytes_taken sink.new;
-        calls = W.calls sink.new;
-        has_failed = W.has_failed sink.new;
-      };
-    } in OnErr result (IsUnkept K.takes one (K.journal keeper.old) (K.journal keeper.new)) }
+    } in MatchResult result
+        (λ done. IsServed one (K.journal keeper.old) (K.journal keeper.new) front.old front.new)
+        (λ failed. IsUnkept K.takes one (K.journal keeper.old) (K.journal keeper.new)) }
     ensures unfailed { OnOk result ((K.journal keeper.new).has_failed ≡ false) }
     ensures setup { front.new.setup ≡ front.old.setup }
 {

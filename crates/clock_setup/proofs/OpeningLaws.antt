@@ -17,7 +17,7 @@ use Rattle.clock_setup.specs.declared.opening.OpeningFault.TheVariants.{Shape, D
 use Rattle.clock_terms.specs.Demands.{IsGrid}
 use Rattle.clock_terms.specs.Eligibility.{activity}
 use Rattle.clock_terms.specs.Faults.{IsRefusal, first_fault, in_turn, unless, or_fault}
-use Rattle.clock_terms.specs.Limits.{SetupFields, IsProduct, IsRow, is_within, cap_of, no_product, most_supply, least_increment, most_increment}
+use Rattle.clock_terms.specs.Limits.{SetupFields, IsProduct, is_within, cap_of, no_product, least_increment, most_increment}
 use Rattle.clock_setup.specs.SetupDocument.{setup_of}
 use Rattle.clock_setup.specs.OpeningShape.{OpeningParts, parts_of}
 use Rattle.clock_setup.specs.OpeningDocument.{has_counts, demand_checks, row_checks, opening_checks, in_opening, opening_of}
@@ -202,11 +202,3 @@ pub parts_err : (value : Data) (parts : OpeningParts) (result : Result Opening O
     → IfErr result (IsRefusal NoMemory (opening_of value))
 parts_err value parts (Ok opening) read known = tt
 parts_err value parts (Err fault) read known = λ other. known other value read
-
--- a row within the caps is within the most that a product's supply may be
-pub row_small : (products : List Product) (row : List ℕ) → All IsProduct products → IsRow products row → All (λ demand. demand ≤ most_supply) row
-row_small products row limits is k d within =
-    let product = limits k no_product (omega (arith, is.each, within)) in
-    let demand : get_or row k 0 ≤ cap_of products k = is.capped k within in
-    let same : get_or row k d ≡ get_or row k 0 = get_or_default row k d 0 within in
-    omega (arith, same, demand, product.cap.1, product.supply.1)

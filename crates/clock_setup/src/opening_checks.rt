@@ -1,10 +1,10 @@
-ghost use Rattle.std.specs.Prelude.{◌≡◌, ◌≢◌, ◌≤◌, None, Some, length, zip, All, IfOk, IfErr, IfNone, OnOk};
+ghost use Rattle.std.specs.Prelude.{◌≡◌, ◌≢◌, ◌≤◌, None, Some, length, zip, All, IfOk, IfErr, OnOk};
 ghost use Rattle.serde_json.specs.Data.{Data};
 ghost use Rattle.clock_terms.specs.Demands.{IsGrid};
 ghost use Rattle.clock_terms.specs.Eligibility.{activity};
 ghost use Rattle.clock_terms.specs.Faults.{first_fault, in_turn};
 ghost use Rattle.clock_terms.specs.Limits.{IsProduct, IsRow, IsWithin, is_within, least_increment, most_increment};
-ghost use Rattle.clock_terms.specs.Limits.{most_products, most_supply};
+ghost use Rattle.clock_terms.specs.Limits.{most_products};
 ghost use Rattle.clock_setup.specs.OpeningDocument as document;
 ghost use Rattle.clock_setup.specs.OpeningDocument.{demand_checks, row_checks, opening_checks};
 
@@ -12,7 +12,7 @@ use crate::fault::SetupFault;
 use crate::opening::OpeningFault;
 use clock_money::{LEAST_INCREMENT, MOST_INCREMENT};
 use clock_scan::FlatRows;
-use clock_terms::{Bidder, Grid, Product, Setup, is_within};
+use clock_terms::{Bidder, Grid, Product, Row, Setup, is_within};
 use std::alloc::Global;
 
 /// Whether there is a row for each bidder, and in each row a number for each product.
@@ -48,35 +48,39 @@ fn units_within(number: u64, products: &[Product], row: &[u64]) -> Result<u64, O
     Ok(units)
 }
 
-/// The first fault of a bidder's row.
-fn row_fault(number: u64, setup: &Setup, bidder: &Bidder, row: &[u64]) -> Option<OpeningFault>
-    requires { length row.now ≡ length setup.now.products }
-    ensures fault { result ≡ first_fault (row_checks setup.now.products number (bidder.now, row.now)) }
-    ensures small { IfNone result (All (λ demand. demand ≤ most_supply) row.now) }
-    ensures held { result ≢ Some (OpeningFault.Setup SetupFault.NoMemory) }
+/// A bidder's row of demands, or the first fault that it has.
+fn row_within(
+    alloc: Global,
+    number: u64,
+    setup: &Setup,
+    bidder: &Bidder,
+    demands: &[u64],
+) -> Result<Row, OpeningFault>
+    requires { length demands.now ≡ length setup.now.products }
+    ensures same { IfOk result (λ row. row ≡ demands.now) }
+    ensures row { IfOk result (IsRow setup.now.products) }
+    ensures ok { OnOk result (first_fault (row_checks setup.now.products number (bidder.now, demands.now)) ≡ None) }
+    ensures err { IfErr result (λ fault. fault ≢ OpeningFault.NoMemory
+        → first_fault (row_checks setup.now.products number (bidder.now, demands.now)) ≡ Some fault) }
+    ensures held { IfErr result (λ fault. fault ≢ OpeningFault.Setup SetupFault.NoMemory) }
 {
-    match units_within(number, setup.products.as_slice(), row) {
-        Err(fault) => Some(fault),
-        Ok(units) => {
-            if units > bidder.eligibility {
-                return Some(OpeningFault::Activity(number));
-            }
-            None
-        }
+    let units = units_within(number, setup.products.as_slice(), demands)?;
+    if units > bidder.eligibility {
+        return Err(OpeningFault::Activity(number));
     }
+    Ok(Row::of(alloc, setup, demands)?)
 }
 
-/// Gives each bidder its row of demands in a grid, or tells the first fault that one has. The numbers of a row stand in
-/// a list that is lent.
-fn set_rows(
+/// The bidders' rows of demands, or the first fault that one has. The numbers of a row stand in a list that is lent.
+fn rows_within(
+    alloc: Global,
     setup: &Setup,
     demands: &FlatRows,
-    row: &mut Vec<u64>,
-    grid: &mut Grid,
-) -> Result<(), OpeningFault>
-    requires demands { IsGrid (length setup.now.bidders) (length setup.now.products) demands.now }
-    requires grid { IsGrid (length setup.now.bidders) (length setup.now.products) grid.old }
-    ensures same { OnOk result (grid.new ≡ demands.now) }
+    numbers: &mut Vec<u64>,
+) -> Result<Vec<Row>, OpeningFault>
+    requires { IsGrid (length setup.now.bidders) (length setup.now.products) demands.now }
+    ensures same { IfOk result (λ rows. rows.items ≡ demands.now) }
+    ensures rows { IfOk result (λ rows. All (IsRow setup.now.products) rows.items) }
     ensures ok { OnOk result
         (first_fault (in_turn (row_checks setup.now.products) 0 (zip setup.now.bidders demands.now)) ≡ None) }
     ensures err { IfErr result (λ fault. fault ≢ OpeningFault.NoMemory
@@ -84,14 +88,12 @@ fn set_rows(
     ensures held { IfErr result (λ fault. fault ≢ OpeningFault.Setup SetupFault.NoMemory) }
 {
     let bidders = setup.bidders.as_slice();
+    let mut rows = Vec::with_capacity(alloc, bidders.len())?;
     for (number, bidder) in bidders.iter().enumerate() {
-        demands.read_row(number, row)?;
-        if let Some(fault) = row_fault(number as u64, setup, bidder, row.as_slice()) {
-            return Err(fault);
-        }
-        grid.set_row(number, row.as_slice());
+        demands.read_row(number, numbers)?;
+        rows.push(row_within(alloc, number as u64, setup, bidder, numbers.as_slice())?)?;
     }
-    Ok(())
+    Ok(rows)
 }
 
 /// The grid of rows of demands, or the first fault that one has.
@@ -104,10 +106,9 @@ fn grid_of_rows(alloc: Global, setup: &Setup, demands: &FlatRows) -> Result<Grid
         → first_fault (in_turn (row_checks setup.now.products) 0 (zip setup.now.bidders demands.now)) ≡ Some fault) }
     ensures held { IfErr result (λ fault. fault ≢ OpeningFault.Setup SetupFault.NoMemory) }
 {
-    let mut row = Vec::with_capacity(alloc, setup.products.as_slice().len())?;
-    let mut grid = Grid::zero(alloc, setup)?;
-    set_rows(setup, demands, &mut row, &mut grid)?;
-    Ok(grid)
+    let mut numbers = Vec::with_capacity(alloc, setup.products.as_slice().len())?;
+    let rows = rows_within(alloc, setup, demands, &mut numbers)?;
+    Ok(Grid::of_rows(alloc, setup, rows)?)
 }
 
 /// The grid of a set-up's demands, or the first fault that these or the increment have.

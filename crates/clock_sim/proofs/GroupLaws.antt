@@ -14,20 +14,19 @@ use Rattle.clock_front.specs.Hubs.{ConnectionFields, HubFields, text_of, KeepsOt
 use Rattle.clock_front.specs.declared.connections.Conn.{Conn}
 use Rattle.clock_front.specs.declared.fed.Fed.{Fed}
 use Rattle.clock_front.specs.declared.fed.Fed.TheVariants.{More, Reply}
-use Rattle.clock_sim.specs.declared.groups.Waiting.{Waiting}
 use Rattle.clock_sim.specs.declared.sim_fault.SimFault.{SimFault}
 use Rattle.clock_sim.specs.Rehearsal.{after_request}
-use Rattle.clock_sim.specs.inside.Groups.{ClosesNoRound, text_in, after_group, StandFrom, AreApart, IsGroup}
+use Rattle.clock_sim.specs.inside.Groups.{Request, ClosesNoRound, text_in, after_group, StandFrom, AreApart, IsGroup}
 use Rattle.clock_sim.specs.inside.Steps.{MakesStep}
 use Rattle.clock_sim.proofs.StepLaws.{Texts, Step, IsOnWay, goes_on, stops, ends}
 
 -- ---- one connection has changed
 
-conn_at : List Waiting → ℕ → Waiting → Conn
+conn_at : List Request → ℕ → Request → Conn
 conn_at group k other = (get_or group k other).conn
 
 -- the connections of two places are two
-two_conns : (group : List Waiting) (k i : ℕ) (other : Waiting) → AreApart group → k < length group → i < length group → k ≢ i
+two_conns : (group : List Request) (k i : ℕ) (other : Request) → AreApart group → k < length group → i < length group → k ≢ i
     → (get_or group k other).conn ≢ (get_or group i other).conn
 two_conns group k i other apart below here differs = λ same.
     let e : (get_or group k other).conn.serial ≡ (get_or group i other).conn.serial = ap (λ (conn : Conn). conn.serial) same in
@@ -37,20 +36,20 @@ two_conns group k i other apart below here differs = λ same.
     ]
 
 -- only the connection at one place has changed
-pub one_changed : (group : List Waiting) (i from next : ℕ) (one : Waiting) (old new : ConnectionFields) (text after : ℕ → Waiting → List ℕ)
+pub one_changed : (group : List Request) (i from next : ℕ) (one : Request) (old new : ConnectionFields) (text after : ℕ → Request → List ℕ)
     → AreApart group → i < length group → one ≡ get_or group i one → KeepsOthers old new one.conn → from ≤ next → StandFrom from old group text
-    → ((k : ℕ) (other : Waiting) → next ≤ k → k ≢ i → after k other ≡ text k other) → (next ≤ i → text_of new one.conn ≡ Some (after i one))
+    → ((k : ℕ) (other : Request) → next ≤ k → k ≢ i → after k other ≡ text k other) → (next ≤ i → text_of new one.conn ≡ Some (after i one))
     → StandFrom next new group after
 one_changed group i from next one old new text after apart here is others le stand same changed = λ k other at below.
     elim (cases_Bool (eqb k i)) [
       | inl equal ↦ (let at_i : k ≡ i = eqb-true k i equal in
           let this : get_or group k other ≡ one = ap (λ (n : ℕ). get_or group n other) at_i ∙ get_or_default group i other one here ∙ sym is in
-          let P : Waiting → Type 0 = λ w. text_of new w.conn ≡ Some (after k w) in
+          let P : Request → Type 0 = λ w. text_of new w.conn ≡ Some (after k w) in
           subst P (sym this) (changed (omega arith) ∙ ap (λ (n : ℕ). Some (after n one)) (sym at_i)))
       | inr unlike ↦ (let differs : k ≢ i = eqb-false k i unlike in
           let apart_from : (get_or group k other).conn ≢ one.conn =
           (λ e. two_conns group k i other apart below here differs
-          (e ∙ ap (λ (w : Waiting). w.conn) is ∙ ap (λ (w : Waiting). w.conn) (get_or_default group i one other here))) in
+          (e ∙ ap (λ (w : Request). w.conn) is ∙ ap (λ (w : Request). w.conn) (get_or_default group i one other here))) in
           others (get_or group k other).conn apart_from ∙ stand k other (omega arith) below
           ∙ ap Some (sym (same k (get_or group k other) at differs)))
     ]
@@ -58,7 +57,7 @@ one_changed group i from next one old new text after apart here is others le sta
 -- ---- heads
 
 -- the heads up to a place have come
-abbrev pub heads_to : ℕ → ℕ → Waiting → List ℕ
+abbrev pub heads_to : ℕ → ℕ → Request → List ℕ
 heads_to i k one = if nat_lt k i then one.head else []
 
 fed_more : (old new : HubFields) (conn : Conn) (text : List ℕ) (fed : Fed) → IsFed old new conn text fed → needs_more text ≡ true
@@ -66,16 +65,16 @@ fed_more : (old new : HubFields) (conn : Conn) (text : List ℕ) (fed : Fed) →
 fed_more old new conn text More is needs = is
 fed_more old new conn text (Reply reply) is needs = absurd (true≢false (sym needs ∙ is.0))
 
-pub head_came : (group : List Waiting) (i : ℕ) (one : Waiting) (initial : ConnectionFields) (old new : HubFields) (fed : Fed) → IsGroup initial group
+pub head_came : (group : List Request) (i : ℕ) (one : Request) (initial : ConnectionFields) (old new : HubFields) (fed : Fed) → IsGroup initial group
     → i < length group → one ≡ get_or group i one → StandFrom 0 old.connections group (heads_to i)
     → ((text : List ℕ) → text_of old.connections one.conn ≡ Some text → IsFed old new one.conn (text ++ one.head) fed)
     → (new.house ≡ old.house) × StandFrom 0 new.connections group (heads_to (i + 1))
 head_came group i one initial old new fed is_group here is stand is_fed =
     let none : heads_to i i one ≡ [] =
     (let no : nat_lt i i ≡ false = grind (arith, nat_tests) in ap (λ (b : Bool). if b then one.head else []) no) in
-    let P : Waiting → Type 0 = λ w. text_of old.connections w.conn ≡ Some (heads_to i i w) in
+    let P : Request → Type 0 = λ w. text_of old.connections w.conn ≡ Some (heads_to i i w) in
     let blank : text_of old.connections one.conn ≡ Some [] = subst P (sym is) (stand i one (omega arith) here) ∙ ap Some none in
-    let needs : needs_more one.head ≡ true = subst (λ (w : Waiting). needs_more w.head ≡ true) (sym is) (is_group.need i one here) in
+    let needs : needs_more one.head ≡ true = subst (λ (w : Request). needs_more w.head ≡ true) (sym is) (is_group.need i one here) in
     let more = fed_more old new one.conn one.head fed (is_fed [] blank) needs in
     let came : heads_to (i + 1) i one ≡ one.head =
     (let yes : nat_lt i (i + 1) ≡ true = grind (arith, nat_tests) in ap (λ (b : Bool). if b then one.head else []) yes) in (
@@ -87,13 +86,13 @@ head_came group i one initial old new fed is_group here is stand is_fed =
     )
 
 -- no head has come yet
-pub none_came : (connections : ConnectionFields) (group : List Waiting) → IsGroup connections group → StandFrom 0 connections group (heads_to 0)
+pub none_came : (connections : ConnectionFields) (group : List Request) → IsGroup connections group → StandFrom 0 connections group (heads_to 0)
 none_came connections group is_group = λ k other at below.
     let no : nat_lt k 0 ≡ false = grind (arith, nat_tests) in
     is_group.stand k other at below ∙ ap (λ (b : Bool). Some (if b then (get_or group k other).head else [])) (sym no)
 
 -- all heads have come
-pub all_came : (connections : ConnectionFields) (group : List Waiting) (i : ℕ) → length group ≤ i → StandFrom 0 connections group (heads_to i)
+pub all_came : (connections : ConnectionFields) (group : List Request) (i : ℕ) → length group ≤ i → StandFrom 0 connections group (heads_to i)
     → StandFrom 0 connections group (λ k one. one.head)
 all_came connections group i past stand = λ k other at below.
     let yes : nat_lt k i ≡ true = grind (arith, nat_tests) in
@@ -102,33 +101,33 @@ all_came connections group i past stand = λ k other at below.
 -- ---- bodies
 
 -- what came over the connection at a place
-pub head_at : (connections : ConnectionFields) (group : List Waiting) (i : ℕ) (one : Waiting) → i < length group → one ≡ get_or group i one
+pub head_at : (connections : ConnectionFields) (group : List Request) (i : ℕ) (one : Request) → i < length group → one ≡ get_or group i one
     → StandFrom i connections group (λ k w. w.head) → text_of connections one.conn ≡ Some one.head
 head_at connections group i one here is stand =
-    subst (λ (w : Waiting). text_of connections w.conn ≡ Some w.head) (sym is) (stand i one (omega arith) here)
+    subst (λ (w : Request). text_of connections w.conn ≡ Some w.head) (sym is) (stand i one (omega arith) here)
 
 -- the others keep their heads
-pub heads_kept : (old new : ConnectionFields) (group : List Waiting) (i : ℕ) (one : Waiting) → AreApart group → i < length group → one ≡ get_or group i one
+pub heads_kept : (old new : ConnectionFields) (group : List Request) (i : ℕ) (one : Request) → AreApart group → i < length group → one ≡ get_or group i one
     → StandFrom i old group (λ k w. w.head) → KeepsOthers old new one.conn → StandFrom (i + 1) new group (λ k w. w.head)
 heads_kept old new group i one apart here is stand others =
     one_changed group i i (i + 1) one old new (λ k w. w.head) (λ k w. w.head) apart here is others (omega arith) stand (λ k other at differs. refl)
     (λ at. absurd (let bad = at in omega arith))
 
-next_one : (group : List Waiting) (i : ℕ) (one : Waiting) → i < length group → one ≡ get_or group i one → drop i group ≡ one ∷ drop (i + 1) group
-next_one group i one below is = drop_more group i one below ∙ ap (λ (w : Waiting). w ∷ drop (i + 1) group) (sym is)
+next_one : (group : List Request) (i : ℕ) (one : Request) → i < length group → one ≡ get_or group i one → drop i group ≡ one ∷ drop (i + 1) group
+next_one group i one below is = drop_more group i one below ∙ ap (λ (w : Request). w ∷ drop (i + 1) group) (sym is)
 
-abbrev pub one_step : SetupFields → Waiting → Step
+abbrev pub one_step : SetupFields → Request → Step
 one_step setup one texts = after_request setup texts (Some one.bidder) one.round (text_in one)
 
-before_body : (whole : Step) (group : List Waiting) (i : ℕ) (one : Waiting) (initial now : HouseFields) → i < length group → one ≡ get_or group i one
+before_body : (whole : Step) (group : List Request) (i : ℕ) (one : Request) (initial now : HouseFields) → i < length group → one ≡ get_or group i one
     → IsOnWay whole (after_group initial.setup (drop i group)) initial now
     → IsOnWay whole (λ texts. one_step initial.setup one texts >>= after_group initial.setup (drop (i + 1) group)) initial now
 before_body whole group i one initial now below is before =
-    let P : List Waiting → Type 0 = λ rest. IsOnWay whole (after_group initial.setup rest) initial now in
+    let P : List Request → Type 0 = λ rest. IsOnWay whole (after_group initial.setup rest) initial now in
     subst P (next_one group i one below is) before
 
 -- a request of the group is done
-pub body_done : {U : Type 0} (whole : Step) (group : List Waiting) (i : ℕ) (one : Waiting) (initial now next : HouseFields) (done : U)
+pub body_done : {U : Type 0} (whole : Step) (group : List Request) (i : ℕ) (one : Request) (initial now next : HouseFields) (done : U)
     → i < length group → one ≡ get_or group i one → IsOnWay whole (after_group initial.setup (drop i group)) initial now
     → MakesStep (one_step now.setup one) now next (Ok done) → IsOnWay whole (after_group initial.setup (drop (i + 1) group)) initial next
 body_done whole group i one initial now next done below is before made =
@@ -137,7 +136,7 @@ body_done whole group i one initial now next done below is before made =
     (subst (λ (setup : SetupFields). MakesStep (one_step setup one) now next (Ok done)) before.setup made)
 
 -- one is refused
-pub body_refused : {U T : Type 0} (whole : Step) (group : List Waiting) (i : ℕ) (one : Waiting) (initial now next : HouseFields) (fault : SimFault)
+pub body_refused : {U T : Type 0} (whole : Step) (group : List Request) (i : ℕ) (one : Request) (initial now next : HouseFields) (fault : SimFault)
     → i < length group → one ≡ get_or group i one → IsOnWay whole (after_group initial.setup (drop i group)) initial now
     → MakesStep {T = U} (one_step now.setup one) now next (Err fault) → MakesStep {T = T} whole initial next (Err fault)
 body_refused {U = U} {T = T} whole group i one initial now next fault below is before made =
@@ -146,10 +145,10 @@ body_refused {U = U} {T = T} whole group i one initial now next fault below is b
     (subst (λ (setup : SetupFields). MakesStep {T = U} (one_step setup one) now next (Err fault)) before.setup made)
 
 -- all are done
-pub bodies_done : {T : Type 0} (whole : Step) (group : List Waiting) (i : ℕ) (initial now : HouseFields) (done : T) → length group ≤ i
+pub bodies_done : {T : Type 0} (whole : Step) (group : List Request) (i : ℕ) (initial now : HouseFields) (done : T) → length group ≤ i
     → IsOnWay whole (after_group initial.setup (drop i group)) initial now → MakesStep whole initial now (Ok done)
 bodies_done whole group i initial now done past before =
-    let P : List Waiting → Type 0 = λ rest. IsOnWay whole (after_group initial.setup rest) initial now in
+    let P : List Request → Type 0 = λ rest. IsOnWay whole (after_group initial.setup rest) initial now in
     ends whole (after_group initial.setup []) initial now done (subst P (drop_all i group past) before) (λ texts. refl)
 
 -- ---- one more waits
@@ -164,7 +163,7 @@ in_order (Ok sent) first second third same = same sent
 in_order (Err fault) first second third same = refl
 
 -- the requests of a group and one more
-pub with_one : (setup : SetupFields) (group : List Waiting) (one : Waiting) (texts : Texts)
+pub with_one : (setup : SetupFields) (group : List Request) (one : Request) (texts : Texts)
     → after_group setup (group ++ one ∷ []) texts ≡ after_group setup group texts >>= one_step setup one
 with_one setup [] one texts = ended_ok (one_step setup one texts)
 with_one setup (first ∷ group) one texts =
@@ -172,7 +171,7 @@ with_one setup (first ∷ group) one texts =
     (λ sent. with_one setup group one sent)
 
 -- no request waits
-pub empty_group : (connections : ConnectionFields) (group : List Waiting) → length group ≡ 0 → IsGroup connections group
+pub empty_group : (connections : ConnectionFields) (group : List Request) → length group ≡ 0 → IsGroup connections group
 empty_group connections group none = record {
   stand = λ k other at below. absurd (omega arith);
   apart = λ k j other before below. absurd (omega arith);
@@ -181,8 +180,8 @@ empty_group connections group none = record {
   close = λ k other below. absurd (omega arith);
 }
 
-module _ (old new : ConnectionFields) (group : List Waiting) (one : Waiting) (is_group : IsGroup old group) (is : IsConnected old new one.conn) where
-  here_or_last : (k : ℕ) (other : Waiting) → k < length (group ++ one ∷ [])
+module _ (old new : ConnectionFields) (group : List Request) (one : Request) (is_group : IsGroup old group) (is : IsConnected old new one.conn) where
+  here_or_last : (k : ℕ) (other : Request) → k < length (group ++ one ∷ [])
       → ((k < length group) × (get_or (group ++ one ∷ []) k other ≡ get_or group k other)) ⊎ ((k ≡ length group) × (get_or (group ++ one ∷ []) k other ≡ one))
   here_or_last k other below =
       let long = length_push group one in
@@ -192,7 +191,7 @@ module _ (old new : ConnectionFields) (group : List Waiting) (one : Waiting) (is
             inr (e, get_or_push group one other k (sym e)))
       ]
 
-  differs : (k : ℕ) (other : Waiting) → k < length group → (get_or group k other).conn ≢ one.conn
+  differs : (k : ℕ) (other : Request) → k < length group → (get_or group k other).conn ≢ one.conn
   differs k other below = λ same.
       let e : (get_or group k other).conn.serial ≡ one.conn.serial = ap (λ (conn : Conn). conn.serial) same in
       let before = is_group.earlier k other below in let s = is.serial in omega arith
@@ -200,28 +199,28 @@ module _ (old new : ConnectionFields) (group : List Waiting) (one : Waiting) (is
   pub joined_group : needs_more one.head ≡ true → ClosesNoRound (text_in one) → IsGroup new (group ++ one ∷ [])
   joined_group needs closes = record {
     stand = λ k other at below. elim (here_or_last k other below) [
-      | inl early ↦ (let P : Waiting → Type 0 = λ w. text_of new w.conn ≡ Some [] in
+      | inl early ↦ (let P : Request → Type 0 = λ w. text_of new w.conn ≡ Some [] in
           subst P (sym early.1) (is.others (get_or group k other).conn (differs k other early.0) ∙ is_group.stand k other at early.0))
-      | inr last ↦ (let P : Waiting → Type 0 = λ w. text_of new w.conn ≡ Some [] in subst P (sym last.1) is.stands)
+      | inr last ↦ (let P : Request → Type 0 = λ w. text_of new w.conn ≡ Some [] in subst P (sym last.1) is.stands)
     ];
     apart = λ k j other before below. (
         let long = length_push group one in
         elim (here_or_last j other below) [
           | inl early ↦ (let lt : k < length group = let e = early.0 in omega arith in
               let k_is = get_or_append_left group (one ∷ []) other k lt in
-              let at_k : (get_or (group ++ one ∷ []) k other).conn.serial ≡ (get_or group k other).conn.serial = ap (λ (w : Waiting). w.conn.serial) k_is in
-              let at_j : (get_or (group ++ one ∷ []) j other).conn.serial ≡ (get_or group j other).conn.serial = ap (λ (w : Waiting). w.conn.serial) early.1 in
+              let at_k : (get_or (group ++ one ∷ []) k other).conn.serial ≡ (get_or group k other).conn.serial = ap (λ (w : Request). w.conn.serial) k_is in
+              let at_j : (get_or (group ++ one ∷ []) j other).conn.serial ≡ (get_or group j other).conn.serial = ap (λ (w : Request). w.conn.serial) early.1 in
               let rising = is_group.apart k j other before early.0 in omega arith)
           | inr last ↦ (let lt : k < length group = let e = last.0 in omega arith in
               let k_is = get_or_append_left group (one ∷ []) other k lt in
-              let at_k : (get_or (group ++ one ∷ []) k other).conn.serial ≡ (get_or group k other).conn.serial = ap (λ (w : Waiting). w.conn.serial) k_is in
-              let at_j : (get_or (group ++ one ∷ []) j other).conn.serial ≡ one.conn.serial = ap (λ (w : Waiting). w.conn.serial) last.1 in
+              let at_k : (get_or (group ++ one ∷ []) k other).conn.serial ≡ (get_or group k other).conn.serial = ap (λ (w : Request). w.conn.serial) k_is in
+              let at_j : (get_or (group ++ one ∷ []) j other).conn.serial ≡ one.conn.serial = ap (λ (w : Request). w.conn.serial) last.1 in
               let rising = is_group.earlier k other lt in let s = is.serial in omega arith)
         ]);
     earlier =
-        All-push (λ (w : Waiting). w.conn.serial < new.next) group one
+        All-push (λ (w : Request). w.conn.serial < new.next) group one
         (λ k other below. let before = is_group.earlier k other below in let n = is.next in omega arith)
         (let s = is.serial in let n = is.next in omega arith);
-    need = All-push (λ (w : Waiting). needs_more w.head ≡ true) group one is_group.need needs;
-    close = All-push (λ (w : Waiting). ClosesNoRound (text_in w)) group one is_group.close closes;
+    need = All-push (λ (w : Request). needs_more w.head ≡ true) group one is_group.need needs;
+    close = All-push (λ (w : Request). ClosesNoRound (text_in w)) group one is_group.close closes;
   }

@@ -1,17 +1,21 @@
 -- The bids of blocks one by one are those at the different leaving prices.
 use Rattle.std.proofs.Common.{◌≡◌, ℕ, ◌+◌, ◌-◌, ◌<◌, ◌≤◌, zero, suc, max, List, [], ◌∷◌, ◌++◌, length, map, reverse, take, get_or, Bool, true, false}
-use Rattle.std.proofs.Common.{cond, not, Option, Some, None, refl, sym, ◌∙◌, ap, ap₂, subst, arith}
-use Rattle.std.specs.Prelude.{nat_le, nat_lt, nat_eq}
+use Rattle.std.proofs.Common.{cond, not, Option, Some, None, min, append-nil, refl, sym, ◌∙◌, ap, ap₂, subst, append_assoc, add-one, arith}
+use Rattle.std.specs.Prelude.{nat_le, nat_lt, nat_eq, ◌==◌, if◌then◌else◌}
 use Rattle.std.specs.List.{filter_map, cons_option, count_by, dedup, dedup_from}
 use Rattle.std.proofs.lemmas.Bool.Decides.{nat_tests}
-use Rattle.std.proofs.lemmas.List.{reverse-append, length-reverse, length-take, get_or-take, take_all}
+use Rattle.std.proofs.lemmas.List.{reverse-append, length-reverse, length-take, get_or-take, take_all, take_min}
+use Rattle.std.proofs.lemmas.Grind.{flat_map-append}
 use Rattle.std.proofs.Math.Seq.{take-suc}
 use Rattle.std.proofs.lemmas.List.Sums.{sum_by-cons}
 use Rattle.clock_terms.specs.declared.prices.PricePair.{PricePair}
 use Rattle.clock_bids.specs.declared.sheet.Bid.{Bid}
 use Rattle.clock_replays.specs.Replays.{NeverRises}
-use Rattle.clock_sim.specs.Sincere.{leaving_price, leaving_prices, staying, bid_for, leaving_bids, keeping_or_leaving}
+use Rattle.clock_sim.specs.Sincere.{leaving_price, leaving_prices, staying, bid_for, leaving_bids, keeping_or_leaving, later_bids}
+use Rattle.clock_views.specs.Values.{Adds}
+use Rattle.clock_views.proofs.Pushes.{together}
 use Rattle.clock_sim.specs.inside.Blocks.{last_leaving, block_bid, block_bids}
+use Rattle.clock_sim.specs.inside.Bodies.{bid_text, bids_text}
 
 -- ---- rising lists
 
@@ -169,6 +173,23 @@ bids_of_blocks product past pair (x ∷ xs) h = law_by product past pair x xs h 
 pub one_back : (limits : List ℕ) (k : ℕ) → k < length limits → reverse (take (suc k) limits) ≡ get_or limits k 0 ∷ reverse (take k limits)
 one_back limits k below = ap reverse (take-suc limits k 0 below) ∙ reverse-append (take k limits) (get_or limits k 0 ∷ [])
 
+-- the bid of a block is added, and those of the blocks before it are left
+pub block_added : (product past : ℕ) (pair : PricePair) (limits : List ℕ) (k : ℕ) (text next : List ℕ) → k < length limits
+    → Adds (bids_text (block_bid product (past + k) (leaving_price pair (get_or limits k 0)) (last_leaving pair (reverse (take k limits))))) text next
+    → next ++ bids_text (block_bids product past pair (reverse (take k limits)))
+    ≡ text ++ bids_text (block_bids product past pair (reverse (take (k + 1) limits)))
+block_added product past pair limits k text next below added =
+    let before = reverse (take k limits) in
+    let count : length before ≡ k = omega (arith, length-reverse (take k limits), length-take k limits) in
+    let bid = block_bid product (past + k) (leaving_price pair (get_or limits k 0)) (last_leaving pair before) in
+    let rest = block_bids product past pair before in
+    ap (λ (first : List ℕ). first ++ bids_text rest) added.is
+    ∙ append_assoc text (bids_text bid) (bids_text rest)
+    ∙ ap (λ (more : List ℕ). text ++ more) (sym (flat_map-append bid_text bid rest))
+    ∙ ap (λ (n : ℕ). text ++ bids_text (block_bid product (past + n) (leaving_price pair (get_or limits k 0)) (last_leaving pair before) ++ rest)) (sym count)
+    ∙ ap (λ (all : List ℕ). text ++ bids_text (block_bids product past pair all)) (sym (one_back limits k below))
+    ∙ ap (λ (n : ℕ). text ++ bids_text (block_bids product past pair (reverse (take n limits)))) (sym (add-one k))
+
 least_reversed : (limits : List ℕ) (low k : ℕ) → k ≤ length limits → ((i : ℕ) → i < k → low ≤ get_or limits i 0) → AtLeast low (reverse (take k limits))
 least_reversed limits low zero within h = tt
 least_reversed limits low (suc k) within h =
@@ -226,3 +247,17 @@ first_never_rise limits n falls i j d before within =
     let there : get_or (take n limits) j d ≡ get_or limits j d = get_or-take n limits j d below in
     let falling = falls i j d before (omega arith) in
     omega arith
+
+-- so the bid that keeps them is all
+pub all_kept : (product held : ℕ) (pair : PricePair) (limits : List ℕ) (blocks : ℕ) (text next : List ℕ) → NeverRises limits → 0 < held
+    → blocks ≡ min held (length limits) → last_leaving pair (reverse (take blocks limits)) ≡ None
+    → Adds (bid_text (bid_for product held pair.clock)) text next → Adds (bids_text (later_bids product pair held limits)) text next
+all_kept product held pair limits blocks text next falls some least none added =
+    let bid = bid_for product held pair.clock in
+    let held_some : (held == 0) ≡ false = grind (arith, nat_tests) in
+    let same : take held limits ≡ take blocks limits = sym (ap (λ (n : ℕ). take n limits) least ∙ take_min held limits) in
+    let one : later_bids product pair held limits ≡ bid ∷ [] =
+    ap (λ (zero_held : Bool). if zero_held then [] else keeping_or_leaving product pair held (leaving_prices pair (take held limits))) held_some
+    ∙ ap (λ (list : List ℕ). keeping_or_leaving product pair held (leaving_prices pair list)) same
+    ∙ all_stay product held pair (take blocks limits) (first_never_rise limits blocks falls) none in
+    together (ap bids_text one ∙ append-nil (bid_text bid)) added

@@ -1,6 +1,6 @@
 mod Examples
 pub mod Leaving
-mod SheetWalks
+pub mod SheetWalks
 pub mod TextPieces
 pub mod RoundLaws
 pub mod StepLaws
@@ -9,3 +9,6 @@ pub mod PutLaws
 pub mod SendLaws
 pub mod GroupLaws
 pub mod TurnLaws
+pub mod WrittenLaws
+pub mod ArrayLaws
+pub mod WonLaws

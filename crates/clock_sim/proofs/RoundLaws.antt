@@ -1,5 +1,5 @@
 -- The closed rounds that a house shows, by their number.
-use Rattle.std.proofs.Common.{◌≡◌, ℕ, zero, suc, ◌+◌, ◌<◌, ◌≤◌, List, [], ◌∷◌, ◌++◌, true, false, cond, length, map, take, drop, Option, Some, None, refl}
+use Rattle.std.proofs.Common.{◌≡◌, ℕ, zero, suc, ◌+◌, ◌<◌, ◌≤◌, List, [], ◌∷◌, ◌++◌, true, length, map, take, drop, Some, None, refl}
 use Rattle.std.proofs.Common.{sym, ◌∙◌, ap, subst, add-one, All, arith}
 use Rattle.std.specs.Prelude.{reverse, slice_get, slice_index_or, option_map}
 use Rattle.std.proofs.lemmas.List.{reverse-append, length-reverse, length-map, map-append}
@@ -7,16 +7,12 @@ use Rattle.std.specs.List.{range_with_len}
 use Rattle.std.proofs.lemmas.List.Elements.{All-nil, All-push}
 use Rattle.std.proofs.lemmas.List.FromFn.{length-map-range_with_len, get_or-map-range_with_len}
 use Rattle.clock_terms.specs.Limits.{SetupFields, IsRow}
-use Rattle.clock_terms.specs.declared.setup.Product.{Product}
-use Rattle.clock_terms.specs.declared.prices.PricePair.{PricePair}
 use Rattle.clock_posting.specs.declared.sheet.RoundSheet.{RoundSheet}
 use Rattle.clock_house.specs.Command.{Command}
 use Rattle.clock_house.specs.History.{history, standing, round_at}
 use Rattle.clock_closing.specs.declared.closed_round.ClosedRound.{ClosedRound}
 use Rattle.clock_house.specs.House.{HouseFields, StandsFor}
 use Rattle.clock_house.specs.Laws.{AreNumbered, IsSound}
-use Rattle.clock_posting.specs.Posting.{next_pair}
-use Rattle.clock_sim.specs.inside.RoundPrices.{last_sheet, prices_after}
 
 -- the rounds of a house are numbered from 1 on
 pub numbered_in : (house : HouseFields) → (commands : List Command) × StandsFor commands house
@@ -24,41 +20,6 @@ pub numbered_in : (house : HouseFields) → (commands : List Command) × StandsF
     → AreNumbered (length house.setup.bidders) (length house.setup.products) house.closed
 numbered_in house some sound =
     subst (AreNumbered (length house.setup.bidders) (length house.setup.products)) (sym some.1.closed) (sound some.0).numbered
-
-module _ (setup : SetupFields) where
-  abbrev AreInOrder : List ClosedRound → Type 0
-  AreInOrder closed = AreNumbered (length setup.bidders) (length setup.products) closed
-
-  -- at the end the current round is the last closed one
-  pub rounds_at_end : (closed : List ClosedRound) → AreInOrder closed → (standing setup.products closed).ended ≡ true
-      → (standing setup.products closed).round ≡ length closed
-  rounds_at_end [] all ended = absurd (cc)
-  rounds_at_end (last ∷ rounds) all ended = ap (λ over. cond over last.sheet.round (last.sheet.round + 1)) ended ∙ all.0
-
-  -- before, it is the next one
-  pub rounds_before_end : (closed : List ClosedRound) → AreInOrder closed → (standing setup.products closed).ended ≡ false
-      → (standing setup.products closed).round ≡ length closed + 1
-  rounds_before_end [] all going = refl
-  rounds_before_end (last ∷ rounds) all going = ap (λ over. cond over last.sheet.round (last.sheet.round + 1)) going ∙ ap (λ n. n + 1) all.0
-
-  -- each sheet has a line for each product
-  pub last_lines : (closed : List ClosedRound) → AreInOrder closed → (last : RoundSheet) → last_sheet closed ≡ Some last
-      → length last.lines ≡ length setup.products
-  last_lines [] all last e = absurd (cc)
-  last_lines (round ∷ rounds) all last e = let same : round.sheet ≡ last = cc in ap (λ (sheet : RoundSheet). length sheet.lines) (sym same) ∙ all.2
-
-get_at_end : {A : Type 0} (xs : List A) (x : A) → slice_get (xs ++ x ∷ []) (length xs) ≡ Some x
-get_at_end [] x = refl
-get_at_end (y ∷ xs) x = get_at_end xs x
-
--- the last closed round is the one with their number
-pub newest_sheet : (closed : List ClosedRound) → option_map (λ (round : ClosedRound). round.sheet) (round_at (length closed) closed) ≡ last_sheet closed
-newest_sheet [] = refl
-newest_sheet (last ∷ rounds) =
-    let sheet : Option ClosedRound → Option RoundSheet = option_map (λ round. round.sheet) in
-    ap (λ (xs : List ClosedRound). sheet (slice_get xs (length rounds))) (reverse-append (last ∷ []) rounds)
-    ∙ ap (λ (n : ℕ). sheet (slice_get (reverse rounds ++ last ∷ []) n)) (sym (length-reverse rounds))
-    ∙ ap sheet (get_at_end (reverse rounds) last)
 
 -- ---- sheets in order
 
@@ -134,20 +95,3 @@ rows_of setup f n each k d within =
 pub some_closed : (setup : SetupFields) (closed : List ClosedRound) → (standing setup.products closed).ended ≡ true → 1 ≤ length closed
 some_closed setup [] ended = absurd (cc)
 some_closed setup (last ∷ rounds) ended = omega arith
-
--- ---- prices
-
--- the prices after the last closed round are those of the current one
-pub prices_in_force : (setup : SetupFields) (closed : List ClosedRound) → prices_after setup.products (last_sheet closed) ≡
-    (standing setup.products closed).prices
-prices_in_force setup [] = refl
-prices_in_force setup (last ∷ rounds) = refl
-
-abbrev opening_pair : Product → PricePair
-opening_pair product = record { start = product.opening; clock = product.opening }
-
--- there is a pair for each product
-pub many_prices : (setup : SetupFields) (closed : List ClosedRound) → AreNumbered (length setup.bidders) (length setup.products) closed
-    → length (prices_after setup.products (last_sheet closed)) ≡ length setup.products
-many_prices setup [] all = length-map setup.products opening_pair
-many_prices setup (last ∷ rounds) all = length-map last.sheet.lines next_pair ∙ all.2

@@ -1,5 +1,5 @@
 -- Steps of a rehearsal, one after the other.
-use Rattle.std.proofs.Common.{◌≡◌, ◌≢◌, ℕ, ◌+◌, ◌<◌, ◌≤◌, Bool, true, false, List, [], ◌∷◌, length, drop, get_or, Option, Some, None, Result, Ok, Err}
+use Rattle.std.proofs.Common.{◌≡◌, ◌≢◌, ℕ, ◌+◌, ◌<◌, ◌≤◌, Bool, true, false, List, [], ◌∷◌, length, drop, get_or, Option, None, Result, Ok, Err}
 use Rattle.std.proofs.Common.{refl, sym, ◌∙◌, ap, subst, inl, inr}
 use Rattle.std.specs.Prelude.{MatchResult, if◌then◌else◌}
 use Rattle.std.proofs.lemmas.List.{drop_more, drop_all}
@@ -19,8 +19,8 @@ use Rattle.clock_sim.specs.FinalReport.{report_of}
 use Rattle.clock_replays.specs.Replays.{ReplayFields}
 use Rattle.clock_replays.specs.declared.script.Script.{Script}
 use Rattle.clock_replays.specs.declared.closing.Closing.{Closing}
-use Rattle.clock_sim.specs.ScriptedRequests.{scripted_put, scripted_close}
-use Rattle.clock_sim.specs.inside.Steps.{IsTold, ComesTo, MakesStep, IsLeft}
+use Rattle.clock_sim.specs.ScriptedRequests.{scripted_close}
+use Rattle.clock_sim.specs.inside.Steps.{IsGoing, IsTold, ComesTo, MakesStep, IsLeft}
 
 abbrev pub Texts : Type 0
 Texts = List (List ℕ)
@@ -180,6 +180,13 @@ goes_past whole rest initial now before going = record {
       };
 }
 
+-- where the auction has not ended after a step, it goes on
+pub goes_on_after : {T : Type 0} (step : Step) (old new : HouseFields) (done : T) → IsGoing old → MakesStep step old new (Ok done)
+    → (standing_in new).ended ≡ false → IsGoing new
+goes_on_after step old new done before made going =
+    let end = made.comes before.texts before.stands in
+    record { going = going; texts = end.texts; stands = end.stands }
+
 pub ends_there : {T : Type 0} (whole rest : Step) (initial now : HouseFields) (done : T) → IsOnWay whole (until_end initial.setup rest) initial now
     → (standing_in now).ended ≡ true → MakesStep whole initial now (Ok done)
 ends_there whole rest initial now done before over = record {
@@ -215,22 +222,6 @@ ends whole rest initial now done before none = record {
       let way = before.comes texts stands in
       record { texts = way.texts; is = sym way.same ∙ none way.texts; stands = way.stands };
 }
-
--- ---- the sheet that a script gives, by what was written
-
-pub puts_text : (house old : HouseFields) (bidder : ℕ) (script : Script) (puts : Bool) (written text : List ℕ) → house ≡ old
-    → scripted_put house.setup house.closed bidder script ≡ (if puts then Some written else None) → puts ≡ true → text ≡ written
-    → scripted_put old.setup old.closed bidder script ≡ Some text
-puts_text house old bidder script puts written text same gives there is =
-    let P : HouseFields → Type 0 = λ now. scripted_put now.setup now.closed bidder script ≡ Some text in
-    subst P same (gives ∙ ap (λ (b : Bool). if b then Some written else None) there ∙ ap Some (sym is))
-
-pub puts_none : (house old : HouseFields) (bidder : ℕ) (script : Script) (puts : Bool) (written : List ℕ) → house ≡ old
-    → scripted_put house.setup house.closed bidder script ≡ (if puts then Some written else None) → puts ≡ false
-    → scripted_put old.setup old.closed bidder script ≡ None
-puts_none house old bidder script puts written same gives no_sheet =
-    let P : HouseFields → Type 0 = λ now. scripted_put now.setup now.closed bidder script ≡ None in
-    subst P same (gives ∙ ap (λ (b : Bool). if b then Some written else None) no_sheet)
 
 -- ---- round after round
 

@@ -12,14 +12,13 @@ use Rattle.clock_closing.specs.declared.closed_round.ClosedRound.{ClosedRound}
 use Rattle.clock_http.specs.declared.code.Code.{Code}
 use Rattle.clock_http.specs.declared.code.Code.TheVariants.{Done}
 use Rattle.clock_front.specs.Fronts.{StandsForTexts}
-use Rattle.clock_sim.specs.declared.groups.Waiting.{Waiting}
 use Rattle.clock_replays.specs.declared.script.Script.{Script}
 use Rattle.clock_sim.specs.declared.sim_fault.SimFault.{SimFault}
 use Rattle.clock_sim.specs.declared.sim_fault.SimFault.TheVariants.{NoMemory}
 use Rattle.clock_sim.specs.Rehearsal.{if_done, after_request, after_request_if, after_put, after_puts, rounds_after}
 use Rattle.clock_sim.specs.ScriptedRequests.{scripted_put}
-use Rattle.clock_sim.specs.inside.Groups.{ClosesNoRound, text_in, after_group, with_request}
-use Rattle.clock_sim.specs.inside.Steps.{ComesTo, MakesStep, IsLeft, MakesWay}
+use Rattle.clock_sim.specs.inside.Groups.{Request, ClosesNoRound, text_in, after_group, with_request}
+use Rattle.clock_sim.specs.inside.Steps.{IsGoing, ComesTo, MakesStep, IsLeft, MakesWay}
 use Rattle.clock_sim.proofs.StepLaws.{Texts, Step, IsOnWay, and_then}
 use Rattle.clock_sim.proofs.GroupLaws.{ended_ok, one_step, with_one}
 
@@ -47,16 +46,27 @@ way_stops whole part left rest initial now next fault before made = record {
       sym way.same ∙ ap (λ (answer : Result Texts SimFault). answer >>= rest) (made.comes way.texts way.stands other);
 }
 
+-- a part of the steps is made, and then a part of what was left
+pub way_then : {U T : Type 0} (whole left last : Step) (old mid new : HouseFields) (done : U) (result : Result T SimFault)
+    → MakesWay whole left old mid (Ok done) → MakesWay left last mid new result → MakesWay whole last old new result
+way_then {T = T} whole left last old mid new done result one two = record {
+  setup = two.setup ∙ one.setup;
+  comes = λ texts stands.
+      let way = one.comes texts stands in
+      let P : Result Texts SimFault → Type 0 = λ answer. MatchResult result (λ (_ : T). IsLeft last answer new) (IsRefusal NoMemory answer) in
+      subst P way.same (two.comes way.texts way.stands);
+}
+
 -- where there was no memory, nothing is told
 pub no_memory_way : {T : Type 0} (whole rest : Step) (old new : HouseFields) → new.setup ≡ old.setup → MakesWay {T = T} whole rest old new (Err NoMemory)
 no_memory_way whole rest old new same = record { setup = same; comes = λ texts stands other. absurd (other refl) }
 
-none_left : (setup : SetupFields) (group : List Waiting) (texts : Texts) → length group ≡ 0 → after_group setup group texts ≡ Ok texts
+none_left : (setup : SetupFields) (group : List Request) (texts : Texts) → length group ≡ 0 → after_group setup group texts ≡ Ok texts
 none_left setup [] texts none = refl
 none_left setup (one ∷ group) texts none = absurd (omega (arith, none))
 
 -- steps that are made, of which nothing is left
-pub whole_way : {T : Type 0} (whole : Step) (setup : SetupFields) (group : List Waiting) (old new : HouseFields) (result : Result T SimFault)
+pub whole_way : {T : Type 0} (whole : Step) (setup : SetupFields) (group : List Request) (old new : HouseFields) (result : Result T SimFault)
     → MakesStep whole old new result → OnOk result (length group ≡ 0) → MakesWay whole (after_group setup group) old new result
 whole_way whole setup group old new (Ok done) made none = record {
   setup = made.setup;
@@ -94,7 +104,7 @@ first_stops first left second last old new fault one = record {
 }
 
 -- the requests of a group are sent, and then one more
-pub sent_after : {U T : Type 0} (group waiting : List Waiting) (bidder round : ℕ) (text : List ℕ) (old mid new : HouseFields) (done : U)
+pub sent_after : {U T : Type 0} (group waiting : List Request) (bidder round : ℕ) (text : List ℕ) (old mid new : HouseFields) (done : U)
     (result : Result T SimFault)
     → MakesStep (after_group old.setup group) old mid (Ok done) → length waiting ≡ 0
     → MakesStep (λ texts. after_request mid.setup texts (Some bidder) round text) mid new result
@@ -106,7 +116,7 @@ sent_after group waiting bidder round text old mid new done result one none two 
     (on_ok (length waiting ≡ 0) result none)
 
 -- one of them is refused
-pub refused_before : {U T : Type 0} (group : List Waiting) (rest : Step) (bidder round : ℕ) (text : List ℕ) (old new : HouseFields) (fault : SimFault)
+pub refused_before : {U T : Type 0} (group : List Request) (rest : Step) (bidder round : ℕ) (text : List ℕ) (old new : HouseFields) (fault : SimFault)
     → MakesStep {T = U} (after_group old.setup group) old new (Err fault)
     → MakesWay {T = T} (with_request old.setup group bidder round text) rest old new (Err fault)
 refused_before group rest bidder round text old new fault one = record {
@@ -115,19 +125,8 @@ refused_before group rest bidder round text old new fault one = record {
       ap (λ (answer : Result Texts SimFault). answer >>= (λ sent. after_request old.setup sent (Some bidder) round text)) (one.comes texts stands other);
 }
 
--- there is room, and then one more waits
-pub waits_after : {U T : Type 0} (group between waiting : List Waiting) (bidder round : ℕ) (text : List ℕ) (old mid new : HouseFields) (done : U)
-    (result : Result T SimFault)
-    → MakesWay (after_group old.setup group) (after_group old.setup between) old mid (Ok done)
-    → MakesWay (with_request mid.setup between bidder round text) (after_group mid.setup waiting) mid new result
-    → MakesWay (with_request old.setup group bidder round text) (after_group old.setup waiting) old new result
-waits_after group between waiting bidder round text old mid new done result one two =
-    two_ways (after_group old.setup group) (after_group old.setup between) (λ sent. after_request old.setup sent (Some bidder) round text)
-    (after_group old.setup waiting) old mid new done result one
-    (subst (λ (setup : SetupFields). MakesWay (with_request setup between bidder round text) (after_group setup waiting) mid new result) one.setup two)
-
 -- one more waits
-pub one_waits : {T : Type 0} (group waiting : List Waiting) (one : Waiting) (text : List ℕ) (old new : HouseFields) (done : T) → new ≡ old
+pub one_waits : {T : Type 0} (group waiting : List Request) (one : Request) (text : List ℕ) (old new : HouseFields) (done : T) → new ≡ old
     → waiting ≡ group ++ one ∷ [] → text_in one ≡ text
     → MakesWay (with_request old.setup group one.bidder one.round text) (after_group old.setup waiting) old new (Ok done)
 one_waits group waiting one text old new done same is reads = record {
@@ -136,7 +135,7 @@ one_waits group waiting one text old new done same is reads = record {
     texts = texts;
     stands = subst (StandsForTexts texts) (sym same) stands;
     same =
-        ap (λ (list : List Waiting). after_group old.setup list texts) is ∙ with_one old.setup group one texts
+        ap (λ (list : List Request). after_group old.setup list texts) is ∙ with_one old.setup group one texts
         ∙ ap (λ (bytes : List ℕ). with_request old.setup group one.bidder one.round bytes texts) reads;
   };
 }
@@ -157,17 +156,44 @@ parted (Ok next) second end is = (next, refl, is)
 parted (Err fault) second end is = absurd (cc)
 
 -- the requests of a group close no round
-group_closes_none : (setup : SetupFields) (group : List Waiting) (texts end : Texts) → All (λ one. ClosesNoRound (text_in one)) group
+group_closes_none : (setup : SetupFields) (group : List Request) (texts end : Texts) → All (λ one. ClosesNoRound (text_in one)) group
     → after_group setup group texts ≡ Ok end → rounds_after setup end ≡ rounds_after setup texts
 group_closes_none setup [] texts end close is = let same : texts ≡ end = cc in ap (rounds_after setup) (sym same)
 group_closes_none setup (one ∷ group) texts end close is =
     let parts = parted (one_step setup one texts) (after_group setup group) end is in
-    group_closes_none setup group parts.0 end (All-tail (λ (w : Waiting). ClosesNoRound (text_in w)) one group close) parts.2
+    group_closes_none setup group parts.0 end (All-tail (λ (w : Request). ClosesNoRound (text_in w)) one group close) parts.2
     ∙ ap (rounds_after setup) (sent_text setup texts parts.0 (Some one.bidder) one.round (text_in one) parts.1)
     ∙ close 0 one (omega arith) setup texts
 
+-- where a step closes no round, the auction goes on
+still_going : {T : Type 0} (step : Step) (old new : HouseFields) (done : T) → IsGoing old → MakesStep step old new (Ok done)
+    → ((texts end : Texts) → step texts ≡ Ok end → rounds_after old.setup end ≡ rounds_after old.setup texts) → IsGoing new
+still_going step old new done before made none =
+    let end = made.comes before.texts before.stands in
+    let closed : new.closed ≡ old.closed =
+    end.stands.closed ∙ ap (λ (setup : SetupFields). rounds_after setup end.texts) made.setup ∙ none before.texts end.texts end.is ∙ sym before.stands.closed in
+    record {
+      going = ap (λ (setup : SetupFields). (standing setup.products new.closed).ended) made.setup
+          ∙ ap (λ (rounds : List ClosedRound). (standing old.setup.products rounds).ended) closed ∙ before.going;
+      texts = end.texts;
+      stands = end.stands;
+    }
+
+pub going_after_group : {T : Type 0} (group : List Request) (old new : HouseFields) (result : Result T SimFault)
+    → All (λ one. ClosesNoRound (text_in one)) group → IsGoing old → MakesStep (after_group old.setup group) old new result → OnOk result (IsGoing new)
+going_after_group group old new (Ok done) close before made =
+    still_going (after_group old.setup group) old new done before made (λ texts end is. group_closes_none old.setup group texts end close is)
+going_after_group group old new (Err fault) close before made = tt
+
+pub going_after_one : {T : Type 0} (bidder round : ℕ) (text : List ℕ) (old new : HouseFields) (result : Result T SimFault) → ClosesNoRound text → IsGoing old
+    → MakesStep (λ texts. after_request old.setup texts (Some bidder) round text) old new result → OnOk result (IsGoing new)
+going_after_one bidder round text old new (Ok done) closes before made =
+    still_going (λ texts. after_request old.setup texts (Some bidder) round text) old new done before made
+    (λ texts end is. ap (rounds_after old.setup) (sent_text old.setup texts end (Some bidder) round text is) ∙ closes old.setup texts)
+going_after_one bidder round text old new (Err fault) closes before made = tt
+
 -- the sheet that a script gives is the same before and after the requests of the group
-module _ (old : HouseFields) (group : List Waiting) (bidder : ℕ) (script : Script) (close : All (λ one. ClosesNoRound (text_in one)) group) where
+module _ (old : HouseFields) (group : List Request) (bidder : ℕ) (script : Script) (close : All (λ one. ClosesNoRound (text_in one)) group) where
   abbrev given : List ClosedRound → Texts → Option (List ℕ) → Result Texts SimFault
   given closed texts put = after_request_if old.setup texts (Some bidder) (standing old.setup.products closed).round put
 
@@ -217,7 +243,7 @@ next_script : (scripts : List Script) (i : ℕ) (script : Script) → i < length
 next_script scripts i script below is = drop_more scripts i script below ∙ ap (λ (one : Script). one ∷ drop (i + 1) scripts) (sym is)
 
 -- the requests that wait, and then the sheets of the bidders from this one on
-abbrev pub then_puts : SetupFields → List Waiting → ℕ → List Script → Step
+abbrev pub then_puts : SetupFields → List Request → ℕ → List Script → Step
 then_puts setup group i scripts texts = after_group setup group texts >>= after_puts setup i scripts
 
 in_turn : (setup : SetupFields) (i : ℕ) (script : Script) (rest : List Script) (answer : Result Texts SimFault)
@@ -225,7 +251,7 @@ in_turn : (setup : SetupFields) (i : ℕ) (script : Script) (rest : List Script)
 in_turn setup i script rest (Ok texts) = refl
 in_turn setup i script rest (Err fault) = refl
 
-before_turn : (whole : Step) (scripts : List Script) (group : List Waiting) (i : ℕ) (script : Script) (initial now : HouseFields) → i < length scripts
+before_turn : (whole : Step) (scripts : List Script) (group : List Request) (i : ℕ) (script : Script) (initial now : HouseFields) → i < length scripts
     → script ≡ get_or scripts i script → IsOnWay whole (then_puts initial.setup group i (drop i scripts)) initial now
     → IsOnWay whole (λ texts. after_group initial.setup group texts >>= after_put initial.setup i script >>=
     after_puts initial.setup (i + 1) (drop (i + 1) scripts)) initial now
@@ -242,7 +268,7 @@ before_turn whole scripts group i script initial now below is before = record {
 }
 
 -- a bidder's turn is over
-pub turn_over : {U : Type 0} (whole : Step) (scripts : List Script) (group waiting : List Waiting) (i : ℕ) (script : Script)
+pub turn_over : {U : Type 0} (whole : Step) (scripts : List Script) (group waiting : List Request) (i : ℕ) (script : Script)
     (initial now next : HouseFields) (done : U)
     → i < length scripts → script ≡ get_or scripts i script → IsOnWay whole (then_puts initial.setup group i (drop i scripts)) initial now
     → MakesWay (λ texts. after_group now.setup group texts >>= after_put now.setup i script) (after_group now.setup waiting) now next (Ok done)
@@ -254,7 +280,7 @@ turn_over whole scripts group waiting i script initial now next done below is be
     (Ok done)) before.setup made)
 
 -- a request was refused in a bidder's turn
-pub turn_refused : {U T : Type 0} (whole : Step) (scripts : List Script) (group waiting : List Waiting) (i : ℕ) (script : Script)
+pub turn_refused : {U T : Type 0} (whole : Step) (scripts : List Script) (group waiting : List Request) (i : ℕ) (script : Script)
     (initial now next : HouseFields) (fault : SimFault)
     → i < length scripts → script ≡ get_or scripts i script → IsOnWay whole (then_puts initial.setup group i (drop i scripts)) initial now
     → MakesWay {T = U} (λ texts. after_group now.setup group texts >>= after_put now.setup i script) (after_group now.setup waiting) now next (Err fault)
@@ -266,7 +292,7 @@ turn_refused {U = U} {T = T} whole scripts group waiting i script initial now ne
     (after_group setup waiting) now next (Err fault)) before.setup made)
 
 -- no request waits before the first turn
-pub first_turn : (setup : SetupFields) (group : List Waiting) (scripts : List Script) (initial : HouseFields) → initial.setup ≡ setup → length group ≡ 0
+pub first_turn : (setup : SetupFields) (group : List Request) (scripts : List Script) (initial : HouseFields) → initial.setup ≡ setup → length group ≡ 0
     → IsOnWay (after_puts setup 0 scripts) (then_puts setup group 0 scripts) initial initial
 first_turn setup group scripts initial same none = record {
   setup = refl;
@@ -278,7 +304,7 @@ first_turn setup group scripts initial same none = record {
 }
 
 -- after the last turn the requests that wait are sent
-pub last_sent : {T : Type 0} (whole : Step) (scripts : List Script) (group : List Waiting) (i : ℕ) (initial now new : HouseFields) (result : Result T SimFault)
+pub last_sent : {T : Type 0} (whole : Step) (scripts : List Script) (group : List Request) (i : ℕ) (initial now new : HouseFields) (result : Result T SimFault)
     → length scripts ≤ i → IsOnWay whole (then_puts initial.setup group i (drop i scripts)) initial now
     → MakesStep (after_group now.setup group) now new result → MakesStep whole initial new result
 last_sent {T = T} whole scripts group i initial now new result past before made = record {

@@ -34,6 +34,7 @@ pub fn audit_text(alloc: Global, report: &Report, digests: &[Digits]) -> Result<
     let last = &sheets[sheets.len() - 1];
     if last.ended {
         push_wins(
+            alloc,
             &mut text,
             last.lines.as_slice(),
             report.setup.bidders.as_slice(),

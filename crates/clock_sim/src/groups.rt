@@ -1,15 +1,17 @@
 //! The requests of a group: their connections stand at once, all heads come before the first body.
 
-ghost use Rattle.std.specs.Prelude.{◌≡◌, ◌++◌, Some, true, false, nat_le, length, OnOk, OnErr};
+ghost use Rattle.std.specs.Prelude.{◌≡◌, ◌≤◌, ◌++◌, [], Some, true, false, nat_le, length, drop, IfOk, OnOk, OnErr};
 ghost use Rattle.clock_http.specs.Framing.{needs_more};
-ghost use Rattle.clock_sim.specs.inside.Groups.{IsGroup, StandFrom, AreApart, ClosesNoRound, after_group, with_request};
-ghost use Rattle.clock_sim.specs.inside.RequestTexts.{whole_text};
-ghost use Rattle.clock_sim.specs.inside.Steps.{MakesStep, MakesWay};
+ghost use Rattle.clock_sim.specs.RequestTexts.{request_text};
+ghost use Rattle.clock_sim.specs.inside.Groups.{AreApart, ClosesNoRound, AreWritten, HasTextsOf, IsPlaceIn, IsWrittenIn, Keeps};
+ghost use Rattle.clock_sim.specs.inside.Groups.{StandFrom, Waits, Writes, after_group, piece_at, requests_in, text_at, with_request};
+ghost use Rattle.clock_sim.specs.inside.Steps.{IsGoing, MakesStep, MakesWay};
 
-use crate::request_texts::RequestText;
+use crate::bodies::Bodies;
+use crate::request_texts::push_head;
 use crate::sending::{send, send_body};
 use crate::sim_fault::SimFault;
-use clock_device::Text;
+use clock_device::NoMemory;
 use clock_front::{Conn, Framing, Hub, HubFault, frame};
 use clock_processor::Processor;
 use std::alloc::Global;
@@ -17,14 +19,45 @@ use std::alloc::Global;
 /// How many requests a group has at most.
 const MOST_WAITING: usize = 64;
 
-/// A request of a group: who sends it in which round, over which connection, and its two pieces.
+/// Where a piece stands in a text.
+#[derive(Clone, Copy)]
+pub(crate) struct Place {
+    start: usize,
+    end: usize,
+}
+
+/// Where the two pieces of a request stand among those of its group.
+#[derive(Clone, Copy)]
+pub(crate) struct Written {
+    head: Place,
+    body: Place,
+}
+
+/// A request of a group: who sends it in which round, over which connection, and where it stands.
 #[derive(Drop)]
-pub(crate) struct Waiting {
+struct Waiting {
     bidder: u64,
     round: u64,
     conn: Conn,
-    head: Text,
-    body: Text,
+    written: Written,
+}
+
+/// The requests of a group. Their heads stand one behind the other, and so do their bodies, on the same memory from group
+/// to group.
+#[derive(Drop)]
+pub(crate) struct Group {
+    heads: Vec<u8>,
+    /// The bodies, and behind them that of the request that is being written.
+    pub(crate) bodies: Bodies,
+    waiting: Vec<Waiting>,
+}
+
+/// A piece of a text.
+fn piece_of<'a>(text: &'a [u8], place: &Place) -> &'a [u8]
+    requires { IsPlaceIn text.now place.now }
+    ensures { result.now ≡ piece_at text.now place.now }
+{
+    &text[place.start..place.end]
 }
 
 /// Whether a request needs its body. One whose body is too long does not: it is answered at its head.
@@ -37,115 +70,214 @@ fn needs_body(head: &[u8]) -> bool
     }
 }
 
-/// The head of each request of a group comes, in order.
-fn feed_heads<P: Processor>(hub: &mut Hub<P>, group: &[Waiting]) -> Result<(), HubFault>
-    requires { IsGroup hub.old.connections group.now }
-    ensures house { hub.new.house ≡ hub.old.house }
-    ensures heads { OnOk result (StandFrom 0 hub.new.connections group.now (λ k one. one.head)) }
-{
-    for one in group {
-        hub.feed(one.conn, one.head.as_slice())?;
+impl Group {
+    /// No requests yet, of an auction of so many products.
+    pub(crate) fn new(alloc: Global, products: usize) -> Result<Group, NoMemory> {
+        Ok(Group {
+            heads: Vec::new(alloc),
+            bodies: Bodies::new(alloc, products)?,
+            waiting: Vec::new(alloc),
+        })
     }
-    Ok(())
-}
 
-/// The body of each request of a group comes, in order, and each request is answered.
-fn send_bodies<P: Processor>(hub: &mut Hub<P>, group: &[Waiting]) -> Result<(), SimFault>
-    requires heads { StandFrom 0 hub.old.connections group.now (λ k one. one.head) }
-    requires apart { AreApart group.now }
-    ensures { MakesStep (after_group hub.old.house.setup group.now) hub.old.house hub.new.house result }
-{
-    for one in group {
-        send_body(
+    /// Begins a request, and tells where its body begins. Where no request waits, the memory of those before is used again.
+    pub(crate) fn begin_request(&mut self) -> usize
+        ensures kept { Keeps self.old self.new }
+        ensures start { result ≡ length self.new.bodies.text.items }
+    {
+        if self.waiting.is_empty() {
+            self.heads.clear();
+            self.bodies.text.clear();
+        }
+        self.bodies.text.len()
+    }
+
+    /// No request waits any more. The texts stay.
+    pub(crate) fn clear(&mut self)
+        ensures none { requests_in self.new ≡ [] }
+        ensures texts { HasTextsOf self.old self.new }
+    {
+        self.waiting.clear();
+    }
+
+    /// Writes the head of a request, whose body stands behind all others from a place on.
+    pub(crate) fn end_request(
+        &mut self,
+        line: &[u8],
+        token: &[u8],
+        body: usize,
+    ) -> Result<Written, NoMemory>
+        requires { body ≤ length self.old.bodies.text.items }
+        ensures { IfOk result (Writes self.old self.new
+            (request_text line.now token.now (drop body self.old.bodies.text.items))) }
+    {
+        let end = self.bodies.text.len();
+        let head = self.heads.len();
+        push_head(&mut self.heads, line, token, (end - body) as u64)?;
+        Ok(Written {
+            head: Place {
+                start: head,
+                end: self.heads.len(),
+            },
+            body: Place { start: body, end },
+        })
+    }
+
+    /// The head of a request.
+    pub(crate) fn head(&self, written: &Written) -> &[u8]
+        requires { IsWrittenIn self.now written.now }
+        ensures { result.now ≡ piece_at self.now.heads.items written.now.head }
+    {
+        piece_of(self.heads.as_slice(), &written.head)
+    }
+
+    /// The body of a request.
+    pub(crate) fn body(&self, written: &Written) -> &[u8]
+        requires { IsWrittenIn self.now written.now }
+        ensures { result.now ≡ piece_at self.now.bodies.text.items written.now.body }
+    {
+        piece_of(self.bodies.text.as_slice(), &written.body)
+    }
+
+    /// The head of each request that waits comes, in order.
+    fn feed_heads<P: Processor>(&self, hub: &mut Hub<P>) -> Result<(), HubFault>
+        requires { Waits hub.old.connections self.now }
+        ensures house { hub.new.house ≡ hub.old.house }
+        ensures heads { OnOk result (StandFrom 0 hub.new.connections (requests_in self.now) (λ k one. one.head)) }
+    {
+        for one in &self.waiting {
+            hub.feed(one.conn, self.head(&one.written))?;
+        }
+        Ok(())
+    }
+
+    /// The body of each request that waits comes, in order, and each request is answered.
+    fn send_bodies<P: Processor>(&self, hub: &mut Hub<P>) -> Result<(), SimFault>
+        requires heads { StandFrom 0 hub.old.connections (requests_in self.now) (λ k one. one.head) }
+        requires apart { AreApart (requests_in self.now) }
+        requires within { AreWritten self.now }
+        ensures { MakesStep (after_group hub.old.house.setup (requests_in self.now)) hub.old.house hub.new.house result }
+    {
+        for one in &self.waiting {
+            send_body(
+                hub,
+                one.conn,
+                Some(one.bidder),
+                one.round,
+                self.body(&one.written),
+            )?;
+        }
+        Ok(())
+    }
+
+    /// Sends the requests that wait: none does then. The texts stay.
+    pub(crate) fn send_all<P: Processor>(&mut self, hub: &mut Hub<P>) -> Result<(), SimFault>
+        requires { Waits hub.old.connections self.old }
+        ensures step { MakesStep (after_group hub.old.house.setup (requests_in self.old)) hub.old.house
+            hub.new.house result }
+        ensures none { OnOk result (requests_in self.new ≡ []) }
+        ensures texts { OnOk result (HasTextsOf self.old self.new) }
+    {
+        self.feed_heads(hub)?;
+        self.send_bodies(hub)?;
+        self.clear();
+        Ok(())
+    }
+
+    /// A request waits for the others of its group; its connection is made.
+    fn join<P: Processor>(
+        &mut self,
+        hub: &mut Hub<P>,
+        bidder: u64,
+        round: u64,
+        written: Written,
+    ) -> Result<(), SimFault>
+        requires group { Waits hub.old.connections self.old }
+        requires within { IsWrittenIn self.old written }
+        requires needs { needs_more (piece_at self.old.heads.items written.head) ≡ true }
+        requires closes { ClosesNoRound (text_at self.old written) }
+        requires going { IsGoing hub.old.house }
+        ensures group { OnOk result (Waits hub.new.connections self.new) }
+        ensures going { OnOk result (IsGoing hub.new.house) }
+        ensures way { MakesWay
+            (with_request hub.old.house.setup (requests_in self.old) bidder round (text_at self.old written))
+            (after_group hub.old.house.setup (requests_in self.new)) hub.old.house hub.new.house result }
+    {
+        let conn = hub.connect()?;
+        self.waiting.push(Waiting {
+            bidder,
+            round,
+            conn,
+            written,
+        })?;
+        Ok(())
+    }
+
+    /// Sends a group that is full.
+    fn send_full<P: Processor>(&mut self, hub: &mut Hub<P>) -> Result<(), SimFault>
+        requires group { Waits hub.old.connections self.old }
+        requires going { IsGoing hub.old.house }
+        ensures group { OnOk result (Waits hub.new.connections self.new) }
+        ensures going { OnOk result (IsGoing hub.new.house) }
+        ensures way { MakesWay (after_group hub.old.house.setup (requests_in self.old)) (after_group hub.old.house.setup
+            (requests_in self.new)) hub.old.house hub.new.house result }
+    {
+        if self.waiting.len() >= MOST_WAITING {
+            return self.send_all(hub);
+        }
+        Ok(())
+    }
+
+    /// Sends a request by itself, after those that wait.
+    fn send_alone<P: Processor>(
+        &mut self,
+        hub: &mut Hub<P>,
+        bidder: u64,
+        round: u64,
+        written: Written,
+    ) -> Result<(), SimFault>
+        requires group { Waits hub.old.connections self.old }
+        requires within { IsWrittenIn self.old written }
+        requires closes { ClosesNoRound (text_at self.old written) }
+        requires going { IsGoing hub.old.house }
+        ensures group { OnOk result (Waits hub.new.connections self.new) }
+        ensures going { OnOk result (IsGoing hub.new.house) }
+        ensures way { MakesWay
+            (with_request hub.old.house.setup (requests_in self.old) bidder round (text_at self.old written))
+            (after_group hub.old.house.setup (requests_in self.new)) hub.old.house hub.new.house result }
+    {
+        self.send_all(hub)?;
+        send(
             hub,
-            one.conn,
-            Some(one.bidder),
-            one.round,
-            one.body.as_slice(),
-        )?;
+            Some(bidder),
+            round,
+            self.head(&written),
+            self.body(&written),
+        )
     }
-    Ok(())
-}
 
-/// Sends the requests of a group, which is empty then.
-pub(crate) fn send_group<P: Processor>(
-    hub: &mut Hub<P>,
-    group: &mut Vec<Waiting>,
-) -> Result<(), SimFault>
-    requires { IsGroup hub.old.connections group.old.items }
-    ensures step { MakesStep (after_group hub.old.house.setup group.old.items) hub.old.house hub.new.house result }
-    ensures none { OnOk result (length group.new.items ≡ 0) }
-{
-    feed_heads(hub, group.as_slice())?;
-    send_bodies(hub, group.as_slice())?;
-    group.clear();
-    Ok(())
-}
-
-/// A request waits for the others of its group; its connection is made.
-fn join<P: Processor>(
-    alloc: Global,
-    hub: &mut Hub<P>,
-    group: &mut Vec<Waiting>,
-    bidder: u64,
-    round: u64,
-    request: &RequestText,
-) -> Result<(), SimFault>
-    requires group { IsGroup hub.old.connections group.old.items }
-    requires needs { needs_more request.now.head.items ≡ true }
-    requires closes { ClosesNoRound (whole_text request.now) }
-    ensures group { OnOk result (IsGroup hub.new.connections group.new.items) }
-    ensures way { MakesWay
-        (with_request hub.old.house.setup group.old.items bidder round (whole_text request.now))
-        (after_group hub.old.house.setup group.new.items) hub.old.house hub.new.house result }
-{
-    let head = Text::from_slice(alloc, request.head())?;
-    let body = Text::from_slice(alloc, request.body())?;
-    let conn = hub.connect()?;
-    group.push(Waiting {
-        bidder,
-        round,
-        conn,
-        head,
-        body,
-    })?;
-    Ok(())
-}
-
-/// Sends a group that is full.
-fn make_room<P: Processor>(hub: &mut Hub<P>, group: &mut Vec<Waiting>) -> Result<(), SimFault>
-    requires { IsGroup hub.old.connections group.old.items }
-    ensures group { OnOk result (IsGroup hub.new.connections group.new.items) }
-    ensures way { MakesWay (after_group hub.old.house.setup group.old.items) (after_group hub.old.house.setup
-        group.new.items)
-        hub.old.house hub.new.house result }
-{
-    if group.len() >= MOST_WAITING {
-        return send_group(hub, group);
+    /// A request joins the group, which is sent where it is full. One that is answered at its head goes by itself.
+    pub(crate) fn take_turn<P: Processor>(
+        &mut self,
+        hub: &mut Hub<P>,
+        bidder: u64,
+        round: u64,
+        written: Written,
+    ) -> Result<(), SimFault>
+        requires group { Waits hub.old.connections self.old }
+        requires within { IsWrittenIn self.old written }
+        requires closes { ClosesNoRound (text_at self.old written) }
+        requires going { IsGoing hub.old.house }
+        ensures group { OnOk result (Waits hub.new.connections self.new) }
+        ensures going { OnOk result (IsGoing hub.new.house) }
+        ensures way { MakesWay
+            (with_request hub.old.house.setup (requests_in self.old) bidder round (text_at self.old written))
+            (after_group hub.old.house.setup (requests_in self.new)) hub.old.house hub.new.house result }
+    {
+        if !needs_body(self.head(&written)) {
+            return self.send_alone(hub, bidder, round, written);
+        }
+        self.join(hub, bidder, round, written)?;
+        self.send_full(hub)
     }
-    Ok(())
-}
-
-/// A request joins a group, before which a full one is sent. One that is answered at its head goes by itself.
-pub(crate) fn take_turn<P: Processor>(
-    alloc: Global,
-    hub: &mut Hub<P>,
-    group: &mut Vec<Waiting>,
-    bidder: u64,
-    round: u64,
-    request: &RequestText,
-) -> Result<(), SimFault>
-    requires group { IsGroup hub.old.connections group.old.items }
-    requires closes { ClosesNoRound (whole_text request.now) }
-    ensures group { OnOk result (IsGroup hub.new.connections group.new.items) }
-    ensures way { MakesWay
-        (with_request hub.old.house.setup group.old.items bidder round (whole_text request.now))
-        (after_group hub.old.house.setup group.new.items) hub.old.house hub.new.house result }
-{
-    if needs_body(request.head()) {
-        make_room(hub, group)?;
-        return join(alloc, hub, group, bidder, round, request);
-    }
-    send_group(hub, group)?;
-    send(hub, Some(bidder), round, request.head(), request.body())
 }

@@ -43,6 +43,7 @@ pub(crate) fn final_text<P>(alloc: Global, house: &House<P>) -> Result<Text, NoM
     push_closed_rounds(alloc, &mut text, house)?;
     let last = sheet_at(house, house.closed_rounds() - 1);
     push_won_by_all(
+        alloc,
         &mut text,
         house.setup(),
         last.lines.as_slice(),

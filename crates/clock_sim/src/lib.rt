@@ -5,14 +5,13 @@
 #![tactic(auto)]
 
 mod audit_lines;
-mod bid_pieces;
+mod bodies;
 mod final_report;
 mod groups;
 mod house_text;
 mod report;
 mod report_lines;
 mod request_texts;
-mod round_prices;
 mod rounds;
 mod scripted;
 mod sending;

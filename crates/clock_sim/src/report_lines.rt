@@ -1,8 +1,9 @@
-ghost use Rattle.std.specs.Prelude.{◌≡◌, ◌≤◌, ◌++◌, All, IfOk, OnOk, length, decimal, codes, zip};
+ghost use Rattle.std.specs.Prelude.{◌≡◌, ◌≤◌, ◌++◌, ℕ, All, IfOk, OnOk, length, decimal, codes, zip};
 ghost use Rattle.std.specs.List.{flat_map};
 ghost use Rattle.clock_terms.specs.Limits.{IsRow, most_products, most_supply};
 ghost use Rattle.clock_posting.specs.SheetText.{sheet_text};
 ghost use Rattle.clock_sim.specs.inside.Reports.{IsReport};
+ghost use Rattle.clock_sim.specs.inside.WonLines.{none_held};
 ghost use Rattle.clock_sim.specs.ReportText as words;
 
 use crate::report::Report;
@@ -29,12 +30,13 @@ pub fn report_text(alloc: Global, report: &Report) -> Result<Text, NoMemory>
     let mut text = Text::new(alloc);
     push_rounds(alloc, &mut text, &report.setup, sheets)?;
     let lines = sheets[sheets.len() - 1].lines.as_slice();
-    push_won_by_all(&mut text, &report.setup, lines, &report.grid)?;
+    push_won_by_all(alloc, &mut text, &report.setup, lines, &report.grid)?;
     Ok(text)
 }
 
 /// Adds the lines of a set-up's bidders. There is a line for each product, and a row of the grid for each bidder.
 pub(crate) fn push_won_by_all(
+    alloc: Global,
     text: &mut Text,
     setup: &Setup,
     lines: &[Line],
@@ -46,7 +48,7 @@ pub(crate) fn push_won_by_all(
     ensures { OnOk result (text.new ≡ text.old ++ flat_map (words.won_text lines.now)
         (zip setup.now.bidders grid.now)) }
 {
-    push_wins(text, lines, setup.bidders.as_slice(), grid)
+    push_wins(alloc, text, lines, setup.bidders.as_slice(), grid)
 }
 
 /// Adds the lines of the rounds.
@@ -74,25 +76,61 @@ fn payment(lines: &[Line], demands: &Row) -> u64
     ensures { result ≡ words.payment lines.now demands.now }
 {
     let mut total: u64 = 0;
-    for (product, line) in lines.iter().enumerate() {
-        total += line.posted.get() * demands.get(product);
+    let mut held = demands.held();
+    'held: while let Some(one) = held.next() {
+        let line = &lines[one.product];
+        total += line.posted.get() * one.demand;
     }
     total
 }
 
-/// Adds demands by product, each with a space behind it.
-fn push_demands(text: &mut Text, demands: &Row) -> Result<(), NoMemory>
+/// The demands for so many products of which none is held, each with a space behind it.
+fn none_held_text(alloc: Global, products: usize) -> Result<Text, NoMemory>
+    ensures { IfOk result (λ text. text ≡ none_held products) }
+{
+    let room = Vec::with_capacity(alloc, products.saturating_mul(2))?;
+    let mut text = Text::from_vec(room);
+    for _product in 0..products {
+        text.extend_from_slice(b"0 ")?;
+    }
+    Ok(text)
+}
+
+/// Adds the demands for so many products of which none is held, out of the text of as many or more.
+fn push_none_held(text: &mut Text, none: &[u8], products: usize) -> Result<(), NoMemory>
+    requires { (many : ℕ) × (products ≤ many) × (none.now ≡ none_held many) }
+    ensures { OnOk result (text.new ≡ text.old ++ none_held products) }
+{
+    text.extend_from_slice(&none[..2 * products])
+}
+
+/// Adds demands by product, each with a space behind it. Nothing is looked at but what is held; the others are copied out
+/// of the text of as many products of which none is.
+fn push_demands(text: &mut Text, none: &[u8], demands: &Row) -> Result<(), NoMemory>
+    requires { none.now ≡ none_held (length demands.now) }
     ensures { OnOk result (text.new ≡ text.old ++ flat_map (λ demand. decimal demand ++ codes " ") demands.now) }
 {
-    for product in 0..demands.len() {
-        text.push_number(demands.get(product))?;
+    let products = demands.len();
+    let mut held = demands.held();
+    let mut from = 0;
+    'held: while let Some(one) = held.next() {
+        push_none_held(text, none, one.product - from)?;
+        text.push_number(one.demand)?;
         text.push(b' ')?;
+        from = one.product + 1;
     }
-    Ok(())
+    push_none_held(text, none, products - from)
 }
 
 /// Adds the line of a bidder.
-fn push_won(text: &mut Text, lines: &[Line], bidder: &Bidder, demands: &Row) -> Result<(), NoMemory>
+fn push_won(
+    text: &mut Text,
+    none: &[u8],
+    lines: &[Line],
+    bidder: &Bidder,
+    demands: &Row,
+) -> Result<(), NoMemory>
+    requires none { none.now ≡ none_held (length demands.now) }
     requires each { length demands.now ≡ length lines.now }
     requires few { length lines.now ≤ most_products }
     requires small { All (λ demand. demand ≤ most_supply) demands.now }
@@ -101,7 +139,7 @@ fn push_won(text: &mut Text, lines: &[Line], bidder: &Bidder, demands: &Row) -> 
     text.extend_from_slice(b"won ")?;
     text.extend_from_slice(bidder.name.as_slice())?;
     text.push(b' ')?;
-    push_demands(text, demands)?;
+    push_demands(text, none, demands)?;
     text.push_number(payment(lines, demands))?;
     text.push(b'\n')?;
     Ok(())
@@ -109,6 +147,7 @@ fn push_won(text: &mut Text, lines: &[Line], bidder: &Bidder, demands: &Row) -> 
 
 /// Adds the lines of the bidders.
 pub(crate) fn push_wins(
+    alloc: Global,
     text: &mut Text,
     lines: &[Line],
     bidders: &[Bidder],
@@ -120,8 +159,9 @@ pub(crate) fn push_wins(
     requires small { All (λ row. All (λ demand. demand ≤ most_supply) row) grid.now }
     ensures { OnOk result (text.new ≡ text.old ++ flat_map (words.won_text lines.now) (zip bidders.now grid.now)) }
 {
+    let none = none_held_text(alloc, lines.len())?;
     for (number, bidder) in bidders.iter().enumerate() {
-        push_won(text, lines, bidder, grid.row(number))?;
+        push_won(text, none.as_slice(), lines, bidder, grid.row(number))?;
     }
     Ok(())
 }

@@ -1,31 +1,25 @@
 //! The requests of scripted bidders and of the operator.
 
-ghost use Rattle.std.specs.Prelude.{◌≡◌, ◌<◌, ◌-◌, length, IfOk, OnOk, Some, None, if◌then◌else◌};
+ghost use Rattle.std.specs.Prelude.{◌≡◌, ◌<◌, ◌-◌, false, length, IfOk, OnOk, Some, None, if◌then◌else◌};
 ghost use Rattle.std.specs.Prelude.{option_copied, option_map, slice_index_or};
 ghost use Rattle.clock_house.specs.History.{bidder_at};
 ghost use Rattle.clock_house.specs.House.{standing_in, holding_in};
 ghost use Rattle.clock_sim.specs.ScriptedRequests as rules;
 ghost use Rattle.clock_replays.specs.Replays.{IsScript, IsLimits};
 ghost use Rattle.clock_sim.specs.Sincere.{sincere_sheet};
-ghost use Rattle.clock_sim.specs.RequestTexts.{put_text};
-ghost use Rattle.clock_sim.specs.inside.RequestTexts.{whole_text};
+ghost use Rattle.clock_sim.specs.RequestTexts.{put_text, close_text};
+ghost use Rattle.clock_sim.specs.inside.Groups.{Writes, WritesIf};
+ghost use Rattle.clock_sim.specs.inside.SincereSheets.{IsSincere, sheet_of as bids_of};
 
-use crate::request_texts::RequestText;
-use crate::round_prices::last_sheet;
-use crate::sincere::push_sincere;
+use crate::groups::{Group, Written};
+use crate::request_texts::push_close_body;
+use crate::sincere::Sincere;
 use clock_bids::Bid;
 use clock_device::NoMemory;
 use clock_house::House;
+use clock_order::Tie;
 use clock_replays::{BidList, Closing, LimitLists, Script};
-use clock_terms::Setup;
-use std::alloc::Global;
-
-/// Requests that are written one after the other, each onto the memory of the one before.
-#[derive(Drop)]
-pub(crate) struct Requests {
-    bids: Vec<Bid>,
-    request: RequestText,
-}
+use clock_terms::{Increments, Setup};
 
 /// A bidder's token.
 fn token_of(setup: &Setup, bidder: u32) -> &[u8]
@@ -45,13 +39,39 @@ fn sheet_of(sheets: &[Option<BidList>], round: u64) -> Option<&BidList>
     }
 }
 
-impl Requests {
-    /// None yet, of an auction of so many products.
-    pub(crate) fn new(alloc: Global, products: usize) -> Result<Requests, NoMemory> {
-        Ok(Requests {
-            bids: Vec::new(alloc),
-            request: RequestText::new(alloc, products)?,
-        })
+impl Group {
+    /// Writes the request by which the holder of a token puts the sheet of a sincere bidder.
+    fn put_sincere(&mut self, token: &[u8], sheet: &Sincere<'_>) -> Result<Written, NoMemory>
+        requires { IsSincere sheet.now }
+        ensures { IfOk result (Writes self.old self.new (put_text token.now sheet.now.own.round (bids_of sheet.now))) }
+    {
+        let start = self.begin_request();
+        sheet.push(&mut self.bodies)?;
+        self.end_request(b"PUT /v1/me/bids", token, start)
+    }
+
+    /// Writes the request by which the holder of a token puts a sheet of these bids.
+    fn put_bids(&mut self, token: &[u8], round: u64, bids: &[Bid]) -> Result<Written, NoMemory>
+        ensures { IfOk result (Writes self.old self.new (put_text token.now round bids.now)) }
+    {
+        let start = self.begin_request();
+        self.bodies.push_sheet(round, bids)?;
+        self.end_request(b"PUT /v1/me/bids", token, start)
+    }
+
+    /// Writes the request by which the operator, whose token it is, closes a round.
+    fn put_closing(
+        &mut self,
+        token: &[u8],
+        round: u64,
+        increments: &Increments,
+        ties: &[Tie],
+    ) -> Result<Written, NoMemory>
+        ensures { IfOk result (Writes self.old self.new (close_text token.now round increments.now ties.now)) }
+    {
+        let start = self.begin_request();
+        push_close_body(&mut self.bodies.text, round, increments, ties)?;
+        self.end_request(b"POST /v1/close", token, start)
     }
 
     /// Writes the sheet that a sincere bidder puts.
@@ -60,72 +80,67 @@ impl Requests {
         house: &House<P>,
         bidder: u32,
         limits: &LimitLists,
-    ) -> Result<(), NoMemory>
+    ) -> Result<Written, NoMemory>
         requires known { bidder < length house.now.setup.bidders }
+        requires going { (standing_in house.now).ended ≡ false }
         requires limits { IsLimits house.now.setup.products limits.now }
-        ensures { OnOk result (whole_text self.new.request ≡ put_text (bidder_at house.now.setup bidder).token
+        ensures { IfOk result (Writes self.old self.new (put_text (bidder_at house.now.setup bidder).token
             (standing_in house.now).round
             (sincere_sheet (standing_in house.now).round (standing_in house.now).prices
-            (holding_in house.now bidder).demands limits.now)) }
+            (holding_in house.now bidder).demands limits.now))) }
     {
         house.law_of_house();
         let setup = house.setup();
-        let own = house.own(bidder);
-        self.bids.clear();
-        push_sincere(
-            &mut self.bids,
-            setup.products.as_slice(),
-            last_sheet(house),
-            own,
+        let sheet = Sincere {
+            prices: house.prices().as_slice(),
+            own: house.own(bidder),
             limits,
-        )?;
-        self.request
-            .write_put(token_of(setup, bidder), own.round, self.bids.as_slice())?;
-        Ok(())
+        };
+        self.put_sincere(token_of(setup, bidder), &sheet)
     }
 
-    /// Writes the sheet of a round in a list of sheets, by the holder of a token, and tells whether there is one.
+    /// Writes the sheet of a round in a list of sheets, by the holder of a token, if there is one.
     fn write_literal(
         &mut self,
         token: &[u8],
         round: u64,
         sheets: &[Option<BidList>],
-    ) -> Result<bool, NoMemory>
-        ensures { IfOk result (λ puts. option_map (put_text token.now round) (slice_index_or sheets.now
-            (round - 1) None)
-            ≡ (if puts then Some (whole_text self.new.request) else None)) }
+    ) -> Result<Option<Written>, NoMemory>
+        ensures { IfOk result (WritesIf self.old self.new
+            (option_map (put_text token.now round) (slice_index_or sheets.now (round - 1) None))) }
     {
         match sheet_of(sheets, round) {
-            None => Ok(false),
+            None => Ok(None),
             Some(bids) => {
-                self.request.write_put(token, round, bids.as_slice())?;
-                Ok(true)
+                let written = self.put_bids(token, round, bids.as_slice())?;
+                Ok(Some(written))
             }
         }
     }
 
-    /// Writes the request by which a bidder puts the sheet that its script gives, and tells whether there is one.
+    /// Writes the request by which a bidder puts the sheet that its script gives, if there is one.
     #[tactic(auto, unfolding(crate::specs::ScriptedRequests::scripted_put))]
     pub(crate) fn write_put<P>(
         &mut self,
         house: &House<P>,
         bidder: u32,
         script: &Script,
-    ) -> Result<bool, NoMemory>
+    ) -> Result<Option<Written>, NoMemory>
         requires known { bidder < length house.now.setup.bidders }
+        requires going { (standing_in house.now).ended ≡ false }
         requires script { IsScript house.now.setup.products script.now }
-        ensures { IfOk result (λ puts. rules.scripted_put house.now.setup house.now.closed bidder script.now
-            ≡ (if puts then Some (whole_text self.new.request) else None)) }
+        ensures { IfOk result (WritesIf self.old self.new
+            (rules.scripted_put house.now.setup house.now.closed bidder script.now)) }
     {
         match script {
             Script::Sincere(limits) => {
-                self.write_sincere(house, bidder, limits)?;
-                Ok(true)
+                let written = self.write_sincere(house, bidder, limits)?;
+                Ok(Some(written))
             }
             Script::Literal(sheets) => {
                 let token = token_of(house.setup(), bidder);
-                let puts = self.write_literal(token, house.round(), sheets.as_slice())?;
-                Ok(puts)
+                let written = self.write_literal(token, house.round(), sheets.as_slice())?;
+                Ok(written)
             }
         }
     }
@@ -136,23 +151,16 @@ impl Requests {
         &mut self,
         house: &House<P>,
         closing: &Closing,
-    ) -> Result<(), NoMemory>
-        ensures { OnOk result (whole_text self.new.request ≡ rules.scripted_close house.now.setup house.now.closed
-            closing.now) }
+    ) -> Result<Written, NoMemory>
+        ensures { IfOk result (Writes self.old self.new
+            (rules.scripted_close house.now.setup house.now.closed closing.now)) }
     {
-        self.request.write_close(
+        let written = self.put_closing(
             house.setup().operator.as_slice(),
             house.round(),
             &closing.increments,
             closing.ties.as_slice(),
         )?;
-        Ok(())
-    }
-
-    /// The last request.
-    pub(crate) fn request(&self) -> &RequestText
-        ensures { result.now ≡ self.now.request }
-    {
-        &self.request
+        Ok(written)
     }
 }

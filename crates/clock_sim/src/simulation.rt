@@ -8,10 +8,10 @@ ghost use Rattle.clock_sim.specs.Rehearsal as rules;
 ghost use Rattle.clock_sim.specs.declared.sim_fault.SimFault.TheVariants as faults;
 
 use crate::final_report::final_report;
+use crate::groups::Group;
 use crate::house_text::final_text;
 use crate::report::Report;
 use crate::rounds::play;
-use crate::scripted::Requests;
 use crate::sim_fault::SimFault;
 use clock_device::{NoMemory, Text};
 use clock_front::{Front, Hub};
@@ -21,9 +21,9 @@ use clock_replays::{Closing, Replay, Script};
 use std::alloc::Global;
 
 /// The requests of an auction, of which none is written yet.
-fn no_requests<P: Processor>(alloc: Global, hub: &Hub<P>) -> Result<Requests, NoMemory> {
+fn no_requests<P: Processor>(alloc: Global, hub: &Hub<P>) -> Result<Group, NoMemory> {
     let setup = hub.front().house().setup();
-    Requests::new(alloc, setup.products.as_slice().len())
+    Group::new(alloc, setup.products.as_slice().len())
 }
 
 /// A front and no connection yet, for an auction of a replay's set-up.
@@ -62,8 +62,8 @@ fn play_out<P: Processor>(
     } in
         IfErr result (IsRefusal faults.NoMemory (rules.simulated replay)) }
 {
-    let mut requests = no_requests(alloc, hub)?;
-    play(alloc, hub, &mut requests, scripts, closings)?;
+    let mut group = no_requests(alloc, hub)?;
+    play(hub, &mut group, scripts, closings)?;
     Ok(())
 }
 

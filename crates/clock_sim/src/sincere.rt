@@ -1,31 +1,34 @@
 //! The sheets of sincere bidders.
 
-ghost use Rattle.std.specs.Prelude.{◌≡◌, ◌≤◌, ◌<◌, ◌≢◌, ◌++◌, ◌∷◌, [], length, take, reverse, All, OnOk, option_copied};
-ghost use Rattle.clock_sim.specs.Sincere as rules;
+ghost use Rattle.std.specs.Prelude.{◌≡◌, ◌≤◌, ◌<◌, ◌≢◌, length, take, reverse, OnOk, codes};
+ghost use Rattle.clock_views.specs.Values.{Adds};
 ghost use Rattle.clock_replays.specs.Replays.{NeverRises};
+ghost use Rattle.clock_sim.specs.RequestTexts.{written_put};
+ghost use Rattle.clock_sim.specs.Sincere as rules;
 ghost use Rattle.clock_sim.specs.inside.Blocks as one_by_one;
-ghost use Rattle.clock_sim.specs.inside.RoundPrices.{prices_after};
+ghost use Rattle.clock_sim.specs.inside.Bodies.{bids_text};
+ghost use Rattle.clock_sim.specs.inside.SincereSheets.{IsSincere, sheet_of};
 
-use crate::round_prices::{PriceRange, price_range};
+use crate::bodies::Bodies;
 use clock_bids::{Bid, Own};
 use clock_device::NoMemory;
-use clock_posting::RoundSheet;
 use clock_replays::LimitLists;
-use clock_terms::{Product, Row};
+use clock_terms::PricePair;
 
 /// The price at which a block leaves, where it does not stay up to the clock price.
-fn leaving_price(pair: &PriceRange, limit: u64) -> Option<u64>
+fn leaving_price(pair: &PricePair, limit: u64) -> Option<u64>
     ensures { result ≡ rules.leaving_price pair.now limit }
 {
-    if limit < pair.clock {
-        Some(pair.start.max(limit))
+    if limit < pair.clock.get() {
+        Some(pair.start.get().max(limit))
     } else {
         None
     }
 }
 
 /// The price at which the last of so many blocks leaves, where there is one that does.
-fn last_leaving(pair: &PriceRange, limits: &[u64], blocks: usize) -> Option<u64>
+#[inline(always)]
+fn last_leaving(pair: &PricePair, limits: &[u64], blocks: usize) -> Option<u64>
     requires { blocks ≤ length limits.now }
     ensures { result ≡ one_by_one.last_leaving pair.now (reverse (take blocks limits.now)) }
 {
@@ -48,261 +51,160 @@ fn is_last(price: u64, next: Option<u64>) -> bool
 
 /// Adds the bid at the price at which a block leaves, where the block before does not leave there.
 fn push_block(
-    bids: &mut Vec<Bid>,
+    bodies: &mut Bodies,
     product: u64,
     before: u64,
     price: Option<u64>,
     next: Option<u64>,
 ) -> Result<(), NoMemory>
-    ensures { OnOk result (bids.new.items ≡ bids.old.items ++ one_by_one.block_bid product before price next) }
+    ensures { OnOk result (Adds (bids_text (one_by_one.block_bid product before price next))
+        bodies.old.text.items bodies.new.text.items) }
 {
     let Some(price) = price else {
         return Ok(());
     };
-    if is_last(price, next) {
-        bids.push(Bid {
-            product,
-            quantity: before,
-            price,
-        })?;
+    if !is_last(price, next) {
+        return Ok(());
     }
-    Ok(())
+    bodies.push_bid(&Bid {
+        product,
+        quantity: before,
+        price,
+    })
 }
 
 /// Adds a bid for each different price at which one of the held blocks leaves, rising. The blocks past the limits stay.
+#[inline(never)]
 fn push_leaving(
-    bids: &mut Vec<Bid>,
+    bodies: &mut Bodies,
     product: u64,
-    pair: &PriceRange,
+    pair: &PricePair,
     held: u64,
     limits: &[u64],
 ) -> Result<(), NoMemory>
     requires falls { NeverRises limits.now }
     requires within { length limits.now ≤ held }
-    ensures { OnOk result (bids.new.items ≡ bids.old.items
-        ++ rules.leaving_bids product held (rules.leaving_prices pair.now limits.now)) }
+    ensures { OnOk result (Adds (bids_text (rules.leaving_bids product held (rules.leaving_prices pair.now limits.now)))
+        bodies.old.text.items bodies.new.text.items) }
 {
     let past = held - limits.len() as u64;
     for block in (0..limits.len()).rev() {
         let price = leaving_price(pair, limits[block]);
         let next = last_leaving(pair, limits, block);
-        push_block(bids, product, past + block as u64, price, next)?;
+        push_block(bodies, product, past + block as u64, price, next)?;
     }
     Ok(())
 }
 
-/// Adds the bid that keeps what is held.
-fn push_keeping(
-    bids: &mut Vec<Bid>,
-    product: u64,
-    pair: &PriceRange,
-    held: u64,
-) -> Result<(), NoMemory>
-    ensures { OnOk result (bids.new.items ≡ bids.old.items ++ rules.bid_for product held pair.now.clock ∷ []) }
-{
-    bids.push(Bid {
-        product,
-        quantity: held,
-        price: pair.clock,
-    })?;
-    Ok(())
-}
-
-/// Adds the bids for a product of which so many blocks are held, and at least as many as these limits.
+/// Adds the bids for a product of which so many blocks are held, in a later round: one that keeps them where none leaves.
+#[inline(always)]
 fn push_held(
-    bids: &mut Vec<Bid>,
+    bodies: &mut Bodies,
     product: u64,
-    pair: &PriceRange,
+    pair: &PricePair,
     held: u64,
     limits: &[u64],
 ) -> Result<(), NoMemory>
     requires falls { NeverRises limits.now }
-    requires within { length limits.now ≤ held }
-    ensures { OnOk result (bids.new.items ≡ bids.old.items
-        ++ rules.keeping_or_leaving product pair.now held (rules.leaving_prices pair.now limits.now)) }
+    requires some { 0 < held }
+    ensures { OnOk result (Adds (bids_text (rules.later_bids product pair.now held limits.now))
+        bodies.old.text.items bodies.new.text.items) }
 {
-    match last_leaving(pair, limits, limits.len()) {
+    let blocks = (held as usize).min(limits.len());
+    match last_leaving(pair, limits, blocks) {
         Some(_) => {
-            push_leaving(bids, product, pair, held, limits)?;
+            push_leaving(bodies, product, pair, held, &limits[..blocks])?;
             Ok(())
         }
         None => {
-            push_keeping(bids, product, pair, held)?;
+            bodies.push_bid(&Bid {
+                product,
+                quantity: held,
+                price: pair.clock.get(),
+            })?;
             Ok(())
         }
     }
 }
 
-/// Adds the bids for a product in a later round.
-fn push_later(
-    bids: &mut Vec<Bid>,
-    product: u64,
-    pair: &PriceRange,
-    held: u64,
-    limits: &[u64],
-) -> Result<(), NoMemory>
-    requires { NeverRises limits.now }
-    ensures { OnOk result (bids.new.items ≡ bids.old.items ++ rules.later_bids product pair.now held limits.now) }
-{
-    if held > 0 {
-        let blocks = (held as usize).min(limits.len());
-        push_held(bids, product, pair, held, &limits[..blocks])?;
-    }
-    Ok(())
-}
-
 /// Adds the bid for a product in the first round.
+#[inline(always)]
 fn push_opening(
-    bids: &mut Vec<Bid>,
+    bodies: &mut Bodies,
     product: u64,
-    pair: &PriceRange,
+    pair: &PricePair,
     limits: &[u64],
 ) -> Result<(), NoMemory>
-    ensures { OnOk result (bids.new.items ≡ bids.old.items ++ rules.opening_bids product pair.now limits.now) }
+    ensures { OnOk result (Adds (bids_text (rules.opening_bids product pair.now limits.now))
+        bodies.old.text.items bodies.new.text.items) }
 {
-    let price = pair.start;
+    let price = pair.start.get();
     let quantity = limits.iter().filter(|limit| price <= **limit).count() as u64;
-    if quantity != 0 {
-        bids.push(Bid {
-            product,
-            quantity,
-            price,
-        })?;
-    }
-    Ok(())
-}
-
-/// Adds the bids for a product at its prices.
-fn push_priced(
-    bids: &mut Vec<Bid>,
-    product: u64,
-    round: u64,
-    pair: &PriceRange,
-    held: u64,
-    limits: &[u64],
-) -> Result<(), NoMemory>
-    requires { NeverRises limits.now }
-    ensures { OnOk result (bids.new.items ≡ bids.old.items ++ rules.product_bids round product pair.now held limits.now) }
-{
-    if round == 1 {
-        push_opening(bids, product, pair, limits)?;
+    if quantity == 0 {
         return Ok(());
     }
-    push_later(bids, product, pair, held, limits)?;
-    Ok(())
+    bodies.push_bid(&Bid {
+        product,
+        quantity,
+        price,
+    })
 }
 
-/// Adds the bids for a product.
-fn push_product(
-    bids: &mut Vec<Bid>,
-    products: &[Product],
-    last: Option<&RoundSheet>,
-    round: u64,
-    demands: &Row,
-    limits: &LimitLists,
-    product: usize,
-) -> Result<(), NoMemory>
-    requires line { product < length (prices_after products.now (option_copied last)) }
-    requires held { product < length demands.now }
-    requires each { product < length limits.now }
-    requires falling { All NeverRises limits.now }
-    ensures { OnOk result (bids.new.items ≡ bids.old.items ++ rules.bids_for round
-        (prices_after products.now (option_copied last.entry)) demands.now limits.now product) }
-{
-    let pair = price_range(products, last, product);
-    let wanted = limits.list(product);
-    push_priced(
-        bids,
-        product as u64,
-        round,
-        &pair,
-        demands.get(product),
-        wanted,
-    )?;
-    Ok(())
+/// What the sheet of a sincere bidder follows from: the prices of the round, what it holds, and its limits, a list for each
+/// product that never rises.
+#[derive(Drop)]
+pub(crate) struct Sincere<'a> {
+    /// The prices of the round, a pair for each product.
+    pub(crate) prices: &'a [PricePair],
+    /// What it holds.
+    pub(crate) own: Own<'a>,
+    /// Up to which price it wants each block.
+    pub(crate) limits: &'a LimitLists,
 }
 
-/// Adds the sheet of a sincere bidder: by the prices that the last closed round has left, by what it holds, and by its
-/// limits, a list for each product that never rises. In a later round it holds few of the products, and nothing is looked
-/// at of the others.
-pub(crate) fn push_sincere(
-    bids: &mut Vec<Bid>,
-    products: &[Product],
-    last: Option<&RoundSheet>,
-    own: Own,
-    limits: &LimitLists,
-) -> Result<(), NoMemory>
-    requires lines { length (prices_after products.now (option_copied last)) ≡ length products.now }
-    requires held { length own.demands.now ≡ length products.now }
-    requires each { length limits.now ≡ length products.now }
-    requires falling { All NeverRises limits.now }
-    ensures { OnOk result (bids.new.items ≡ bids.old.items ++ rules.sincere_sheet own.entry.round
-        (prices_after products.now (option_copied last.entry)) own.entry.demands.now limits.now) }
-{
-    if own.round == 1 {
-        push_each(bids, products, last, own, limits)?;
-        return Ok(());
+impl Sincere<'_> {
+    /// Adds the bids of the first round, for one product after another.
+    fn push_first(&self, bodies: &mut Bodies) -> Result<(), NoMemory>
+        requires sheet { IsSincere self.now }
+        requires first { self.now.own.round ≡ 1 }
+        ensures { OnOk result (Adds (bids_text (sheet_of self.now)) bodies.old.text.items bodies.new.text.items) }
+    {
+        let mut limits = self.limits.walk();
+        for (product, pair) in self.prices.iter().enumerate() {
+            push_opening(bodies, product as u64, pair, limits.list(product))?;
+        }
+        Ok(())
     }
-    push_later_sheet(bids, products, last, own, limits)?;
-    Ok(())
-}
 
-/// Adds the bids for one product after another.
-fn push_each(
-    bids: &mut Vec<Bid>,
-    products: &[Product],
-    last: Option<&RoundSheet>,
-    own: Own,
-    limits: &LimitLists,
-) -> Result<(), NoMemory>
-    requires lines { length (prices_after products.now (option_copied last)) ≡ length products.now }
-    requires held { length own.demands.now ≡ length products.now }
-    requires each { length limits.now ≡ length products.now }
-    requires falling { All NeverRises limits.now }
-    ensures { OnOk result (bids.new.items ≡ bids.old.items ++ rules.sincere_sheet own.entry.round
-        (prices_after products.now (option_copied last.entry)) own.entry.demands.now limits.now) }
-{
-    for product in 0..products.len() {
-        push_product(
-            bids,
-            products,
-            last,
-            own.round,
-            own.demands,
-            limits,
-            product,
-        )?;
+    /// Adds the bids of a later round. It holds few of the products, and nothing is looked at of the others.
+    fn push_later(&self, bodies: &mut Bodies) -> Result<(), NoMemory>
+        requires sheet { IsSincere self.now }
+        requires later { self.now.own.round ≢ 1 }
+        ensures { OnOk result (Adds (bids_text (sheet_of self.now)) bodies.old.text.items bodies.new.text.items) }
+    {
+        let mut limits = self.limits.walk();
+        let mut held = self.own.demands.held();
+        'held: while let Some(one) = held.next() {
+            let pair = &self.prices[one.product];
+            let wanted = limits.list(one.product);
+            push_held(bodies, one.product as u64, pair, one.demand, wanted)?;
+        }
+        Ok(())
     }
-    Ok(())
-}
 
-/// Adds the bids for the products that are held, as in each round after the first.
-fn push_later_sheet(
-    bids: &mut Vec<Bid>,
-    products: &[Product],
-    last: Option<&RoundSheet>,
-    own: Own,
-    limits: &LimitLists,
-) -> Result<(), NoMemory>
-    requires later { own.round ≢ 1 }
-    requires lines { length (prices_after products.now (option_copied last)) ≡ length products.now }
-    requires held { length own.demands.now ≡ length products.now }
-    requires each { length limits.now ≡ length products.now }
-    requires falling { All NeverRises limits.now }
-    ensures { OnOk result (bids.new.items ≡ bids.old.items ++ rules.sincere_sheet own.entry.round
-        (prices_after products.now (option_copied last.entry)) own.entry.demands.now limits.now) }
-{
-    let mut held = own.demands.held();
-    'held: while let Some(product) = held.next() {
-        push_product(
-            bids,
-            products,
-            last,
-            own.round,
-            own.demands,
-            limits,
-            product,
-        )?;
+    /// Adds the body of the sheet.
+    pub(crate) fn push(&self, bodies: &mut Bodies) -> Result<(), NoMemory>
+        requires { IsSincere self.now }
+        ensures { OnOk result (Adds (written_put self.now.own.round (sheet_of self.now))
+            bodies.old.text.items bodies.new.text.items) }
+    {
+        let start = bodies.open_sheet()?;
+        if self.own.round == 1 {
+            self.push_first(bodies)?;
+        } else {
+            self.push_later(bodies)?;
+        }
+        bodies.close_sheet(start, self.own.round)?;
+        Ok(())
     }
-    Ok(())
 }

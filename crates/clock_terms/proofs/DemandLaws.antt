@@ -9,10 +9,16 @@ use Rattle.std.proofs.lemmas.List.Sums.{sum_by-set, sum_by-le, sum_by-cons, get_
 use Rattle.std.proofs.lemmas.List.Elements.{All-set, All-replicate}
 use Rattle.std.proofs.lemmas.Bool.{cases_lt, cases_eq}
 use Rattle.clock_terms.specs.declared.setup.Product.{Product}
-use Rattle.clock_terms.specs.Limits.{IsRow, most_products, most_bidders, most_supply}
+use Rattle.clock_terms.specs.Limits.{IsProduct, IsRow, no_product, most_products, most_bidders, most_supply}
 use Rattle.clock_terms.specs.Eligibility.{activity}
 use Rattle.clock_terms.specs.Demands.{total_of, demand_at, row_of, with_demand, no_demands, IsGrid}
 use Rattle.clock_terms.specs.inside.Demands.{IsKeptGrid}
+
+-- the demands of a row are at most a thousand each
+pub row_small : (products : List Product) (row : List ℕ) → All IsProduct products → IsRow products row → All (λ demand. demand ≤ most_supply) row
+row_small products row limits is k d within =
+    let good : IsProduct (get_or products k no_product) = limits k no_product (omega (arith, within, is.each)) in
+    omega (arith, is.capped k within, good.cap.1, good.supply.1, get_or_default row k 0 d within)
 
 -- a demand is at most a product's whole supply
 demand_small : (row : List ℕ) (p : ℕ) → All (λ demand. demand ≤ most_supply) row → get_or row p 0 ≤ most_supply

@@ -1,5 +1,5 @@
 -- Laws of demands that are kept for the products that are held.
-use Rattle.std.proofs.Common.{◌≡◌, ◌≢◌, ℕ, ◌+◌, ◌<◌, ◌≤◌, ◌==◌, zero, suc, List, [], ◌∷◌, length, drop, get_or, set, insert, remove, replicate, if◌then◌else◌, refl, sym, ap, subst, ◌∙◌, ⊎_elim, ne_eqb, eq-eqb, arith}
+use Rattle.std.proofs.Common.{◌≡◌, ◌≢◌, ℕ, ◌+◌, ◌<◌, ◌≤◌, ◌==◌, zero, suc, List, [], ◌∷◌, ◌++◌, length, drop, get_or, set, insert, remove, replicate, if◌then◌else◌, refl, sym, ap, subst, ◌∙◌, ⊎_elim, ne_eqb, eq-eqb, arith}
 use Rattle.std.proofs.lemmas.Bool.{cases_eq}
 use Rattle.std.proofs.lemmas.List.{drop_more, drop_all, ext_get_or, length-set, length-replicate, get_or-replicate, get_or-set_same, get_or-set_other}
 use Rattle.std.proofs.lemmas.List.FromFn.{length-map-range_with_len, get_or-map-range_with_len}
@@ -7,7 +7,7 @@ use Rattle.std.specs.List.{AllWithin}
 use Rattle.clock_terms.specs.Limits.{most_supply}
 use Rattle.clock_terms.specs.declared.row.HeldDemand.{HeldDemand}
 use Rattle.clock_terms.specs.HeldDemands.{demand_for, demands_of, next_of}
-use Rattle.clock_terms.specs.inside.Rows.{AreHeld}
+use Rattle.clock_terms.specs.inside.Rows.{AreHeld, IsStored}
 
 -- what is held of the product that comes first
 at_first : (one : HeldDemand) (held : List HeldDemand) (product : ℕ) → one.product ≡ product → demand_for (one ∷ held) product ≡ one.demand
@@ -66,6 +66,14 @@ small from (one ∷ held) count product are =
     (λ other. omega (arith, behind one held product other, small (one.product + 1) held count product are.3))
     (cases_eq one.product product)
 
+-- none is above a thousand where it stands
+pub small_at : (from : ℕ) (held : List HeldDemand) (count place : ℕ) (d : HeldDemand) → AreHeld from held count → place < length held
+    → (get_or held place d).demand ≤ most_supply
+unfolding AreHeld
+small_at from [] count place d are within = absurd (omega (arith, within))
+small_at from (one ∷ held) count zero d are within = are.2
+small_at from (one ∷ held) count (suc place) d are within = small_at (one.product + 1) held count place d are.3 (omega (arith, within))
+
 -- the first is from there on
 first_least : (from : ℕ) (held : List HeldDemand) (count place : ℕ) (d : HeldDemand) → AreHeld from held count → place < length held
     → from ≤ (get_or held place d).product
@@ -100,6 +108,16 @@ shown count held product d within = get_or-map-range_with_len (demand_for held) 
 
 pub length-demands : (count : ℕ) (held : List HeldDemand) → length (demands_of count held) ≡ count
 length-demands count held = length-map-range_with_len (demand_for held) 0 count
+
+-- a product of a row is below its count
+pub below_count : (count : ℕ) (held : List HeldDemand) (row : List ℕ) (product : ℕ) → demands_of count held ≡ row → product < length row → product < count
+below_count count held row product is within = omega (arith, ap (λ (list : List ℕ). length list) is, length-demands count held, within)
+
+-- the demand that is kept is the one in the row
+pub kept_demand : (count : ℕ) (held : List HeldDemand) (row : List ℕ) (product : ℕ) → demands_of count held ≡ row → product < length row
+    → demand_for held product ≡ get_or row product 0
+kept_demand count held row product is within =
+    sym (shown count held product 0 (below_count count held row product is within)) ∙ ap (λ (list : List ℕ). get_or list product 0) is
 
 -- nothing is in order
 pub order_none : (held : List HeldDemand) (count : ℕ) → held ≡ [] → AreHeld 0 held count
@@ -142,26 +160,22 @@ gap count held given product are smaller below =
 
 -- ---- one demand changed
 
--- of a product there is another demand, and of the others as before
-abbrev pub Updates : List HeldDemand → List HeldDemand → ℕ → ℕ → Type 0
-Updates held after product demand = (other : ℕ) → demand_for after other ≡ (if product == other then demand else demand_for held other)
-
--- so it is behind a smaller product
-updates_behind : (first : HeldDemand) (held after : List HeldDemand) (product demand : ℕ) → first.product < product → Updates held after product demand
-    → Updates (first ∷ held) (first ∷ after) product demand
-updates_behind first held after product demand smaller updates other =
+-- what is stored behind a smaller product
+stored_behind : (first : HeldDemand) (held after : List HeldDemand) (product demand : ℕ) → first.product < product → IsStored held after product demand
+    → IsStored (first ∷ held) (first ∷ after) product demand
+stored_behind first held after product demand smaller stored other =
     ⊎_elim
     (λ (here : first.product ≡ other).
     at_first first after other here ∙ sym (at_first first held other here)
     ∙ sym (ap (λ test. if test then demand else demand_for (first ∷ held) other) (ne_eqb product other (λ same. omega (arith, same, here, smaller)))))
     (λ (elsewhere : first.product ≢ other).
-    behind first after other elsewhere ∙ updates other
+    behind first after other elsewhere ∙ stored other
     ∙ ap (λ (rest : ℕ). if product == other then demand else rest) (sym (behind first held other elsewhere)))
     (cases_eq first.product other)
 
 -- where it was first
-updates_first : (one first : HeldDemand) (held : List HeldDemand) → first.product ≡ one.product → Updates (first ∷ held) (one ∷ held) one.product one.demand
-updates_first one first held same other =
+stored_first : (one first : HeldDemand) (held : List HeldDemand) → first.product ≡ one.product → IsStored (first ∷ held) (one ∷ held) one.product one.demand
+stored_first one first held same other =
     ⊎_elim
     (λ (here : one.product ≡ other).
     at_first one held other here ∙ sym (ap (λ test. if test then one.demand else demand_for (first ∷ held) other) (eq-eqb one.product other here)))
@@ -171,31 +185,31 @@ updates_first one first held same other =
     (cases_eq one.product other)
 
 -- set at its place
-pub updates_set : (held : List HeldDemand) (place : ℕ) (one : HeldDemand) → AllWithin (λ other. other.product < one.product) held 0 place
-    → place < length held → (get_or held place one).product ≡ one.product → Updates held (set held place one) one.product one.demand
-updates_set [] place one smaller within same = absurd (omega (arith, within))
-updates_set (first ∷ held) zero one smaller within same = updates_first one first held same
-updates_set (first ∷ held) (suc place) one smaller within same =
-    updates_behind first held (set held place one) one.product one.demand (smaller 0 one (omega arith) (omega arith))
-    (updates_set held place one (λ k d low high. smaller (suc k) d (omega arith) (omega (arith, high))) (omega (arith, within)) same)
+pub stored_set : (held : List HeldDemand) (place : ℕ) (one : HeldDemand) → AllWithin (λ other. other.product < one.product) held 0 place
+    → place < length held → (get_or held place one).product ≡ one.product → IsStored held (set held place one) one.product one.demand
+stored_set [] place one smaller within same = absurd (omega (arith, within))
+stored_set (first ∷ held) zero one smaller within same = stored_first one first held same
+stored_set (first ∷ held) (suc place) one smaller within same =
+    stored_behind first held (set held place one) one.product one.demand (smaller 0 one (omega arith) (omega arith))
+    (stored_set held place one (λ k d low high. smaller (suc k) d (omega arith) (omega (arith, high))) (omega (arith, within)) same)
 
 -- put in at its place
-pub updates_insert : (held : List HeldDemand) (place : ℕ) (one : HeldDemand) → AllWithin (λ other. other.product < one.product) held 0 place
-    → place ≤ length held → Updates held (insert held place one) one.product one.demand
+pub stored_insert : (held : List HeldDemand) (place : ℕ) (one : HeldDemand) → AllWithin (λ other. other.product < one.product) held 0 place
+    → place ≤ length held → IsStored held (insert held place one) one.product one.demand
 unfolding demand_for
-updates_insert held zero one smaller within other = refl
-updates_insert [] (suc place) one smaller within other = absurd (omega (arith, within))
-updates_insert (first ∷ held) (suc place) one smaller within other =
-    updates_behind first held (insert held place one) one.product one.demand (smaller 0 one (omega arith) (omega arith))
-    (updates_insert held place one (λ k d low high. smaller (suc k) d (omega arith) (omega (arith, high))) (omega (arith, within))) other
+stored_insert held zero one smaller within other = refl
+stored_insert [] (suc place) one smaller within other = absurd (omega (arith, within))
+stored_insert (first ∷ held) (suc place) one smaller within other =
+    stored_behind first held (insert held place one) one.product one.demand (smaller 0 one (omega arith) (omega arith))
+    (stored_insert held place one (λ k d low high. smaller (suc k) d (omega arith) (omega (arith, high))) (omega (arith, within))) other
 
 -- taken out at its place
-pub updates_remove : (from : ℕ) (held : List HeldDemand) (count place product : ℕ) (d : HeldDemand) → AreHeld from held count
+pub stored_remove : (from : ℕ) (held : List HeldDemand) (count place product : ℕ) (d : HeldDemand) → AreHeld from held count
     → AllWithin (λ other. other.product < product) held 0 place → place < length held → (get_or held place d).product ≡ product
-    → Updates held (remove held place) product 0
+    → IsStored held (remove held place) product 0
 unfolding AreHeld
-updates_remove from [] count place product d are smaller within same other = absurd (omega (arith, within))
-updates_remove from (first ∷ held) count zero product d are smaller within same other =
+stored_remove from [] count place product d are smaller within same other = absurd (omega (arith, within))
+stored_remove from (first ∷ held) count zero product d are smaller within same other =
     ⊎_elim
     (λ (here : product ≡ other).
     none_before (first.product + 1) held count other are.3 (omega (arith, same, here))
@@ -204,21 +218,21 @@ updates_remove from (first ∷ held) count zero product d are smaller within sam
     sym (behind first held other (λ (at : first.product ≡ other). elsewhere (sym same ∙ at)))
     ∙ sym (ap (λ test. if test then 0 else demand_for (first ∷ held) other) (ne_eqb product other elsewhere)))
     (cases_eq product other)
-updates_remove from (first ∷ held) count (suc place) product d are smaller within same other =
-    updates_behind first held (remove held place) product 0 (smaller 0 d (omega arith) (omega arith))
-    (updates_remove (first.product + 1) held count place product d are.3 (λ k e low high. smaller (suc k) e (omega arith) (omega (arith, high)))
+stored_remove from (first ∷ held) count (suc place) product d are smaller within same other =
+    stored_behind first held (remove held place) product 0 (smaller 0 d (omega arith) (omega arith))
+    (stored_remove (first.product + 1) held count place product d are.3 (λ k e low high. smaller (suc k) e (omega arith) (omega (arith, high)))
     (omega (arith, within)) same) other
 
 -- one demand changed in a row of so many products
-pub updated : (count : ℕ) (held after : List HeldDemand) (product demand : ℕ) → Updates held after product demand → product < count
+pub updated : (count : ℕ) (held after : List HeldDemand) (product demand : ℕ) → IsStored held after product demand → product < count
     → demands_of count after ≡ set (demands_of count held) product demand
-updated count held after product demand updates within =
+updated count held after product demand stored within =
     let row = demands_of count held in
     ext_get_or 0 (demands_of count after) (set row product demand)
     (length-demands count after ∙ sym (length-demands count held) ∙ sym (length-set row product demand))
     (λ other below.
     let inside : other < count = omega (arith, below, length-demands count after) in
-    shown count after other 0 inside ∙ updates other
+    shown count after other 0 inside ∙ stored other
     ∙ ⊎_elim
     (λ (here : product ≡ other).
     ap (λ test. if test then demand else demand_for held other) (eq-eqb product other here)
@@ -230,16 +244,14 @@ updated count held after product demand updates within =
     ∙ sym (get_or-set_other row product other demand 0 (λ (same : other ≡ product). elsewhere (sym same))))
     (cases_eq product other))
 
--- a row in which nothing changes
-pub unchanged : (count : ℕ) (held : List HeldDemand) (product : ℕ) → demand_for held product ≡ 0 → product < count
-    → demands_of count held ≡ set (demands_of count held) product 0
-unchanged count held product none within =
-    updated count held held product 0
-    (λ other. ⊎_elim
+-- where nothing is held, none is stored without a change
+pub stored_none : (held : List HeldDemand) (product : ℕ) → demand_for held product ≡ 0 → IsStored held held product 0
+stored_none held product none other =
+    ⊎_elim
     (λ (here : product ≡ other).
     ap (demand_for held) (sym here) ∙ none ∙ sym (ap (λ test. if test then 0 else demand_for held other) (eq-eqb product other here)))
     (λ (elsewhere : product ≢ other). sym (ap (λ test. if test then 0 else demand_for held other) (ne_eqb product other elsewhere)))
-    (cases_eq product other)) within
+    (cases_eq product other)
 
 -- ---- the order of what is held is kept
 
@@ -280,3 +292,41 @@ held_remove from [] count place are within = absurd (omega (arith, within))
 held_remove from (first ∷ held) count zero are within = held_lower (first.product + 1) from held count are.3 (omega (arith, are.0))
 held_remove from (first ∷ held) count (suc place) are within =
     (are.0, are.1, are.2, held_remove (first.product + 1) held count place are.3 (omega (arith, within)))
+
+-- ---- one more behind all that is held
+
+pub held_push : (from : ℕ) (held : List HeldDemand) (count : ℕ) (one : HeldDemand) → AreHeld from held count → count ≤ one.product → 0 < one.demand
+    → one.demand ≤ most_supply → AreHeld from (held ++ one ∷ []) (one.product + 1)
+unfolding AreHeld
+held_push from [] count one are behind some few = (omega (arith, are, behind), some, few, omega arith)
+held_push from (first ∷ held) count one are behind some few = (are.0, are.1, are.2, held_push (first.product + 1) held count one are.3 behind some few)
+
+-- the same of more products
+pub held_more : (from : ℕ) (held : List HeldDemand) (count more : ℕ) → AreHeld from held count → count ≤ more → AreHeld from held more
+unfolding AreHeld
+held_more from [] count more are order = omega (arith, are, order)
+held_more from (one ∷ held) count more are order = (are.0, are.1, are.2, held_more (one.product + 1) held count more are.3 order)
+
+-- of a product behind all nothing is held
+pub none_behind : (from : ℕ) (held : List HeldDemand) (count product : ℕ) → AreHeld from held count → count ≤ product → demand_for held product ≡ 0
+unfolding AreHeld demand_for
+none_behind from [] count product are past = refl
+none_behind from (one ∷ held) count product are past =
+    behind one held product (λ same. omega (arith, same, past, counted (one.product + 1) held count are.3))
+    ∙ none_behind (one.product + 1) held count product are.3 past
+
+-- the others are as before
+pub push_other : (held : List HeldDemand) (one : HeldDemand) (product : ℕ) → one.product ≢ product
+    → demand_for (held ++ one ∷ []) product ≡ demand_for held product
+unfolding demand_for
+push_other [] one product other = behind one [] product other
+push_other (first ∷ held) one product other =
+    ap (λ (rest : ℕ). if first.product == product then first.demand else rest) (push_other held one product other)
+
+pub push_here : (from : ℕ) (held : List HeldDemand) (count : ℕ) (one : HeldDemand) → AreHeld from held count → count ≤ one.product
+    → demand_for (held ++ one ∷ []) one.product ≡ one.demand
+unfolding AreHeld
+push_here from [] count one are past = at_first one [] one.product refl
+push_here from (first ∷ held) count one are past =
+    behind first (held ++ one ∷ []) one.product (λ same. omega (arith, same, past, counted (first.product + 1) held count are.3))
+    ∙ push_here (first.product + 1) held count one are.3 past

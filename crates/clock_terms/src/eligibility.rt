@@ -40,8 +40,8 @@ pub fn units_held(products: &[Product], row: &Row) -> u64
 {
     let mut total: u64 = 0;
     let mut held = row.held();
-    'held: while let Some(place) = held.next() {
-        total += products[place].units * row.get(place);
+    'held: while let Some(one) = held.next() {
+        total += products[one.product].units * one.demand;
     }
     total
 }

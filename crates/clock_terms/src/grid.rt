@@ -1,7 +1,8 @@
-ghost use Rattle.std.specs.Prelude.{◌≡◌, ◌≤◌, ◌<◌, length, All, IfOk, slice_set};
-ghost use Rattle.clock_terms.specs.Limits.{most_supply};
-ghost use Rattle.clock_terms.specs.Demands.{total_of, demand_at, row_of, with_demand, no_demands};
+ghost use Rattle.std.specs.Prelude.{◌≡◌, ℕ, ◌+◌, ◌*◌, ◌≤◌, ◌<◌, length, All, IfOk, slice_index};
+ghost use Rattle.clock_terms.specs.Limits.{IsRow, most_bidders, most_supply};
+ghost use Rattle.clock_terms.specs.Demands.{total_of, demand_at, demand_after, row_of, with_demand, no_demands};
 
+use crate::new_demand::NewDemand;
 use crate::row::Row;
 use crate::setup::Setup;
 use clock_device::{Items, NoMemory};
@@ -30,7 +31,49 @@ impl Model for Grid {
     ghost invariant = { λ a. IsKeptGrid a.rows.items a.totals };
 }
 
+/// Adds a row to the totals of some rows.
+fn add_row(totals: &mut Amounts, row: &Row)
+    requires each { length row.now ≡ length totals.old }
+    requires small { All (λ total. total ≤ most_bidders * most_supply) totals.old }
+    ensures each { length totals.new ≡ length totals.old }
+    ensures added { (product : ℕ) → product < length totals.old → slice_index totals.new product
+        ≡ slice_index totals.old product + slice_index row.now product }
+{
+    let mut held = row.held();
+    'held: while let Some(one) = held.next() {
+        totals.set(one.product, totals[one.product] + one.demand);
+    }
+}
+
+/// The total of each product over some rows.
+fn totals_of(alloc: Global, products: usize, rows: &[Row]) -> Result<Amounts, NoMemory>
+    requires few { length rows.now ≤ most_bidders }
+    requires each { All (λ row. length row ≡ products) rows.now }
+    requires small { All (λ row. All (λ demand. demand ≤ most_supply) row) rows.now }
+    ensures each { IfOk result (λ totals. length totals ≡ products) }
+    ensures totals { IfOk result (λ totals. (product : ℕ) → product < products → slice_index totals product
+        ≡ total_of rows.now product) }
+{
+    let mut totals = Amounts::zeros(alloc, products)?;
+    for row in rows {
+        add_row(&mut totals, row);
+    }
+    Ok(totals)
+}
+
 impl Grid {
+    /// The grid of these rows, which are taken over: one for each bidder of a set-up, and in each a demand for each product,
+    /// none above its cap.
+    pub fn of_rows(alloc: Global, setup: &Setup, rows: Vec<Row>) -> Result<Grid, NoMemory>
+        requires bidders { length rows.items ≡ length setup.now.bidders }
+        requires rows { All (IsRow setup.now.products) rows.items }
+        ensures { IfOk result (λ grid. grid ≡ rows.items) }
+    {
+        let products = setup.products.as_slice().len();
+        let totals = totals_of(alloc, products, rows.as_slice())?;
+        Ok(Grid { rows, totals })
+    }
+
     /// The grid of a set-up in which nobody demands anything.
     pub fn zero(alloc: Global, setup: &Setup) -> Result<Grid, NoMemory>
         ensures { IfOk result (λ grid. grid ≡ no_demands (length setup.now.bidders) (length setup.now.products)) }
@@ -55,6 +98,28 @@ impl Grid {
             rows.push(row.copy(alloc)?)?;
         }
         Ok(Grid { rows, totals })
+    }
+
+    /// A grid that is equal to another, in the memory of this one as far as that reaches.
+    pub fn renewed(self, alloc: Global, other: &Grid) -> Result<Grid, NoMemory>
+        ensures { IfOk result (λ grid. grid ≡ other.now) }
+    {
+        let Grid {
+            rows: old,
+            totals: _,
+        } = self;
+        let mut old = old.into_iter();
+        let mut rows = Vec::with_capacity(alloc, other.rows.len())?;
+        for row in other.rows.iter() {
+            rows.push(match old.next() {
+                Some(old) => old.renewed(row)?,
+                None => row.copy(alloc)?,
+            })?;
+        }
+        Ok(Grid {
+            rows,
+            totals: other.totals.copy(alloc)?,
+        })
     }
 
     /// A bidder's demand for a product, in blocks. Bidder and product are those of the grid.
@@ -91,20 +156,19 @@ impl Grid {
         requires small { demand ≤ most_supply }
         ensures { self.new ≡ with_demand self.old bidder product demand }
     {
-        let total = self.total(product) - self.get(bidder, product) + demand;
-        self.totals.set(product, total);
-        self.rows[bidder].set(product, demand);
+        self.change(bidder, product, NewDemand::Of(demand));
     }
 
-    /// Changes a bidder's demands, and no others. There is one demand for each product, at most 1,000 blocks.
-    pub fn set_row(&mut self, bidder: usize, demands: &[u64])
+    /// Changes one demand, and no other, by what it was. Bidder and product are those of the grid, and the demand becomes at
+    /// most 1,000 blocks.
+    pub fn change(&mut self, bidder: usize, product: usize, new: NewDemand)
         requires bidder { bidder < length self.old }
-        requires lengths { All (λ row. length demands.now ≡ length row) self.old }
-        requires small { All (λ demand. demand ≤ most_supply) demands.now }
-        ensures { self.new ≡ slice_set self.old bidder demands.now }
+        requires product { All (λ row. product < length row) self.old }
+        requires small { demand_after new (demand_at self.old bidder product) ≤ most_supply }
+        ensures { self.new ≡ with_demand self.old bidder product (demand_after new (demand_at self.old bidder product)) }
     {
-        for (product, demand) in demands.iter().enumerate() {
-            self.set(bidder, product, *demand);
-        }
+        let total = self.total(product);
+        let before = self.rows[bidder].change(product, new);
+        self.totals.set(product, total - before + new.after(before));
     }
 }

@@ -1,10 +1,21 @@
-ghost use Rattle.std.specs.Prelude.{◌≡◌, ◌+◌, ◌≤◌, ◌<◌, length, slice_index, unwrap_or, IfSome};
+ghost use Rattle.std.specs.Prelude.{◌≡◌, ◌+◌, ◌≤◌, ◌<◌, length, slice_index, unwrap_or, option_map, IfSome};
 ghost use Rattle.std.specs.List.{AllWithin};
 ghost use Rattle.clock_terms.specs.HeldDemands.{demands_of, next_of};
 ghost use Rattle.clock_terms.specs.inside.Rows.{IsKeptWalk};
+ghost use Rattle.clock_terms.specs.Limits.{most_supply};
 
 use crate::row::HeldDemand;
 use std::marker::Model;
+
+/// A product of which a block is held.
+#[derive(Clone, Copy)]
+pub struct Held {
+    /// The product's number in the set-up, from 0.
+    pub product: usize,
+
+    /// In blocks: at least 1, and at most 1,000.
+    pub demand: u64,
+}
 
 /// The products of which a row holds a block, by rising number. Contracts see the row's demands and the place from
 /// which on it has not looked.
@@ -45,25 +56,37 @@ impl<'a> HeldProducts<'a> {
         }
     }
 
-    /// The least product that is held and was not yet given, or None where no further one is held.
+    /// How many products the row has.
+    pub fn products(&self) -> usize
+        ensures { result ≡ length self.now.demands }
+    {
+        self.count
+    }
+
+    /// The least product that is held and was not yet given, with the demand for it, or None where no further one is held.
     #[inline(always)]
-    pub fn next(&mut self) -> Option<usize>
+    pub fn next(&mut self) -> Option<Held>
         ensures row { self.new.demands ≡ self.old.demands }
-        ensures least { IfSome result (λ product. self.old.from ≤ product) }
-        ensures within { IfSome result (λ product. product < length self.old.demands) }
-        ensures held { IfSome result (λ product. 0 < slice_index self.old.demands product) }
+        ensures least { IfSome result (λ held. self.old.from ≤ held.product) }
+        ensures within { IfSome result (λ held. held.product < length self.old.demands) }
+        ensures demand { IfSome result (λ held. held.demand ≡ slice_index self.old.demands held.product) }
+        ensures held { IfSome result (λ held. 0 < held.demand) }
+        ensures small { IfSome result (λ held. held.demand ≤ most_supply) }
         ensures passed { AllWithin (λ demand. demand ≡ 0) self.old.demands self.old.from
-            (unwrap_or result (length self.old.demands)) }
-        ensures given { IfSome result (λ product. product < self.new.from) }
-        ensures ahead { IfSome result (λ product.
-            AllWithin (λ demand. demand ≡ 0) self.old.demands (product + 1) self.new.from) }
+            (unwrap_or (option_map (λ held. held.product) result) (length self.old.demands)) }
+        ensures given { IfSome result (λ held. held.product < self.new.from) }
+        ensures ahead { IfSome result (λ held.
+            AllWithin (λ demand. demand ≡ 0) self.old.demands (held.product + 1) self.new.from) }
     {
         let held = self.held;
         if self.given == held.len() {
             return None;
         }
-        let product = held[self.given].product as usize;
+        let one = held[self.given];
         self.given += 1;
-        Some(product)
+        Some(Held {
+            product: one.product as usize,
+            demand: one.demand as u64,
+        })
     }
 }

@@ -7,7 +7,9 @@ mod eligibility;
 mod grid;
 mod held_products;
 mod increments;
+mod kept_row;
 mod limits;
+mod new_demand;
 mod prices;
 mod row;
 mod setup;
@@ -15,13 +17,15 @@ mod setup;
 pub use change::{Change, Changes, Kind};
 pub use eligibility::{activity, next_eligibility, units_held};
 pub use grid::{Amounts, Grid};
-pub use held_products::HeldProducts;
+pub use held_products::{Held, HeldProducts};
 pub use increments::Increments;
+pub use kept_row::KeptRow;
 pub use limits::{
     FIRST_GRANULE, FIRST_LIMIT, LATEST_VERSION, LEAST_LIMIT, LEAST_REQUIREMENT, LONGEST_NAME,
     LONGEST_TOKEN, MOST_BIDDERS, MOST_ELIGIBILITY, MOST_LIMIT, MOST_PRODUCTS, MOST_REQUIREMENT,
     MOST_SUPPLY, MOST_UNITS, SHORTEST_TOKEN, is_within,
 };
+pub use new_demand::NewDemand;
 pub use prices::{OpeningPrices, PricePair, Prices};
 pub use row::Row;
 pub use setup::{Bidder, Bidders, Product, Products, Setup, products_copy};

@@ -1,7 +1,7 @@
 //! The changes that sheets of small auctions ask for.
 
 ghost use Rattle.std.specs.Prelude.{◌≡◌, ◌≤◌, ◌<◌, length, All, IsTrue, IfOk};
-ghost use Rattle.clock_terms.specs.Limits.{IsRow, most_supply};
+ghost use Rattle.clock_terms.specs.Limits.{IsRow};
 
 use clock_bids::{
     Bid, BidFault, Change, Changes, Kind, Own, asked_demands, changes_of, check_sheet,
@@ -9,7 +9,7 @@ use clock_bids::{
 use clock_device::NoMemory;
 use clock_money::{Point, Price};
 use clock_setup::fixtures::{ONE_PRODUCT, TWO_PRODUCTS};
-use clock_setup::{Grid, PricePair, Prices, Product, Row, Setup, read_setup};
+use clock_setup::{PricePair, Prices, Product, Row, Setup, read_setup};
 use std::alloc::Global;
 use std::process::Abort;
 use std::test::Fail;
@@ -82,27 +82,25 @@ fn prices_of(alloc: Global, setup: &Setup) -> Result<Prices, Fail> {
 }
 
 /// Whether there is a demand for each product, none above its cap.
-fn is_row(products: &[Product], demands: &Row) -> bool
+fn is_row(products: &[Product], demands: &[u64]) -> bool
     ensures { IsTrue result → IsRow products.now demands.now }
 {
     if demands.len() != products.len() {
         return false;
     }
     for (i, product) in products.iter().enumerate() {
-        if demands.get(i) > product.cap {
+        if demands[i] > product.cap {
             return false;
         }
     }
     true
 }
 
-/// Whether there is a pair of prices and a demand for each product.
-fn fits(setup: &Setup, prices: &Prices, demands: &Row) -> bool
-    ensures prices { IsTrue result → length prices.now ≡ length setup.now.products }
-    ensures row { IsTrue result → IsRow setup.now.products demands.now }
+/// Whether there is a pair of prices for each product.
+fn are_prices(setup: &Setup, prices: &Prices) -> bool
+    ensures { IsTrue result → length prices.now ≡ length setup.now.products }
 {
-    let products = setup.products.as_slice();
-    prices.as_slice().len() == products.len() && is_row(products, demands)
+    prices.as_slice().len() == setup.products.as_slice().len()
 }
 
 /// Whether each clock price is above its start price.
@@ -123,26 +121,18 @@ fn are_known(setup: &Setup, bids: &[Bid]) -> bool
     bids.iter().all(|bid| bid.product < products)
 }
 
-/// Whether none of the demands is above 1,000 blocks.
-fn are_small(demands: &[u64]) -> bool
-    ensures { IsTrue result → All (λ demand. demand ≤ most_supply) demands.now }
+/// The row of these demands.
+fn row_of(rt: &impl Abort, alloc: Global, setup: &Setup, demands: &[u64]) -> Result<Row, NoMemory>
+    ensures { IfOk result (IsRow setup.now.products) }
 {
-    demands.iter().all(|demand| *demand <= 1000)
-}
-
-/// A grid in which the first bidder has these demands.
-fn grid_of(rt: &impl Abort, alloc: Global, setup: &Setup, demands: &[u64]) -> Result<Grid, NoMemory>
-    ensures { IfOk result (λ grid. 0 < length grid) }
-{
-    assert!(rt; demands.len() == setup.products.as_slice().len());
-    assert!(rt; are_small(demands));
-    let mut grid = Grid::zero(alloc, setup)?;
-    grid.set_row(0, demands);
-    Ok(grid)
+    assert!(rt; is_row(setup.products.as_slice(), demands));
+    Row::of(alloc, setup, demands)
 }
 
 /// What a bidder holds in the second round.
-fn held<'a>(round: &Round, row: &'a Row) -> Own<'a> {
+fn held<'a>(round: &Round, row: &'a Row) -> Own<'a>
+    ensures { result.demands.now ≡ row.now }
+{
     Own {
         round: 2,
         eligibility: round.eligibility,
@@ -158,10 +148,12 @@ fn asked_by(
     prices: &Prices,
     own: Own,
     bids: &[Bid],
-) -> Result<Changes, BidFault> {
+) -> Result<Changes, BidFault>
+    requires { IsRow setup.now.products own.demands.now }
+{
     assert!(rt; own.round >= 2);
     assert!(rt; rise(prices));
-    assert!(rt; fits(setup, prices, own.demands));
+    assert!(rt; are_prices(setup, prices));
     let sheet = check_sheet(alloc, setup, prices, own, bids)?;
     Ok(changes_of(alloc, setup, prices, own, 0, Some(&sheet))?)
 }
@@ -174,10 +166,12 @@ fn asked_without(
     setup: &Setup,
     prices: &Prices,
     own: Own,
-) -> Result<Changes, NoMemory> {
+) -> Result<Changes, NoMemory>
+    requires { IsRow setup.now.products own.demands.now }
+{
     assert!(rt; own.round >= 2);
     assert!(rt; rise(prices));
-    assert!(rt; fits(setup, prices, own.demands));
+    assert!(rt; are_prices(setup, prices));
     changes_of(alloc, setup, prices, own, 0, None)
 }
 
@@ -191,8 +185,8 @@ fn asks_for(
 ) -> Result<bool, Fail> {
     let setup = read_setup(alloc, round.document.as_bytes())?;
     let prices = prices_of(alloc, &setup)?;
-    let grid = grid_of(rt, alloc, &setup, round.demands)?;
-    let own = held(round, grid.row(0));
+    let row = row_of(rt, alloc, &setup, round.demands)?;
+    let own = held(round, &row);
     let changes = asked_by(rt, alloc, &setup, &prices, own, bids)?;
     Ok(changes.as_slice() == wanted)
 }
@@ -206,8 +200,8 @@ fn asks_without(
 ) -> Result<bool, Fail> {
     let setup = read_setup(alloc, round.document.as_bytes())?;
     let prices = prices_of(alloc, &setup)?;
-    let grid = grid_of(rt, alloc, &setup, round.demands)?;
-    let own = held(round, grid.row(0));
+    let row = row_of(rt, alloc, &setup, round.demands)?;
+    let own = held(round, &row);
     let changes = asked_without(rt, alloc, &setup, &prices, own)?;
     Ok(changes.as_slice() == wanted)
 }

@@ -13,10 +13,8 @@ ghost use Rattle.clock_views.specs.Values.{list_of, IsPage, Adds};
 ghost use Rattle.clock_views.specs.inside.Rooms.{room_of_bid, room_of_array};
 ghost use Rattle.clock_views.specs.inside.Values.{item_text};
 
-use crate::pieces::{
-    push_blocks, push_comma_if, push_label, push_name, push_number, push_row, push_truth,
-};
-use crate::room::{ITEM_ROOM, blocks_in_all, page_with_room};
+use crate::pieces::{push_comma_if, push_demands, push_label, push_name, push_number, push_truth};
+use crate::room::{ITEM_ROOM, page_with_room};
 use clock_bids::{Bid, Own, Sheet};
 use clock_device::{Bounded, NoMemory, Text};
 use clock_house::Slip;
@@ -88,7 +86,7 @@ pub fn push_account_page(text: &mut Bounded<u8>, setup: &Setup, bidder: u32, own
         b"{\"activity\":",
         units_held(setup.products.as_slice(), own.demands),
     );
-    push_row(text, b",\"demands\":", own.demands);
+    push_demands(text, b",\"demands\":", own.demands.held());
     push_number(text, b",\"eligibility\":", own.eligibility);
     push_truth(text, b",\"ended\":", ended);
     push_name(text, b",\"name\":", name_of(setup, bidder));
@@ -230,7 +228,7 @@ pub fn slip_room(slip: &Slip) -> u128
     ensures is { result ≡ room_of_slip (length slip.now.demands) }
     ensures most { result ≡ most_text (slip_value slip.now) }
 {
-    SLIP_ROOM + ITEM_ROOM * blocks_in_all(&slip.demands)
+    SLIP_ROOM + ITEM_ROOM * slip.demands.len() as u128
 }
 
 /// Adds the same page to a text that has room for it.
@@ -239,7 +237,7 @@ pub fn push_slip_page(text: &mut Bounded<u8>, slip: &Slip)
     ensures { Adds (compact_text (slip_value slip.now)) text.old.items text.new.items }
 {
     push_number(text, b"{\"activity\":", slip.activity);
-    push_blocks(text, b",\"demands\":", &slip.demands);
+    push_demands(text, b",\"demands\":", slip.demands.held());
     push_number(text, b",\"eligibility\":", slip.eligibility);
     push_number(text, b",\"round\":", slip.round);
     push_label(text, b"}");

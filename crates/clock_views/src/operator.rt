@@ -12,7 +12,7 @@ ghost use Rattle.clock_views.specs.inside.Rooms.{room_of_result};
 ghost use Rattle.clock_views.specs.inside.Values.{item_text};
 
 use crate::bidder::name_of;
-use crate::pieces::{push_comma_if, push_label, push_name, push_number, push_row, push_truth};
+use crate::pieces::{push_comma_if, push_demands, push_label, push_name, push_number, push_truth};
 use crate::room::{ITEM_ROOM, page_with_room};
 use clock_device::{Bounded, NoMemory, Text};
 use clock_house::House;
@@ -128,7 +128,7 @@ fn push_result<P>(text: &mut Bounded<u8>, house: &House<P>, bidder: u32)
 {
     let own = house.own(bidder);
     push_comma_if(text, bidder > 0);
-    push_row(text, b"{\"demands\":", own.demands);
+    push_demands(text, b"{\"demands\":", own.demands.held());
     push_number(text, b",\"eligibility\":", own.eligibility);
     push_name(text, b",\"name\":", name_of(house.setup(), bidder));
     push_label(text, b"}");

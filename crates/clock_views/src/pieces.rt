@@ -1,18 +1,17 @@
 //! Pieces of compact JSON, which are pushed onto one text. There is room for each: it was taken before the first.
 
-ghost use Rattle.std.specs.Prelude.{◌≡◌, ◌≤◌, ◌+◌, ◌*◌, ◌++◌, decimal, length};
+ghost use Rattle.std.specs.Prelude.{◌≡◌, ◌≤◌, ◌+◌, ◌-◌, ◌*◌, ◌++◌, ℕ, List, decimal, drop, length, nat_lt};
+ghost use Rattle.std.specs.List.{AllWithin};
 ghost use Rattle.serde_json.specs.Data.{string};
 ghost use Rattle.serde_json.specs.Written.{compact_text, comma_if};
 ghost use Rattle.clock_terms.specs.Limits.{IsName};
-ghost use Rattle.clock_closing.specs.Blocks.{numbers_in, zeros_in as zeros_of};
 ghost use Rattle.clock_views.specs.Values.{whole, whole_or_null, list_of, number_if, true_or_false, Adds};
 ghost use Rattle.clock_views.specs.inside.Rooms.{room_of_number, room_of_name, room_of_truth, room_of_item};
 ghost use Rattle.clock_views.specs.inside.Rooms.{room_of_array};
-ghost use Rattle.clock_views.specs.inside.Values.{AddsNumbers, item_text};
+ghost use Rattle.clock_views.specs.inside.Values.{item_text, rest_text};
 
 use clock_device::Bounded;
-use clock_house::{Blocks, blocks_in, zeros_in};
-use clock_terms::Row;
+use clock_terms::HeldProducts;
 
 /// Adds a label, as `{"bids":`, or a closing bracket.
 pub(crate) fn push_label(text: &mut Bounded<u8>, label: &[u8])
@@ -107,45 +106,38 @@ fn push_item(text: &mut Bounded<u8>, later: bool, number: u64)
     text.push_number(number);
 }
 
-/// Adds a label and the array of demands behind it.
-pub(crate) fn push_row(text: &mut Bounded<u8>, label: &[u8], row: &Row)
-    requires { length label.now + room_of_array room_of_item (length row.now) ≤ text.old.room }
-    ensures adds { Adds (label.now ++ compact_text (list_of whole row.now)) text.old.items text.new.items }
-    ensures room { text.old.room ≤ text.new.room + (length label.now + room_of_array room_of_item (length row.now)) }
+/// Adds zeros as items of an array of demands, for the products from one up to another.
+fn push_zeros(text: &mut Bounded<u8>, from: usize, until: usize)
+    requires order { from ≤ until }
+    requires room { room_of_item * (until - from) ≤ text.old.room }
+    ensures adds { (row : List ℕ) → until ≤ length row → AllWithin (λ demand. demand ≡ 0) row from until
+        → text.new.items ++ rest_text whole (nat_lt 0 until) (drop until row)
+        ≡ text.old.items ++ rest_text whole (nat_lt 0 from) (drop from row) }
+    ensures room { text.old.room ≤ text.new.room + room_of_item * (until - from) }
 {
-    text.extend_from_slice(label);
-    text.push(b'[');
-    for product in 0..row.len() {
-        push_item(text, product > 0, row.get(product));
+    for product in from..until {
+        push_item(text, product > 0, 0);
     }
-    text.push(b']');
 }
 
-/// Adds the numbers of a cell, as items of an array.
-fn push_cell(text: &mut Bounded<u8>, later: bool, cell: u16)
-    requires { room_of_item * (zeros_of cell + 1) ≤ text.old.room }
-    ensures adds { AddsNumbers later (numbers_in cell) text.old.items text.new.items }
-    ensures room { text.old.room ≤ text.new.room + room_of_item * (zeros_of cell + 1) }
+/// Adds a label and the array of a row's demands behind it, of which nothing is looked at but those that are held.
+pub(crate) fn push_demands(text: &mut Bounded<u8>, label: &[u8], held: HeldProducts<'_>)
+    requires first { AllWithin (λ demand. demand ≡ 0) held.demands 0 held.from }
+    requires room { length label.now + room_of_array room_of_item (length held.demands) ≤ text.old.room }
+    ensures adds { Adds (label.now ++ compact_text (list_of whole held.entry.demands)) text.old.items text.new.items }
+    ensures room { text.old.room ≤ text.new.room
+        + (length label.now + room_of_array room_of_item (length held.entry.demands)) }
 {
-    let mut behind = later;
-    for _zero in 0..zeros_in(cell) {
-        push_item(text, behind, 0);
-        behind = true;
-    }
-    push_item(text, behind, blocks_in(cell));
-}
-
-/// Adds a label and the array of numbers of blocks behind it.
-pub(crate) fn push_blocks(text: &mut Bounded<u8>, label: &[u8], blocks: &Blocks)
-    requires { length label.now + room_of_array room_of_item (length blocks.now) ≤ text.old.room }
-    ensures adds { Adds (label.now ++ compact_text (list_of whole blocks.now)) text.old.items text.new.items }
-    ensures room { text.old.room ≤ text.new.room + (length label.now + room_of_array room_of_item (length blocks.now)) }
-{
-    let cells = blocks.cells();
+    let mut held = held;
+    let products = held.products();
     text.extend_from_slice(label);
     text.push(b'[');
-    for (i, cell) in cells.iter().enumerate() {
-        push_cell(text, i > 0, *cell);
+    let mut from = 0;
+    'held: while let Some(one) = held.next() {
+        push_zeros(text, from, one.product);
+        push_item(text, one.product > 0, one.demand);
+        from = one.product + 1;
     }
+    push_zeros(text, from, products);
     text.push(b']');
 }

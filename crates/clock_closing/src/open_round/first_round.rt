@@ -16,7 +16,7 @@ use crate::results::Results;
 use clock_bids::{asked_demands, bids_of};
 use clock_device::NoMemory;
 use clock_posting::post_first;
-use clock_terms::{Amounts, Grid, Increments};
+use clock_terms::{Amounts, Grid, Increments, Row};
 use std::alloc::Global;
 
 impl OpenRound<'_> {
@@ -43,12 +43,22 @@ impl OpenRound<'_> {
     fn asked_grid(&self, alloc: Global) -> Result<Grid, NoMemory>
         ensures { IfOk result (λ grid. grid ≡ rules.asked_grid self.now.setup.products self.now.before) }
     {
-        let mut grid = Grid::zero(alloc, self.setup)?;
+        let mut rows = Vec::with_capacity(alloc, self.bidders() as usize)?;
         for bidder in 0..self.bidders() {
-            let row = self.asked(alloc, bidder)?;
-            grid.set_row(bidder as usize, row.as_slice());
+            rows.push(self.asked_row(alloc, bidder)?)?;
         }
-        Ok(grid)
+        Ok(Grid::of_rows(alloc, self.setup, rows)?)
+    }
+
+    /// The demands that a bidder's sheet in force asks for, as a row.
+    fn asked_row(&self, alloc: Global, bidder: u32) -> Result<Row, NoMemory>
+        requires { bidder < length self.now.setup.bidders }
+        ensures asked { IfOk result (λ row. row ≡ sheets.asked_demands
+            (length self.now.setup.products) (bids_at self.now.before.sheets bidder)) }
+        ensures row { IfOk result (IsRow self.now.setup.products) }
+    {
+        let asked = self.asked(alloc, bidder)?;
+        Row::of(alloc, self.setup, asked.as_slice())
     }
 
     /// The demands that a bidder's sheet in force asks for. No sheet is the same as an empty one.

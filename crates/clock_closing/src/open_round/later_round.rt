@@ -20,7 +20,7 @@ use clock_device::NoMemory;
 use clock_order::{Ties, ordered};
 use clock_posting::post;
 use clock_processor::{Board, Processor, Settled};
-use clock_terms::Increments;
+use clock_terms::{Grid, Increments};
 use std::alloc::Global;
 
 impl OpenRound<'_> {
@@ -31,6 +31,7 @@ impl OpenRound<'_> {
         processor: &P,
         increments: &Increments,
         ties: &Ties,
+        old: Option<Grid>,
     ) -> Result<Results, CloseFault>
         requires later { 2 ≤ self.now.before.standing.round }
         requires increments { AreIncrements (length self.now.setup.products) increments.now }
@@ -43,7 +44,7 @@ impl OpenRound<'_> {
             (rules.requests self.now.before ties.now)))) }
     {
         let requests = self.requests(alloc, ties)?;
-        let settled = self.settled(alloc, processor, &requests)?;
+        let settled = self.settled(alloc, processor, &requests, old)?;
         let posting = post(
             alloc,
             self.setup,
@@ -89,12 +90,14 @@ impl OpenRound<'_> {
         Ok(changes)
     }
 
-    /// The demands that the settling of these requests leaves, and what is left of each.
+    /// The demands that the settling of these requests leaves, and what is left of each. They are settled in the memory of a grid
+    /// that is no longer needed, where there is one.
     fn settled<P: Processor>(
         &self,
         alloc: Global,
         processor: &P,
         requests: &Changes,
+        old: Option<Grid>,
     ) -> Result<Settled, NoMemory>
         requires later { 2 ≤ self.now.before.standing.round }
         requires requests { AreRequests self.now.before requests.now }
@@ -107,7 +110,8 @@ impl OpenRound<'_> {
         ensures each { IfOk result (λ settled. length settled.left ≡ length requests.now) }
     {
         let eligibilities = self.holdings.eligibilities(alloc)?;
-        let board = Board::new(alloc, self.setup, &eligibilities, self.holdings.grid())?;
+        let grid = self.holdings.grid(alloc, old)?;
+        let board = Board::on(alloc, self.setup, &eligibilities, grid)?;
         processor.settle(alloc, board, requests)
     }
 }

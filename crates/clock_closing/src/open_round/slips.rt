@@ -9,7 +9,6 @@ ghost use Rattle.clock_closing.specs.inside.OpenRound.{eligibilities_of};
 ghost use Rattle.clock_closing.specs.Closing as rules;
 ghost use Rattle.clock_closing.specs.Results.{demands_of};
 
-use crate::blocks::Blocks;
 use crate::closed_round::ClosedRound;
 use crate::open_round::OpenRound;
 use crate::results::Results;
@@ -50,22 +49,15 @@ impl OpenRound<'_> {
             rules.slips_after (public_setup self.now.setup) self.now.before demands.now) }
         ensures demands { IfOk result (λ slips. demands.now ≡ demands_of slips) }
     {
-        let mut cells = Vec::new(alloc);
         let mut slips = Vec::with_capacity(alloc, self.bidders() as usize)?;
         for bidder in 0..self.bidders() {
-            slips.push(self.slip_after(alloc, &mut cells, bidder, demands.row(bidder as usize))?)?;
+            slips.push(self.slip_after(alloc, bidder, demands.row(bidder as usize))?)?;
         }
         Ok(Slips::from_vec(slips))
     }
 
-    /// A bidder's slip after a round that leaves it these demands. The list is lent for their cells.
-    fn slip_after(
-        &self,
-        alloc: Global,
-        cells: &mut Vec<u16>,
-        bidder: u32,
-        demands: &Row,
-    ) -> Result<Slip, NoMemory>
+    /// A bidder's slip after a round that leaves it these demands.
+    fn slip_after(&self, alloc: Global, bidder: u32, demands: &Row) -> Result<Slip, NoMemory>
         requires bidder { bidder < length self.now.setup.bidders }
         requires row { IsRow self.now.setup.products demands.now }
         requires within { eligibilities.activity self.now.setup.products demands.now ≤
@@ -80,7 +72,7 @@ impl OpenRound<'_> {
             round: self.round,
             activity: used,
             eligibility: next_eligibility(held, used, setup.requirement),
-            demands: Blocks::of(alloc, cells, demands)?,
+            demands: demands.kept(alloc)?,
         })
     }
 }

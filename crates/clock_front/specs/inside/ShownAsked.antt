@@ -1,6 +1,7 @@
 -- What is asked for, as the code keeps it: a body is not read yet.
 use Rattle.clock_bodies.specs.Bodies.{put_body}
 use Rattle.clock_bodies.specs.CloseBodies.{close_body}
+use Rattle.clock_http.specs.declared.code.Code.TheVariants.{NoPage}
 use Rattle.clock_front.specs.Requests.{Ask}
 use Rattle.clock_front.specs.Requests as asked
 use Rattle.clock_front.specs.declared.asked.Reading.{Reading}
@@ -9,6 +10,8 @@ use Rattle.clock_front.specs.declared.asked.Asked.{Asked}
 use Rattle.clock_front.specs.declared.asked.Asked.TheVariants as change
 
 abbrev pub shown_reading : Reading → Ask
+shown_reading reading.NoPage = asked.turned_away NoPage
+shown_reading (reading.NoMethod page) = asked.no_method page
 shown_reading reading.Status = asked.status
 shown_reading reading.Products = asked.products
 shown_reading (reading.Sheet segment) = asked.sheet segment.now

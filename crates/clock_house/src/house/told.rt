@@ -14,7 +14,7 @@ use crate::house::House;
 use clock_bids::{Own, Sheet};
 use clock_closing::{ClosedRound, Slip};
 use clock_posting::RoundSheet;
-use clock_terms::{Grid, Setup};
+use clock_terms::{Grid, Prices, Setup};
 
 impl<P> House<P> {
     /// The set-up.
@@ -78,6 +78,13 @@ impl<P> House<P> {
         ensures { result.now ≡ for_each_bidder self.now.setup (λ bidder. (holding_in self.now bidder).demands) }
     {
         &self.demands
+    }
+
+    /// The prices of the current round, a pair for each product. After the end they tell nothing.
+    pub fn prices(&self) -> &Prices
+        ensures { (standing_in self.now).ended ≡ false → result.now ≡ (standing_in self.now).prices }
+    {
+        &self.prices
     }
 
     /// A bidder's sheet in force: the last of its sheets that was accepted since the last accepted

@@ -1,7 +1,7 @@
--- Limits as they are kept, and where a search for a product begins.
+-- Limits as they are kept, and where the row of a product may stand.
 --     AreRising from products count      products rise, from one on, and all are below a count
 --     kept_limits rows, AreKept rows      the limits that stand in rows, and that the rows are in order
---     AreStarts count products starts      for each block of 64 products a place before which none of them stands
+--     IsPlaceOf products product place      only products below one stand before the place
 use Rattle.std.specs.Prelude.{◌≡◌, ℕ, ◌+◌, ◌*◌, ◌<◌, ◌≤◌, List, [], ◌∷◌, length, slice_index}
 use Rattle.std.specs.List.{AllWithin}
 use Rattle.clock_replays.specs.declared.limit_rows.LimitRows.{LimitRows}
@@ -26,10 +26,5 @@ AreKept rows =
     × AreRising 0 rows.products.items rows.count
 
 -- a place before which only products below one stand
-abbrev pub IsStart : List ℕ → ℕ → ℕ → Type 0
-IsStart products product start = (start ≤ length products) × AllWithin (λ other. other < product) products 0 start
-
--- for each block of 64 products a place before which none of them stands
-abbrev pub AreStarts : ℕ → List ℕ → List ℕ → Type 0
-AreStarts count products starts =
-    (block : ℕ) → block * 64 < count → (block < length starts) × IsStart products (block * 64) (slice_index starts block)
+abbrev pub IsPlaceOf : List ℕ → ℕ → ℕ → Type 0
+IsPlaceOf products product place = (place ≤ length products) × AllWithin (λ other. other < product) products 0 place

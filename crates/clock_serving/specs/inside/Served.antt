@@ -12,7 +12,7 @@ use Rattle.clock_http.specs.Replies.{Answer}
 use Rattle.clock_front.specs.Arrivals.{HasArrived, HasNoRoom}
 use Rattle.clock_front.specs.FixedReplies.{no_memory}
 use Rattle.clock_front.specs.Fronts.{AnswersText}
-use Rattle.clock_front.specs.Streamed.{IsUnanswered}
+use Rattle.clock_front.specs.Streamed.{IsLeftUnread}
 use Rattle.clock_journal.specs.Crash.{LeavesTexts}
 use Rattle.clock_journal.specs.Disks.{MayBeLeft}
 use Rattle.clock_journal.specs.Kept.{JournalState, HasTexts}
@@ -24,7 +24,7 @@ use Rattle.clock_serving.specs.declared.fault.ServeFault.TheVariants as fault
 
 -- no request could be read; front and journal are as they were
 abbrev pub IsLeftAlone : Reading → JournalState → JournalState → HouseFields → HouseFields → Type 0
-IsLeftAlone reading journal_old journal_new old new = IsUnanswered reading old new × (journal_new ≡ journal_old)
+IsLeftAlone reading journal_old journal_new old new = IsLeftUnread reading old new × (journal_new ≡ journal_old)
 
 -- the text that was read is answered, and kept where it is accepted
 pub record AnswersAndKeeps (reading : Reading) (answer : Answer) (journal_old journal_new : JournalState) (old new : HouseFields) : Type 0 where

@@ -1,17 +1,12 @@
 -- Parts of the texts of requests that are played.
---     whole_text written      the text of a request that was written in two pieces
+--     increments_text increments      the member of a closing's increments
 use Rattle.std.specs.Prelude.{ℕ, List, ◌++◌, codes, decimal}
 use Rattle.serde_json.specs.Written.{compact_text}
 use Rattle.clock_terms.specs.declared.increments.Increments.{Increments}
 use Rattle.clock_terms.specs.declared.increments.Increments.TheVariants.{Single, PerProduct}
 use Rattle.clock_views.specs.Values.{whole, list_of}
-use Rattle.clock_sim.specs.declared.request_texts.RequestText.{RequestText}
 
 -- that member as it is written
 abbrev pub increments_text : Increments → List ℕ
 increments_text (Single increment) = codes "\"increment\":" ++ decimal increment
 increments_text (PerProduct increments) = codes "\"increments\":" ++ compact_text (list_of whole increments)
-
--- the two pieces of a request
-abbrev pub whole_text : RequestText → List ℕ
-whole_text written = written.head.items ++ written.body.items

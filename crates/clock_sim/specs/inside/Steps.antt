@@ -1,17 +1,24 @@
 -- What a step of a rehearsal has come to, for the calls that make it.
+--     IsGoing house      the auction of a house goes on
 --     IsTold code fault result      what the code of a reply is told as
 --     ComesTo answer house      the step has an end, and the house stands for its texts
 --     MakesStep step old new result      whatever the house stood for, the step was made, or its fault is told
 --     IsLeft rest answer house      the rest of the steps, made from what the house stands for, has this end
 --     MakesWay whole rest old new result      a part of some steps was made, and the rest is left
-use Rattle.std.specs.Prelude.{◌≡◌, ◌≢◌, ℕ, List, Result, Ok, Err, MatchResult}
+use Rattle.std.specs.Prelude.{◌≡◌, ◌≢◌, ℕ, List, false, Result, Ok, Err, MatchResult}
 use Rattle.clock_terms.specs.Faults.{IsRefusal}
-use Rattle.clock_house.specs.House.{HouseFields}
+use Rattle.clock_house.specs.House.{HouseFields, standing_in}
 use Rattle.clock_http.specs.declared.code.Code.{Code}
 use Rattle.clock_http.specs.declared.code.Code.TheVariants.{Done, Memory}
 use Rattle.clock_front.specs.Fronts.{StandsForTexts}
 use Rattle.clock_sim.specs.declared.sim_fault.SimFault.{SimFault}
 use Rattle.clock_sim.specs.declared.sim_fault.SimFault.TheVariants.{NoMemory}
+
+-- the auction has not ended, and the house stands for some texts
+pub record IsGoing (house : HouseFields) : Type 0 where
+  pub going : (standing_in house).ended ≡ false
+  pub texts : List (List ℕ)
+  pub stands : StandsForTexts texts house
 
 -- a fault is told where a reply is neither done nor that of want of memory
 pub record IsRefusedWith (code : Code) (fault told : SimFault) : Type 0 where

@@ -2,12 +2,14 @@
 --     AreHeld from held count      demands of some blocks, by rising product, from one on and below a count
 --     IsStart held product start      before a place stand only products below one
 --     StandsAt held product place, WouldStandAt held product place      where a product stands, and where it would
+--     IsStored held after product demand      of one product there is another demand, and of the others as before
 --     AreStarts held starts      for each 16 products a place before which none of them stands
 --     IsKeptRow count held starts capacity      what the type of rows keeps
 --     IsKeptWalk count held given      what a walk keeps
-use Rattle.std.specs.Prelude.{◌≡◌, ℕ, ◌+◌, ◌*◌, ◌≤◌, ◌<◌, List, [], ◌∷◌, length, slice_index, slice_index_or}
+use Rattle.std.specs.Prelude.{◌≡◌, ◌==◌, if◌then◌else◌, ℕ, ◌+◌, ◌*◌, ◌≤◌, ◌<◌, List, [], ◌∷◌, length, slice_index, slice_index_or}
 use Rattle.std.specs.List.{AllWithin}
 use Rattle.clock_terms.specs.declared.row.HeldDemand.{HeldDemand}
+use Rattle.clock_terms.specs.HeldDemands.{demand_for}
 use Rattle.clock_terms.specs.Limits.{most_products, most_supply}
 
 -- products rise, from one on, and are below a count; of each some blocks are held, and at most a thousand
@@ -29,6 +31,11 @@ abbrev pub WouldStandAt : List HeldDemand → ℕ → ℕ → Type 0
 WouldStandAt held product place =
     IsStart held product place × ((d : HeldDemand) → place < length held → product < (slice_index_or held place d).product)
 
+-- of one product there is another demand, and of the others as before
+abbrev pub IsStored : List HeldDemand → List HeldDemand → ℕ → ℕ → Type 0
+IsStored held after product demand = (other : ℕ)
+    → demand_for after other ≡ (if product == other then demand else demand_for held other)
+
 -- for each 16 products a place before which none of them stands
 abbrev pub AreStarts : List HeldDemand → List ℕ → Type 0
 AreStarts held starts = (block : ℕ) → block < length starts → IsStart held (block * 16) (slice_index starts block)
@@ -39,6 +46,7 @@ pub record IsKeptRow (count : ℕ) (held : List HeldDemand) (places : List ℕ) 
   pub order : AreHeld 0 held count
   pub room : count ≤ capacity
   pub searched : count < 16 * length places
+  pub blocks : length places ≤ most_products
   pub starts : AreStarts held places
 
 -- a walk goes over what is held, in order, and has given so many

@@ -1,5 +1,6 @@
+use Rattle.std.proofs.Common.{List, ℕ, refl, sym, subst, ◌∙◌}
 use Rattle.clock_device.proofs.Streams.{same_bytes}
-use Rattle.clock_front.proofs.StreamLaws.{served_all, served_front}
+use Rattle.clock_device.specs.Streams.{HasWritten, HasWrittenFront}
 use Rattle.clock_front.proofs.stream.serve_stream.Goals as goal
 
 pub returns-in_default-clause-served : goal.returns-in_default-clause-served
@@ -8,42 +9,24 @@ returns-in_default-clause-served g c =
 
 pub returns-in-Ok-clause-served : goal.returns-in-Ok-clause-served
 returns-in-Ok-clause-served g c =
-    let source = g.R.Source in
-    let sink = g.W.Sink in
-    served_all (record {
-      before = source.bytes_left c.args.source.now;
-      after = source.bytes_left c.answer_source.new.source;
-      calls = source.calls c.answer_source.new.source;
-      interruptions = source.interruptions c.answer_source.new.source;
-      has_failed = source.has_failed c.answer_source.new.source;
-    })
-    (record {
-      before = sink.bytes_taken c.args.sink.now;
-      after = sink.bytes_taken c.write_all.new.sink;
-      calls = sink.calls c.write_all.new.sink;
-      has_failed = sink.has_failed c.write_all.new.sink;
-    })
-    c.args.front.now c.answer_source.new.front
-    c.in-Some.reply c.code-code.result c.bytes.result.now (sink.has_failed c.args.sink.now) c.in-Some.ensures.answered
-    c.code-code.ensures c.bytes.ensures c.in-Ok.ensures.bytes c.requires.unused.unfailed c.in-Ok.ensures.failed
+    let taken = g.W.Sink.bytes_taken in (
+      c.in-Some.reply,
+      c.in-Some.ensures.answered,
+      sym c.code-code.ensures,
+      record {
+        bytes = subst (λ (b : List ℕ). HasWritten (taken c.args.sink.now) (taken c.write_all.new.sink) b) c.bytes.ensures c.in-Ok.ensures.bytes;
+        unfailed = c.in-Ok.ensures.failed ∙ rw c.requires.unused.unfailed refl;
+      },
+    )
 
 pub returns-clause-served : goal.returns-clause-served
 returns-clause-served g c =
-    let source = g.R.Source in
-    let sink = g.W.Sink in
-    served_front (record {
-      before = source.bytes_left c.args.source.now;
-      after = source.bytes_left c.answer_source.new.source;
-      calls = source.calls c.answer_source.new.source;
-      interruptions = source.interruptions c.answer_source.new.source;
-      has_failed = source.has_failed c.answer_source.new.source;
-    })
-    (record {
-      before = sink.bytes_taken c.args.sink.now;
-      after = sink.bytes_taken c.write_all.new.sink;
-      calls = sink.calls c.write_all.new.sink;
-      has_failed = sink.has_failed c.write_all.new.sink;
-    })
-    c.args.front.now c.answer_source.new.front
-    c.in-Some.reply c.code-code.result c.bytes.result.now (sink.has_failed c.args.sink.now) c.in-Some.ensures.answered
-    c.code-code.ensures c.bytes.ensures c.in-Err.ensures.bytes c.requires.unused.unfailed c.in-Err.ensures.failed
+    let taken = g.W.Sink.bytes_taken in (
+      c.in-Some.reply,
+      c.in-Some.ensures.answered,
+      sym c.code-code.ensures,
+      record {
+        bytes = subst (λ (b : List ℕ). HasWrittenFront (taken c.args.sink.now) (taken c.write_all.new.sink) b) c.bytes.ensures c.in-Err.ensures.bytes;
+        failed = c.in-Err.ensures.failed ∙ rw c.requires.unused.unfailed refl;
+      },
+    )

@@ -5,6 +5,8 @@ use Rattle.clock_replays.proofs.checks.limits_fault.Given as goal
 
 -- the limits that are left decide the first fault
 abbrev pub invariant-loop-product : goal.invariant-loop-product
-invariant-loop-product l =
-    first_fault (in_turn (limit_checks l.bidder) l.product (drop l.product (zip l.products l.limits)))
-    ≡ first_fault (in_turn (limit_checks l.bidder) 0 (zip l.products l.limits))
+invariant-loop-product l = record {
+  walk : l.walk ≡ l.limits;
+  fault : first_fault (in_turn (limit_checks l.bidder) l.product (drop l.product (zip l.products l.limits)))
+      ≡ first_fault (in_turn (limit_checks l.bidder) 0 (zip l.products l.limits));
+}

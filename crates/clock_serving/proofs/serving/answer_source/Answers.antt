@@ -16,8 +16,8 @@ returns-in-Ok-answer-clause-answered g c =
       kept = c.in-Ok-answer.ensures.kept;
     })
 
-pub returns-in-Ok-clause-unkept : goal.returns-in-Ok-clause-unkept
-returns-in-Ok-clause-unkept g c = record {
+pub returns-in-Ok-clause-answered : goal.returns-in-Ok-clause-answered
+returns-in-Ok-clause-answered g c = record {
   text = c.as_slice.result.now;
   arrived = arrived _ c.in-Ok.request c.as_slice.result.now c.as_slice.ensures c.in-Ok.ensures.arrival;
   failed = c.in-Err.ensures.err;

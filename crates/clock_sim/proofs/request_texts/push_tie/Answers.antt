@@ -4,8 +4,7 @@ use Rattle.clock_sim.proofs.request_texts.push_tie.Goals as goal
 
 pub returns : goal.returns
 returns c =
-    before c.in_ok-push_comma_if.ensures
-    (together (tie_in_pieces c.args.tie.now)
+    together (tie_in_pieces c.args.tie.now)
     (before c.in_ok-push_number.ensures
     (before c.in_ok-push_number-2.ensures
-    (before c.in_ok-push_number-3.ensures c.in_ok-push_label.ensures))))
+    (before c.in_ok-push_number-3.ensures c.in_ok-push_label.ensures)))

@@ -1,9 +1,8 @@
-use Rattle.std.proofs.Common.{◌≡◌, ◌++◌, drop, nat_lt, false}
+use Rattle.std.proofs.Common.{◌≡◌, ◌++◌, drop}
 use Rattle.clock_sim.specs.RequestTexts.{tie_value}
-use Rattle.clock_views.proofs.Lists.{rest_text}
+use Rattle.clock_sim.specs.inside.Arrays.{with_commas}
 use Rattle.clock_sim.proofs.request_texts.push_ties.Given as goal
 
--- with the other items it is the whole array
-abbrev pub invariant-loop-i : goal.invariant-loop-i
-invariant-loop-i l =
-    l.text.items ++ rest_text tie_value (nat_lt 0 l.i) (drop l.i l.ties) ≡ l.initial.text.items ++ rest_text tie_value false l.ties
+-- with the other items they are all there
+abbrev pub invariant-loop-tie : goal.invariant-loop-tie
+invariant-loop-tie l = l.text.items ++ with_commas tie_value (drop l.tie-index l.ties) ≡ l.initial.text.items ++ with_commas tie_value l.ties

@@ -4,16 +4,20 @@ use Rattle.clock_terms.specs.Limits.{SetupFields}
 use Rattle.clock_replays.specs.declared.script.Script.{Script}
 use Rattle.clock_replays.specs.Replays.{IsScript}
 use Rattle.clock_sim.specs.Rehearsal.{after_puts}
-use Rattle.clock_sim.proofs.GroupLaws.{empty_group}
+use Rattle.clock_sim.specs.inside.Groups.{requests_in}
+use Rattle.clock_sim.proofs.WrittenLaws.{none_wait}
 use Rattle.clock_sim.proofs.TurnLaws.{first_turn, turn_over, turn_refused, last_sent}
 use Rattle.clock_sim.proofs.rounds.put_all.Goals as goal
 
 pub loop-bidder-init : goal.loop-bidder-init
 loop-bidder-init g c =
     let old = c.args.hub.now in
-    let group = c.new-group.result.items in
-    let none : length group ≡ 0 = ap length c.new-group.ensures.items in
-    (first_turn old.house.setup group c.args.scripts.now old.house refl none, empty_group old.connections group none)
+    let group = c.clear.new.self in
+    let none : length (requests_in group) ≡ 0 = ap length c.clear.ensures.none in (
+      first_turn old.house.setup (requests_in group) c.args.scripts.now old.house refl none,
+      none_wait old.connections group c.clear.ensures.none,
+      c.requires.going,
+    )
 
 pub put_scripted-requires-clause-known : goal.put_scripted-requires-clause-known
 put_scripted-requires-clause-known g c =
@@ -28,22 +32,23 @@ put_scripted-requires-clause-script g c =
 
 pub loop-bidder-preserved : goal.loop-bidder-preserved
 loop-bidder-preserved g c = (
-  turn_over (after_puts c.args.hub.now.house.setup 0 c.args.scripts.now) c.args.scripts.now c.loop-bidder.group.items c.put_scripted.new.group.items
+  turn_over (after_puts c.args.hub.now.house.setup 0 c.args.scripts.now) c.args.scripts.now (requests_in c.loop-bidder.group) (requests_in c.put_scripted.new.group)
       c.loop-bidder.bidder c.index-scripts-bidder.result c.args.hub.now.house c.loop-bidder.hub.house c.put_scripted.new.hub.house _
       c.loop-bidder-test.true c.index-scripts-bidder.is c.loop-bidder.invariant.0 c.in_ok-put_scripted.ensures.way,
   c.in_ok-put_scripted.ensures.group,
+  c.in_ok-put_scripted.ensures.going,
 )
 
 pub returns-in_err-put_scripted : goal.returns-in_err-put_scripted
 returns-in_err-put_scripted g c =
     let told = err_from_is_err_and c.from_residual.result c.from_residual.ensures.1 in
     rw (told.1, told.2)
-    (turn_refused (after_puts c.args.hub.now.house.setup 0 c.args.scripts.now) c.args.scripts.now c.loop-bidder.group.items c.put_scripted.new.group.items
+    (turn_refused (after_puts c.args.hub.now.house.setup 0 c.args.scripts.now) c.args.scripts.now (requests_in c.loop-bidder.group) (requests_in c.put_scripted.new.group)
     c.loop-bidder.bidder c.index-scripts-bidder.result c.args.hub.now.house c.loop-bidder.hub.house c.put_scripted.new.hub.house _
     c.loop-bidder-test.true c.index-scripts-bidder.is c.loop-bidder.invariant.0 c.in_err-put_scripted.ensures.way)
 
 pub returns : goal.returns
 returns g c =
-    last_sent (after_puts c.args.hub.now.house.setup 0 c.args.scripts.now) c.args.scripts.now c.loop-bidder.group.items c.loop-bidder.bidder
-    c.args.hub.now.house c.loop-bidder.hub.house c.send_group.new.hub.house c.send_group.result (omega arith) c.loop-bidder.invariant.0
-    c.send_group.ensures.step
+    last_sent (after_puts c.args.hub.now.house.setup 0 c.args.scripts.now) c.args.scripts.now (requests_in c.loop-bidder.group) c.loop-bidder.bidder
+    c.args.hub.now.house c.loop-bidder.hub.house c.send_all.new.hub.house c.send_all.result (omega arith) c.loop-bidder.invariant.0
+    c.send_all.ensures.step

@@ -1,39 +1,56 @@
-use Rattle.std.proofs.Common.{refl, ap, ◌∙◌}
+use Rattle.std.proofs.Common.{List, Option, Ok, refl, sym, subst, subst₂, ◌∙◌}
 use Rattle.std.proofs.lemmas.Result.{err_from_is_err_and}
-use Rattle.clock_sim.specs.inside.Groups.{after_group, with_put}
-use Rattle.clock_sim.specs.inside.RequestTexts.{whole_text}
-use Rattle.clock_sim.proofs.StepLaws.{puts_text, puts_none}
+use Rattle.clock_house.specs.House.{HouseFields}
+use Rattle.clock_sim.specs.declared.groups.Written.{Written}
+use Rattle.clock_sim.specs.ScriptedRequests.{scripted_put}
+use Rattle.clock_sim.specs.inside.Groups.{Request, WritesIf, after_group, requests_in, text_at, with_put, with_request}
+use Rattle.clock_sim.specs.inside.Steps.{MakesWay}
 use Rattle.clock_sim.proofs.PutLaws.{scripted_closes_none}
 use Rattle.clock_sim.proofs.TurnLaws.{no_memory_way, none_put, put_waits}
 use Rattle.clock_sim.proofs.rounds.put_scripted.Goals as goal
 
-pub returns-in_err-puts-clause-way : goal.returns-in_err-puts-clause-way
-returns-in_err-puts-clause-way g c =
+pub returns-in_err-written-clause-way : goal.returns-in_err-written-clause-way
+returns-in_err-written-clause-way g c =
     let told = err_from_is_err_and c.from_residual.result c.from_residual.ensures.1 in
     let house = c.args.hub.now.house in
-    let group = c.args.group.now.items in
+    let group = requests_in c.args.group.now in
     rw (told.1, told.2)
-    (no_memory_way (with_put house.setup group c.args.bidder c.args.script.now) (after_group house.setup group) house house refl)
+    (no_memory_way (with_put house.setup group c.args.bidder c.args.script.now) (after_group house.setup (requests_in c.write_put.new.self)) house house refl)
 
 pub take_turn-requires-clause-closes : goal.take_turn-requires-clause-closes
 take_turn-requires-clause-closes g c =
-    let house = c.args.hub.now.house in
-    scripted_closes_none house.setup house.closed c.args.bidder c.args.script.now (whole_text c.request.result.now)
-    (puts_text c.house.result.now house c.args.bidder c.args.script.now c.in_ok-puts.puts _ (whole_text c.request.result.now)
-    (c.house.ensures ∙ c.front.ensures) c.in_ok-puts.ensures c.if-puts.true (ap whole_text c.request.ensures))
+    let IsPut : HouseFields → Option Written → Type 0 =
+    λ house. WritesIf c.args.group.now c.write_put.new.self (scripted_put house.setup house.closed c.args.bidder c.args.script.now) in
+    let put = subst₂ IsPut (c.house.ensures ∙ c.front.ensures) c.in-Some.is c.in_ok-written.ensures in
+    scripted_closes_none c.args.hub.now.house.setup c.args.hub.now.house.closed c.args.bidder c.args.script.now _ put.0
 
-pub returns-then-puts-clause-way : goal.returns-then-puts-clause-way
-returns-then-puts-clause-way g c =
+pub returns-in-Some-clause-way : goal.returns-in-Some-clause-way
+returns-in-Some-clause-way g c =
     let house = c.args.hub.now.house in
-    put_waits house c.args.group.now.items c.args.bidder c.args.script.now c.requires.group.close c.take_turn.new.hub.house
-    (after_group house.setup c.take_turn.new.group.items) (whole_text c.request.result.now) c.current_round-round.result c.take_turn.result
-    (puts_text c.house.result.now house c.args.bidder c.args.script.now c.in_ok-puts.puts _ (whole_text c.request.result.now)
-    (c.house.ensures ∙ c.front.ensures) c.in_ok-puts.ensures c.if-puts.true (ap whole_text c.request.ensures))
-    c.current_round-round.ensures c.take_turn.ensures.way
+    let group = c.args.group.now in
+    let mid = c.write_put.new.self in
+    let text = text_at mid c.in-Some.written in
+    let rest = after_group house.setup (requests_in c.take_turn.new.self) in
+    let IsPut : HouseFields → Option Written → Type 0 =
+    λ now. WritesIf group mid (scripted_put now.setup now.closed c.args.bidder c.args.script.now) in
+    let put = subst₂ IsPut (c.house.ensures ∙ c.front.ensures) c.in-Some.is c.in_ok-written.ensures in
+    let IsMade : List Request → Type 0 =
+    λ requests. MakesWay (with_request house.setup requests c.args.bidder c.current_round-round.result text) rest house c.take_turn.new.hub.house
+    c.take_turn.result in
+    put_waits house (requests_in group) c.args.bidder c.args.script.now c.requires.group.requests.close c.take_turn.new.hub.house rest text
+    c.current_round-round.result c.take_turn.result put.0 c.current_round-round.ensures
+    (subst IsMade (put.1.kept c.requires.group.written).0 c.take_turn.ensures.way)
 
-pub returns-clause-way : goal.returns-clause-way
-returns-clause-way g c =
+pub returns-in-None-clause-way : goal.returns-in-None-clause-way
+returns-in-None-clause-way g c =
     let house = c.args.hub.now.house in
-    none_put house c.args.group.now.items c.args.bidder c.args.script.now c.requires.group.close _
-    (puts_none c.house.result.now house c.args.bidder c.args.script.now c.in_ok-puts.puts _
-    (c.house.ensures ∙ c.front.ensures) c.in_ok-puts.ensures c.if-puts.false)
+    let group = c.args.group.now in
+    let mid = c.write_put.new.self in
+    let IsPut : HouseFields → Option Written → Type 0 =
+    λ now. WritesIf group mid (scripted_put now.setup now.closed c.args.bidder c.args.script.now) in
+    let put = subst₂ IsPut (c.house.ensures ∙ c.front.ensures) c.in-None.is c.in_ok-written.ensures in
+    let IsMade : List Request → Type 0 =
+    λ requests. MakesWay {T = Unit {0}} (with_put house.setup (requests_in group) c.args.bidder c.args.script.now) (after_group house.setup requests) house house
+    (Ok tt) in
+    subst IsMade (sym (put.1 c.requires.group.written).0)
+    (none_put house (requests_in group) c.args.bidder c.args.script.now c.requires.group.requests.close _ put.0)

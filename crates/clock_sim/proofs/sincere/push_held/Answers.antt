@@ -1,15 +1,15 @@
-use Rattle.std.proofs.Common.{◌≡◌, ℕ, List, ◌++◌, length, reverse, ap, sym, ◌∙◌, None, arith}
-use Rattle.std.proofs.lemmas.List.{take_all}
-use Rattle.clock_bids.specs.declared.sheet.Bid.{Bid}
-use Rattle.clock_sim.specs.inside.Blocks.{last_leaving}
-use Rattle.clock_sim.proofs.Leaving.{all_stay}
+use Rattle.std.proofs.Common.{ℕ, ◌∙◌, sym, subst}
+use Rattle.clock_views.specs.Values.{Adds}
+use Rattle.clock_sim.specs.Sincere.{bid_for}
+use Rattle.clock_sim.specs.inside.Bodies.{bid_text}
+use Rattle.clock_sim.proofs.Leaving.{all_kept}
 use Rattle.clock_sim.proofs.sincere.push_held.Goals as goal
 
-pub returns-in_ok-push_keeping-in-None : goal.returns-in_ok-push_keeping-in-None
-returns-in_ok-push_keeping-in-None c =
-    let limits = c.args.limits.now in
-    let none : last_leaving c.args.pair.now (reverse limits) ≡ None =
-    ap (λ (ls : List ℕ). last_leaving c.args.pair.now (reverse ls)) (sym (take_all (length limits) limits (omega arith)))
-    ∙ sym c.last_leaving.ensures ∙ c.in-None.is in
-    c.in_ok-push_keeping-in-None.ensures
-    ∙ ap (λ (all : List Bid). c.args.bids.now.items ++ all) (sym (all_stay c.args.product c.args.held c.args.pair.now limits c.requires.falls none))
+pub returns-in_ok-push_bid-in-None : goal.returns-in_ok-push_bid-in-None
+returns-in_ok-push_bid-in-None c =
+    let text = c.args.bodies.now.text.items in
+    let next = c.push_bid.new.self.text.items in
+    all_kept c.args.product c.args.held c.args.pair.now c.args.limits.now c.min-blocks.result text next c.requires.falls c.requires.some
+    c.min-blocks.ensures (sym c.last_leaving.ensures ∙ c.in-None.is)
+    (subst (λ (price : ℕ). Adds (bid_text (bid_for c.args.product c.args.held price)) text next) c.get.ensures.value
+    c.in_ok-push_bid-in-None.ensures)

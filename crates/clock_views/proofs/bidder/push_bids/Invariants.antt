@@ -1,6 +1,6 @@
 use Rattle.std.proofs.Common.{◌≡◌, ◌≤◌, ◌+◌, ◌*◌, ◌++◌, drop, nat_lt, false}
 use Rattle.clock_views.specs.BidderPages.{bid_value}
-use Rattle.clock_views.proofs.Lists.{rest_text}
+use Rattle.clock_views.specs.inside.Values.{rest_text}
 use Rattle.clock_views.specs.inside.Rooms.{room_of_bid}
 use Rattle.clock_views.proofs.bidder.push_bids.Given as goal
 

@@ -6,6 +6,6 @@ pub returns : goal.returns
 returns c =
     together (slip_in_pieces c.args.slip.now)
     (before c.push_number.ensures.adds
-    (before c.push_blocks.ensures.adds
+    (before (rw c.held.ensures.row at c.push_demands.ensures.adds)
     (before c.push_number-2.ensures.adds
     (before c.push_number-3.ensures.adds c.push_label.ensures.adds))))

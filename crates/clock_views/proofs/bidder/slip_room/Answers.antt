@@ -3,4 +3,4 @@ use Rattle.clock_views.proofs.Rooms.{slip_most}
 use Rattle.clock_views.proofs.bidder.slip_room.Goals as goal
 
 pub returns-clause-most : goal.returns-clause-most
-returns-clause-most c = omega (arith, slip_most c.args.slip.now, c.blocks_in_all.ensures.is)
+returns-clause-most c = omega (arith, slip_most c.args.slip.now, c.len.ensures.is)

@@ -8,6 +8,6 @@ pub returns-clause-adds : goal.returns-clause-adds
 returns-clause-adds g c =
     before c.push_comma_if.ensures.adds
     (together (result_in_pieces (bidder_at c.args.house.now.setup c.args.bidder).name (holding_in c.args.house.now c.args.bidder))
-    (before (rw c.own-own.ensures.demands at c.push_row.ensures.adds)
+    (before (rw (c.held.ensures.row, c.own-own.ensures.demands) at c.push_demands.ensures.adds)
     (before (rw c.own-own.ensures.eligibility at c.push_number.ensures.adds)
     (before (rw (c.name_of.ensures.value, c.setup.ensures) at c.push_name.ensures.adds) c.push_label.ensures.adds))))

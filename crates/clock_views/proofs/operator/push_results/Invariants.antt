@@ -3,7 +3,7 @@ use Rattle.std.specs.List.{range_with_len}
 use Rattle.clock_views.specs.OperatorPages.{result_in}
 use Rattle.clock_views.specs.Rooms.{most_items}
 use Rattle.clock_views.specs.Values.{items_of}
-use Rattle.clock_views.proofs.Lists.{rest_text}
+use Rattle.clock_views.specs.inside.Values.{rest_text}
 use Rattle.clock_views.proofs.operator.push_results.Given as goal
 
 -- with the other bidders it is the whole array

@@ -1,4 +1,4 @@
-use Rattle.std.proofs.Common.{◌≡◌, ◌<◌, ◌≤◌, ap, length, arith}
+use Rattle.std.proofs.Common.{◌<◌, ◌≤◌, ap, length, arith}
 use Rattle.clock_house.specs.History.{bidder_at}
 use Rattle.clock_house.specs.House.{holding_in}
 use Rattle.clock_views.specs.OperatorPages.{result_in}

@@ -1,6 +1,6 @@
 use Rattle.std.proofs.Common.{◌≡◌, ◌≤◌, ◌+◌, ◌*◌, ◌++◌, drop, zip, nat_lt, false}
 use Rattle.clock_views.specs.PublicPages.{line_value}
-use Rattle.clock_views.proofs.Lists.{rest_text}
+use Rattle.clock_views.specs.inside.Values.{rest_text}
 use Rattle.clock_views.specs.inside.Rooms.{room_of_line}
 use Rattle.clock_views.proofs.public.push_lines.Given as goal
 

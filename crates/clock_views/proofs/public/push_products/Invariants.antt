@@ -1,6 +1,6 @@
 use Rattle.std.proofs.Common.{◌≡◌, ◌≤◌, ◌+◌, ◌*◌, ◌++◌, drop, nat_lt, false}
 use Rattle.clock_views.specs.PublicPages.{product_value}
-use Rattle.clock_views.proofs.Lists.{rest_text}
+use Rattle.clock_views.specs.inside.Values.{rest_text}
 use Rattle.clock_views.specs.inside.Rooms.{room_of_product}
 use Rattle.clock_views.proofs.public.push_products.Given as goal
 

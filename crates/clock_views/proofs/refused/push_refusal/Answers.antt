@@ -1,6 +1,5 @@
-use Rattle.std.proofs.Common.{◌≤◌, length, arith}
 use Rattle.clock_views.proofs.Pushes.{before, together}
-use Rattle.clock_views.proofs.Codes.{refusal_in_pieces, short_code}
+use Rattle.clock_views.proofs.Codes.{refusal_in_pieces}
 use Rattle.clock_views.proofs.refused.push_refusal.Goals as goal
 
 pub returns : goal.returns

@@ -1,17 +1,39 @@
-use Rattle.std.proofs.Common.{◌≡◌, ℕ, length, ap, sym, ◌∙◌, subst, arith}
+use Rattle.std.proofs.Common.{◌≡◌, ◌++◌, ◌∷◌, [], ℕ, List, All, length, ap, sym, subst, ◌∙◌, arith}
 use Rattle.std.specs.Prelude.{map}
 use Rattle.std.specs.List.{range_with_len}
+use Rattle.std.proofs.lemmas.List.Elements.{All-append, All-cons, All-nil}
+use Rattle.std.proofs.lemmas.List.FromFn.{length-map-range_with_len, map-range_with_len_more}
+use Rattle.clock_terms.specs.Limits.{IsRow}
 use Rattle.clock_bids.specs.Sheet.{asked_demands}
 use Rattle.clock_closing.specs.OpenRound.{bids_at}
-use Rattle.clock_closing.proofs.Filled.{IsFilled, filled-all}
 use Rattle.clock_closing.proofs.open_round.OpenRound.asked_grid.Goals as goal
 
-pub returns : goal.returns
-returns c =
-    let setup = c.args.self.now.setup in
-    let f = λ (bidder : ℕ). asked_demands (length c.args.self.now.setup.products) (bids_at c.args.self.now.before.sheets bidder) in
-    let done : c.loop-bidder.bidder ≡ length c.args.self.now.setup.bidders = omega arith in
-    filled-all f (length c.args.self.now.setup.products) (length c.args.self.now.setup.bidders) c.loop-bidder.grid
-    (subst (λ (n : ℕ). IsFilled f (length c.args.self.now.setup.products) (length c.args.self.now.setup.bidders) n c.loop-bidder.grid) done
-    c.loop-bidder.invariant)
-    ∙ ap (λ (n : ℕ). map f (range_with_len 0 n)) (sym c.bidders-bidder-end.ensures.each ∙ c.bidders-bidder-end.ensures.held)
+pub loop-bidder-preserved : goal.loop-bidder-preserved
+loop-bidder-preserved c =
+    let round = c.args.self.now in
+    let f = λ (bidder : ℕ). asked_demands (length round.setup.products) (bids_at round.before.sheets bidder) in
+    let row = c.in_ok-asked_row.field-0 in
+    let pushed : c.push.new.self.items ≡ c.loop-bidder.rows.items ++ row ∷ [] = c.in_ok-push.ensures.items in
+    record {
+      asked = pushed
+          ∙ ap (λ (rows : List (List ℕ)). rows ++ row ∷ []) c.loop-bidder.invariant.asked
+          ∙ ap (λ (one : List ℕ). map f (range_with_len 0 c.loop-bidder.bidder) ++ one ∷ []) c.in_ok-asked_row.ensures.asked
+          ∙ sym (map-range_with_len_more f 0 c.loop-bidder.bidder c.loop-bidder.bidder (omega arith));
+      rows = subst (λ (rows : List (List ℕ)). All (IsRow round.setup.products) rows) (sym pushed)
+          (All-append (IsRow round.setup.products) c.loop-bidder.rows.items (row ∷ []) c.loop-bidder.invariant.rows
+          (All-cons (IsRow round.setup.products) row [] c.in_ok-asked_row.ensures.row (All-nil (IsRow round.setup.products))));
+    }
+
+pub of_rows-requires-clause-bidders : goal.of_rows-requires-clause-bidders
+of_rows-requires-clause-bidders c =
+    let round = c.args.self.now in
+    let f = λ (bidder : ℕ). asked_demands (length round.setup.products) (bids_at round.before.sheets bidder) in
+    omega (
+      arith,
+      ap (λ (rows : List (List ℕ)). length rows) c.loop-bidder.invariant.asked,
+      length-map-range_with_len f 0 c.loop-bidder.bidder,
+      c.loop-bidder-test.false,
+      c.loop-bidder.auto.bidder-end,
+      c.bidders-bidder-end.ensures.each,
+      ap (λ fields. length fields.setup.bidders) c.self.view_is,
+    )

@@ -1,18 +1,9 @@
-use Rattle.std.proofs.Common.{inl, ap, ◌∙◌}
-use Rattle.clock_front.specs.Askers.{asker}
-use Rattle.clock_http.specs.Replies.{Answer}
-use Rattle.clock_front.specs.Requests.{request_of}
-use Rattle.clock_front.proofs.FrontLaws.{refused_code, answered_cut_short}
+use Rattle.std.proofs.Common.{◌∙◌}
+use Rattle.clock_front.proofs.FrontLaws.{needs_by_test}
 use Rattle.clock_front.proofs.front.Front.answer_known.Goals as goal
 
-pub returns-in-Ok-clause-refused : goal.returns-in-Ok-clause-refused
-returns-in-Ok-clause-refused g c =
-    let house = c.args.self.now in
-    let text = c.args.text.now in
-    λ code is. ap (λ (reply : Answer). reply.code) c.in-Ok.ensures.reply ∙ refused_code house (asker house.setup (request_of text).token) text code is
+pub returns-clause-refused : goal.returns-clause-refused
+returns-clause-refused g c = λ code is. c.answer_framed.ensures.refused code (c.framing.ensures ∙ is)
 
-pub returns-in-Ok-clause-cut_short : goal.returns-in-Ok-clause-cut_short
-returns-in-Ok-clause-cut_short g c =
-    let house = c.args.self.now in
-    let text = c.args.text.now in
-    λ is. inl (c.in-Ok.ensures.reply ∙ answered_cut_short house (asker house.setup (request_of text).token) text is)
+pub returns-clause-cut_short : goal.returns-clause-cut_short
+returns-clause-cut_short g c = λ more. c.answer_framed.ensures.cut_short (c.framing.ensures ∙ needs_by_test c.args.text.now more)

@@ -1,4 +1,4 @@
-use Rattle.std.proofs.Common.{ℕ, length, ◌∙◌}
+use Rattle.std.proofs.Common.{length, ◌∙◌}
 use Rattle.std.specs.Prelude.{reverse}
 use Rattle.std.specs.List.{range_with_len}
 use Rattle.std.proofs.lemmas.Simd.{map-map}

@@ -1,11 +1,8 @@
-use Rattle.std.proofs.Common.{◌≡◌, List, ap, sym, ◌∙◌, length}
-use Rattle.std.specs.Prelude.{Option, option_copied, option_map, reverse}
+use Rattle.std.proofs.Common.{ap, ◌∙◌, length}
+use Rattle.std.specs.Prelude.{reverse}
 use Rattle.std.proofs.lemmas.List.FromFn.{length-map-range_with_len}
-use Rattle.clock_terms.specs.Limits.{SetupFields}
-use Rattle.clock_closing.specs.declared.slip.Slip.{Slip}
-use Rattle.clock_closing.specs.Holdings.{Holding, holdings_before}
-use Rattle.clock_house.specs.History.{ClosedRound, holding}
-use Rattle.clock_house.proofs.InHouse.{newest_slips, holdings_are}
+use Rattle.clock_house.specs.History.{holding}
+use Rattle.clock_house.proofs.InHouse.{holdings_are}
 use Rattle.clock_house.proofs.Kept.{stands_numbered}
 use Rattle.clock_house.proofs.Numbers.{last-reverse}
 use Rattle.clock_house.proofs.house.House.holdings.Goals as goal

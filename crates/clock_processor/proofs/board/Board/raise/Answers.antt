@@ -1,5 +1,5 @@
 -- The board stays one where a demand is raised, and so does the unused eligibility that it keeps.
-use Rattle.std.proofs.Common.{◌+◌, ◌<◌, ◌≤◌, length, get_or, sym, subst, ap}
+use Rattle.std.proofs.Common.{◌+◌, ◌<◌, ◌≤◌, length, get_or, refl, sym, subst, ap}
 use Rattle.clock_terms.specs.Limits.{cap_of}
 use Rattle.clock_terms.specs.Demands.{demand_at}
 use Rattle.clock_processor.specs.Room.{affordable_blocks}
@@ -21,6 +21,6 @@ invariant_of-self c =
     (subst (λ (board : BoardFields). c.args.product < length board.products) (sym c.self.view_is) c.requires.product)
     c.index-self-product.is)
     (ap (λ list. get_or list c.args.bidder 0) c.as_slice.ensures)
-    c.get-held.ensures
+    refl
     c.set.ensures
-    c.set-2.ensures
+    c.change.ensures

@@ -5,19 +5,18 @@ use Rattle.std.specs.List.{AllWithin}
 use Rattle.clock_terms.specs.declared.row.HeldDemand.{HeldDemand}
 use Rattle.clock_terms.specs.HeldDemands.{demand_for, demands_of, next_of}
 use Rattle.clock_terms.specs.inside.Rows.{IsKeptWalk}
-use Rattle.clock_terms.proofs.HeldLaws.{shown, length-demands, found, rising, held_at, next_at, next_none, gap}
+use Rattle.clock_terms.proofs.HeldLaws.{shown, length-demands, found, rising, held_at, small_at, next_at, next_none, gap}
 use Rattle.clock_terms.proofs.held_products.HeldProducts.next.Goals as goal
 
 -- as it stands in the goals
 abbrev no_one : HeldDemand
 no_one = record { product = 0; demand = 0 }
 
--- of the product that a walk gives next some blocks are held
-is_held : (count : ℕ) (held : List HeldDemand) (given : ℕ) (d : HeldDemand) → IsKeptWalk count held given → given < length held
-    → 0 < demand_for held (get_or held given d).product
-is_held count held given d kept more =
-    let blocks = (held_at 0 held count given d kept.0 more).0 in
-    omega (arith, blocks, found held (get_or held given d).product given d (λ k e low high. rising 0 held count k given e d kept.0 high more) more refl)
+-- what a walk gives next is the demand for its product
+is_demand : (count : ℕ) (held : List HeldDemand) (given : ℕ) (d : HeldDemand) → IsKeptWalk count held given → given < length held
+    → (get_or held given d).demand ≡ demand_for held (get_or held given d).product
+is_demand count held given d kept more =
+    sym (found held (get_or held given d).product given d (λ k e low high. rising 0 held count k given e d kept.0 high more) more refl)
 
 -- what it gives after that is above it
 above : (count : ℕ) (held : List HeldDemand) (given : ℕ) (d : HeldDemand) → IsKeptWalk count held given → given < length held
@@ -80,17 +79,24 @@ returns-clause-within c =
       ap (λ w. length w.demands) c.self.view_is,
     )
 
-pub returns-clause-held : goal.returns-clause-held
-returns-clause-held c =
+pub returns-clause-demand : goal.returns-clause-demand
+returns-clause-demand c =
     let walk = c.self.inside in
     let more : walk.given < length walk.held.now = omega (arith, c.self.invariant.1, c.if-self-held.false) in
     let product = (get_or walk.held.now walk.given no_one).product in
-    omega (
-      arith,
-      is_held walk.count walk.held.now walk.given no_one c.self.invariant more,
-      shown walk.count walk.held.now product 0 (held_at 0 walk.held.now walk.count walk.given no_one c.self.invariant.0 more).1,
-      ap (λ w. get_or w.demands product 0) c.self.view_is,
-    )
+    is_demand walk.count walk.held.now walk.given no_one c.self.invariant more
+    ∙ sym (shown walk.count walk.held.now product 0 (held_at 0 walk.held.now walk.count walk.given no_one c.self.invariant.0 more).1)
+    ∙ ap (λ w. get_or w.demands product 0) c.self.view_is
+
+pub returns-clause-held : goal.returns-clause-held
+returns-clause-held c =
+    let walk = c.self.inside in
+    (held_at 0 walk.held.now walk.count walk.given no_one c.self.invariant.0 (omega (arith, c.self.invariant.1, c.if-self-held.false))).0
+
+pub returns-clause-small : goal.returns-clause-small
+returns-clause-small c =
+    let walk = c.self.inside in
+    small_at 0 walk.held.now walk.count walk.given no_one c.self.invariant.0 (omega (arith, c.self.invariant.1, c.if-self-held.false))
 
 pub returns-clause-given : goal.returns-clause-given
 returns-clause-given c =

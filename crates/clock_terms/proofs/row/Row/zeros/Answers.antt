@@ -25,6 +25,7 @@ invariant_of-result c =
       order = order_none c.in_ok-held.held.items c.args.products c.in_ok-held.ensures.items;
       room = omega (arith, c.in_ok-held.ensures.capacity);
       searched = omega (arith, ap (λ (list : List ℕ). length list) zeros, length-replicate {A = ℕ} blocks 0);
+      blocks = omega (arith, ap (λ (list : List ℕ). length list) zeros, length-replicate {A = ℕ} blocks 0, c.requires);
       starts = starts_none c.in_ok-held.held.items c.resize.new.self.items blocks zeros;
     }
 

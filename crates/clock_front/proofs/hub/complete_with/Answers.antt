@@ -1,0 +1,9 @@
+use Rattle.std.proofs.Common.{◌++◌}
+use Rattle.clock_front.specs.Hubs.{text_of}
+use Rattle.clock_front.proofs.ConnectionLaws.{some_text}
+use Rattle.clock_front.proofs.hub.complete_with.Goals as goal
+
+pub answer_framed-reply-requires : goal.answer_framed-reply-requires
+answer_framed-reply-requires g c =
+    let has = some_text (text_of c.args.connections.now c.args.conn) c.requires in
+    (has.0 ++ c.args.piece.now, c.in_ok-framing.ensures.is has.0 has.1)

@@ -1,0 +1,60 @@
+use Rattle.std.proofs.Common.{◌≡◌, ◌<◌, ◌++◌, ◌∷◌, [], List, ℕ, All, length, take, get_or, zip, sym, ap, ◌∙◌, subst, arith}
+use Rattle.std.proofs.lemmas.List.{take_more}
+use Rattle.std.proofs.lemmas.List.Elements.{All-append, All-cons, All-nil}
+use Rattle.std.proofs.lemmas.Result.{err_from_is_err_and}
+use Rattle.std.proofs.lemmas.Slice.Zip.{length-zip}
+use Rattle.clock_terms.specs.Limits.{IsRow}
+use Rattle.clock_setup.specs.OpeningDocument.{row_checks}
+use Rattle.clock_terms.proofs.FaultLaws.{turn_passed, turn_failed, turn_none}
+use Rattle.clock_setup.proofs.OpeningLaws.{row_line}
+use Rattle.clock_setup.proofs.opening_checks.rows_within.Goals as goal
+
+pub returns-in_err-row_within-clause-err : goal.returns-in_err-row_within-clause-err
+returns-in_err-row_within-clause-err c =
+    let setup = c.args.setup.now in
+    let number = c.loop-number.number in
+    let bidders : c.as_slice-bidders.result.now ≡ setup.bidders = c.as_slice-bidders.ensures ∙ ap (λ s. s.bidders) c.setup.view_is in
+    let bidder : c.index-bidders-number.result ≡ get_or setup.bidders number c.index-bidders-number.result = rw (← bidders) c.index-bidders-number.is in
+    let within : number < length setup.bidders = omega (arith, c.loop-number-test.true, ap length bidders) in
+    let row : c.as_slice.result.now ≡ get_or c.args.demands.now number [] = c.as_slice.ensures.value ∙ c.in_ok-read_row.ensures in
+    let line = row_line setup.bidders c.args.demands.now number c.index-bidders-number.result c.as_slice.result.now within c.requires.0 bidder row in
+    let fault = c.in_err-row_within.field-0.0 in
+    let told = err_from_is_err_and c.from_residual-in_err-row_within.result c.from_residual-in_err-row_within.ensures.1 in
+    rw (told.1, told.2)
+    (λ other. sym c.loop-number.invariant.rest
+    ∙ turn_failed (row_checks setup.products) (zip setup.bidders c.args.demands.now) number _ fault line.1 line.0 (c.in_err-row_within.ensures.err other))
+
+pub loop-number-preserved : goal.loop-number-preserved
+loop-number-preserved c =
+    let setup = c.args.setup.now in
+    let demands = c.args.demands.now in
+    let number = c.loop-number.number in
+    let bidders : c.as_slice-bidders.result.now ≡ setup.bidders = c.as_slice-bidders.ensures ∙ ap (λ s. s.bidders) c.setup.view_is in
+    let bidder : c.index-bidders-number.result ≡ get_or setup.bidders number c.index-bidders-number.result = rw (← bidders) c.index-bidders-number.is in
+    let within : number < length setup.bidders = omega (arith, c.loop-number-test.true, ap length bidders) in
+    let held : number < length demands = omega (arith, within, c.requires.0) in
+    let numbers : c.as_slice.result.now ≡ get_or demands number [] = c.as_slice.ensures.value ∙ c.in_ok-read_row.ensures in
+    let line = row_line setup.bidders demands number c.index-bidders-number.result c.as_slice.result.now within c.requires.0 bidder numbers in
+    let row = c.in_ok-row_within.field-0 in
+    let same : row ≡ get_or demands number [] = c.in_ok-row_within.ensures.same ∙ numbers in
+    let pushed : c.push.new.self.items ≡ c.loop-number.rows.items ++ row ∷ [] = c.in_ok-push.ensures.items in
+    record {
+      rest = sym (turn_passed (row_checks setup.products) (zip setup.bidders demands) number _ line.1 line.0 c.in_ok-row_within.ensures.ok)
+          ∙ c.loop-number.invariant.rest;
+      same = pushed
+          ∙ ap (λ (rows : List (List ℕ)). rows ++ row ∷ []) c.loop-number.invariant.same
+          ∙ ap (λ (one : List ℕ). take number demands ++ one ∷ []) same
+          ∙ sym (take_more demands number [] held);
+      rows = subst (λ (rows : List (List ℕ)). All (IsRow setup.products) rows) (sym pushed)
+          (All-append (IsRow setup.products) c.loop-number.rows.items (row ∷ []) c.loop-number.invariant.rows
+          (All-cons (IsRow setup.products) row [] c.in_ok-row_within.ensures.row (All-nil (IsRow setup.products))));
+    }
+
+pub returns-clause-ok : goal.returns-clause-ok
+returns-clause-ok c =
+    let setup = c.args.setup.now in
+    let bidders : c.as_slice-bidders.result.now ≡ setup.bidders = c.as_slice-bidders.ensures ∙ ap (λ s. s.bidders) c.setup.view_is in
+    let all = length-zip setup.bidders c.args.demands.now in
+    sym c.loop-number.invariant.rest
+    ∙ turn_none (row_checks setup.products) (zip setup.bidders c.args.demands.now) c.loop-number.number
+    (omega (arith, all, c.requires.0, ap length bidders, c.loop-number-test.false))

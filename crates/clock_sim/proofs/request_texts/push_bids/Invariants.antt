@@ -1,9 +1,0 @@
-use Rattle.std.proofs.Common.{◌≡◌, ◌++◌, drop, nat_lt, false}
-use Rattle.clock_views.specs.BidderPages.{bid_value}
-use Rattle.clock_views.proofs.Lists.{rest_text}
-use Rattle.clock_sim.proofs.request_texts.push_bids.Given as goal
-
--- with the other items it is the whole array
-abbrev pub invariant-loop-i : goal.invariant-loop-i
-invariant-loop-i l =
-    l.text.items ++ rest_text bid_value (nat_lt 0 l.i) (drop l.i l.bids) ≡ l.initial.text.items ++ rest_text bid_value false l.bids

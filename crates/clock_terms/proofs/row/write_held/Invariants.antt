@@ -1,0 +1,14 @@
+use Rattle.std.proofs.Common.{◌≡◌, ℕ, ◌<◌, ◌≤◌, length, take}
+use Rattle.std.specs.Prelude.{slice_index}
+use Rattle.clock_terms.specs.HeldDemands.{demand_for}
+use Rattle.clock_terms.specs.inside.Rows.{AreHeld}
+use Rattle.clock_terms.proofs.row.write_held.Given as goal
+
+-- of the products so far those of which a block is held are there
+abbrev pub invariant-loop-product : goal.invariant-loop-product
+invariant-loop-product l = record {
+  few : l.kept ≤ l.product;
+  same : length l.room ≡ length l.initial.room;
+  order : AreHeld 0 (take l.kept l.room) l.product;
+  shown : (k : ℕ) → k < l.product → demand_for (take l.kept l.room) k ≡ slice_index l.demands k;
+}
