@@ -42,13 +42,22 @@ return least;
 """
 
 
+# letters of a machine that has none of the pages' own choice: the widest that are common
+WIDE_LETTERS = """const sheet = new CSSStyleSheet();
+    sheet.replaceSync('body, input, select, button, .button { font-family: "DejaVu Sans", sans-serif !important; }');
+    document.adoptedStyleSheets = arguments[0] ? [sheet] : [];"""
+
+
 def whole(window, page, widths=WIDTHS):
-    """Nothing is cut off, and nothing reaches beyond the window, from 360 to 1,600 pixels."""
+    """Nothing is cut off, and nothing reaches beyond the window, from 360 to 1,600 pixels, in narrow letters and in wide ones."""
     for wide in widths:
         window.size(wide, 900)
-        time.sleep(0.3)
-        cut = window.run(CUT)
-        expect(f"nothing of {page} is cut off at {wide} pixels {cut}", not cut)
+        for letters_are_wide in (False, True):
+            window.run(WIDE_LETTERS, letters_are_wide)
+            time.sleep(0.3)
+            cut = window.run(CUT)
+            expect(f"nothing of {page} is cut off at {wide} pixels in {'wide' if letters_are_wide else 'its own'} letters {cut}", not cut)
+    window.run(WIDE_LETTERS, False)
     window.size(1280, 900)
 
 

@@ -14,10 +14,17 @@ def has_selenium():
     return pathlib.Path(DEBIAN).exists() and subprocess.run([DEBIAN, "-c", "import selenium"], **QUIET).returncode == 0
 
 
+def has_package(package):
+    """Whether a package of Debian's is there that brings no command."""
+    return bool(shutil.which("dpkg")) and subprocess.run(["dpkg", "-s", package], **QUIET).returncode == 0
+
+
 def missing():
     """The packages that are not on the machine."""
     commands = {"chromium": "chromium", "chromedriver": "chromium-driver", "nginx": "nginx", "openssl": "openssl"}
     lacking = [package for command, package in commands.items() if not shutil.which(command)]
+    # which letters a page gets is the machine's choice: it is looked at in narrow ones and in wide ones
+    lacking += [package for package in ("fonts-liberation", "fonts-dejavu-core") if not has_package(package)]
     return lacking + ([] if has_selenium() else ["python3-selenium"])
 
 

@@ -1,8 +1,7 @@
 -- Each way in which a run can stop is one of the endings.
 use Rattle.std.proofs.Common.{◌≡◌, ℕ, List, [], Bool, Option, Some, Err, refl, arith}
-use Rattle.clock_device.specs.Calls.{IsUnread, IsUnused}
-use Rattle.clock_device.specs.Readings.{Reading}
-use Rattle.clock_device.specs.Writings.{Writing, WritesNothing}
+use Rattle.clock_device.specs.Told.{IsUnread, IsUnused, Reading, SinkTold, SourceTold, Writing}
+use Rattle.clock_device.specs.Writings.{WritesNothing}
 use Rattle.clock_auction.specs.Input.{IsReadingOf}
 use Rattle.clock_auction.specs.Run.{ComesTo, IsRunOf, Shows, stopped}
 use Rattle.clock_auction.specs.FaultLines.{fault_line}
@@ -12,16 +11,17 @@ use Rattle.clock_auction.specs.declared.fault.Fault.TheVariants as fault
 use Rattle.clock_device.proofs.Streams.{read_nothing, same_bytes}
 
 -- a sink on which no call is made stays untouched
-pub untouched : (bytes : Option (List ℕ)) (calls : ℕ) (failed : Bool) → IsUnused calls failed
-    → WritesNothing (record { before = bytes; after = bytes; calls = calls; has_failed = failed })
-untouched bytes calls failed unused =
-    record { unused = unused; bytes = same_bytes bytes }
+pub untouched : (told : SinkTold) → IsUnused told → WritesNothing (record { before = told; after = told })
+untouched told unused = record { unused = unused; bytes = same_bytes told.taken }
 
 -- nothing was read for want of memory
-pub unread_for_memory : (bytes : Option (List ℕ)) (calls interruptions : ℕ) (failed : Bool) → IsUnread calls interruptions failed
-    → IsReadingOf (record { before = bytes; after = bytes; calls = calls; interruptions = interruptions; has_failed = failed }) (Err fault.Memory)
-unread_for_memory bytes calls interruptions failed unused =
-    ([], (record { read = read_nothing bytes bytes (same_bytes bytes); used = omega (arith, unused.uncounted) }, omega arith), unused.unfailed)
+pub unread_for_memory : (told : SourceTold) → IsUnread told
+    → IsReadingOf (record { before = told; after = told }) (Err fault.Memory)
+unread_for_memory told unused = (
+  [],
+  (record { read = read_nothing told.left told.left (same_bytes told.left); used = omega (arith, unused.uncounted) }, omega arith),
+  unused.unfailed,
+)
 
 module _ (asked : Option Job) (job : Job) (asks : asked ≡ Some job) (reading : Reading) (output shown : Writing) where
   pub stopped_run : (cause : Fault) → IsRunOf {U = Unit {0}} job reading output (Err cause) → Shows shown (fault_line cause)

@@ -6,7 +6,8 @@
 --     IsReadingOf     how reading ended, by its result
 use Rattle.std.specs.Prelude.{◌≡◌, ◌≤◌, ◌⊎◌, ◌+◌, ℕ, List, length, false, Result, Ok, Err}
 use Rattle.clock_device.specs.Streams.{HasRead, IsReadOut}
-use Rattle.clock_device.specs.Readings.{Reading, HasFailedRead, RunsOutOfReads}
+use Rattle.clock_device.specs.Readings.{HasFailedRead, RunsOutOfReads}
+use Rattle.clock_device.specs.Told.{Reading}
 use Rattle.clock_auction.specs.declared.fault.Fault.{Fault}
 use Rattle.clock_auction.specs.declared.fault.Fault.TheVariants as fault
 
@@ -20,15 +21,15 @@ most_document_reads = 100000000
 
 -- these bytes were read, and each read took one of them at least or was interrupted, but for so many other reads
 pub record Takes (reading : Reading) (others : ℕ) (bytes : List ℕ) : Type 0 where
-  pub read : HasRead reading.before reading.after bytes
-  pub used : reading.calls ≤ length bytes + reading.interruptions + others
+  pub read : HasRead reading.before.left reading.after.left bytes
+  pub used : reading.after.calls ≤ length bytes + reading.after.interruptions + others
 
 -- the document is all that there was, and no more than the program reads. One read found the end.
 pub record ReadsWhole (reading : Reading) (document : List ℕ) : Type 0 where
   pub takes : Takes reading 1 document
-  pub out : IsReadOut reading.after
+  pub out : IsReadOut reading.after.left
   pub few : length document ≤ most_bytes
-  pub unfailed : reading.has_failed ≡ false
+  pub unfailed : reading.after.has_failed ≡ false
 
 -- no more bytes were taken than the program reads
 abbrev pub TakesUpTo : ℕ → Reading → List ℕ → Type 0
@@ -45,6 +46,6 @@ abbrev pub IsReadingOf : Reading → Result (List ℕ) Fault → Type 0
 IsReadingOf reading (Ok document) = ReadsWhole reading document
 IsReadingOf reading (Err fault.Input) =
     HasFailedRead (TakesUpTo 1 reading) reading ⊎ RunsOutOfReads (TakesUpTo 0 reading) most_document_reads reading
-IsReadingOf reading (Err fault.LongInput) = ReadsTooMuch reading × (reading.has_failed ≡ false)
-IsReadingOf reading (Err fault.Memory) = (bytes : List ℕ) × TakesUpTo 1 reading bytes × (reading.has_failed ≡ false)
+IsReadingOf reading (Err fault.LongInput) = ReadsTooMuch reading × (reading.after.has_failed ≡ false)
+IsReadingOf reading (Err fault.Memory) = (bytes : List ℕ) × TakesUpTo 1 reading bytes × (reading.after.has_failed ≡ false)
 IsReadingOf reading (Err other) = ⊥

@@ -4,8 +4,8 @@
 --     ComesTo job reading output shown status     a run with this status ends so
 use Rattle.std.specs.Prelude.{◌≡◌, ◌⊎◌, ℕ, List, Option, Some, None, Result, Ok, Err, false}
 use Rattle.std.specs.Io.KnownBytes.{Keeps}
-use Rattle.clock_device.specs.Readings.{Reading}
-use Rattle.clock_device.specs.Writings.{Writing, WritesFront, WritesNothing, WritesWhole}
+use Rattle.clock_device.specs.Told.{Reading, Writing}
+use Rattle.clock_device.specs.Writings.{WritesFront, WritesNothing, WritesWhole}
 use Rattle.clock_auction.specs.Input.{IsReadingOf, ReadsWhole}
 use Rattle.clock_auction.specs.Answers.{answer_to}
 use Rattle.clock_auction.specs.FaultLines.{fault_line}
@@ -49,9 +49,9 @@ Shows shown text = WritesWhole shown text ⊎ WritesFront shown text
 
 -- no read was made, so nothing was read: the bytes that the source tells are left as they were
 pub record MakesNoRead (reading : Reading) : Type 0 where
-  pub bytes : Keeps reading.before reading.after
-  pub none : reading.calls ≡ 0
-  pub unfailed : reading.has_failed ≡ false
+  pub bytes : Keeps reading.before.left reading.after.left
+  pub none : reading.after.calls ≡ 0
+  pub unfailed : reading.after.has_failed ≡ false
 
 -- the words ask for a job, whose run ends so
 abbrev pub RunsJob : {U : Type 0} → Option Job → Reading → Writing → Result U Fault → Type 0

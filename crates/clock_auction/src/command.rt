@@ -1,5 +1,5 @@
 ghost use Rattle.std.specs.Prelude.{◌≡◌, ◌≤◌, map};
-ghost use Rattle.clock_device.specs.Calls.{IsUnread, IsUnused};
+ghost use Rattle.clock_device.specs.Told.{IsUnread, IsUnused};
 ghost use Rattle.clock_auction.specs.FaultLines.{fault_line};
 ghost use Rattle.clock_auction.specs.Input.{most_document_reads};
 ghost use Rattle.clock_auction.specs.Run.{ComesTo, IsRunOf, Shows};
@@ -36,31 +36,15 @@ pub fn command<R: Source, W: Sink, F: Sink>(
     writer: &mut W,
     faults: &mut F,
 ) -> u8
-    requires unread { IsUnread (R.calls reader.old) (R.interruptions reader.old) (R.has_failed reader.old) }
-    requires unwritten { IsUnused (W.calls writer.old) (W.has_failed writer.old) }
-    requires unshown { IsUnused (F.calls faults.old) (F.has_failed faults.old) }
+    requires unread { IsUnread (R.told reader.old) }
+    requires unwritten { IsUnused (W.told writer.old) }
+    requires unshown { IsUnused (F.told faults.old) }
     ensures ending { ComesTo (job_of (map (λ word. word.now) words.entry.now))
-        (record {
-          before = R.bytes_left reader.old;
-          after = R.bytes_left reader.new;
-          calls = R.calls reader.new;
-          interruptions = R.interruptions reader.new;
-          has_failed = R.has_failed reader.new;
-        })
-        (record {
-          before = W.bytes_taken writer.old;
-          after = W.bytes_taken writer.new;
-          calls = W.calls writer.new;
-          has_failed = W.has_failed writer.new;
-        })
-        (record {
-          before = F.bytes_taken faults.old;
-          after = F.bytes_taken faults.new;
-          calls = F.calls faults.new;
-          has_failed = F.has_failed faults.new;
-        })
+        (record { before = R.told reader.old; after = R.told reader.new })
+        (record { before = W.told writer.old; after = W.told writer.new })
+        (record { before = F.told faults.old; after = F.told faults.new })
         result }
-    ensures reads { R.calls reader.new ≤ most_document_reads }
+    ensures reads { (R.told reader.new).calls ≤ most_document_reads }
 {
     match job_asked(alloc, words) {
         Ok(Some(job)) => match run(alloc, job, reader, writer) {
@@ -97,24 +81,11 @@ fn run<R: Source, W: Sink>(
     writer: &mut W,
 ) -> Result<(), Fault>
     requires job { IsJob job }
-    requires unread { IsUnread (R.calls reader.old) (R.interruptions reader.old) (R.has_failed reader.old) }
-    requires unwritten { IsUnused (W.calls writer.old) (W.has_failed writer.old) }
-    ensures run { IsRunOf job
-        (record {
-          before = R.bytes_left reader.old;
-          after = R.bytes_left reader.new;
-          calls = R.calls reader.new;
-          interruptions = R.interruptions reader.new;
-          has_failed = R.has_failed reader.new;
-        })
-        (record {
-          before = W.bytes_taken writer.old;
-          after = W.bytes_taken writer.new;
-          calls = W.calls writer.new;
-          has_failed = W.has_failed writer.new;
-        })
-        result }
-    ensures reads { R.calls reader.new ≤ most_document_reads }
+    requires unread { IsUnread (R.told reader.old) }
+    requires unwritten { IsUnused (W.told writer.old) }
+    ensures run { IsRunOf job (record { before = R.told reader.old; after = R.told reader.new })
+        (record { before = W.told writer.old; after = W.told writer.new }) result }
+    ensures reads { (R.told reader.new).calls ≤ most_document_reads }
 {
     let document = read_all(alloc, reader)?;
     let text = answer(alloc, job, document)?;
@@ -126,15 +97,8 @@ fn run<R: Source, W: Sink>(
 
 /// Shows the line of a fault, or a front of it where it cannot all be shown.
 pub fn show_fault<F: Sink>(fault: Fault, faults: &mut F)
-    requires { IsUnused (F.calls faults.old) (F.has_failed faults.old) }
-    ensures { Shows
-        (record {
-          before = F.bytes_taken faults.old;
-          after = F.bytes_taken faults.new;
-          calls = F.calls faults.new;
-          has_failed = F.has_failed faults.new;
-        })
-        (fault_line fault) }
+    requires { IsUnused (F.told faults.old) }
+    ensures { Shows (record { before = F.told faults.old; after = F.told faults.new }) (fault_line fault) }
 {
     let _ = write_fault(faults, fault);
 }

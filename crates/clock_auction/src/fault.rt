@@ -7,7 +7,6 @@ use clock_journal::JournalFault;
 use clock_serving::ServeFault;
 use clock_setup::{OpeningFault, SetupFault};
 use clock_sim::{ScriptFault, SimFault};
-use std::alloc::AllocError;
 
 /// Why a run ended before its end. The cases stand in the order in which they are looked at, want of
 /// memory aside, which stands in place of any other. `Bind` and `Accept` come in `serve` alone, `File`
@@ -56,14 +55,6 @@ impl From<NoMemory> for Fault {
     ghost from_gives = { λ _ fault. fault ≡ Memory };
 
     fn from(_refused: NoMemory) -> Fault {
-        Fault::Memory
-    }
-}
-
-impl From<AllocError> for Fault {
-    ghost from_gives = { λ _ fault. fault ≡ Memory };
-
-    fn from(_refused: AllocError) -> Fault {
         Fault::Memory
     }
 }

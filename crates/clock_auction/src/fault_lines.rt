@@ -11,8 +11,8 @@ use clock_views::Code;
 
 /// Writes the line of a fault, `fault: WORDS` and a line feed. It takes no memory.
 pub fn write_fault<W: Sink>(sink: &mut W, fault: Fault) -> Result<(), Failed>
-    ensures bytes { WritesText (W.bytes_taken sink.old) (W.bytes_taken sink.new) (fault_line fault) result }
-    ensures failed { W.has_failed sink.new ≡ (W.has_failed sink.old || is_err result) }
+    ensures bytes { WritesText (W.told sink.old).taken (W.told sink.new).taken (fault_line fault) result }
+    ensures failed { (W.told sink.new).has_failed ≡ ((W.told sink.old).has_failed || is_err result) }
 {
     write_all(sink, b"fault: ")?;
     write_words(sink, fault)?;
@@ -20,8 +20,8 @@ pub fn write_fault<W: Sink>(sink: &mut W, fault: Fault) -> Result<(), Failed>
 }
 
 fn write_words<W: Sink>(sink: &mut W, fault: Fault) -> Result<(), Failed>
-    ensures bytes { WritesText (W.bytes_taken sink.old) (W.bytes_taken sink.new) (fault_words fault) result }
-    ensures failed { W.has_failed sink.new ≡ (W.has_failed sink.old || is_err result) }
+    ensures bytes { WritesText (W.told sink.old).taken (W.told sink.new).taken (fault_words fault) result }
+    ensures failed { (W.told sink.new).has_failed ≡ ((W.told sink.old).has_failed || is_err result) }
 {
     match fault {
         Fault::File => write_all(sink, b"file"),
@@ -46,8 +46,8 @@ fn write_words<W: Sink>(sink: &mut W, fault: Fault) -> Result<(), Failed>
 }
 
 fn write_opening_words<W: Sink>(sink: &mut W, fault: OpeningFault) -> Result<(), Failed>
-    ensures bytes { WritesText (W.bytes_taken sink.old) (W.bytes_taken sink.new) (opening_words fault) result }
-    ensures failed { W.has_failed sink.new ≡ (W.has_failed sink.old || is_err result) }
+    ensures bytes { WritesText (W.told sink.old).taken (W.told sink.new).taken (opening_words fault) result }
+    ensures failed { (W.told sink.new).has_failed ≡ ((W.told sink.old).has_failed || is_err result) }
 {
     match fault {
         OpeningFault::NotJson => write_all(sink, b"not_json"),
@@ -61,8 +61,8 @@ fn write_opening_words<W: Sink>(sink: &mut W, fault: OpeningFault) -> Result<(),
 }
 
 fn write_script_words<W: Sink>(sink: &mut W, fault: ScriptFault) -> Result<(), Failed>
-    ensures bytes { WritesText (W.bytes_taken sink.old) (W.bytes_taken sink.new) (script_words fault) result }
-    ensures failed { W.has_failed sink.new ≡ (W.has_failed sink.old || is_err result) }
+    ensures bytes { WritesText (W.told sink.old).taken (W.told sink.new).taken (script_words fault) result }
+    ensures failed { (W.told sink.new).has_failed ≡ ((W.told sink.old).has_failed || is_err result) }
 {
     match fault {
         ScriptFault::NotJson => write_all(sink, b"not_json"),
@@ -75,8 +75,8 @@ fn write_script_words<W: Sink>(sink: &mut W, fault: ScriptFault) -> Result<(), F
 }
 
 fn write_simulation_words<W: Sink>(sink: &mut W, fault: SimFault) -> Result<(), Failed>
-    ensures bytes { WritesText (W.bytes_taken sink.old) (W.bytes_taken sink.new) (simulation_words fault) result }
-    ensures failed { W.has_failed sink.new ≡ (W.has_failed sink.old || is_err result) }
+    ensures bytes { WritesText (W.told sink.old).taken (W.told sink.new).taken (simulation_words fault) result }
+    ensures failed { (W.told sink.new).has_failed ≡ ((W.told sink.old).has_failed || is_err result) }
 {
     match fault {
         SimFault::Refused(bidder, round, code) => {
@@ -93,8 +93,8 @@ fn write_simulation_words<W: Sink>(sink: &mut W, fault: SimFault) -> Result<(), 
 }
 
 fn write_setup_words<W: Sink>(sink: &mut W, fault: SetupFault) -> Result<(), Failed>
-    ensures bytes { WritesText (W.bytes_taken sink.old) (W.bytes_taken sink.new) (setup_words fault) result }
-    ensures failed { W.has_failed sink.new ≡ (W.has_failed sink.old || is_err result) }
+    ensures bytes { WritesText (W.told sink.old).taken (W.told sink.new).taken (setup_words fault) result }
+    ensures failed { (W.told sink.new).has_failed ≡ ((W.told sink.old).has_failed || is_err result) }
 {
     match fault {
         SetupFault::NotJson => write_all(sink, b"setup_not_json"),
@@ -111,8 +111,8 @@ fn write_setup_words<W: Sink>(sink: &mut W, fault: SetupFault) -> Result<(), Fai
 }
 
 fn write_place<W: Sink>(sink: &mut W, place: Place) -> Result<(), Failed>
-    ensures bytes { WritesText (W.bytes_taken sink.old) (W.bytes_taken sink.new) (place_words place) result }
-    ensures failed { W.has_failed sink.new ≡ (W.has_failed sink.old || is_err result) }
+    ensures bytes { WritesText (W.told sink.old).taken (W.told sink.new).taken (place_words place) result }
+    ensures failed { (W.told sink.new).has_failed ≡ ((W.told sink.old).has_failed || is_err result) }
 {
     match place {
         Place::Requirement => write_all(sink, b"requirement"),
@@ -134,8 +134,8 @@ fn write_place<W: Sink>(sink: &mut W, place: Place) -> Result<(), Failed>
 
 /// Writes a word and a number.
 fn write_numbered<W: Sink>(sink: &mut W, word: &str, number: u64) -> Result<(), Failed>
-    ensures bytes { WritesText (W.bytes_taken sink.old) (W.bytes_taken sink.new) (word.now ++ decimal number) result }
-    ensures failed { W.has_failed sink.new ≡ (W.has_failed sink.old || is_err result) }
+    ensures bytes { WritesText (W.told sink.old).taken (W.told sink.new).taken (word.now ++ decimal number) result }
+    ensures failed { (W.told sink.new).has_failed ≡ ((W.told sink.old).has_failed || is_err result) }
 {
     write_all(sink, word.as_bytes())?;
     write_number(sink, number)
@@ -143,9 +143,9 @@ fn write_numbered<W: Sink>(sink: &mut W, word: &str, number: u64) -> Result<(), 
 
 /// Writes a word and two numbers.
 fn write_pair<W: Sink>(sink: &mut W, word: &str, first: u64, second: u64) -> Result<(), Failed>
-    ensures bytes { WritesText (W.bytes_taken sink.old) (W.bytes_taken sink.new) (word.now ++ decimal first
+    ensures bytes { WritesText (W.told sink.old).taken (W.told sink.new).taken (word.now ++ decimal first
         ++ (codes " " ++ decimal second)) result }
-    ensures failed { W.has_failed sink.new ≡ (W.has_failed sink.old || is_err result) }
+    ensures failed { (W.told sink.new).has_failed ≡ ((W.told sink.old).has_failed || is_err result) }
 {
     write_numbered(sink, word, first)?;
     write_numbered(sink, " ", second)
@@ -153,8 +153,8 @@ fn write_pair<W: Sink>(sink: &mut W, word: &str, first: u64, second: u64) -> Res
 
 /// Writes a code after a space.
 fn write_code<W: Sink>(sink: &mut W, code: Code) -> Result<(), Failed>
-    ensures bytes { WritesText (W.bytes_taken sink.old) (W.bytes_taken sink.new) (codes " " ++ text_of code) result }
-    ensures failed { W.has_failed sink.new ≡ (W.has_failed sink.old || is_err result) }
+    ensures bytes { WritesText (W.told sink.old).taken (W.told sink.new).taken (codes " " ++ text_of code) result }
+    ensures failed { (W.told sink.new).has_failed ≡ ((W.told sink.old).has_failed || is_err result) }
 {
     write_all(sink, b" ")?;
     write_all(sink, code.text().as_bytes())

@@ -1,5 +1,6 @@
 ghost use Rattle.std.specs.Prelude.{◌≡◌, ◌≤◌, ◌<◌, ◌+◌, ◌||◌, false, length, IfOk};
-ghost use Rattle.clock_device.specs.Calls.{IsUnread, count_after};
+ghost use Rattle.clock_device.specs.Calls.{count_after};
+ghost use Rattle.clock_device.specs.Told.{IsUnread};
 ghost use Rattle.clock_device.specs.inside.Readings.{GrowsByOneAtMost};
 ghost use Rattle.clock_auction.specs.Input.{IsReadingOf, most_bytes, most_document_reads};
 ghost use Rattle.clock_auction.specs.inside.Input.{IsStepOf, is_input_fault};
@@ -19,17 +20,9 @@ const PIECE: usize = 65_536;
 
 /// All bytes of the input. An interrupted read is tried again.
 pub fn read_all<R: Source>(alloc: Global, reader: &mut R) -> Result<Text, Fault>
-    requires { IsUnread (R.calls reader.old) (R.interruptions reader.old) (R.has_failed reader.old) }
-    ensures reading { IsReadingOf
-        (record {
-          before = R.bytes_left reader.old;
-          after = R.bytes_left reader.new;
-          calls = R.calls reader.new;
-          interruptions = R.interruptions reader.new;
-          has_failed = R.has_failed reader.new;
-        })
-        result }
-    ensures calls { R.calls reader.new ≤ most_document_reads }
+    requires { IsUnread (R.told reader.old) }
+    ensures reading { IsReadingOf (record { before = R.told reader.old; after = R.told reader.new }) result }
+    ensures calls { (R.told reader.new).calls ≤ most_document_reads }
 {
     let mut piece = room_for_read(alloc, PIECE)?;
     let mut document = Text::new(alloc);
@@ -50,13 +43,14 @@ fn read_more<R: Source>(
 ) -> Result<bool, Fault>
     requires room { 0 < length piece.old }
     requires few { length document.old ≤ most_bytes }
-    requires uncounted { R.interruptions reader.old < most_document_reads }
-    ensures step { IsStepOf (R.bytes_left reader.old) (R.bytes_left reader.new) document.old document.new result }
+    requires uncounted { (R.told reader.old).interruptions < most_document_reads }
+    ensures step { IsStepOf (R.told reader.old).left (R.told reader.new).left document.old document.new result }
     ensures used { IfOk result (λ ended. ended ≡ false
-        → length document.old + R.interruptions reader.old < length document.new + R.interruptions reader.new) }
-    ensures counted { R.calls reader.new ≡ count_after (R.calls reader.old) }
-    ensures interrupted { GrowsByOneAtMost (R.interruptions reader.old) (R.interruptions reader.new) }
-    ensures failed { R.has_failed reader.new ≡ (R.has_failed reader.old || is_input_fault result) }
+        → length document.old + (R.told reader.old).interruptions
+        < length document.new + (R.told reader.new).interruptions) }
+    ensures counted { (R.told reader.new).calls ≡ count_after (R.told reader.old).calls }
+    ensures interrupted { GrowsByOneAtMost (R.told reader.old).interruptions (R.told reader.new).interruptions }
+    ensures failed { (R.told reader.new).has_failed ≡ ((R.told reader.old).has_failed || is_input_fault result) }
 {
     let free = MOST_BYTES - document.as_slice().len();
     let asked = piece.len().min(free + 1);

@@ -2,25 +2,13 @@
 --     count_after     a count after one more call
 --     interruptions_after     how many reads were interrupted, after one more
 --     is_failed_read     the read has failed
---     IsUnused, IsUnread     no call was made before, no read was made before
-use Rattle.std.specs.Prelude.{◌≡◌, ℕ, ◌+◌, ◌-◌, ◌^◌, min, Bool, true, false, Result, Ok, Err}
+use Rattle.std.specs.Prelude.{ℕ, ◌+◌, ◌-◌, ◌^◌, min, Bool, true, false, Result, Ok, Err}
 use Rattle.clock_device.specs.declared.stream.Stop.{Stop}
 use Rattle.clock_device.specs.declared.stream.Stop.TheVariants.{Interrupted, Failed}
 
 -- the count after one more call
 abbrev pub count_after : ℕ → ℕ
 count_after calls = min (calls + 1) (2 ^ 64 - 1)
-
--- no call was made before: none is counted, and none has failed
-pub record IsUnused (calls : ℕ) (has_failed : Bool) : Type 0 where
-  pub uncounted : calls ≡ 0
-  pub unfailed : has_failed ≡ false
-
--- no read was made before: none is counted, none was interrupted, and none has failed
-pub record IsUnread (calls interruptions : ℕ) (has_failed : Bool) : Type 0 where
-  pub uncounted : calls ≡ 0
-  pub uninterrupted : interruptions ≡ 0
-  pub unfailed : has_failed ≡ false
 
 -- a read that was interrupted has not failed
 abbrev pub is_failure : Stop → Bool

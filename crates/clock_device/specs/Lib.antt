@@ -2,6 +2,7 @@ pub mod Bounded
 pub mod Calls
 pub mod Decimal
 pub mod Streams
+pub mod Told
 pub mod Readings
 pub mod Writings
 pub mod SourceState

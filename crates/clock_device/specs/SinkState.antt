@@ -1,6 +1,7 @@
 -- A sink that keeps its bytes in memory.
 use Rattle.std.specs.Prelude.{◌==◌, ◌-◌, ◌||◌, ◌++◌, ℕ, Bool, false, List, [], length, take, min, Option, Some, None, if◌then◌else◌, is_some, not}
 use Rattle.clock_device.specs.Calls.{count_after}
+use Rattle.clock_device.specs.Told.{SinkTold}
 
 -- what it has taken, how many bytes it has room for in all, how many one write takes at most, the
 -- write at which it fails, and what was done
@@ -11,6 +12,10 @@ pub record SinkState : Type 0 where
   pub stop : Option ℕ
   pub calls : ℕ
   pub has_failed : Bool
+
+-- what it tells
+abbrev pub sink_told : SinkState → SinkTold
+sink_told s = record { taken = Some s.taken; calls = s.calls; has_failed = s.has_failed }
 
 -- no write was made yet
 abbrev pub new_sink : ℕ → ℕ → Option ℕ → SinkState

@@ -1,6 +1,7 @@
 -- A source of bytes that stand in memory.
 use Rattle.std.specs.Prelude.{◌==◌, ◌||◌, ℕ, Bool, false, List, length, drop, min, Option, Some, None, Result, Ok, Err, if◌then◌else◌}
 use Rattle.clock_device.specs.Calls.{count_after, interruptions_after, is_failed_read}
+use Rattle.clock_device.specs.Told.{SourceTold}
 use Rattle.clock_device.specs.declared.stream.Stop.{Stop}
 
 -- what is left, how much of it one read gives at most, the read at which it stops, and what was done
@@ -11,6 +12,10 @@ pub record SourceState : Type 0 where
   pub calls : ℕ
   pub interruptions : ℕ
   pub has_failed : Bool
+
+-- what it tells
+abbrev pub source_told : SourceState → SourceTold
+source_told s = record { left = Some s.left; calls = s.calls; interruptions = s.interruptions; has_failed = s.has_failed }
 
 -- no read was made yet
 abbrev pub new_source : List ℕ → ℕ → Option (ℕ × Stop) → SourceState

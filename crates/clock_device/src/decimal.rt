@@ -44,8 +44,8 @@ impl Bounded<u8> {
 
 /// Writes a number in plain decimal, or a front of it where a write fails.
 pub fn write_number<W: Sink>(sink: &mut W, number: u64) -> Result<(), Failed>
-    ensures bytes { WritesText (W.bytes_taken sink.old) (W.bytes_taken sink.new) (decimal number) result }
-    ensures failed { W.has_failed sink.new ≡ (W.has_failed sink.old || is_err result) }
+    ensures bytes { WritesText (W.told sink.old).taken (W.told sink.new).taken (decimal number) result }
+    ensures failed { (W.told sink.new).has_failed ≡ ((W.told sink.old).has_failed || is_err result) }
 {
     let mut buffer = Buffer::new();
     write_all(sink, buffer.format(number).as_bytes())

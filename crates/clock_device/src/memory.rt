@@ -5,8 +5,8 @@ ghost use Rattle.std.specs.Io.{ReadsAtMost};
 ghost use Rattle.std.specs.Io.KnownBytes.{ReadConsumes, WriteAppends};
 ghost use Rattle.clock_device.specs.Calls.{count_after, interruptions_after, is_failed_read, is_failure};
 ghost use Rattle.clock_device.specs.Streams.{CountsTaken};
-ghost use Rattle.clock_device.specs.SourceState.{SourceState, after_read, new_source, read_answer, stop_at};
-ghost use Rattle.clock_device.specs.SinkState.{SinkState, after_write, new_sink, write_count};
+ghost use Rattle.clock_device.specs.SourceState.{SourceState, after_read, new_source, read_answer, source_told, stop_at};
+ghost use Rattle.clock_device.specs.SinkState.{SinkState, after_write, new_sink, sink_told, write_count};
 
 use crate::no_memory::NoMemory;
 use crate::stream::{Failed, Sink, Source, Stop};
@@ -81,13 +81,7 @@ impl<'a> ListSource<'a> {
 }
 
 impl Source for ListSource<'_> {
-    ghost bytes_left = { λ source. Some source.left };
-
-    ghost calls = { λ source. source.calls };
-
-    ghost interruptions = { λ source. source.interruptions };
-
-    ghost has_failed = { λ source. source.has_failed };
+    ghost told = { λ source. source_told source };
 
     /// Fails only where its stop stands. Behind the bytes that it gives the buffer stays as it was.
     fn read(&mut self, buffer: &mut [u8]) -> Result<usize, Stop>
@@ -172,11 +166,7 @@ impl ListSink {
 }
 
 impl Sink for ListSink {
-    ghost bytes_taken = { λ sink. Some sink.taken };
-
-    ghost calls = { λ sink. sink.calls };
-
-    ghost has_failed = { λ sink. sink.has_failed };
+    ghost told = { λ sink. sink_told sink };
 
     /// Fails where its stop stands, where it is full, and where there is no byte to take.
     fn write(&mut self, bytes: &[u8]) -> Result<usize, Failed>

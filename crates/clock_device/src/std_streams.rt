@@ -1,7 +1,8 @@
 ghost use Rattle.std.specs.Prelude.{◌≡◌, ◌||◌, is_err};
 ghost use Rattle.std.specs.Io.{ReadsAtMost};
 ghost use Rattle.std.specs.Io.KnownBytes.{ReadConsumes, WriteAppends};
-ghost use Rattle.clock_device.specs.Calls.{IsUnread, IsUnused, count_after, interruptions_after, is_failed_read};
+ghost use Rattle.clock_device.specs.Calls.{count_after, interruptions_after, is_failed_read};
+ghost use Rattle.clock_device.specs.Told.{IsUnread, IsUnused, unread, unused};
 
 use crate::stream::{Failed, Sink, Source, Stop};
 use std::io::{ErrorKind, Read, Write};
@@ -21,9 +22,8 @@ pub struct FromReader<R> {
 impl<R: Read> FromReader<R> {
     /// The reader, on which no read was made through this yet.
     pub fn new(reader: R) -> FromReader<R>
-        ensures bytes { ⟦<FromReader<R> as Source>⟧.bytes_left result ≡ R.remaining reader }
-        ensures unread { IsUnread (⟦<FromReader<R> as Source>⟧.calls result)
-            (⟦<FromReader<R> as Source>⟧.interruptions result) (⟦<FromReader<R> as Source>⟧.has_failed result) }
+        ensures told { ⟦<FromReader<R> as Source>⟧.told result ≡ unread (R.remaining reader) }
+        ensures unread { IsUnread (⟦<FromReader<R> as Source>⟧.told result) }
     {
         FromReader {
             reader,
@@ -35,13 +35,12 @@ impl<R: Read> FromReader<R> {
 }
 
 impl<R: Read> Source for FromReader<R> {
-    ghost bytes_left = { λ source. R.remaining source.reader };
-
-    ghost calls = { λ source. source.calls };
-
-    ghost interruptions = { λ source. source.interruptions };
-
-    ghost has_failed = { λ source. source.has_failed };
+    ghost told = { λ source. record {
+      left = R.remaining source.reader;
+      calls = source.calls;
+      interruptions = source.interruptions;
+      has_failed = source.has_failed;
+    } };
 
     fn read(&mut self, buffer: &mut [u8]) -> Result<usize, Stop> {
         self.calls = self.calls.saturating_add(1);
@@ -73,8 +72,8 @@ pub struct ToWriter<W> {
 impl<W: Write> ToWriter<W> {
     /// The writer, on which no write was made through this yet.
     pub fn new(writer: W) -> ToWriter<W>
-        ensures bytes { ⟦<ToWriter<W> as Sink>⟧.bytes_taken result ≡ W.contents writer }
-        ensures unused { IsUnused (⟦<ToWriter<W> as Sink>⟧.calls result) (⟦<ToWriter<W> as Sink>⟧.has_failed result) }
+        ensures told { ⟦<ToWriter<W> as Sink>⟧.told result ≡ unused (W.contents writer) }
+        ensures unused { IsUnused (⟦<ToWriter<W> as Sink>⟧.told result) }
     {
         ToWriter {
             writer,
@@ -85,11 +84,7 @@ impl<W: Write> ToWriter<W> {
 }
 
 impl<W: Write> Sink for ToWriter<W> {
-    ghost bytes_taken = { λ sink. W.contents sink.writer };
-
-    ghost calls = { λ sink. sink.calls };
-
-    ghost has_failed = { λ sink. sink.has_failed };
+    ghost told = { λ sink. record { taken = W.contents sink.writer; calls = sink.calls; has_failed = sink.has_failed } };
 
     /// A writer that is interrupted, or takes no byte, has failed.
     fn write(&mut self, bytes: &[u8]) -> Result<usize, Failed> {

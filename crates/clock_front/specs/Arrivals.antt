@@ -6,7 +6,8 @@
 --     EndsArrival reading result      how reading a request ends
 use Rattle.std.specs.Prelude.{◌≡◌, ◌≤◌, ◌⊎◌, ◌+◌, ◌++◌, ℕ, List, [], length, Option, true, false, Result, Ok, Err}
 use Rattle.clock_device.specs.Streams.{HasRead, IsReadOut}
-use Rattle.clock_device.specs.Readings.{Reading, HasFailedRead, RunsOutOfReads}
+use Rattle.clock_device.specs.Readings.{HasFailedRead, RunsOutOfReads}
+use Rattle.clock_device.specs.Told.{Reading}
 use Rattle.clock_http.specs.Framing.{needs_more, IsDecided}
 use Rattle.clock_front.specs.declared.reading.Unread.{Unread}
 use Rattle.clock_front.specs.declared.reading.Unread.TheVariants as unread
@@ -18,9 +19,9 @@ most_request_reads = 2000000
 -- every read was needed: the bytes that came before the last read still needed more, and each read but the last took one of
 -- them at least or was interrupted
 pub record IsReadByNeed (reading : Reading) (front last : List ℕ) : Type 0 where
-  pub read : HasRead reading.before reading.after (front ++ last)
+  pub read : HasRead reading.before.left reading.after.left (front ++ last)
   pub needed : needs_more front ≡ true
-  pub used : reading.calls ≤ length front + reading.interruptions + 1
+  pub used : reading.after.calls ≤ length front + reading.after.interruptions + 1
 
 -- the text is decided, whatever follows; or the last read found the end of the input
 abbrev pub IsLast : Option (List ℕ) → List ℕ → List ℕ → Type 0
@@ -30,8 +31,8 @@ IsLast left text last = IsDecided text ⊎ ((last ≡ []) × IsReadOut left)
 pub record Arrives (reading : Reading) (text front last : List ℕ) : Type 0 where
   pub is : text ≡ front ++ last
   pub by_need : IsReadByNeed reading front last
-  pub ends : IsLast reading.after text last
-  pub unfailed : reading.has_failed ≡ false
+  pub ends : IsLast reading.after.left text last
+  pub unfailed : reading.after.has_failed ≡ false
 
 -- the text was read: it is decided, or the input ended behind it
 abbrev pub HasArrived : Reading → List ℕ → Type 0
@@ -39,9 +40,9 @@ HasArrived reading text = (front : List ℕ) × (last : List ℕ) × Arrives rea
 
 -- bytes that still need more were read, and these and interruptions used the reads up
 pub record UsesReads (reading : Reading) (text : List ℕ) : Type 0 where
-  pub read : HasRead reading.before reading.after text
+  pub read : HasRead reading.before.left reading.after.left text
   pub needed : needs_more text ≡ true
-  pub used : reading.calls ≤ length text + reading.interruptions
+  pub used : reading.after.calls ≤ length text + reading.after.interruptions
 
 -- no request was read: bytes that still needed more came, and then a read failed; or all reads were made
 abbrev pub IsNotRead : Reading → Type 0
@@ -50,7 +51,7 @@ IsNotRead reading =
 
 -- there was no memory for the bytes, or for those that the last read brought
 abbrev pub HasNoRoom : Reading → Type 0
-HasNoRoom reading = (front : List ℕ) × (last : List ℕ) × IsReadByNeed reading front last × (reading.has_failed ≡ false)
+HasNoRoom reading = (front : List ℕ) × (last : List ℕ) × IsReadByNeed reading front last × (reading.after.has_failed ≡ false)
 
 -- how reading a request ends: with its text; where a read failed or all reads were made; or for want of memory. An interrupted
 -- read is none of these, so it is tried again

@@ -10,8 +10,8 @@ use Rattle.clock_http.specs.Replies.{Answer}
 use Rattle.clock_front.specs.FixedReplies.{no_memory}
 use Rattle.clock_front.specs.Fronts.{AnswersText, IsStruckOut, StandsForTexts}
 use Rattle.clock_front.specs.Private.{IsPrivateReply}
-use Rattle.clock_device.specs.Readings.{Reading}
-use Rattle.clock_device.specs.Writings.{Writing, WritesWhole, WritesFront, WritesNothing}
+use Rattle.clock_device.specs.Told.{Reading, Writing}
+use Rattle.clock_device.specs.Writings.{WritesWhole, WritesFront, WritesNothing}
 use Rattle.clock_front.specs.Arrivals.{HasArrived, IsNotRead, HasNoRoom}
 use Rattle.clock_front.specs.declared.stream_fault.StreamFault.{StreamFault}
 use Rattle.clock_front.specs.declared.stream_fault.StreamFault.TheVariants as fault

@@ -1,5 +1,6 @@
 ghost use Rattle.std.specs.Prelude.{◌≡◌, ◌≤◌, ◌<◌, ◌+◌, ◌||◌, Ok, true, false, length};
-ghost use Rattle.clock_device.specs.Calls.{IsUnread, count_after};
+ghost use Rattle.clock_device.specs.Calls.{count_after};
+ghost use Rattle.clock_device.specs.Told.{IsUnread};
 ghost use Rattle.clock_http.specs.Framing.{needs_more};
 ghost use Rattle.clock_device.specs.inside.Readings.{GrowsByOneAtMost};
 ghost use Rattle.clock_front.specs.Arrivals.{most_request_reads, EndsArrival};
@@ -7,7 +8,7 @@ ghost use Rattle.clock_front.specs.inside.Arrivals.{IsStepOf, is_read_fault};
 
 use clock_device::{NoMemory, Source, Stop, room_for_read};
 use clock_http::Arriving;
-use std::alloc::{AllocError, Global};
+use std::alloc::Global;
 
 /// How many reads are made at most.
 const MOST_READS: u64 = 2_000_000;
@@ -34,16 +35,6 @@ impl From<NoMemory> for Unread {
     }
 }
 
-impl From<AllocError> for Unread {
-    ghost use Rattle.clock_front.specs.declared.reading.Unread.TheVariants as unread;
-
-    ghost from_gives = { λ _ fault. fault ≡ unread.Memory };
-
-    fn from(_refused: AllocError) -> Unread {
-        Unread::Memory
-    }
-}
-
 /// Makes one read and adds its bytes to the request. Answers whether it was the last: they decide what the request is,
 /// or the input has ended.
 fn read_once<R: Source>(
@@ -53,13 +44,14 @@ fn read_once<R: Source>(
 ) -> Result<bool, Unread>
     requires room { 0 < length piece.old }
     requires needed { needs_more request.old ≡ true }
-    requires uncounted { R.interruptions source.old < most_request_reads }
-    ensures step { IsStepOf (R.bytes_left source.old) (R.bytes_left source.new) request.old request.new result }
+    requires uncounted { (R.told source.old).interruptions < most_request_reads }
+    ensures step { IsStepOf (R.told source.old).left (R.told source.new).left request.old request.new result }
     ensures used { result ≡ Ok false
-        → length request.old + R.interruptions source.old < length request.new + R.interruptions source.new }
-    ensures counted { R.calls source.new ≡ count_after (R.calls source.old) }
-    ensures interrupted { GrowsByOneAtMost (R.interruptions source.old) (R.interruptions source.new) }
-    ensures failed { R.has_failed source.new ≡ (R.has_failed source.old || is_read_fault result) }
+        → length request.old + (R.told source.old).interruptions
+        < length request.new + (R.told source.new).interruptions }
+    ensures counted { (R.told source.new).calls ≡ count_after (R.told source.old).calls }
+    ensures interrupted { GrowsByOneAtMost (R.told source.old).interruptions (R.told source.new).interruptions }
+    ensures failed { (R.told source.new).has_failed ≡ ((R.told source.old).has_failed || is_read_fault result) }
 {
     let count = match source.read(piece) {
         Ok(count) => count,
@@ -73,17 +65,9 @@ fn read_once<R: Source>(
 /// Reads until the bytes decide what the request is, or the input ends. An interrupted read is tried again, and
 /// 2,000,000 reads are made at most.
 pub fn read_request<R: Source>(alloc: Global, source: &mut R) -> Result<Arriving, Unread>
-    requires { IsUnread (R.calls source.old) (R.interruptions source.old) (R.has_failed source.old) }
-    ensures arrival { EndsArrival
-        (record {
-          before = R.bytes_left source.old;
-          after = R.bytes_left source.new;
-          calls = R.calls source.new;
-          interruptions = R.interruptions source.new;
-          has_failed = R.has_failed source.new;
-        })
-        result }
-    ensures calls { R.calls source.new ≤ most_request_reads }
+    requires { IsUnread (R.told source.old) }
+    ensures arrival { EndsArrival (record { before = R.told source.old; after = R.told source.new }) result }
+    ensures calls { (R.told source.new).calls ≤ most_request_reads }
 {
     let mut piece = room_for_read(alloc, PIECE)?;
     let mut request = Arriving::new(alloc);

@@ -1,6 +1,5 @@
 ghost use Rattle.std.specs.Prelude.{◌≡◌, ◌≤◌, ℕ, List, MatchOption};
-ghost use Rattle.clock_device.specs.Calls.{IsUnread, IsUnused};
-ghost use Rattle.clock_device.specs.Readings.{Reading};
+ghost use Rattle.clock_device.specs.Told.{IsUnread, IsUnused, Reading};
 ghost use Rattle.clock_front.specs.Arrivals.{most_request_reads};
 ghost use Rattle.clock_front.specs.Fronts.{StandsForTexts};
 ghost use Rattle.clock_front.specs.Streamed.{HasServed, IsAnswerTo, IsServed, IsLeftUnread};
@@ -21,17 +20,14 @@ fn answer_source<P: Processor, R: Source>(
     front: &mut Front<P>,
     source: &mut R,
 ) -> Option<Reply>
-    requires { IsUnread (R.calls source.old) (R.interruptions source.old) (R.has_failed source.old) }
+    requires { IsUnread (R.told source.old) }
     ensures answered { let reading : Reading = record {
-      before = R.bytes_left source.old;
-      after = R.bytes_left source.new;
-      calls = R.calls source.new;
-      interruptions = R.interruptions source.new;
-      has_failed = R.has_failed source.new;
+      before = R.told source.old;
+      after = R.told source.new;
     } in MatchOption result (IsLeftUnread reading front.old front.new) (λ reply. IsAnswerTo reading reply
         front.old front.new) }
     ensures stands { (texts : List (List ℕ)) → StandsForTexts texts front.old → HasServed 1 texts front.new }
-    ensures calls { R.calls source.new ≤ most_request_reads }
+    ensures calls { (R.told source.new).calls ≤ most_request_reads }
     ensures setup { front.new.setup ≡ front.old.setup }
 {
     match read_request(alloc, source) {
@@ -52,25 +48,12 @@ pub fn serve_stream<P: Processor, R: Source, W: Sink>(
     source: &mut R,
     sink: &mut W,
 ) -> Result<Code, StreamFault>
-    requires unread { IsUnread (R.calls source.old) (R.interruptions source.old) (R.has_failed source.old) }
-    requires unused { IsUnused (W.calls sink.old) (W.has_failed sink.old) }
-    ensures served { IsServed
-        (record {
-          before = R.bytes_left source.old;
-          after = R.bytes_left source.new;
-          calls = R.calls source.new;
-          interruptions = R.interruptions source.new;
-          has_failed = R.has_failed source.new;
-        })
-        (record {
-          before = W.bytes_taken sink.old;
-          after = W.bytes_taken sink.new;
-          calls = W.calls sink.new;
-          has_failed = W.has_failed sink.new;
-        })
-        front.old front.new result }
+    requires unread { IsUnread (R.told source.old) }
+    requires unused { IsUnused (W.told sink.old) }
+    ensures served { IsServed (record { before = R.told source.old; after = R.told source.new })
+        (record { before = W.told sink.old; after = W.told sink.new }) front.old front.new result }
     ensures stands { (texts : List (List ℕ)) → StandsForTexts texts front.old → HasServed 1 texts front.new }
-    ensures calls { R.calls source.new ≤ most_request_reads }
+    ensures calls { (R.told source.new).calls ≤ most_request_reads }
     ensures setup { front.new.setup ≡ front.old.setup }
 {
     let Some(reply) = answer_source(alloc, front, source) else {

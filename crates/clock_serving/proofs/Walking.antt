@@ -1,8 +1,7 @@
 -- Connections that follow one another.
 use Rattle.std.proofs.Common.{◌≡◌, inl, inr, ℕ, List, [], ◌∷◌, ◌++◌, Option, Some, None, refl, sym, ap, ◌∙◌, subst, append_assoc, append-nil}
 use Rattle.clock_terms.specs.Limits.{SetupFields}
-use Rattle.clock_device.specs.Readings.{Reading}
-use Rattle.clock_device.specs.Writings.{Writing}
+use Rattle.clock_device.specs.Told.{Reading, SinkTold, SourceTold, Writing}
 use Rattle.clock_serving.specs.Exchanges.{Closes, Exchange, HasClosed, Offer}
 use Rattle.clock_serving.specs.Serving.{KeepsText, Walks}
 
@@ -43,11 +42,11 @@ all_behind setup past (one ∷ others) end walks =
     (here.0 ++ later.0, later.1 ∙ ap (λ (texts : List (List ℕ)). texts ++ later.0) here.1 ∙ append_assoc past here.0 later.0)
 
 -- the one that was open was closed
-pub closed_one : (first mid last : Option (List Exchange)) (offer : Offer) (source sink : Option (List ℕ)) (reading : Option (List ℕ) → Reading)
-    (writing : Option (List ℕ) → Writing) → mid ≡ first → offer.source ≡ source → offer.sink ≡ sink
-    → Closes mid last (reading offer.source) (writing offer.sink)
-    → HasClosed first last (record { reading = reading source; writing = writing sink } ∷ [])
-closed_one first mid last offer source sink reading writing same from to closes =
-    subst (λ (closed : Option (List Exchange)). Closes closed last (reading source) (writing sink)) same
-    (subst (λ (bytes : Option (List ℕ)). Closes mid last (reading bytes) (writing sink)) from
-    (subst (λ (bytes : Option (List ℕ)). Closes mid last (reading offer.source) (writing bytes)) to closes))
+pub closed_one : (first mid last : Option (List Exchange)) (offer : Offer) (reading : Reading) (writing : Writing) → mid ≡ first
+    → offer.source ≡ reading.before → offer.sink ≡ writing.before
+    → Closes mid last (record reading { before = offer.source }) (record writing { before = offer.sink })
+    → HasClosed first last (record { reading = reading; writing = writing } ∷ [])
+closed_one first mid last offer reading writing same from to closes =
+    subst (λ (closed : Option (List Exchange)). Closes closed last reading writing) same
+    (subst (λ (told : SourceTold). Closes mid last (record reading { before = told }) writing) from
+    (subst (λ (told : SinkTold). Closes mid last (record reading { before = offer.source }) (record writing { before = told })) to closes))

@@ -5,14 +5,13 @@
 --     Closes old new reading writing      one was
 --     no_journal      what is kept where nothing is
 use Rattle.std.specs.Prelude.{◌≡◌, ◌++◌, ℕ, false, List, [], ◌∷◌, Option, Some, None}
-use Rattle.clock_device.specs.Readings.{Reading}
-use Rattle.clock_device.specs.Writings.{Writing}
+use Rattle.clock_device.specs.Told.{Reading, SinkTold, SourceTold, Writing}
 use Rattle.clock_journal.specs.Kept.{JournalState}
 
--- the bytes that its source has and those that its sink has taken, where they tell them
+-- what its source and its sink tell
 pub record Offer : Type 0 where
-  pub source : Option (List ℕ)
-  pub sink : Option (List ℕ)
+  pub source : SourceTold
+  pub sink : SinkTold
 
 -- all reads and all writes that were made on one connection
 pub record Exchange : Type 0 where

@@ -13,7 +13,8 @@ use Rattle.std.specs.Prelude.{◌≡◌, ◌<◌, ◌≤◌, ◌⊎◌, ◌++◌
 use Rattle.clock_terms.specs.Limits.{SetupFields}
 use Rattle.clock_house.specs.House.{HouseFields}
 use Rattle.clock_http.specs.Replies.{Answer}
-use Rattle.clock_device.specs.Writings.{Writing, WritesWhole, WritesFront, WritesNothing}
+use Rattle.clock_device.specs.Told.{Writing}
+use Rattle.clock_device.specs.Writings.{WritesWhole, WritesFront, WritesNothing}
 use Rattle.clock_front.specs.Arrivals.{HasArrived, HasNoRoom, IsNotRead}
 use Rattle.clock_front.specs.FixedReplies.{no_memory}
 use Rattle.clock_front.specs.Fronts.{IsStruckOut, StandsForTexts}

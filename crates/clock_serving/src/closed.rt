@@ -1,4 +1,7 @@
 ghost use Rattle.std.specs.Prelude.{◌≡◌, [], Some};
+ghost use Rattle.clock_device.specs.Told.{unread, unused};
+ghost use Rattle.clock_device.specs.SourceState.{source_told};
+ghost use Rattle.clock_device.specs.SinkState.{sink_told};
 
 use crate::connections::Connection;
 use clock_device::{ListSink, ListSource};
@@ -14,24 +17,16 @@ pub struct Closed<'a> {
 
 impl<'a> Model for Closed<'a> {
     ghost use Rattle.std.specs.Prelude.{[], Some};
+    ghost use Rattle.clock_device.specs.Told.{unread, unused};
+    ghost use Rattle.clock_device.specs.SourceState.{source_told};
+    ghost use Rattle.clock_device.specs.SinkState.{sink_told};
     ghost use Rattle.clock_serving.specs.Exchanges.{Exchange};
 
     ghost Value = { Exchange };
 
     ghost view = { λ c. record {
-      reading = record {
-        before = Some c.offered.now;
-        after = Some c.source.left;
-        calls = c.source.calls;
-        interruptions = c.source.interruptions;
-        has_failed = c.source.has_failed;
-      };
-      writing = record {
-        before = Some [];
-        after = Some c.sink.taken;
-        calls = c.sink.calls;
-        has_failed = c.sink.has_failed;
-      };
+      reading = record { before = unread (Some c.offered.now); after = source_told c.source };
+      writing = record { before = unused (Some []); after = sink_told c.sink };
     } };
 }
 
@@ -42,19 +37,8 @@ impl<'a> Closed<'a> {
         connection: Connection<ListSource<'a>, ListSink>,
     ) -> Closed<'a>
         ensures { result ≡ record {
-          reading = record {
-            before = Some offered.now;
-            after = Some connection.entry.source.left;
-            calls = connection.entry.source.calls;
-            interruptions = connection.entry.source.interruptions;
-            has_failed = connection.entry.source.has_failed;
-          };
-          writing = record {
-            before = Some [];
-            after = Some connection.entry.sink.taken;
-            calls = connection.entry.sink.calls;
-            has_failed = connection.entry.sink.has_failed;
-          };
+          reading = record { before = unread (Some offered.now); after = source_told connection.entry.source };
+          writing = record { before = unused (Some []); after = sink_told connection.entry.sink };
         } }
     {
         let Connection { source, sink } = connection;
@@ -67,7 +51,7 @@ impl<'a> Closed<'a> {
 
     /// The bytes that were written on it.
     pub fn written(&self) -> &[u8]
-        ensures { Some result.now ≡ self.now.writing.after }
+        ensures { Some result.now ≡ self.now.writing.after.taken }
     {
         self.sink.bytes()
     }

@@ -1,5 +1,5 @@
 ghost use Rattle.std.specs.Prelude.{◌≡◌, ◌||◌, Bool, List, Option, IfOk, is_err, not, true, false};
-ghost use Rattle.clock_device.specs.Calls.{IsUnread, IsUnused};
+ghost use Rattle.clock_device.specs.Told.{IsUnread, IsUnused};
 ghost use Rattle.clock_serving.specs.Exchanges.{Closes, Exchange, Offer};
 
 use clock_device::{Failed, Sink, Source};
@@ -33,12 +33,10 @@ pub trait Connections {
     fn accept(&mut self) -> Result<Connection<Self::Reader, Self::Writer>, Failed>
         requires { is_open self.old ≡ false }
         ensures open { is_open self.new ≡ not (is_err result) }
-        ensures source { IfOk result (λ one. (offer self.new).source ≡ Self.Reader.bytes_left one.source) }
-        ensures sink { IfOk result (λ one. (offer self.new).sink ≡ Self.Writer.bytes_taken one.sink) }
-        ensures unread { IfOk result (λ one. IsUnread (Self.Reader.calls one.source)
-            (Self.Reader.interruptions one.source)
-            (Self.Reader.has_failed one.source)) }
-        ensures unused { IfOk result (λ one. IsUnused (Self.Writer.calls one.sink) (Self.Writer.has_failed one.sink)) }
+        ensures source { IfOk result (λ one. (offer self.new).source ≡ Self.Reader.told one.source) }
+        ensures sink { IfOk result (λ one. (offer self.new).sink ≡ Self.Writer.told one.sink) }
+        ensures unread { IfOk result (λ one. IsUnread (Self.Reader.told one.source)) }
+        ensures unused { IfOk result (λ one. IsUnused (Self.Writer.told one.sink)) }
         ensures closed { closed self.new ≡ closed self.old }
         ensures failed { has_failed self.new ≡ (has_failed self.old || is_err result) };
 
@@ -48,17 +46,6 @@ pub trait Connections {
         ensures open { is_open self.new ≡ false }
         ensures failed { has_failed self.new ≡ has_failed self.old }
         ensures closed { Closes (closed self.old) (closed self.new)
-            (record {
-              before = (offer self.old).source;
-              after = Self.Reader.bytes_left connection.source;
-              calls = Self.Reader.calls connection.source;
-              interruptions = Self.Reader.interruptions connection.source;
-              has_failed = Self.Reader.has_failed connection.source;
-            })
-            (record {
-              before = (offer self.old).sink;
-              after = Self.Writer.bytes_taken connection.sink;
-              calls = Self.Writer.calls connection.sink;
-              has_failed = Self.Writer.has_failed connection.sink;
-            }) };
+            (record { before = (offer self.old).source; after = Self.Reader.told connection.source })
+            (record { before = (offer self.old).sink; after = Self.Writer.told connection.sink }) };
 }

@@ -1,4 +1,7 @@
 ghost use Rattle.std.specs.Prelude.{◌≡◌, [], IfOk, Some, true, false};
+ghost use Rattle.clock_device.specs.Told.{unread, unused};
+ghost use Rattle.clock_device.specs.SourceState.{source_told};
+ghost use Rattle.clock_device.specs.SinkState.{sink_told};
 ghost use Rattle.clock_serving.specs.Exchanges.{Closes};
 
 use crate::closed::Closed;
@@ -76,7 +79,7 @@ impl<'a> Connections for Listed<'a> {
 
     ghost is_open = { λ listed. listed.is_open };
 
-    ghost offer = { λ listed. record { source = Some listed.offered; sink = Some [] } };
+    ghost offer = { λ listed. record { source = unread (Some listed.offered); sink = unused (Some []) } };
 
     ghost closed = { λ listed. Some listed.closed };
 
@@ -110,19 +113,8 @@ impl<'a> Connections for Listed<'a> {
         ensures open { self.new.is_open ≡ false }
         ensures failed { self.new.has_failed ≡ self.old.has_failed }
         ensures closed { Closes (Some self.old.closed) (Some self.new.closed)
-            (record {
-              before = Some self.old.offered;
-              after = Some connection.entry.source.left;
-              calls = connection.entry.source.calls;
-              interruptions = connection.entry.source.interruptions;
-              has_failed = connection.entry.source.has_failed;
-            })
-            (record {
-              before = Some [];
-              after = Some connection.entry.sink.taken;
-              calls = connection.entry.sink.calls;
-              has_failed = connection.entry.sink.has_failed;
-            }) }
+            (record { before = unread (Some self.old.offered); after = source_told connection.entry.source })
+            (record { before = unused (Some []); after = sink_told connection.entry.sink }) }
     {
         self.is_open = false;
         self.closed.push(Closed::new(self.offered, connection));

@@ -1,4 +1,5 @@
 ghost use Rattle.std.specs.Prelude.{◌≡◌, None, false};
+ghost use Rattle.clock_device.specs.Told.{unread, unused};
 
 use crate::connections::{Connection, Connections};
 use clock_device::{Failed, FromReader, ToWriter};
@@ -34,7 +35,7 @@ impl Connections for Listening<'_> {
 
     ghost is_open = { λ listening. listening.is_open };
 
-    ghost offer = { λ listening. record { source = None; sink = None } };
+    ghost offer = { λ listening. record { source = unread None; sink = unused None } };
 
     ghost closed = { λ listening. None };
 

@@ -1,6 +1,5 @@
 ghost use Rattle.std.specs.Prelude.{◌≡◌, ◌≤◌, ℕ, List, OnOk, MatchOption, MatchResult, false, length};
-ghost use Rattle.clock_device.specs.Calls.{IsUnread, IsUnused};
-ghost use Rattle.clock_device.specs.Readings.{Reading};
+ghost use Rattle.clock_device.specs.Told.{IsUnread, IsUnused, Reading};
 ghost use Rattle.clock_serving.specs.Exchanges.{Exchange, HasClosed};
 ghost use Rattle.clock_serving.specs.Serving.{EndsServing, is_accept_fault};
 ghost use Rattle.clock_serving.specs.inside.Served.{EndsOne, FailsToKeep, IsAnswered, IsLeftAlone, IsServed, IsUnkept};
@@ -20,14 +19,11 @@ fn answer_source<P: Processor, K: Keeper, R: Source>(
     keeper: &mut K,
     source: &mut R,
 ) -> Result<Option<Reply>, Failed>
-    requires unread { IsUnread (R.calls source.old) (R.interruptions source.old) (R.has_failed source.old) }
+    requires unread { IsUnread (R.told source.old) }
     requires unfailed { (K.journal keeper.old).has_failed ≡ false }
     ensures answered { let reading : Reading = record {
-      before = R.bytes_left source.old;
-      after = R.bytes_left source.new;
-      calls = R.calls source.new;
-      interruptions = R.interruptions source.new;
-      has_failed = R.has_failed source.new;
+      before = R.told source.old;
+      after = R.told source.new;
     } in MatchResult result
         (λ given. MatchOption given
         (IsLeftAlone reading (K.journal keeper.old) (K.journal keeper.new) front.old front.new)
@@ -54,23 +50,12 @@ fn serve_one<P: Processor, K: Keeper, R: Source, W: Sink>(
     source: &mut R,
     sink: &mut W,
 ) -> Result<(), Failed>
-    requires unread { IsUnread (R.calls source.old) (R.interruptions source.old) (R.has_failed source.old) }
-    requires unused { IsUnused (W.calls sink.old) (W.has_failed sink.old) }
+    requires unread { IsUnread (R.told source.old) }
+    requires unused { IsUnused (W.told sink.old) }
     requires unfailed { (K.journal keeper.old).has_failed ≡ false }
     ensures served { let one : Exchange = record {
-      reading = record {
-        before = R.bytes_left source.old;
-        after = R.bytes_left source.new;
-        calls = R.calls source.new;
-        interruptions = R.interruptions source.new;
-        has_failed = R.has_failed source.new;
-      };
-      writing = record {
-        before = W.bytes_taken sink.old;
-        after = W.bytes_taken sink.new;
-        calls = W.calls sink.new;
-        has_failed = W.has_failed sink.new;
-      };
+      reading = record { before = R.told source.old; after = R.told source.new };
+      writing = record { before = W.told sink.old; after = W.told sink.new };
     } in MatchResult result
         (λ done. IsServed one (K.journal keeper.old) (K.journal keeper.new) front.old front.new)
         (λ failed. IsUnkept K.takes one (K.journal keeper.old) (K.journal keeper.new)) }

@@ -165,6 +165,16 @@ impl Bodies {
         Ok(())
     }
 
+    /// Adds a bid at a price of its own, with a comma behind it. Its front is not kept: nobody else bids at that price, and the
+    /// one that is kept serves the next bidder.
+    pub(crate) fn push_own_bid(&mut self, bid: &Bid) -> Result<(), NoMemory>
+        ensures { OnOk result (Adds (bid_text bid.now) self.old.text.items self.new.text.items) }
+    {
+        push_front(&mut self.text, bid.price, bid.product)?;
+        push_quantity(&mut self.text, bid.quantity)?;
+        Ok(())
+    }
+
     /// Begins the body of a sheet. It tells where its bids begin.
     pub(crate) fn open_sheet(&mut self) -> Result<usize, NoMemory>
         ensures adds { OnOk result (Adds (codes "{\"bids\":[") self.old.text.items self.new.text.items) }

@@ -66,7 +66,7 @@ fn push_block(
     if !is_last(price, next) {
         return Ok(());
     }
-    bodies.push_bid(&Bid {
+    bodies.push_own_bid(&Bid {
         product,
         quantity: before,
         price,

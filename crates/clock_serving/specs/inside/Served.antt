@@ -5,7 +5,7 @@
 --     IsUnkept takes one ..      its text could not be kept
 --     EndsOne takes old new .. result      how serving one ends
 use Rattle.std.specs.Prelude.{◌≡◌, ◌⊎◌, ◌++◌, ℕ, true, List, [], ◌∷◌, length, Option, Result, Ok, Err}
-use Rattle.clock_device.specs.Readings.{Reading}
+use Rattle.clock_device.specs.Told.{Reading}
 use Rattle.clock_device.specs.Writings.{WritesNothing}
 use Rattle.clock_house.specs.House.{HouseFields}
 use Rattle.clock_http.specs.Replies.{Answer}

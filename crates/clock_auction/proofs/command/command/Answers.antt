@@ -6,7 +6,7 @@ use Rattle.clock_auction.proofs.command.command.Goals as goal
 
 pub returns-then-eq-clause-ending : goal.returns-then-eq-clause-ending
 returns-then-eq-clause-ending g c =
-    (stopped fault.Memory, refl, (unread_for_memory _ _ _ _ c.requires.unread, untouched _ _ _ c.requires.unwritten, c.show_fault-then-eq.ensures))
+    (stopped fault.Memory, refl, (unread_for_memory _ c.requires.unread, untouched _ c.requires.unwritten, c.show_fault-then-eq.ensures))
 
 pub returns-in-Err-run-clause-ending : goal.returns-in-Err-run-clause-ending
 returns-in-Err-run-clause-ending g c =
@@ -15,4 +15,4 @@ returns-in-Err-run-clause-ending g c =
 
 pub returns-in_default-clause-ending : goal.returns-in_default-clause-ending
 returns-in_default-clause-ending g c =
-    (stopped fault.Memory, refl, (unread_for_memory _ _ _ _ c.requires.unread, untouched _ _ _ c.requires.unwritten, c.show_fault-in_default.ensures))
+    (stopped fault.Memory, refl, (unread_for_memory _ c.requires.unread, untouched _ c.requires.unwritten, c.show_fault-in_default.ensures))

@@ -9,9 +9,9 @@ returns-in_err-write_all-clause-bytes g c =
 
 pub returns-in_err-write_words-clause-bytes : goal.returns-in_err-write_words-clause-bytes
 returns-in_err-write_words-clause-bytes g c =
-    let taken = g.W.Sink.bytes_taken in
+    let told = g.W.Sink.told in
     first_failed _ _ _ (codes "fault: " ++ fault_words c.args.fault) (codes "\n") _ c.from_residual-in_err-write_words.ensures.1
-    (front_beyond (taken c.args.sink.now) (taken c.write_all.new.sink) (taken c.write_words.new.sink) (codes "fault: ") (fault_words c.args.fault)
+    (front_beyond (told c.args.sink.now).taken (told c.write_all.new.sink).taken (told c.write_words.new.sink).taken (codes "fault: ") (fault_words c.args.fault)
     c.in_ok-write_all.ensures.bytes c.in_err-write_words.ensures.bytes)
 
 pub returns-clause-bytes : goal.returns-clause-bytes

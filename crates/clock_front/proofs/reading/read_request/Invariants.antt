@@ -7,10 +7,10 @@ use Rattle.clock_front.proofs.reading.read_request.Given as goal
 abbrev pub invariant-loop-read : goal.invariant-loop-read
 invariant-loop-read g l = record {
   room : 0 < vec_len l.piece;
-  read : HasRead (g.R.Source.bytes_left l.initial.source) (g.R.Source.bytes_left l.source) l.request;
+  read : HasRead (g.R.Source.told l.initial.source).left (g.R.Source.told l.source).left l.request;
   needed : needs_more l.request ≡ true;
-  counted : g.R.Source.calls l.source ≡ l._read;
-  used : l._read ≤ length l.request + g.R.Source.interruptions l.source;
-  interrupted : g.R.Source.interruptions l.source ≤ l._read;
-  unfailed : g.R.Source.has_failed l.source ≡ false;
+  counted : (g.R.Source.told l.source).calls ≡ l._read;
+  used : l._read ≤ length l.request + (g.R.Source.told l.source).interruptions;
+  interrupted : (g.R.Source.told l.source).interruptions ≤ l._read;
+  unfailed : (g.R.Source.told l.source).has_failed ≡ false;
 }

@@ -1,5 +1,5 @@
 use Rattle.std.proofs.Common.{◌≡◌, List, ℕ, inl, sym, subst}
-use Rattle.clock_device.specs.Readings.{Reading}
+use Rattle.clock_device.specs.Told.{Reading}
 use Rattle.clock_front.specs.Arrivals.{HasArrived}
 use Rattle.clock_serving.proofs.serving.answer_source.Goals as goal
 

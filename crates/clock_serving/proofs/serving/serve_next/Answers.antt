@@ -11,24 +11,12 @@ returns-in-Ok-kept-clause-ends g c =
     let sink = g.C.Writer.Sink in
     let journal = g.K.Keeper.journal in
     let one : Exchange = record {
-      reading = record {
-        before = source.bytes_left c.in-Ok.one.source;
-        after = source.bytes_left c.serve_one-kept.new.source;
-        calls = source.calls c.serve_one-kept.new.source;
-        interruptions = source.interruptions c.serve_one-kept.new.source;
-        has_failed = source.has_failed c.serve_one-kept.new.source;
-      };
-      writing = record {
-        before = sink.bytes_taken c.in-Ok.one.sink;
-        after = sink.bytes_taken c.serve_one-kept.new.sink;
-        calls = sink.calls c.serve_one-kept.new.sink;
-        has_failed = sink.has_failed c.serve_one-kept.new.sink;
-      };
+      reading = record { before = source.told c.in-Ok.one.source; after = source.told c.serve_one-kept.new.source };
+      writing = record { before = sink.told c.in-Ok.one.sink; after = sink.told c.serve_one-kept.new.sink };
     } in (
       one,
       closed_one (g.C.Connections.closed c.args.connections.now) (g.C.Connections.closed c.accept.new.self) (g.C.Connections.closed c.close.new.self)
-          (g.C.Connections.offer c.accept.new.self) one.reading.before one.writing.before
-          (λ bytes. record one.reading { before = bytes }) (λ bytes. record one.writing { before = bytes })
+          (g.C.Connections.offer c.accept.new.self) one.reading one.writing
           c.in-Ok.ensures.closed c.in-Ok.ensures.source c.in-Ok.ensures.sink c.close.ensures.closed,
       subst (λ (kept : JournalState). IsServed one (journal c.args.keeper.now) kept c.args.front.now c.serve_one-kept.new.front)
           (sym c.tell_closing.ensures) c.in-Ok-kept.ensures.served,
