@@ -20,23 +20,23 @@ written_bytes : (before after : Option (List ℕ)) (bytes taken : List ℕ) → 
 written_bytes before after bytes taken written from to =
     subst (λ (b : Option (List ℕ)). HasWritten (Some []) b bytes) to (subst (λ (b : Option (List ℕ)). HasWritten b after bytes) from written)
 
-taken_bytes : (one : Exchange) (answer : Answer) (taken : List ℕ) → WritesReply one.writing answer → one.writing.before ≡ Some []
-    → one.writing.after ≡ Some taken → (count : ℕ) × (taken ≡ take count answer.bytes)
+taken_bytes : (one : Exchange) (answer : Answer) (taken : List ℕ) → WritesReply one.writing answer → one.writing.before.taken ≡ Some []
+    → one.writing.after.taken ≡ Some taken → (count : ℕ) × (taken ≡ take count answer.bytes)
 taken_bytes one answer taken (inl all) from to = (
   length answer.bytes,
-  written_bytes one.writing.before one.writing.after answer.bytes taken all.bytes from to ∙ sym (take_whole answer.bytes),
+  written_bytes one.writing.before.taken one.writing.after.taken answer.bytes taken all.bytes from to ∙ sym (take_whole answer.bytes),
 )
 taken_bytes one answer taken (inr some) from to = (
   some.bytes.0,
-  written_bytes one.writing.before one.writing.after (take some.bytes.0 answer.bytes) taken some.bytes.1 from to,
+  written_bytes one.writing.before.taken one.writing.after.taken (take some.bytes.0 answer.bytes) taken some.bytes.1 from to,
 )
 
 pub told_bytes : ToldBytes
 told_bytes one text answer offered left taken replied from to before after =
     let arrived = replied.arrived in
     let written = taken_bytes one answer taken replied.written before after in (
-      read_bytes one.reading.before one.reading.after text offered left
-          (subst (λ (bytes : List ℕ). HasRead one.reading.before one.reading.after bytes) (sym arrived.2.is) arrived.2.by_need.read) from to,
+      read_bytes one.reading.before.left one.reading.after.left text offered left
+          (subst (λ (bytes : List ℕ). HasRead one.reading.before.left one.reading.after.left bytes) (sym arrived.2.is) arrived.2.by_need.read) from to,
       written.0,
       written.1,
     )

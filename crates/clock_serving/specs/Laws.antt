@@ -8,5 +8,6 @@ use Rattle.clock_serving.specs.Serving.{IsReplied}
 -- of a connection whose sink had taken nothing
 abbrev pub ToldBytes : Type 0
 ToldBytes = (one : Exchange) (text : List ℕ) (answer : Answer) (offered left taken : List ℕ) → IsReplied one text answer
-    → one.reading.before ≡ Some offered → one.reading.after ≡ Some left → one.writing.before ≡ Some [] → one.writing.after ≡ Some taken
+    → one.reading.before.left ≡ Some offered → one.reading.after.left ≡ Some left
+    → one.writing.before.taken ≡ Some [] → one.writing.after.taken ≡ Some taken
     → (offered ≡ text ++ left) × (count : ℕ) × (taken ≡ take count answer.bytes)
