@@ -1,10 +1,16 @@
 -- Where a search for a product begins, when a demand is put in, taken out or set.
-use Rattle.std.proofs.Common.{◌≡◌, ◌≢◌, ℕ, ◌+◌, ◌-◌, ◌<◌, ◌≤◌, List, length, get_or, set, insert, remove, replicate, ap, ◌∙◌, ⊎_elim, arith}
+use Rattle.std.proofs.Common.{◌≡◌, ◌≢◌, ℕ, ◌+◌, ◌-◌, ◌*◌, ◌/◌, ◌<◌, ◌≤◌, List, length, get_or, set, insert, remove, replicate, ap, sym, subst, ◌∙◌, ⊎_elim, arith}
 use Rattle.std.proofs.lemmas.Bool.{cases_eq, cases_lt}
-use Rattle.std.proofs.lemmas.List.{length-set, get_or-set_same, get_or-set_other, get_or-replicate, length-replicate}
+use Rattle.std.proofs.lemmas.List.{get_or_default, length-set, get_or-set_same, get_or-set_other, get_or-replicate, length-replicate}
 use Rattle.std.proofs.lemmas.List.Edits.{length-insert, get_or-insert_below, get_or-insert_at, get_or-insert_above, length-remove, get_or-remove_below, get_or-remove_above}
 use Rattle.clock_terms.specs.declared.row.HeldDemand.{HeldDemand}
-use Rattle.clock_terms.specs.inside.Rows.{IsStart, AreStarts, StandsAt, WouldStandAt}
+use Rattle.clock_terms.specs.HeldDemands.{demands_of}
+use Rattle.clock_terms.specs.inside.Rows.{IsStart, AreStarts, IsKeptRow, StandsAt, WouldStandAt}
+use Rattle.clock_terms.proofs.HeldLaws.{below_count}
+
+-- equal demands are for one product
+same_product : {one other : HeldDemand} → one ≡ other → one.product ≡ other.product
+same_product same = ap (λ (held : HeldDemand). held.product) same
 
 -- a start for products that are not above one is not behind its place
 not_behind : (held : List HeldDemand) (product low place start : ℕ) → IsStart held low start → low ≤ product
@@ -27,7 +33,7 @@ insert_kept held one low place start is below would =
           omega (
             arith,
             is.1 k d from to,
-            ap (λ (other : HeldDemand). other.product) (get_or-insert_below held place one d k (omega (arith, to, before)) within),
+            same_product (get_or-insert_below held place one d k (omega (arith, to, before)) within),
           ),
     )
 
@@ -44,7 +50,7 @@ insert_moved held one high place start is above would =
             arith,
             above,
             would.0.1 k d from before,
-            ap (λ (other : HeldDemand). other.product) (get_or-insert_below held place one d k before within),
+            same_product (get_or-insert_below held place one d k before within),
           ))
           (λ (not_before : place ≤ k).
           ⊎_elim
@@ -53,7 +59,7 @@ insert_moved held one high place start is above would =
             arith,
             above,
             ap (λ (n : ℕ). (get_or (insert held place one) n d).product) here,
-            ap (λ (other : HeldDemand). other.product) (get_or-insert_at held place one d within),
+            same_product (get_or-insert_at held place one d within),
           ))
           (λ (behind : k ≢ place).
           let last : (k - 1) + 1 ≡ k = omega (arith, not_before, behind) in
@@ -61,8 +67,7 @@ insert_moved held one high place start is above would =
             arith,
             is.1 (k - 1) d (omega arith) (omega (arith, to, last)),
             ap (λ (n : ℕ). (get_or (insert held place one) n d).product) last,
-            ap (λ (other : HeldDemand). other.product)
-                (get_or-insert_above held place one d (k - 1) (omega (arith, not_before, behind)) within),
+            same_product (get_or-insert_above held place one d (k - 1) (omega (arith, not_before, behind)) within),
           ))
           (cases_eq k place))
           (cases_lt k place),
@@ -78,7 +83,7 @@ remove_kept held product low place start is below stands =
           omega (
             arith,
             is.1 k d from to,
-            ap (λ (other : HeldDemand). other.product) (get_or-remove_below held place d k (omega (arith, to, before)) stands.1),
+            same_product (get_or-remove_below held place d k (omega (arith, to, before)) stands.1),
           ),
     )
 
@@ -94,13 +99,13 @@ remove_moved held product high place start is above stands = (
         arith,
         above,
         stands.0.1 k d from before,
-        ap (λ (other : HeldDemand). other.product) (get_or-remove_below held place d k before stands.1),
+        same_product (get_or-remove_below held place d k before stands.1),
       ))
       (λ (behind : place ≤ k).
       omega (
         arith,
         is.1 (k + 1) d (omega arith) (omega (arith, to)),
-        ap (λ (other : HeldDemand). other.product) (get_or-remove_above held place d k behind stands.1),
+        same_product (get_or-remove_above held place d k behind stands.1),
       ))
       (cases_lt k place),
 )
@@ -119,13 +124,13 @@ set_kept held one place low start stands is = (
         stands.2 d,
         ap (λ (n : ℕ). (get_or held n d).product) here,
         ap (λ (n : ℕ). (get_or (set held place one) n d).product) here,
-        ap (λ (other : HeldDemand). other.product) (get_or-set_same held place one d stands.1),
+        same_product (get_or-set_same held place one d stands.1),
       ))
       (λ (elsewhere : k ≢ place).
       omega (
         arith,
         is.1 k d from to,
-        ap (λ (other : HeldDemand). other.product) (get_or-set_other held place k one d elsewhere),
+        same_product (get_or-set_other held place k one d elsewhere),
       ))
       (cases_eq k place),
 )
@@ -137,3 +142,15 @@ starts_none held starts count zeros = λ block within.
     ap (λ (list : List ℕ). get_or list block 0) zeros
     ∙ get_or-replicate count block 0 0 (omega (arith, within, ap (λ (list : List ℕ). length list) zeros, length-replicate {A = ℕ} count 0)) in
     (omega (arith, none), λ k d low high. absurd (omega (arith, high, none)))
+
+-- a product of a row is looked for from the start of its block, as it is read
+pub start_read : (count : ℕ) (held seen : List HeldDemand) (starts : List ℕ) (capacity : ℕ) (row : List ℕ) (product start : ℕ)
+    → IsKeptRow count held starts capacity → demands_of count held ≡ row → product < length row → seen ≡ held
+    → start ≡ get_or starts (product / 16) start → IsStart seen product start
+start_read count held seen starts capacity row product start kept is within same read =
+    let block = product / 16 in
+    let known : block < length starts = omega (arith, kept.searched, below_count count held row product is within) in
+    let first = kept.starts block known in
+    let whole : start ≡ get_or starts block 0 = read ∙ get_or_default starts block start 0 known in
+    subst (λ (list : List HeldDemand). IsStart list product start) (sym same)
+    (omega (arith, whole, first.0), λ k d low high. omega (arith, first.1 k d low (omega (arith, whole, high))))
