@@ -127,11 +127,7 @@ set_kept held one place low start stands is = (
         same_product (get_or-set_same held place one d stands.1),
       ))
       (λ (elsewhere : k ≢ place).
-      omega (
-        arith,
-        is.1 k d from to,
-        same_product (get_or-set_other held place k one d elsewhere),
-      ))
+      omega (arith, is.1 k d from to, same_product (get_or-set_other held place k one d elsewhere)))
       (cases_eq k place),
 )
 
