@@ -1,6 +1,6 @@
 //! The commands and options of the program, as clap is told of them.
 ghost use Rattle.std.specs.Prelude.{◌≡◌, codes, false, IfOk, IfErr};
-ghost use Rattle.clap.specs.Words.{app_of, kind_of, new_app, rule_of, with_subcommand};
+ghost use Rattle.clap.specs.Words.{App, app_of, kind_of, new_app, rule_of, with_subcommand};
 ghost use Rattle.clap.specs.Simple.{on_top};
 ghost use Rattle.clap.specs.declared.builder.Command.TheViews.{out-Command};
 ghost use Rattle.clock_words.specs.Words.{asks_for_a_command, grammar, files_grammar, journal_rule, needed_rule};
@@ -179,18 +179,19 @@ fn program_alone<'a>(alloc: Global) -> Result<Command<'a>, Error>
     )
 }
 
-/// A program with `prices`.
-fn with_prices<'a>(
-    alloc: Global,
+/// A program with a command that is made, where it is.
+fn with_command<'a>(
     program: Command<'a>,
-    helps: &'a NumberHelps,
+    made: Result<Command<'a>, Error>,
 ) -> Result<Command<'a>, Error>
-    ensures shape { IfOk result (λ command. app_of command ≡ with_subcommand (app_of program.entry)
-        prices_grammar.top) }
-    ensures err { IfErr result (λ error. kind_of error ≡ ErrorKind.OutOfMemory) }
+    ensures shape { (app : App) → IfOk made.entry (λ command. app_of command ≡ app)
+        → IfOk made.entry (λ command. (out-Command command).has_globals ≡ false)
+        → IfOk result (λ command. app_of command ≡ with_subcommand (app_of program.entry) app.top) }
+    ensures err { IfErr made.entry (λ error. kind_of error ≡ ErrorKind.OutOfMemory)
+        → IfErr result (λ error. kind_of error ≡ ErrorKind.OutOfMemory) }
 {
-    match prices_command(alloc, helps) {
-        Ok(prices) => Ok(program.subcommand(prices)?),
+    match made {
+        Ok(command) => Ok(program.subcommand(command)?),
         Err(error) => {
             drop(program);
             Err(error)
@@ -214,51 +215,12 @@ fn with_plain<'a>(
     Ok(program.subcommand(command)?)
 }
 
-/// A program with `serve`.
-fn with_serve<'a>(
-    alloc: Global,
-    program: Command<'a>,
-    helps: &'a NumberHelps,
-) -> Result<Command<'a>, Error>
-    ensures shape { IfOk result (λ command. app_of command ≡ with_subcommand (app_of program.entry) serve_grammar.top) }
-    ensures err { IfErr result (λ error. kind_of error ≡ ErrorKind.OutOfMemory) }
-{
-    match serve_command(alloc, helps) {
-        Ok(serve) => Ok(program.subcommand(serve)?),
-        Err(error) => {
-            drop(program);
-            Err(error)
-        }
-    }
-}
-
-/// A program with a command of a set-up document and a journal.
-fn with_files<'a>(
-    alloc: Global,
-    program: Command<'a>,
-    name: &'a str,
-    about: &'a str,
-    help: &'a str,
-) -> Result<Command<'a>, Error>
-    ensures shape { IfOk result (λ command. app_of command ≡ with_subcommand (app_of program.entry)
-        (files_grammar name.now).top) }
-    ensures err { IfErr result (λ error. kind_of error ≡ ErrorKind.OutOfMemory) }
-{
-    match files_command(alloc, name, about, help) {
-        Ok(command) => Ok(program.subcommand(command)?),
-        Err(error) => {
-            drop(program);
-            Err(error)
-        }
-    }
-}
-
 /// The program's commands.
 pub fn program<'a>(alloc: Global, helps: &'a NumberHelps) -> Result<Command<'a>, Error>
     ensures shape { IfOk result (λ command. app_of command ≡ grammar) }
     ensures err { IfErr result (λ error. kind_of error ≡ ErrorKind.OutOfMemory) }
 {
-    let priced = with_prices(alloc, program_alone(alloc)?, helps)?;
+    let priced = with_command(program_alone(alloc)?, prices_command(alloc, helps))?;
     let opened = with_plain(
         alloc,
         priced,
@@ -273,20 +235,24 @@ pub fn program<'a>(alloc: Global, helps: &'a NumberHelps) -> Result<Command<'a>,
         "Plays an auction of scripted bidders and prints its rounds and what each won",
         REPLAY_HELP,
     )?;
-    let served = with_serve(alloc, replayed, helps)?;
-    let told = with_files(
-        alloc,
+    let served = with_command(replayed, serve_command(alloc, helps))?;
+    let told = with_command(
         served,
-        "journal",
-        "Prints what a journal holds, text by text",
-        JOURNAL_HELP,
+        files_command(
+            alloc,
+            "journal",
+            "Prints what a journal holds, text by text",
+            JOURNAL_HELP,
+        ),
     )?;
-    let audited = with_files(
-        alloc,
+    let audited = with_command(
         told,
-        "audit",
-        "Recounts an auction from its journal and prints its rounds and what each bidder won",
-        AUDIT_HELP,
+        files_command(
+            alloc,
+            "audit",
+            "Recounts an auction from its journal and prints its rounds and what each bidder won",
+            AUDIT_HELP,
+        ),
     )?;
     Ok(audited)
 }
