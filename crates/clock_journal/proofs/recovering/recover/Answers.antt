@@ -1,4 +1,4 @@
-use Rattle.std.proofs.Common.{◌≡◌, [], inr, length, drop, refl, sym, ◌∙◌, rules}
+use Rattle.std.proofs.Common.{◌≡◌, [], inr, length, drop, refl, sym, rules}
 use Rattle.clock_journal.specs.Headings.{begun, headed, of_another, unknown}
 use Rattle.clock_journal.proofs.Recovery.{told_of_left, after_stop, of_replay, refused_of, begun_is, rest_within}
 use Rattle.clock_journal.proofs.recovering.recover.Goals as goal
