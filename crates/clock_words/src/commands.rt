@@ -67,16 +67,24 @@ fn prices_command<'a>(alloc: Global, helps: &'a NumberHelps) -> Result<Command<'
     Ok(prices.arg(increment)?)
 }
 
+/// An option of a file, which must be given.
+fn needed_option<'a>(alloc: Global, name: &'a str, help: &'a str) -> Arg<'a>
+    ensures rule { rule_of result ≡ needed_rule name.now }
+    ensures local { result.global ≡ false }
+{
+    Arg::new(alloc, name)
+        .long(name)
+        .value_name("FILE")
+        .required(true)
+        .help(help)
+}
+
 /// `--setup FILE`.
 fn setup_option<'a>(alloc: Global) -> Arg<'a>
     ensures rule { rule_of result ≡ needed_rule (codes "setup") }
     ensures local { result.global ≡ false }
 {
-    Arg::new(alloc, "setup")
-        .long("setup")
-        .value_name("FILE")
-        .required(true)
-        .help("The file of the set-up document")
+    needed_option(alloc, "setup", "The file of the set-up document")
 }
 
 /// `--journal FILE`, which may be left out.
@@ -88,18 +96,6 @@ fn journal_option<'a>(alloc: Global) -> Arg<'a>
         .long("journal")
         .value_name("FILE")
         .help("The file in which accepted sheets and closings are kept")
-}
-
-/// `--journal FILE`.
-fn needed_journal_option<'a>(alloc: Global) -> Arg<'a>
-    ensures rule { rule_of result ≡ needed_rule (codes "journal") }
-    ensures local { result.global ≡ false }
-{
-    Arg::new(alloc, "journal")
-        .long("journal")
-        .value_name("FILE")
-        .required(true)
-        .help("The file in which accepted sheets and closings were kept")
 }
 
 /// An option of a number from 1 on.
@@ -159,7 +155,12 @@ fn files_command<'a>(
 {
     let command = Command::new(alloc, name).about(about).after_help(help);
     let with_setup = command.arg(setup_option(alloc))?;
-    Ok(with_setup.arg(needed_journal_option(alloc))?)
+    let journal = needed_option(
+        alloc,
+        "journal",
+        "The file in which accepted sheets and closings were kept",
+    );
+    Ok(with_setup.arg(journal)?)
 }
 
 /// The program without its commands.
