@@ -208,26 +208,40 @@ asked_row products prices demands bids good = record {
       omega (arith, is, most));
 }
 
--- a pass over the bids, with the table of the last ones
-module _ (products : List Product) (prices : List PricePair) (demands : List ℕ) (bids : List Bid) (last : List (Option Bid)) (i : ℕ)
-    (good : AreGoodChains products prices demands (take i bids)) (table : last ≡ last_bids (length products) (take i bids)) where
+-- what is told of the bid at a place: the last one before it for the same product, and its first fault
+pub record IsJudged (products : List Product) (prices : List PricePair) (demands : List ℕ) (bids : List Bid) (i : ℕ) (last : Option Bid)
+    (fault : Option BidFault) : Type 0 where
+  pub last_is : last ≡ get_or (last_bids (length products) (take i bids)) (get_or bids i no_bid).product None
+  pub fault_is : first_fault (bid_checks products prices demands (take i bids) i (get_or bids i no_bid)) ≡ fault
+
+-- a pass over the bids, those before a place being good
+module _ (products : List Product) (prices : List PricePair) (demands : List ℕ) (bids : List Bid) (i : ℕ)
+    (good : AreGoodChains products prices demands (take i bids)) where
   abbrev here : Bid
   here = get_or bids i no_bid
 
-  pub checks_here : first_fault (bid_checks products prices demands (take i bids) i here) ≡ first_fault
-      (checks_by_last products prices demands (get_or last here.product None) i here)
-  checks_here =
-      bid_checks-by_last products prices demands (take i bids) i here good
-      ∙ ap (λ entries. first_fault (checks_by_last products prices demands (get_or entries here.product None) i here)) (sym table)
+  -- the products may be read from elsewhere
+  pub judged_by : (seen : List Product) (last : Option Bid) (fault : Option BidFault) → seen ≡ products →
+      last ≡ get_or (last_bids (length seen) (take i bids)) here.product None → fault ≡ first_fault (checks_by_last seen prices demands last i here) →
+      IsJudged products prices demands bids i last fault
+  judged_by seen last fault same before judged =
+      let last_is : last ≡ get_or (last_bids (length products) (take i bids)) here.product None =
+      before ∙ ap (λ (list : List Product). get_or (last_bids (length list) (take i bids)) here.product None) same in
+      record {
+        last_is = last_is;
+        fault_is = bid_checks-by_last products prices demands (take i bids) i here good
+            ∙ sym (judged ∙ ap (λ list. first_fault (checks_by_last list prices demands last i here)) same
+            ∙ ap (λ one. first_fault (checks_by_last products prices demands one i here)) last_is);
+      }
 
-  module _ (within : i < length bids) (none : first_fault (checks_by_last products prices demands (get_or last here.product None) i here) ≡ None) where
-    pub good_chains-more : AreGoodChains products prices demands (take (i + 1) bids)
-    good_chains-more =
+  module _ (none : first_fault (bid_checks products prices demands (take i bids) i here) ≡ None) where
+    pub good_chains-more : i < length bids → AreGoodChains products prices demands (take (i + 1) bids)
+    good_chains-more within =
         subst (λ part. AreGoodChains products prices demands part) (sym (take_more bids i no_bid within))
-        (good_chains-push products prices demands (take i bids) i here good (checks_here ∙ none))
+        (good_chains-push products prices demands (take i bids) i here good none)
 
     pub known_here : here.product < length products
-    known_here = (so_far_good products prices demands (take i bids) i here (checks_here ∙ none)).known
+    known_here = (so_far_good products prices demands (take i bids) i here none).known
 
 -- what a good sheet asks for is a row of demands, of an activity within the limit; in round 1 that is the eligibility
 module _ (setup : PublicSetup) (round : ℕ) (prices : List PricePair) (holding : Holding) (bids : List Bid)

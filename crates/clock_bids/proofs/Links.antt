@@ -41,10 +41,6 @@ falls_on : (from : ℕ) (chain : List Bid) → Falls from chain → MovesOn Redu
 falls_on from [] falls = tt
 falls_on from (bid ∷ bids) falls = (falls.0, falls_on bid.quantity bids falls.1)
 
-or_stays : (way : Kind) (from to : ℕ) → LeadsOn way from to → LeadsOnOrStays way from to
-or_stays Increase from to on = omega (arith, on)
-or_stays Reduction from to on = omega (arith, on)
-
 stays : (way : Kind) (from : ℕ) → LeadsOnOrStays way from from
 stays Increase from = omega arith
 stays Reduction from = omega arith

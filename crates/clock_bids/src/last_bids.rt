@@ -1,4 +1,4 @@
-ghost use Rattle.std.specs.Prelude.{◌≡◌, ◌≢◌, ◌≤◌, ◌<◌, ◌+◌, [], ℕ, None, length, map, take, All, OnOk, IfOk, slice_index_or, slice_set};
+ghost use Rattle.std.specs.Prelude.{◌≡◌, ◌≤◌, ◌<◌, ◌+◌, [], None, length, map, take, All, OnOk, IfOk, slice_index_or, slice_set};
 ghost use Rattle.clock_bids.specs.Sheet.{most_bids};
 ghost use Rattle.clock_bids.specs.inside.Chains.{bid_at, last_bids};
 ghost use Rattle.clock_bids.specs.inside.LastBids.{AreLastPlaces};

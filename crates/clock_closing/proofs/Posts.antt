@@ -9,7 +9,6 @@ use Rattle.clock_terms.specs.Increments.{are_increments}
 use Rattle.clock_terms.specs.Faults.{first_fault, unless, IsFirstFault, IsRefusal}
 use Rattle.clock_order.specs.declared.ties.Tie.{Tie}
 use Rattle.clock_order.specs.declared.ties.TieFault.{TieFault}
-use Rattle.clock_order.specs.declared.ties.TieFault.TheVariants as tie_faults
 use Rattle.clock_order.specs.Ties.{tie_fault}
 use Rattle.clock_posting.specs.declared.sheet.RoundSheet.{RoundSheet}
 use Rattle.clock_posting.specs.declared.posting.Posting.{Posting}
@@ -21,7 +20,7 @@ use Rattle.clock_closing.specs.declared.fault.CloseFault.{CloseFault}
 use Rattle.clock_closing.specs.declared.fault.CloseFault.TheVariants as close_faults
 use Rattle.clock_closing.specs.declared.results.Results.{Results}
 use Rattle.clock_closing.specs.Faults.{fault_check}
-use Rattle.clock_closing.specs.ToldFaults.{told_of_post, told_of_tie}
+use Rattle.clock_closing.specs.ToldFaults.{told_of_post}
 use Rattle.clock_closing.specs.OpenRound.{OpenRound}
 use Rattle.clock_closing.specs.Closing.{ClosedRound, RoundResult, round_result, closed_round, closing, slips_after}
 use Rattle.clock_closing.specs.Results.{AreConsistent, demands_of}
@@ -97,13 +96,3 @@ module _ (setup : PublicSetup) (now : OpenRound) (round : ℕ) (increments : Inc
       tie_fault (length now.holdings) (length setup.products) ties ≡ None →
       closing setup now round increments ties ≡ by_tests false true true None
   closes-fair going current within fair = closes-tied going current within None fair
-
-  -- with a fault of the tie numbers
-  pub closes-tie_fault : (fault : TieFault) → now.standing.ended ≡ false → round ≡ now.standing.round →
-      are_increments (length setup.products) increments ≡ true →
-      IsFirstFault tie_faults.NoMemory (tie_fault (length now.holdings) (length setup.products) ties) fault →
-      IsRefusal close_faults.NoMemory (closing setup now round increments ties) (told_of_tie fault)
-  closes-tie_fault (tie_faults.Range i) going current within is = λ other. closes-tied going current within (Some (tie_faults.Range i)) (is (λ same. cc))
-  closes-tie_fault (tie_faults.Repeated i) going current within is = λ other. closes-tied going current within (Some (tie_faults.Repeated i)) (is (λ same. cc))
-  closes-tie_fault tie_faults.TooMany going current within is = λ other. closes-tied going current within (Some tie_faults.TooMany) (is (λ same. cc))
-  closes-tie_fault tie_faults.NoMemory going current within is = λ other. absurd (other refl)

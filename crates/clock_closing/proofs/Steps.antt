@@ -3,7 +3,8 @@ use Rattle.std.proofs.Common.{◌≡◌, ℕ, ◌<◌, List, true, refl, ap, sub
 use Rattle.std.specs.Prelude.{None}
 use Rattle.std.proofs.lemmas.List.{length-map}
 use Rattle.clock_terms.specs.declared.increments.Increments.{Increments}
-use Rattle.clock_terms.specs.Limits.{IsRow, public_setup}
+use Rattle.clock_terms.specs.declared.setup.Product.{Product}
+use Rattle.clock_terms.specs.Limits.{IsRow, SetupFields, public_setup}
 use Rattle.clock_terms.specs.Increments.{are_increments}
 use Rattle.clock_terms.specs.Demands.{IsGrid}
 use Rattle.clock_bids.specs.Sheet.{asked_demands}
@@ -52,3 +53,13 @@ module _ (round : OpenRoundFields) (is : IsOpenRound round) where
   closes-good increments ties within fair =
       closes-fair (public_setup round.setup) round.before round.before.standing.round increments ties is.going refl within
       (ap (λ (n : ℕ). tie_fault n (length round.setup.products) ties) is.holdings ∙ fair)
+
+  -- also where they are tested by what is read of the set-up
+  pub closes-tested : (setup : SetupFields) (listed : List Product) (increments : Increments) (ties : List Tie) → setup ≡ round.setup →
+      listed ≡ setup.products → are_increments (length listed) increments ≡ true → tie_fault (length setup.bidders) (length setup.products) ties ≡ None →
+      closing (public_setup round.setup) round.before round.before.standing.round increments ties
+      ≡ posted_now (public_setup round.setup) round.before increments ties
+  closes-tested setup listed increments ties same read within fair =
+      closes-good increments ties
+      (subst (λ (list : List Product). are_increments (length list) increments ≡ true) (read ∙ ap (λ (one : SetupFields). one.products) same) within)
+      (subst (λ (one : SetupFields). tie_fault (length one.bidders) (length one.products) ties ≡ None) same fair)

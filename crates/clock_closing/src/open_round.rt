@@ -1,16 +1,13 @@
 ghost use Rattle.std.specs.Prelude.{◌≡◌, ◌≢◌, ◌<◌, None, length, slice_index_or, option_copied, IfOk, IfErr};
-ghost use Rattle.clock_terms.specs.Limits.{public_setup, most_bidders};
+ghost use Rattle.clock_terms.specs.Limits.{public_setup};
 ghost use Rattle.clock_terms.specs.Faults.{IsRefusal};
 ghost use Rattle.clock_terms.specs.Increments.{AreIncrements};
 ghost use Rattle.clock_bids.specs.Holding.{holding_of};
 ghost use Rattle.clock_order.specs.declared.ties.TieFault.TheVariants as tie_faults;
-ghost use Rattle.clock_processor.specs.Board.{IsWithinEligibility};
 ghost use Rattle.clock_closing.specs.declared.fault.CloseFault.TheVariants as close_faults;
-ghost use Rattle.clock_closing.specs.OpenRound.{IsOpenRound, open_at, holding_at, bids_at};
-ghost use Rattle.clock_closing.specs.inside.OpenRound.{eligibilities_of};
+ghost use Rattle.clock_closing.specs.OpenRound.{IsOpenRound, open_at, holding_at};
 ghost use Rattle.clock_closing.specs.Closing.{closing_now};
 ghost use Rattle.clock_closing.specs.Prepared.{Answers};
-ghost use Rattle.clock_closing.specs.Results.{demands_of};
 ghost use Rattle.clock_closing.specs.inside.Postings.{AreResults, posted_now};
 
 mod first_round;

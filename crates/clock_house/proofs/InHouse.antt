@@ -10,9 +10,8 @@ use Rattle.clock_closing.specs.Holdings.{Holding, first_holding, holding_after, 
 use Rattle.clock_closing.specs.OpenRound.{OpenRound, open_at, holding_at}
 use Rattle.clock_house.specs.Standing.{Standing}
 use Rattle.clock_house.specs.History.{ClosedRound, holding, for_each_bidder}
-use Rattle.clock_house.specs.inside.OpenRounds.{no_slip}
+use Rattle.clock_house.specs.inside.OpenRounds.{no_slip, open_round_in}
 use Rattle.clock_house.specs.House.{HouseFields, standing_in, holding_in}
-use Rattle.clock_house.specs.inside.OpenRounds.{open_round_in}
 use Rattle.clock_house.specs.Laws.{AreNumbered}
 
 abbrev nothing : Holding

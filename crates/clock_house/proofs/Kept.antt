@@ -11,9 +11,8 @@ use Rattle.clock_house.specs.Command.{Command}
 use Rattle.clock_terms.specs.Prices.{opening_prices}
 use Rattle.clock_closing.specs.OpenRound.{OpenRound, IsOpenRound}
 use Rattle.clock_house.specs.History.{ClosedRound, round_at, history, standing, holding, for_each_bidder}
-use Rattle.clock_house.specs.inside.OpenRounds.{open_round}
+use Rattle.clock_house.specs.inside.OpenRounds.{open_round, open_round_in}
 use Rattle.clock_house.specs.House.{HouseFields, StandsFor, standing_in, holding_in}
-use Rattle.clock_house.specs.inside.OpenRounds.{open_round_in}
 use Rattle.clock_house.specs.Laws.{AreNumbered, IsSound, IsOpen}
 use Rattle.clock_house.proofs.Sound.{sound, open_sound}
 use Rattle.clock_house.proofs.Numbers.{numbered, round-closed, first_prices, reverse_cons}

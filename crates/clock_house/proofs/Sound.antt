@@ -27,11 +27,9 @@ use Rattle.clock_closing.specs.OpenRound.{OpenRound, holding_at, bids_at, bidder
 use Rattle.clock_closing.specs.inside.OpenRound.{eligibilities_of}
 use Rattle.clock_closing.specs.Closing.{RoundResult, round_result, closed_round, slip_after}
 use Rattle.clock_house.specs.History.{ClosedRound, Auction, standing, holding, bidder_at, slip_of}
-use Rattle.clock_house.specs.inside.OpenRounds.{no_slip}
+use Rattle.clock_house.specs.inside.OpenRounds.{no_slip, open_round, grid_after}
 use Rattle.clock_house.specs.History.{sheet_in_force, closing_of, after_closing, history}
-use Rattle.clock_house.specs.inside.OpenRounds.{open_round}
 use Rattle.clock_house.specs.Laws.{IsWithinLimits, HasSoundPrices, AreNumbered, StaysSupplied, IsSound, IsOpen}
-use Rattle.clock_house.specs.inside.OpenRounds.{grid_after}
 use Rattle.clock_closing.proofs.Closings.{IsClosing, closing_passed}
 use Rattle.clock_house.proofs.Numbers.{numbered, round-closed, first_prices}
 use Rattle.clock_house.proofs.Sheets.{first_accepted_good}

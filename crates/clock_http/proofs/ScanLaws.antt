@@ -18,32 +18,31 @@ further : (i : ℕ) (o : Option ℕ) → option_map (λ k. i + k) (option_map (�
 further i None = refl
 further i (Some k) = ap Some (omega arith)
 
+-- what is left begins with the byte at its place
+first_byte : (text : List ℕ) (i : ℕ) → i < length text → drop i text ≡ get_or text i 0 ∷ drop (i + 1) text
+first_byte text i lt = drop-cons text i 0 lt ∙ ap (λ n. get_or text i 0 ∷ drop n text) (sym (add-one i))
+
+-- one byte is tested
+tested : (text : List ℕ) (i : ℕ) (begins : Bool) → i < length text → starts_with nat_eq (drop i text) empty_line ≡ begins
+    → option_map (λ k. i + k) (head_length (drop i text))
+    ≡ option_map (λ k. i + k) (cond begins (Some 4) (option_map (λ k. suc k) (head_length (drop (i + 1) text))))
+tested text i begins lt is =
+    ap (λ t. option_map (λ k. i + k) (head_length t)) (first_byte text i lt)
+    ∙ ap (λ t. option_map (λ k. i + k) (cond t (Some 4) (option_map (λ k. suc k) (head_length (drop (i + 1) text)))))
+    (ap (λ t. starts_with nat_eq t empty_line) (sym (first_byte text i lt)) ∙ is)
+
 pub goes_on : (text : List ℕ) (i : ℕ) → i < length text → starts_with nat_eq (drop i text) empty_line ≡ false
     → option_map (λ k. i + k) (head_length (drop i text)) ≡ option_map (λ k. (i + 1) + k) (head_length (drop (i + 1) text))
-goes_on text i lt fails =
-    let split : drop i text ≡ get_or text i 0 ∷ drop (i + 1) text = drop-cons text i 0 lt ∙ ap (λ n. get_or text i 0 ∷ drop n text) (sym (add-one i)) in
-    let b = get_or text i 0 in
-    let rest = drop (i + 1) text in
-    let test : starts_with nat_eq (b ∷ rest) empty_line ≡ false = ap (λ t. starts_with nat_eq t empty_line) (sym split) ∙ fails in
-    ap (λ t. option_map (λ k. i + k) (head_length t)) split
-    ∙ ap (λ t. option_map (λ k. i + k) (cond t (Some 4) (option_map (λ k. suc k) (head_length rest)))) test
-    ∙ further i (head_length rest)
+goes_on text i lt fails = tested text i false lt fails ∙ further i (head_length (drop (i + 1) text))
 
 pub stops : (text : List ℕ) (i : ℕ) → i < length text → starts_with nat_eq (drop i text) empty_line ≡ true
     → option_map (λ k. i + k) (head_length (drop i text)) ≡ Some (i + 4)
-stops text i lt holds =
-    let split : drop i text ≡ get_or text i 0 ∷ drop (i + 1) text = drop-cons text i 0 lt ∙ ap (λ n. get_or text i 0 ∷ drop n text) (sym (add-one i)) in
-    let b = get_or text i 0 in
-    let rest = drop (i + 1) text in
-    let test : starts_with nat_eq (b ∷ rest) empty_line ≡ true = ap (λ t. starts_with nat_eq t empty_line) (sym split) ∙ holds in
-    ap (λ t. option_map (λ k. i + k) (head_length t)) split
-    ∙ ap (λ t. option_map (λ k. i + k) (cond t (Some 4) (option_map (λ k. suc k) (head_length rest)))) test
+stops text i lt holds = tested text i true lt holds
 
 -- no empty line begins with another byte than a CR
 other_byte : (text : List ℕ) (i : ℕ) → i < length text → get_or text i 0 ≢ 13 → starts_with nat_eq (drop i text) empty_line ≡ false
 other_byte text i lt other =
-    let split : drop i text ≡ get_or text i 0 ∷ drop (i + 1) text = drop-cons text i 0 lt ∙ ap (λ n. get_or text i 0 ∷ drop n text) (sym (add-one i)) in
-    ap (λ t. starts_with nat_eq t empty_line) split
+    ap (λ t. starts_with nat_eq t empty_line) (first_byte text i lt)
     ∙ ap (λ t. t && pointwise nat_eq (10 ∷ 13 ∷ 10 ∷ []) (take 3 (drop (i + 1) text))) (ne_eqb 13 (get_or text i 0) (λ same. other (sym same)))
 
 -- none begins up to the next CR
@@ -62,6 +61,15 @@ passed text from (suc count) within others =
 -- the slice from i on
 pub tail : (text : List ℕ) (i : ℕ) → take (length text - i) (drop i text) ≡ drop i text
 tail text i = take_all (length text - i) (drop i text) (omega (arith, length-drop i text))
+
+-- a place in it is one of the text
+pub in_tail : (text : List ℕ) (from ahead : ℕ) → ahead < length (take (length text - from) (drop from text)) → from + ahead < length text
+in_tail text from ahead within = omega (arith, within, ap length (tail text from), length-drop from text)
+
+-- and a test of it is one of what is left of the text
+pub tail_tested : (text : List ℕ) (i : ℕ) (result begins : Bool) → result ≡ starts_with nat_eq (take (length text - i) (drop i text)) empty_line
+    → result ≡ begins → starts_with nat_eq (drop i text) empty_line ≡ begins
+tail_tested text i result begins test is = ap (λ t. starts_with nat_eq t empty_line) (sym (tail text i)) ∙ sym test ∙ is
 
 -- none begins before the byte that a search for a CR finds
 pub searched : (text : List ℕ) (from ahead : ℕ) → from + ahead ≤ length text

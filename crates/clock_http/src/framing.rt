@@ -1,4 +1,4 @@
-ghost use Rattle.std.specs.Prelude.{◌≡◌, ◌≤◌, ℕ, List, length, option_map, codes};
+ghost use Rattle.std.specs.Prelude.{◌≡◌, ℕ, List, length, option_map, codes};
 ghost use Rattle.httparse.specs.Spans.{span_bytes};
 ghost use Rattle.clock_http.specs.Framing.{needs_more as needs_more_of};
 ghost use Rattle.clock_http.specs.Heads.{same_bytes};

@@ -5,7 +5,7 @@ use Rattle.std.proofs.lemmas.List.{length-take, append_assoc, take-append-drop, 
 use Rattle.std.proofs.lemmas.Slice.Eq.{bytes_eq-Decides}
 use Rattle.clock_journal.specs.Format.{head, kind, records, last_link}
 use Rattle.clock_journal.specs.Reading.{Reads, Ends, onto, next, damaged, whole}
-use Rattle.clock_journal.specs.Headings.{begun, headed, of_another, unknown, heading}
+use Rattle.clock_journal.specs.Headings.{Heading, begun, headed, of_another, unknown, heading}
 use Rattle.clock_journal.specs.Kept.{file_of}
 use Rattle.clock_journal.specs.Crash.{ReadsSome, LeavesTexts}
 use Rattle.clock_journal.specs.inside.Replays.{IsReplayed, IsStopped}
@@ -34,6 +34,11 @@ heading_of_left digest left texts least size leaves =
     let e : 24 + length digest ≡ 56 = omega arith in
     let same : take 56 left ≡ head digest = ap (λ (n : ℕ). take n left) (sym e) ∙ leaves.headed in
     headed_is digest left same (omega (arith, ap length same, length-take 56 left, length-head digest))
+
+-- so no other answer is given of it
+pub told_of_left : (digest left : List ℕ) (texts : List (List ℕ)) (least : ℕ) (told : Heading) → length digest ≡ 32 → LeavesTexts digest left texts least
+    → told ≡ heading digest left → told ≡ headed (drop 56 left)
+told_of_left digest left texts least told size leaves is = is ∙ heading_of_left digest left texts least size leaves
 
 -- and all is taken that was on the disk
 has_taken : (old new : List (List ℕ) → Type 0) (digest left bytes : List ℕ) (texts : List (List ℕ)) (least size : ℕ) (recovered : Recovered) → length digest ≡ 32

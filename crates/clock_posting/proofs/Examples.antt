@@ -4,10 +4,9 @@ use Rattle.clock_terms.specs.declared.increments.Increments.TheVariants.{Single,
 use Rattle.clock_terms.specs.declared.setup.Product.{Product}
 use Rattle.clock_terms.specs.declared.prices.PricePair.{PricePair}
 use Rattle.clock_terms.specs.Prices.{opening_prices}
-use Rattle.clock_terms.proofs.Examples.{one_product, two_products, two_blocks}
+use Rattle.clock_terms.proofs.Examples.{one_product, two_products, two_blocks, request}
 use Rattle.clock_terms.specs.declared.change.Change.{Change}
 use Rattle.clock_terms.specs.declared.change.Kind.TheVariants.{Increase, Reduction}
-use Rattle.clock_terms.proofs.Examples.{request}
 use Rattle.clock_posting.specs.declared.sheet.Line.{Line}
 use Rattle.clock_posting.specs.Posting.{opening_posted, price_limit_fault, round_sheet}
 use Rattle.clock_posting.specs.PostedPrice.{posted_prices}

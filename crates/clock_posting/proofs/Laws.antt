@@ -1,6 +1,6 @@
 -- The laws that each posting keeps.
 use Rattle.std.proofs.Common.{◌≡◌, ℕ, ◌<◌, ◌≤◌, Bool, true, false, List, length, get_or, map, Option, None, refl, ap, sym, ◌∙◌, arith, zero-add}
-use Rattle.std.specs.Prelude.{◌↔◌, All, IsNone, IsTrue, IfSome, Some, is_none, if◌then◌else◌}
+use Rattle.std.specs.Prelude.{◌↔◌, All, IsNone, IsTrue, IfSome, Some, if◌then◌else◌}
 use Rattle.std.specs.List.{range_with_len}
 use Rattle.std.proofs.lemmas.List.{get_or-map, length-map}
 use Rattle.std.proofs.lemmas.List.FromFn.{length-map-range_with_len, get_or-map-range_with_len}
@@ -40,11 +40,6 @@ pub some_shown : (ended : Bool) (pairs prices : List PricePair) (clock : Option 
     Some prices ≡ (if ended then None else Some pairs) → clock ≡ Some price → Some price ≡ (if ended then None else clock)
 some_shown true pairs prices clock price is shown = cc
 some_shown false pairs prices clock price is shown = sym shown
-
--- there are no next prices exactly where the auction has ended
-pub none_is_ended : (ended : Bool) (pairs : List PricePair) → is_none (if ended then None else Some pairs) ≡ ended
-none_is_ended true pairs = refl
-none_is_ended false pairs = refl
 
 -- there are prices for each product
 pub clocks_each : (products : List Product) (increments : Increments) (posted : List ℕ) (prices : List PricePair) →

@@ -10,12 +10,11 @@ use Rattle.std.proofs.lemmas.Bool.{cases_lt}
 use Rattle.std.proofs.lemmas.List.Elements.{All-append, All-head, All-tail, All-weaker, All-nil}
 use Rattle.clock_terms.specs.declared.setup.Product.{Product}
 use Rattle.clock_terms.specs.declared.prices.PricePair.{PricePair}
-use Rattle.clock_terms.specs.Limits.{most_products, most_bidders}
+use Rattle.clock_terms.specs.Limits.{most_products, most_bidders, most_bids}
 use Rattle.clock_terms.specs.Demands.{row_of}
 use Rattle.clock_terms.specs.declared.change.Change.{Change}
 use Rattle.clock_terms.specs.declared.change.Kind.{Kind}
 use Rattle.clock_terms.specs.declared.change.Kind.TheVariants.{Increase, Reduction}
-use Rattle.clock_terms.specs.Limits.{most_bids}
 use Rattle.clock_terms.specs.Requests.{same_kind, is_request_of, asked_of, IsChangeOf, KeepWithinCap, AreChangesOf}
 use Rattle.clock_processor.specs.Board.{new_board}
 use Rattle.clock_processor.specs.Requests.{IsRequest, CanSettle}

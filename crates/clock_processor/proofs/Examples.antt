@@ -1,9 +1,8 @@
 -- Settling, computed on a small auction: two products A and B of two blocks, and the bidders X, Y and Z after their first round.
 use Rattle.std.specs.Prelude.{◌≡◌, ℕ, List, [], ◌∷◌, refl}
-use Rattle.clock_terms.proofs.Examples.{two_products}
+use Rattle.clock_terms.proofs.Examples.{two_products, request}
 use Rattle.clock_terms.specs.declared.change.Change.{Change}
 use Rattle.clock_terms.specs.declared.change.Kind.TheVariants.{Increase, Reduction}
-use Rattle.clock_terms.proofs.Examples.{request}
 use Rattle.clock_processor.specs.Settling.{Progress, settled}
 
 -- X holds two of B, Y two of A and Z one of B

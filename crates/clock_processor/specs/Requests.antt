@@ -5,10 +5,9 @@
 --     CanSettle board changes      what a processor asks for
 use Rattle.std.specs.Prelude.{◌≡◌, ℕ, ◌+◌, ◌*◌, ◌<◌, ◌≤◌, List, length, All}
 use Rattle.clock_terms.specs.declared.setup.Product.{Product}
-use Rattle.clock_terms.specs.Limits.{most_products, most_bidders, most_supply}
+use Rattle.clock_terms.specs.Limits.{most_products, most_bidders, most_supply, most_bids}
 use Rattle.clock_terms.specs.Demands.{row_of}
 use Rattle.clock_terms.specs.declared.change.Change.{Change}
-use Rattle.clock_terms.specs.Limits.{most_bids}
 use Rattle.clock_terms.specs.Requests.{KeepWithinCap}
 use Rattle.clock_processor.specs.Board.{BoardFields}
 

@@ -49,22 +49,15 @@ bounded p changes most each =
       | inr none ↦ omega (arith, none)
     ]
 
--- what is of a product or of a bidder at a place
+-- what is of the product or of the bidder of a request
+abbrev greater_of : List Change → Change → ℕ
+greater_of changes change = max (count_of_product changes change.product) (count_of_bidder changes change.bidder)
+
 of_product : (changes : List Change) (i : ℕ) → i < length changes → count_of_product changes (get_or changes i no_change).product ≤ most_of_one changes
-of_product changes i lt =
-    omega (
-      arith,
-      fold_value (λ (change : Change). max (count_of_product changes change.product) (count_of_bidder changes change.bidder)) 0 changes i
-          no_change lt,
-    )
+of_product changes i lt = omega (arith, fold_value (greater_of changes) 0 changes i no_change lt)
 
 of_bidder : (changes : List Change) (i : ℕ) → i < length changes → count_of_bidder changes (get_or changes i no_change).bidder ≤ most_of_one changes
-of_bidder changes i lt =
-    omega (
-      arith,
-      fold_value (λ (change : Change). max (count_of_product changes change.product) (count_of_bidder changes change.bidder)) 0 changes i
-          no_change lt,
-    )
+of_bidder changes i lt = omega (arith, fold_value (greater_of changes) 0 changes i no_change lt)
 
 -- equal lines are those of equal numbers, where no two numbers have one line
 same_line : (line : ℕ → ℕ) → ((a b : ℕ) → line a ≡ line b → a ≡ b) → (a b : ℕ) → cond (line a == line b) 1 0 ≤ cond (a == b) 1 0
@@ -86,22 +79,21 @@ bidder_part : (kind : Kind) (b p bidder : ℕ) → cond (line_by kind b p == bid
 bidder_part Reduction b p bidder = other_line (product_line p) (bidder_line bidder) (cond (b == bidder) 1 0) (λ e. omega (arith, e))
 bidder_part Increase b p bidder = same_line bidder_line (λ a b e. omega (arith, e)) b bidder
 
+-- so there are no more of a line than of its product or bidder
+no_more : (changes : List Change) (line : ℕ) (of_one : Change → Bool) (most : ℕ) → count_by of_one changes ≤ most
+    → ((change : Change) → cond (line_of change == line) 1 0 ≤ cond (of_one change) 1 0)
+    → count_by (λ (change : Change). line_of change == line) changes ≤ most
+no_more changes line of_one most few part =
+    omega (arith, few, sum_by-le-sum_by (λ (change : Change). cond (line_of change == line) 1 0) (λ (change : Change). cond (of_one change) 1 0) changes part)
+
 by_kind : (kind : Kind) (b p : ℕ) (changes : List Change) → count_of_product changes p ≤ most_of_one changes → count_of_bidder changes b ≤ most_of_one changes →
     count_by (λ (change : Change). line_of change == line_by kind b p) changes ≤ most_of_one changes
 by_kind Reduction b p changes product bidder =
-    omega (
-      arith,
-      product,
-      sum_by-le-sum_by (λ (change : Change). cond (line_of change == product_line p) 1 0)
-          (λ (change : Change). cond (change.product == p) 1 0) changes (λ change. product_part change.kind change.bidder change.product p),
-    )
+    no_more changes (product_line p) (λ (change : Change). change.product == p) (most_of_one changes) product
+    (λ change. product_part change.kind change.bidder change.product p)
 by_kind Increase b p changes product bidder =
-    omega (
-      arith,
-      bidder,
-      sum_by-le-sum_by (λ (change : Change). cond (line_of change == bidder_line b) 1 0)
-          (λ (change : Change). cond (change.bidder == b) 1 0) changes (λ change. bidder_part change.kind change.bidder change.product b),
-    )
+    no_more changes (bidder_line b) (λ (change : Change). change.bidder == b) (most_of_one changes) bidder
+    (λ change. bidder_part change.kind change.bidder change.product b)
 
 -- no line has more requests than there are of one product or of one bidder
 pub line_most : (changes : List Change) (line : ℕ) → count_by (λ (change : Change). line_of change == line) changes ≤ most_of_one changes

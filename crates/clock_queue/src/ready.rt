@@ -1,4 +1,4 @@
-ghost use Rattle.std.specs.Prelude.{◌≡◌, ◌≤◌, [], ◌∷◌, ◌++◌, length, All, OnOk, IfSome, IfNone};
+ghost use Rattle.std.specs.Prelude.{◌≡◌, ◌≤◌, [], ◌∷◌, ◌++◌, All, OnOk, IfSome, IfNone};
 ghost use Rattle.std.specs.List.Sorted.{IsPermutation};
 
 use clock_device::NoMemory;

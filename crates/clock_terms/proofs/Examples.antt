@@ -1,5 +1,5 @@
 -- Small set-ups and requests, on which the rules are computed as examples, and the rules on eligibility, grids and prices computed on them.
---     one_product, two_products, granules_and_increments, activity_limit      the set-ups
+--     one_product, two_products, granules_and_increments, activity_limit      the set-ups, over first_version
 --     two_blocks name, four_blocks name, bidder_named letter eligibility      their products and bidders
 --     request kind bidder product place amount price      a change of a round whose prices are from 100 to 110
 use Rattle.std.specs.Prelude.{◌≡◌, ℕ, ◌-◌, List, [], ◌∷◌, codes, replicate, refl}
@@ -20,27 +20,25 @@ two_blocks name = record { name = name; units = 1; supply = 2; cap = 2; opening 
 abbrev pub bidder_named : ℕ → ℕ → Bidder
 bidder_named letter eligibility = record { name = letter ∷ []; token = replicate 16 letter; eligibility = eligibility }
 
--- one product A, and the bidders X and Y of eligibility 10
-abbrev pub one_product : SetupFields
-one_product = record {
+-- a set-up of version 1
+abbrev pub first_version : ℕ → List Product → List Bidder → SetupFields
+first_version requirement products bidders = record {
   version = 1;
   limit = 100;
-  requirement = 95;
+  requirement = requirement;
   operator = codes "OPERATOROPERATOR";
-  products = two_blocks (codes "A") ∷ [];
-  bidders = bidder_named 88 10 ∷ bidder_named 89 10 ∷ [];
+  products = products;
+  bidders = bidders;
 }
+
+-- one product A, and the bidders X and Y of eligibility 10
+abbrev pub one_product : SetupFields
+one_product = first_version 95 (two_blocks (codes "A") ∷ []) (bidder_named 88 10 ∷ bidder_named 89 10 ∷ [])
 
 -- two products A and B, and the bidders X, Y and Z of eligibility 2, 2 and 1
 abbrev pub two_products : SetupFields
-two_products = record {
-  version = 1;
-  limit = 100;
-  requirement = 100;
-  operator = codes "OPERATOROPERATOR";
-  products = two_blocks (codes "A") ∷ two_blocks (codes "B") ∷ [];
-  bidders = bidder_named 88 2 ∷ bidder_named 89 2 ∷ bidder_named 90 1 ∷ [];
-}
+two_products =
+    first_version 100 (two_blocks (codes "A") ∷ two_blocks (codes "B") ∷ []) (bidder_named 88 2 ∷ bidder_named 89 2 ∷ bidder_named 90 1 ∷ [])
 
 -- the same in version 2, where the clock prices of A are multiples of 25
 abbrev pub granules_and_increments : SetupFields
@@ -55,11 +53,9 @@ four_blocks name = record { name = name; units = 2; supply = 4; cap = 4; opening
 
 -- two products A and B, and the bidders X and Z of eligibility 8, who may ask for 10 from round 2 on
 abbrev pub activity_limit : SetupFields
-activity_limit = record {
+activity_limit = record two_products {
   version = 2;
   limit = 125;
-  requirement = 100;
-  operator = codes "OPERATOROPERATOR";
   products = four_blocks (codes "A") ∷ four_blocks (codes "B") ∷ [];
   bidders = bidder_named 88 8 ∷ bidder_named 90 8 ∷ [];
 }

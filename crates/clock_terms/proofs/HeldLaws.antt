@@ -119,6 +119,12 @@ pub kept_demand : (count : ℕ) (held : List HeldDemand) (row : List ℕ) (produ
 kept_demand count held row product is within =
     sym (shown count held product 0 (below_count count held row product is within)) ∙ ap (λ (list : List ℕ). get_or list product 0) is
 
+-- and so is one that is read of what is kept
+pub read_demand : (count : ℕ) (held seen : List HeldDemand) (row : List ℕ) (product demand : ℕ) → demands_of count held ≡ row → product < length row
+    → seen ≡ held → demand ≡ demand_for seen product → demand ≡ get_or row product 0
+read_demand count held seen row product demand is within same read =
+    read ∙ ap (λ (list : List HeldDemand). demand_for list product) same ∙ kept_demand count held row product is within
+
 -- nothing is in order
 pub order_none : (held : List HeldDemand) (count : ℕ) → held ≡ [] → AreHeld 0 held count
 unfolding AreHeld
@@ -157,6 +163,14 @@ gap count held given product are smaller below =
     let none : HeldDemand = record { product = 0; demand = 0 } in
     missing 0 held count product given none are smaller
     (λ within. omega (arith, below, next_at count held given none within))
+
+-- so each demand of a row is 0 that stands before the first that is held
+pub none_first : (count : ℕ) (held : List HeldDemand) (row : List ℕ) (first : ℕ) → AreHeld 0 held count → demands_of count held ≡ row
+    → first ≡ next_of count held → AllWithin (λ demand. demand ≡ 0) row 0 first
+none_first count held row first are is same k d low high =
+    ap (λ (list : List ℕ). get_or list k d) (sym is)
+    ∙ shown count held k d (omega (arith, same, high, most_next count held are))
+    ∙ gap count held 0 k are (λ n e from to. absurd (omega (arith, to))) (omega (arith, same, high))
 
 -- ---- one demand changed
 

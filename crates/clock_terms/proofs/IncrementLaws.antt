@@ -3,12 +3,12 @@ use Rattle.std.proofs.Common.{◌≡◌, ℕ, ◌<◌, ◌&&◌, Bool, true, fal
 use Rattle.std.specs.List.{list_all}
 use Rattle.std.proofs.lemmas.Bool.{and_parts, eqb-true, eq-eqb}
 use Rattle.std.proofs.lemmas.List.{get_or-replicate, length-replicate}
-use Rattle.std.proofs.lemmas.List.Sums.{AllPass-from_list_all, list_all-from_AllPass}
+use Rattle.std.proofs.lemmas.List.Sums.{AllPass-from_list_all}
 use Rattle.clock_terms.specs.declared.increments.Increments.{Increments}
 use Rattle.clock_terms.specs.declared.increments.Increments.TheVariants.{Single, PerProduct}
 use Rattle.clock_terms.specs.Limits.{least_increment, most_increment}
 use Rattle.clock_terms.specs.Increments.{increment_at, HasIncrement, IsIncrement, is_increment, AreIncrements, are_increments}
-use Rattle.clock_terms.proofs.WithinLaws.{both_true, within_of_test, test_of_within}
+use Rattle.clock_terms.proofs.WithinLaws.{within_of_test}
 
 -- there is an increment for each of the products
 pub increment_there : (count : ℕ) (increments : Increments) (product : ℕ) → AreIncrements count increments → product < count → HasIncrement increments product
@@ -28,12 +28,6 @@ increments_of_test count (PerProduct increments) h =
     let parts = and_parts _ _ h in
     let each = AllPass-from_list_all is_increment increments parts.1 in
     (eqb-true (length increments) count parts.0, λ k d within. within_of_test least_increment most_increment (slice_index_or increments k d) (each k d within))
-
-pub test_of_increments : (count : ℕ) (increments : Increments) → AreIncrements count increments → are_increments count increments ≡ true
-test_of_increments count (Single increment) are = test_of_within least_increment most_increment increment are
-test_of_increments count (PerProduct increments) are =
-    both_true _ _ (eq-eqb (length increments) count are.0) (list_all-from_AllPass is_increment increments
-    (λ k d within. test_of_within least_increment most_increment (slice_index_or increments k d) (are.1 k d within)))
 
 -- one increment says of each product what a list of the same increment for each product says
 pub one_for_each : (count increment product : ℕ) → product < count

@@ -1,4 +1,4 @@
-ghost use Rattle.std.specs.Prelude.{◌≡◌, ◌≢◌, [], ℕ, ◌+◌, ◌-◌, ◌≤◌, ◌<◌, ◌*◌, ◌/◌, slice_index_or, length, take, replicate, All, IfOk, IfErr, slice_index, slice_set};
+ghost use Rattle.std.specs.Prelude.{◌≡◌, ◌≢◌, ℕ, ◌+◌, ◌-◌, ◌≤◌, ◌<◌, ◌*◌, ◌/◌, slice_index_or, length, take, replicate, All, IfOk, IfErr, slice_index, slice_set};
 ghost use Rattle.std.specs.Prelude.{insert, remove, vec_capacity, IsTrue};
 ghost use Rattle.std.specs.List.{AllWithin};
 ghost use Rattle.clock_terms.specs.Demands.{demand_after};

@@ -1,5 +1,5 @@
 -- The page of a refusal in the pieces in which it is pushed.
-use Rattle.std.proofs.Common.{◌≡◌, ℕ, List, ◌++◌, Option, Some, None, append_assoc, codes, decimal, refl, ap, ◌∙◌, length, ◌≤◌, arith}
+use Rattle.std.proofs.Common.{◌≡◌, ℕ, List, ◌++◌, Option, Some, None, append_assoc, codes, decimal, refl, ap, ◌∙◌}
 use Rattle.json.specs.Print.{escape}
 use Rattle.serde_json.specs.Written.{compact_text}
 use Rattle.serde_json.proofs.OnLiterals.{serde_json_on_literals}
@@ -77,36 +77,3 @@ refusal_in_pieces shown = in_pieces shown.code shown.place shown.round
 
 pub refusal_in_bytes : (shown : Shown) → compact_text (refusal_value shown) ≡ refusal_bytes shown
 refusal_in_bytes shown = refusal_in_pieces shown ∙ simp append_assoc
-
--- no code is longer than a name
-pub short_code : (code : Code) → length (text_of code) ≤ 32
-short_code Done = omega arith
-short_code BadHead = omega arith
-short_code BadLength = omega arith
-short_code CutShort = omega arith
-short_code BadJson = omega arith
-short_code Token = omega arith
-short_code Role = omega arith
-short_code NoPage = omega arith
-short_code NoRound = omega arith
-short_code Method = omega arith
-short_code Ended = omega arith
-short_code WrongRound = omega arith
-short_code LongBody = omega arith
-short_code Shape = omega arith
-short_code TooMany = omega arith
-short_code UnknownProduct = omega arith
-short_code PriceRange = omega arith
-short_code OverCap = omega arith
-short_code PriceOrder = omega arith
-short_code MixedDirection = omega arith
-short_code KeepPrice = omega arith
-short_code OverActivity = omega arith
-short_code Increment = omega arith
-short_code TieRange = omega arith
-short_code TieRepeated = omega arith
-short_code TooManyTies = omega arith
-short_code PriceLimit = omega arith
-short_code LongHead = omega arith
-short_code Coding = omega arith
-short_code Memory = omega arith

@@ -1,6 +1,5 @@
 -- Pieces that are added one behind the other.
 use Rattle.std.proofs.Common.{◌≡◌, ℕ, List, ◌++◌, append_assoc, ap, sym, ◌∙◌}
-use Rattle.std.specs.Prelude.{Result, Ok, Err, OnOk}
 use Rattle.clock_views.specs.Values.{Adds}
 
 -- a piece, and what is added behind it
@@ -11,9 +10,3 @@ before {piece = piece} {rest = rest} {text = text} first others =
 -- pieces that are together a text
 pub together : {pieces text whole piece : List ℕ} → piece ≡ pieces → Adds pieces text whole → Adds piece text whole
 together {text = text} is added = record { is = added.is ∙ ap (λ s. text ++ s) (sym is) }
-
--- the same where the last piece is added by a call that may fail
-pub together_last : {T E : Type 0} {pieces piece : List ℕ} (last : Result T E) (text whole : List ℕ) → piece ≡ pieces → OnOk last (Adds pieces text whole) →
-    OnOk last (Adds piece text whole)
-together_last (Ok done) text whole is added = together is added
-together_last (Err fault) text whole is added = tt

@@ -6,7 +6,8 @@ use Rattle.clock_terms.specs.declared.setup.Product.{Product}
 use Rattle.clock_terms.specs.Limits.{PublicSetup}
 use Rattle.clock_bids.specs.declared.sheet.Bid.{Bid}
 use Rattle.clock_bids.specs.Holding.{Holding}
-use Rattle.clock_house.specs.House.{HouseFields}
+use Rattle.clock_house.specs.History.{bidder_at}
+use Rattle.clock_house.specs.House.{HouseFields, holding_in}
 use Rattle.clock_posting.specs.declared.sheet.Line.{Line}
 use Rattle.clock_posting.specs.declared.sheet.RoundSheet.{RoundSheet}
 use Rattle.clock_closing.specs.declared.slip.Slip.{Slip}
@@ -96,6 +97,12 @@ closed_most round ended = refl
 pub result_most : (name : List ℕ) (held : Holding) → 1 + most_text (result_value name held) ≡ room_of_result (length held.demands)
 unfolding result_value
 result_most name held = omega (arith, numbers_most held.demands)
+
+-- the first of what bidders hold, and the others
+pub result_in_most : (house : HouseFields) (i n : ℕ) → i < n → most_items (items_of (result_in house) (range_with_len i (n - i)))
+    ≡ room_of_result (length (holding_in house i).demands) + most_items (items_of (result_in house) (range_with_len (i + 1) (n - (i + 1))))
+result_in_most house i n below =
+    omega (arith, one_most (result_in house) i n below, result_most (bidder_at house.setup i).name (holding_in house i))
 
 pub sheet_most : (setup : PublicSetup) (sheet : RoundSheet) → length sheet.lines ≡ length setup.products
     → most_text (sheet_value setup sheet) ≡ room_of_sheet (length sheet.lines)

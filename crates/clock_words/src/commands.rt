@@ -1,6 +1,6 @@
 //! The commands and options of the program, as clap is told of them.
 ghost use Rattle.std.specs.Prelude.{◌≡◌, codes, false, IfOk, IfErr};
-ghost use Rattle.clap.specs.Words.{app_of, kind_of, new_app, rule_of, with_subcommand};
+ghost use Rattle.clap.specs.Words.{App, app_of, kind_of, new_app, rule_of, with_subcommand};
 ghost use Rattle.clap.specs.Simple.{on_top};
 ghost use Rattle.clap.specs.declared.builder.Command.TheViews.{out-Command};
 ghost use Rattle.clock_words.specs.Words.{asks_for_a_command, grammar, files_grammar, journal_rule, needed_rule};
@@ -67,16 +67,24 @@ fn prices_command<'a>(alloc: Global, helps: &'a NumberHelps) -> Result<Command<'
     Ok(prices.arg(increment)?)
 }
 
+/// An option of a file, which must be given.
+fn needed_option<'a>(alloc: Global, name: &'a str, help: &'a str) -> Arg<'a>
+    ensures rule { rule_of result ≡ needed_rule name.now }
+    ensures local { result.global ≡ false }
+{
+    Arg::new(alloc, name)
+        .long(name)
+        .value_name("FILE")
+        .required(true)
+        .help(help)
+}
+
 /// `--setup FILE`.
 fn setup_option<'a>(alloc: Global) -> Arg<'a>
     ensures rule { rule_of result ≡ needed_rule (codes "setup") }
     ensures local { result.global ≡ false }
 {
-    Arg::new(alloc, "setup")
-        .long("setup")
-        .value_name("FILE")
-        .required(true)
-        .help("The file of the set-up document")
+    needed_option(alloc, "setup", "The file of the set-up document")
 }
 
 /// `--journal FILE`, which may be left out.
@@ -88,18 +96,6 @@ fn journal_option<'a>(alloc: Global) -> Arg<'a>
         .long("journal")
         .value_name("FILE")
         .help("The file in which accepted sheets and closings are kept")
-}
-
-/// `--journal FILE`.
-fn needed_journal_option<'a>(alloc: Global) -> Arg<'a>
-    ensures rule { rule_of result ≡ needed_rule (codes "journal") }
-    ensures local { result.global ≡ false }
-{
-    Arg::new(alloc, "journal")
-        .long("journal")
-        .value_name("FILE")
-        .required(true)
-        .help("The file in which accepted sheets and closings were kept")
 }
 
 /// An option of a number from 1 on.
@@ -159,7 +155,12 @@ fn files_command<'a>(
 {
     let command = Command::new(alloc, name).about(about).after_help(help);
     let with_setup = command.arg(setup_option(alloc))?;
-    Ok(with_setup.arg(needed_journal_option(alloc))?)
+    let journal = needed_option(
+        alloc,
+        "journal",
+        "The file in which accepted sheets and closings were kept",
+    );
+    Ok(with_setup.arg(journal)?)
 }
 
 /// The program without its commands.
@@ -179,18 +180,19 @@ fn program_alone<'a>(alloc: Global) -> Result<Command<'a>, Error>
     )
 }
 
-/// A program with `prices`.
-fn with_prices<'a>(
-    alloc: Global,
+/// A program with a command that is made, where it is.
+fn with_command<'a>(
     program: Command<'a>,
-    helps: &'a NumberHelps,
+    made: Result<Command<'a>, Error>,
 ) -> Result<Command<'a>, Error>
-    ensures shape { IfOk result (λ command. app_of command ≡ with_subcommand (app_of program.entry)
-        prices_grammar.top) }
-    ensures err { IfErr result (λ error. kind_of error ≡ ErrorKind.OutOfMemory) }
+    ensures shape { (app : App) → IfOk made.entry (λ command. app_of command ≡ app)
+        → IfOk made.entry (λ command. (out-Command command).has_globals ≡ false)
+        → IfOk result (λ command. app_of command ≡ with_subcommand (app_of program.entry) app.top) }
+    ensures err { IfErr made.entry (λ error. kind_of error ≡ ErrorKind.OutOfMemory)
+        → IfErr result (λ error. kind_of error ≡ ErrorKind.OutOfMemory) }
 {
-    match prices_command(alloc, helps) {
-        Ok(prices) => Ok(program.subcommand(prices)?),
+    match made {
+        Ok(command) => Ok(program.subcommand(command)?),
         Err(error) => {
             drop(program);
             Err(error)
@@ -214,51 +216,12 @@ fn with_plain<'a>(
     Ok(program.subcommand(command)?)
 }
 
-/// A program with `serve`.
-fn with_serve<'a>(
-    alloc: Global,
-    program: Command<'a>,
-    helps: &'a NumberHelps,
-) -> Result<Command<'a>, Error>
-    ensures shape { IfOk result (λ command. app_of command ≡ with_subcommand (app_of program.entry) serve_grammar.top) }
-    ensures err { IfErr result (λ error. kind_of error ≡ ErrorKind.OutOfMemory) }
-{
-    match serve_command(alloc, helps) {
-        Ok(serve) => Ok(program.subcommand(serve)?),
-        Err(error) => {
-            drop(program);
-            Err(error)
-        }
-    }
-}
-
-/// A program with a command of a set-up document and a journal.
-fn with_files<'a>(
-    alloc: Global,
-    program: Command<'a>,
-    name: &'a str,
-    about: &'a str,
-    help: &'a str,
-) -> Result<Command<'a>, Error>
-    ensures shape { IfOk result (λ command. app_of command ≡ with_subcommand (app_of program.entry)
-        (files_grammar name.now).top) }
-    ensures err { IfErr result (λ error. kind_of error ≡ ErrorKind.OutOfMemory) }
-{
-    match files_command(alloc, name, about, help) {
-        Ok(command) => Ok(program.subcommand(command)?),
-        Err(error) => {
-            drop(program);
-            Err(error)
-        }
-    }
-}
-
 /// The program's commands.
 pub fn program<'a>(alloc: Global, helps: &'a NumberHelps) -> Result<Command<'a>, Error>
     ensures shape { IfOk result (λ command. app_of command ≡ grammar) }
     ensures err { IfErr result (λ error. kind_of error ≡ ErrorKind.OutOfMemory) }
 {
-    let priced = with_prices(alloc, program_alone(alloc)?, helps)?;
+    let priced = with_command(program_alone(alloc)?, prices_command(alloc, helps))?;
     let opened = with_plain(
         alloc,
         priced,
@@ -273,20 +236,24 @@ pub fn program<'a>(alloc: Global, helps: &'a NumberHelps) -> Result<Command<'a>,
         "Plays an auction of scripted bidders and prints its rounds and what each won",
         REPLAY_HELP,
     )?;
-    let served = with_serve(alloc, replayed, helps)?;
-    let told = with_files(
-        alloc,
+    let served = with_command(replayed, serve_command(alloc, helps))?;
+    let told = with_command(
         served,
-        "journal",
-        "Prints what a journal holds, text by text",
-        JOURNAL_HELP,
+        files_command(
+            alloc,
+            "journal",
+            "Prints what a journal holds, text by text",
+            JOURNAL_HELP,
+        ),
     )?;
-    let audited = with_files(
-        alloc,
+    let audited = with_command(
         told,
-        "audit",
-        "Recounts an auction from its journal and prints its rounds and what each bidder won",
-        AUDIT_HELP,
+        files_command(
+            alloc,
+            "audit",
+            "Recounts an auction from its journal and prints its rounds and what each bidder won",
+            AUDIT_HELP,
+        ),
     )?;
     Ok(audited)
 }

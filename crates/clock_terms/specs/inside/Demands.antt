@@ -1,7 +1,6 @@
 -- What the type of grids keeps.
 --     IsSmallGrid, IsKeptGrid      what the type of grids keeps
-use Rattle.std.specs.Prelude.{◌≡◌, ℕ, ◌≤◌, ◌<◌, List, length}
-use Rattle.std.specs.Prelude.{slice_index, All}
+use Rattle.std.specs.Prelude.{◌≡◌, ℕ, ◌≤◌, ◌<◌, List, length, slice_index, All}
 use Rattle.clock_terms.specs.Limits.{most_products, most_bidders, most_supply}
 use Rattle.clock_terms.specs.Demands.{total_of}
 

@@ -1,6 +1,6 @@
-use Rattle.std.proofs.Common.{◌≡◌, [], inr, length, drop, refl, sym, ◌∙◌, rules}
+use Rattle.std.proofs.Common.{◌≡◌, [], inr, length, drop, refl, sym, rules}
 use Rattle.clock_journal.specs.Headings.{begun, headed, of_another, unknown}
-use Rattle.clock_journal.proofs.Recovery.{heading_of_left, after_stop, of_replay, refused_of, begun_is, rest_within}
+use Rattle.clock_journal.proofs.Recovery.{told_of_left, after_stop, of_replay, refused_of, begun_is, rest_within}
 use Rattle.clock_journal.proofs.recovering.recover.Goals as goal
 
 pub returns-in-Begun : goal.returns-in-Begun
@@ -13,29 +13,16 @@ returns-in-Begun g c = record {
     stands = λ past was. was;
   };
   crash = λ texts least leaves.
-      let size : length c.args.digest.now ≡ 32 = search rules in
-      let e : begun ≡ headed (drop 56 c.args.bytes.now) = c.in-Begun.ensures ∙ heading_of_left c.args.digest.now c.args.bytes.now texts least size leaves in cc;
+      (let e = told_of_left c.args.digest.now c.args.bytes.now texts least begun (search rules) leaves c.in-Begun.ensures in cc);
 }
 
-pub returns-in-OfAnother : goal.returns-in-OfAnother
-returns-in-OfAnother g c = record {
-  read = sym c.in-OfAnother.ensures;
-  refused = tt;
-  rules = refl;
-  crash = λ texts least leaves.
-      let size : length c.args.digest.now ≡ 32 = search rules in
-      let e : of_another ≡ headed (drop 56 c.args.bytes.now) = c.in-OfAnother.ensures ∙ heading_of_left c.args.digest.now c.args.bytes.now texts least size leaves in cc;
-}
+pub returns-in-OfAnother-clause-crash : goal.returns-in-OfAnother-clause-crash
+returns-in-OfAnother-clause-crash g c texts least leaves =
+    let e = told_of_left c.args.digest.now c.args.bytes.now texts least of_another (search rules) leaves c.in-OfAnother.ensures in cc
 
-pub returns-in-Unknown : goal.returns-in-Unknown
-returns-in-Unknown g c = record {
-  read = sym c.in-Unknown.ensures;
-  refused = tt;
-  rules = refl;
-  crash = λ texts least leaves.
-      let size : length c.args.digest.now ≡ 32 = search rules in
-      let e : unknown ≡ headed (drop 56 c.args.bytes.now) = c.in-Unknown.ensures ∙ heading_of_left c.args.digest.now c.args.bytes.now texts least size leaves in cc;
-}
+pub returns-in-Unknown-clause-crash : goal.returns-in-Unknown-clause-crash
+returns-in-Unknown-clause-crash g c texts least leaves =
+    let e = told_of_left c.args.digest.now c.args.bytes.now texts least unknown (search rules) leaves c.in-Unknown.ensures in cc
 
 pub returns-in-Headed : goal.returns-in-Headed
 returns-in-Headed g c = record {
@@ -44,7 +31,7 @@ returns-in-Headed g c = record {
   read = of_replay _ _ c.args.digest.now c.args.bytes.now c.in-Headed.rest.now c.replay.result (λ place. search rules) (sym c.in-Headed.ensures) c.replay.ensures.replayed;
   crash = λ texts least leaves.
       let size : length c.args.digest.now ≡ 32 = search rules in
-      let e : headed c.in-Headed.rest.now ≡ headed (drop 56 c.args.bytes.now) = c.in-Headed.ensures ∙ heading_of_left c.args.digest.now c.args.bytes.now texts least size leaves in
+      let e = told_of_left c.args.digest.now c.args.bytes.now texts least (headed c.in-Headed.rest.now) size leaves c.in-Headed.ensures in
       let same : c.in-Headed.rest.now ≡ drop 56 c.args.bytes.now = cc in
       after_stop _ _ c.args.digest.now c.args.bytes.now c.in-Headed.rest.now texts least (length c.args.bytes.now) c.replay.result size leaves same c.replay.ensures.replayed;
 }

@@ -45,10 +45,8 @@ returns-clause-err c =
 pub returns-clause-clock : goal.returns-clause-clock
 returns-clause-clock c =
     let products = c.args.setup.now.products in
-    let prices = c.args.prices.now in
-    let changes = c.args.changes.now in
     let settled = c.args.settled.now in
-    let posted = posted_prices products prices changes settled.left settled.grid in
-    IfOk-weaker c.posting.result (IsPosting c.args.round products prices settled.grid posted c.args.increments.now)
+    let posted = posted_prices products c.args.prices.now c.args.changes.now settled.left settled.grid in
+    IfOk-weaker c.posting.result (IsPosting c.args.round products c.args.prices.now settled.grid posted c.args.increments.now)
     (λ posting. IfSome posting.next (λ _. Any IsAtClock posting.sheet.lines))
-    (clock_posted products prices changes settled.left settled.grid c.args.round c.args.increments.now) (search rules)
+    (clock_posted products c.args.prices.now c.args.changes.now settled.left settled.grid c.args.round c.args.increments.now) (search rules)

@@ -1,4 +1,4 @@
-use Rattle.std.proofs.Common.{◌≡◌, ◌<◌, ◌≤◌, ◌*◌, ℕ, List, IfOk, IfErr, length, get_or, insert, sym, subst, arith}
+use Rattle.std.proofs.Common.{◌≡◌, ◌<◌, ◌≤◌, ◌*◌, ℕ, List, Result, Ok, Err, IfOk, IfErr, length, get_or, insert, sym, subst, arith}
 use Rattle.std.proofs.lemmas.List.Edits.{length-insert}
 use Rattle.clock_terms.specs.declared.row.HeldDemand.{HeldDemand}
 use Rattle.clock_terms.specs.inside.Rows.{AreHeld, IsStored, StandsAt, WouldStandAt}
@@ -10,6 +10,16 @@ use Rattle.clock_terms.proofs.row.store.Goals as goal
 -- as it stands in the goals
 abbrev none : HeldDemand
 none = record { product = 0; demand = 0 }
+
+-- where a product was found
+standing : (held : List HeldDemand) (product : ℕ) {found : Result ℕ ℕ} {place : ℕ} → found ≡ Ok place → IfOk found (StandsAt held product)
+    → StandsAt held product place
+standing held product same stands = subst (λ found. IfOk found (StandsAt held product)) same stands
+
+-- and where it was missed
+lacking : (held : List HeldDemand) (product : ℕ) {found : Result ℕ ℕ} {place : ℕ} → found ≡ Err place → IfErr found (WouldStandAt held product)
+    → WouldStandAt held product place
+lacking held product same lacks = subst (λ found. IfErr found (WouldStandAt held product)) same lacks
 
 -- what is held with a demand put in is in order
 put : (count : ℕ) (held : List HeldDemand) (one : HeldDemand) (place : ℕ) → AreHeld 0 held count → WouldStandAt held one.product place
@@ -25,47 +35,45 @@ room count held one place are lacks some few =
 
 pub put_in-requires-clause-few : goal.put_in-requires-clause-few
 put_in-requires-clause-few c =
-    let held = c.args.held.now.items in
     let all = c.requires.room in
-    let lacks = subst (λ place. IfErr place (λ at. WouldStandAt held c.args.one.product at)) c.in-Err.is c.requires.lacks in
-    omega (arith, all.3, room all.0 held c.args.one c.in-Err.place (all.1, all.2) lacks c.if-one-gt0-2.true c.requires.small)
+    let lacks = lacking c.args.held.now.items c.args.one.product c.in-Err.is c.requires.lacks in
+    omega (arith, all.3, room all.0 c.args.held.now.items c.args.one c.in-Err.place (all.1, all.2) lacks c.if-one-gt0-2.true c.requires.small)
 
 pub put_in-requires-clause-room : goal.put_in-requires-clause-room
 put_in-requires-clause-room c =
-    let held = c.args.held.now.items in
     let all = c.requires.room in
-    let lacks = subst (λ place. IfErr place (λ at. WouldStandAt held c.args.one.product at)) c.in-Err.is c.requires.lacks in
-    omega (arith, all.4, room all.0 held c.args.one c.in-Err.place (all.1, all.2) lacks c.if-one-gt0-2.true c.requires.small)
+    let lacks = lacking c.args.held.now.items c.args.one.product c.in-Err.is c.requires.lacks in
+    omega (arith, all.4, room all.0 c.args.held.now.items c.args.one c.in-Err.place (all.1, all.2) lacks c.if-one-gt0-2.true c.requires.small)
 
 pub returns-in-Ok-clause-order : goal.returns-in-Ok-clause-order
 returns-in-Ok-clause-order c count are within =
     let held = c.args.held.now.items in
-    let stands = subst (λ place. IfOk place (λ at. StandsAt held c.args.one.product at)) c.in-Ok.is c.requires.stands in
+    let stands = standing held c.args.one.product c.in-Ok.is c.requires.stands in
     held_set 0 held count c.in-Ok.place c.args.one are stands.1 (stands.2 c.args.one) c.if-one-gt0.true c.requires.small
 
 pub returns-in-Ok-clause-stored : goal.returns-in-Ok-clause-stored
 returns-in-Ok-clause-stored c =
     let held = c.args.held.now.items in
-    let stands = subst (λ place. IfOk place (λ at. StandsAt held c.args.one.product at)) c.in-Ok.is c.requires.stands in
+    let stands = standing held c.args.one.product c.in-Ok.is c.requires.stands in
     stored_set held c.in-Ok.place c.args.one stands.0.1 stands.1 (stands.2 c.args.one)
 
 pub returns-in-Ok-clause-starts : goal.returns-in-Ok-clause-starts
 returns-in-Ok-clause-starts c block within =
     let held = c.args.held.now.items in
-    let stands = subst (λ place. IfOk place (λ at. StandsAt held c.args.one.product at)) c.in-Ok.is c.requires.stands in
+    let stands = standing held c.args.one.product c.in-Ok.is c.requires.stands in
     set_kept held c.args.one c.in-Ok.place (block * 16) (get_or c.args.starts.now.items block 0) stands (c.requires.starts block within)
 
 pub returns-in-Ok-2-clause-order : goal.returns-in-Ok-2-clause-order
 returns-in-Ok-2-clause-order c count are within =
     let held = c.args.held.now.items in
-    let stands = subst (λ place. IfOk place (λ at. StandsAt held c.args.one.product at)) c.in-Ok-2.is c.requires.stands in
+    let stands = standing held c.args.one.product c.in-Ok-2.is c.requires.stands in
     subst (λ (after : List HeldDemand). AreHeld 0 after count) (sym c.take_out.ensures.taken) (held_remove 0 held count c.in-Ok-2.place are stands.1)
 
 pub returns-in-Ok-2-clause-stored : goal.returns-in-Ok-2-clause-stored
 returns-in-Ok-2-clause-stored c =
     let held = c.args.held.now.items in
     let all = c.requires.room in
-    let stands = subst (λ place. IfOk place (λ at. StandsAt held c.args.one.product at)) c.in-Ok-2.is c.requires.stands in
+    let stands = standing held c.args.one.product c.in-Ok-2.is c.requires.stands in
     let nothing : 0 ≡ c.args.one.demand = omega (arith, c.if-one-gt0.false) in
     subst (λ (demand : ℕ). IsStored held c.take_out.new.held.items c.args.one.product demand) nothing
     (subst (λ (after : List HeldDemand). IsStored held after c.args.one.product 0) (sym c.take_out.ensures.taken)
@@ -74,14 +82,14 @@ returns-in-Ok-2-clause-stored c =
 pub returns-in-Err-clause-order : goal.returns-in-Err-clause-order
 returns-in-Err-clause-order c count are within =
     let held = c.args.held.now.items in
-    let lacks = subst (λ place. IfErr place (λ at. WouldStandAt held c.args.one.product at)) c.in-Err.is c.requires.lacks in
+    let lacks = lacking held c.args.one.product c.in-Err.is c.requires.lacks in
     subst (λ (after : List HeldDemand). AreHeld 0 after count) (sym c.put_in.ensures.put)
     (put count held c.args.one c.in-Err.place are lacks within c.if-one-gt0-2.true c.requires.small)
 
 pub returns-in-Err-clause-stored : goal.returns-in-Err-clause-stored
 returns-in-Err-clause-stored c =
     let held = c.args.held.now.items in
-    let lacks = subst (λ place. IfErr place (λ at. WouldStandAt held c.args.one.product at)) c.in-Err.is c.requires.lacks in
+    let lacks = lacking held c.args.one.product c.in-Err.is c.requires.lacks in
     subst (λ (after : List HeldDemand). IsStored held after c.args.one.product c.args.one.demand) (sym c.put_in.ensures.put)
     (stored_insert held c.in-Err.place c.args.one lacks.0.1 lacks.0.0)
 
@@ -89,7 +97,7 @@ pub returns-else-one-gt0-2-clause-stored : goal.returns-else-one-gt0-2-clause-st
 returns-else-one-gt0-2-clause-stored c =
     let held = c.args.held.now.items in
     let all = c.requires.room in
-    let lacks = subst (λ place. IfErr place (λ at. WouldStandAt held c.args.one.product at)) c.in-Err.is c.requires.lacks in
+    let lacks = lacking held c.args.one.product c.in-Err.is c.requires.lacks in
     let nothing : 0 ≡ c.args.one.demand = omega (arith, c.if-one-gt0-2.false) in
     subst (λ (demand : ℕ). IsStored held held c.args.one.product demand) nothing
     (stored_none held c.args.one.product (missing 0 held all.0 c.args.one.product c.in-Err.place none all.1 lacks.0.1 (lacks.1 none)))

@@ -18,32 +18,11 @@ push_zeros-requires-clause-order c = omega (arith, c.held.invariant.order, c.in-
 
 pub push_zeros-requires-clause-room : goal.push_zeros-requires-clause-room
 push_zeros-requires-clause-room c =
-    omega (
-      arith,
-      c.held.invariant.room,
-      c.held.invariant.order,
-      c.in-Some.ensures.least,
-      c.in-Some.ensures.within,
-      ap (λ (row : List ℕ). length row) c.held.invariant.row,
-      c.requires.room,
-      c.extend_from_slice.ensures.room,
-      c.push.ensures.room,
-    )
+    omega (arith, c.in-Some.ensures.least, c.in-Some.ensures.within, ap (λ (row : List ℕ). length row) c.held.invariant.row)
 
 pub push_item-requires : goal.push_item-requires
 push_item-requires c =
-    omega (
-      arith,
-      c.push_zeros.ensures.room,
-      c.held.invariant.room,
-      c.held.invariant.order,
-      c.in-Some.ensures.least,
-      c.in-Some.ensures.within,
-      ap (λ (row : List ℕ). length row) c.held.invariant.row,
-      c.requires.room,
-      c.extend_from_slice.ensures.room,
-      c.push.ensures.room,
-    )
+    omega (arith, c.in-Some.ensures.least, c.in-Some.ensures.within, ap (λ (row : List ℕ). length row) c.held.invariant.row)
 
 pub held-preserved : goal.held-preserved
 held-preserved c =

@@ -1,11 +1,9 @@
-use Rattle.std.proofs.Common.{◌≡◌, length, ap, sym, subst, ◌∙◌}
-use Rattle.std.specs.Prelude.{None}
+use Rattle.std.proofs.Common.{◌≡◌, ap, sym, ◌∙◌}
 use Rattle.std.proofs.lemmas.Result.{err_from_is_err_and}
 use Rattle.clock_terms.specs.Limits.{SetupFields}
 use Rattle.clock_terms.proofs.IncrementLaws.{increments_of_test}
-use Rattle.clock_order.specs.Ties.{tie_fault}
 use Rattle.clock_closing.specs.OpenRound.{OpenRoundFields}
-use Rattle.clock_closing.proofs.Steps.{is_open, closes-good}
+use Rattle.clock_closing.proofs.Steps.{is_open, closes-tested}
 use Rattle.clock_closing.proofs.open_round.OpenRound.close.Goals as goal
 
 pub results-requires : goal.results-requires
@@ -18,23 +16,15 @@ results-requires g c =
 pub returns-in_err-results-clause-answer : goal.returns-in_err-results-clause-answer
 returns-in_err-results-clause-answer g c =
     let told = err_from_is_err_and c.from_residual-in_err-results.result c.from_residual-in_err-results.ensures.1 in
-    let setup : c.self.inside.setup.now ≡ c.args.self.now.setup = ap (λ (round : OpenRoundFields). round.setup) c.self.view_is in
-    let products : c.setup.inside.products ≡ c.args.self.now.setup.products =
-    ap (λ (one : SetupFields). one.products) (c.setup.view_is ∙ setup) in
-    let fair = subst (λ (one : SetupFields). tie_fault (length one.bidders) (length one.products) c.args.ties.now ≡ None) setup
-    c.in_ok-ties.ensures.good in
-    let good = closes-good c.args.self.now (is_open c.self.view_is c.self.invariant) c.args.increments.now c.args.ties.now
-    (sym (rw (c.as_slice.ensures, products) at c.if-not-are_within.ensures)) fair in
+    let good = closes-tested c.args.self.now (is_open c.self.view_is c.self.invariant) c.self.inside.setup.now c.as_slice.result.now
+    c.args.increments.now c.args.ties.now (ap (λ (round : OpenRoundFields). round.setup) c.self.view_is)
+    (c.as_slice.ensures ∙ ap (λ (one : SetupFields). one.products) c.setup.view_is) (sym c.if-not-are_within.ensures) c.in_ok-ties.ensures.good in
     let refused = rw c.in_ok-ties.ensures.listed at c.in_err-results.ensures.err in
     rw (told.1, told.2) (λ other. good ∙ refused other)
 
 pub returns-clause-answer : goal.returns-clause-answer
 returns-clause-answer g c =
-    let setup : c.self.inside.setup.now ≡ c.args.self.now.setup = ap (λ (round : OpenRoundFields). round.setup) c.self.view_is in
-    let products : c.setup.inside.products ≡ c.args.self.now.setup.products =
-    ap (λ (one : SetupFields). one.products) (c.setup.view_is ∙ setup) in
-    let fair = subst (λ (one : SetupFields). tie_fault (length one.bidders) (length one.products) c.args.ties.now ≡ None) setup
-    c.in_ok-ties.ensures.good in
-    let good = closes-good c.args.self.now (is_open c.self.view_is c.self.invariant) c.args.increments.now c.args.ties.now
-    (sym (rw (c.as_slice.ensures, products) at c.if-not-are_within.ensures)) fair in
-    good ∙ (rw c.in_ok-ties.ensures.listed at c.in_ok-results.ensures.ok.closes)
+    closes-tested c.args.self.now (is_open c.self.view_is c.self.invariant) c.self.inside.setup.now c.as_slice.result.now
+    c.args.increments.now c.args.ties.now (ap (λ (round : OpenRoundFields). round.setup) c.self.view_is)
+    (c.as_slice.ensures ∙ ap (λ (one : SetupFields). one.products) c.setup.view_is) (sym c.if-not-are_within.ensures) c.in_ok-ties.ensures.good
+    ∙ (rw c.in_ok-ties.ensures.listed at c.in_ok-results.ensures.ok.closes)
