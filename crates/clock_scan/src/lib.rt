@@ -16,8 +16,8 @@ mod stop;
 mod words;
 
 pub use compact::CompactBid;
-pub use members::{ScannedMembers, scanned_members};
-pub use parts::{PartReader, scanned_parts};
+pub use members::ScannedMembers;
+pub use parts::{PartReader, scanned_parts, scanned_text};
 pub use rows::FlatRows;
 pub use scan::Scan;
 pub use stop::ScanStop;
