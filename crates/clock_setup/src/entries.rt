@@ -1,6 +1,6 @@
 //! A set-up document of the right shape, with no limit tested yet.
 ghost use Rattle.std.specs.Prelude.{◌≡◌, All};
-ghost use Rattle.clock_terms.specs.Limits.{first_granule};
+ghost use Rattle.clock_terms.specs.Limits.{IsWithin, IsOfFirstVersion, first_granule, latest_version};
 
 use std::marker::Model;
 
@@ -28,6 +28,15 @@ impl<'v> Model for ProductEntry<'v> {
       opening = e.opening;
       granule = e.granule;
     } };
+}
+
+/// A product, and the first version of documents in which one has its keys.
+#[derive(Drop)]
+pub(crate) struct VersionedProduct<'v> {
+    pub version: u64,
+    pub entry: ProductEntry<'v>,
+    ghost known: { IsWithin 1 latest_version version },
+    ghost first_version: { version ≡ 1 → entry.granule ≡ first_granule },
 }
 
 /// Products whose keys are those of one version, which is 0 where there are none.
@@ -78,4 +87,12 @@ impl<'v> Model for SetupEntries<'v> {
       products = e.products.items;
       bidders = e.bidders.items;
     } };
+}
+
+/// The entries of a set-up of a known version.
+#[derive(Drop)]
+pub(crate) struct ScannedSetup<'v> {
+    pub entries: SetupEntries<'v>,
+    ghost version: { IsWithin 1 latest_version entries.version },
+    ghost first_version: { entries.version ≡ 1 → IsOfFirstVersion entries },
 }

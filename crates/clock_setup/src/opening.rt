@@ -13,10 +13,10 @@ use crate::fault::SetupFault;
 use crate::members::read_value;
 use crate::opening_checks::grid_within;
 use crate::opening_entries::{InnerSetup, OpeningInput};
-use crate::opening_scan::scanned_opening;
+use crate::opening_scan::OpeningFound;
 use crate::opening_tree::source_parts;
 use clock_device::NoMemory;
-use clock_scan::{FlatRows, ScanStop};
+use clock_scan::{FlatRows, ScanStop, scanned_text};
 use clock_terms::{Grid, Setup};
 use std::alloc::{AllocError, AllocFailed, Global};
 use thiserror::Error;
@@ -193,7 +193,7 @@ pub fn read_opening(alloc: Global, bytes: &[u8]) -> Result<Opening, OpeningFault
         (IsRefusal OpeningFault.NoMemory (document_opening bytes.now)) }
     ensures held { IfErr result (λ fault. fault ≢ OpeningFault.Setup SetupFault.NoMemory) }
 {
-    match scanned_opening(alloc, bytes) {
+    match scanned_text::<OpeningFound>(alloc, bytes) {
         Ok(entries) => opening_in(alloc, OpeningInput::Entries(entries)),
         Err(ScanStop::Unusual) => opening_by_tree(alloc, bytes),
         Err(ScanStop::NoMemory) => Err(OpeningFault::NoMemory),

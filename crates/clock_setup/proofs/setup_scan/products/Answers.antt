@@ -23,10 +23,11 @@ pub items-preserved : goal.items-preserved
 items-preserved c =
     let l = c.items in
     let start = c.opens_array.new.self in
-    let after = c.product.new.scan in
-    let known = c.in_ok-next.next in
+    let after = c.part.new.scan in
+    let next = c.in_ok-next.next in
+    let known = next.version in
     let version = c.in-Some.common in
-    let entry = c.in_ok-next.entry in
+    let entry = next.entry in
     let is : version ≡ known = c.in-Some.ensures.0 in
     let agrees : (l.version ≡ 0) ⊎ (l.version ≡ version) = subst (λ v. (l.version ≡ 0) ⊎ (l.version ≡ v)) (sym is) c.in-Some.ensures.1 in
     let P = λ (product : Product). product.granule ≡ first_granule in
@@ -39,9 +40,9 @@ items-preserved c =
           (items_push_next 1 (product_data version) start l.scan after l.entries.items entry
           (subst (λ values. HasItems 1 start values l.scan) kept l.invariant.0) reads),
       omega (arith, l.invariant.1, c.in_ok-next.ensures.shorter, ap length same),
-      λ zero. absurd (omega (arith, zero, is, c.in_ok-next.ensures.version.0)),
+      λ zero. absurd (omega (arith, zero, is, next.known.0)),
       λ one. subst (All P) (sym c.in_ok-push.ensures.items) (All-push P l.entries.items entry
-          (of_first_version l.version version l.entries.items l.invariant.2 l.invariant.3 agrees one) (c.in_ok-next.ensures.first_version (sym is ∙ one))),
+          (of_first_version l.version version l.entries.items l.invariant.2 l.invariant.3 agrees one) (next.first_version (sym is ∙ one))),
     )
 
 pub returns-clause-value : goal.returns-clause-value
