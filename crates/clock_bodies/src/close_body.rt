@@ -5,10 +5,10 @@ ghost use Rattle.clock_setup.specs.Members.{each};
 ghost use Rattle.clock_bodies.specs.CloseBodies as bodies;
 
 use crate::body_fault::BodyFault;
-use crate::close_scan::close_by_bytes;
+use crate::close_scan::FoundClose;
 use clock_device::Items;
 use clock_order::Tie;
-use clock_scan::ScanStop;
+use clock_scan::{ScanStop, scanned_text};
 use clock_setup::members::{has_members, items_at, number_at, numbers_of, read_value};
 use clock_terms::Increments;
 use serde_json::Value;
@@ -105,7 +105,7 @@ pub fn read_close(alloc: Global, bytes: &[u8]) -> Result<CloseBody, BodyFault>
     ensures ok { IfOk result (λ body. bodies.close_body bytes.now ≡ Ok body) }
     ensures err { IfErr result (λ fault. fault ≢ BodyFault.NoMemory → bodies.close_body bytes.now ≡ Err fault) }
 {
-    match close_by_bytes(alloc, bytes) {
+    match scanned_text::<FoundClose>(alloc, bytes) {
         Ok(body) => Ok(body),
         Err(ScanStop::NoMemory) => Err(BodyFault::NoMemory),
         Err(ScanStop::Unusual) => close_by_tree(alloc, bytes),

@@ -5,10 +5,10 @@ ghost use Rattle.clock_setup.specs.Members.{each};
 ghost use Rattle.clock_bodies.specs.Bodies as bodies;
 
 use crate::body_fault::BodyFault;
-use crate::put_scan::put_by_bytes;
+use crate::put_scan::FoundPut;
 use clock_bids::Bid;
 use clock_device::Items;
-use clock_scan::ScanStop;
+use clock_scan::{ScanStop, scanned_text};
 use clock_setup::members::{has_members, items_at, number_at, read_value};
 use serde_json::Value;
 use std::alloc::Global;
@@ -86,7 +86,7 @@ pub fn read_put(alloc: Global, bytes: &[u8]) -> Result<PutBody, BodyFault>
     ensures ok { IfOk result (λ body. bodies.put_body bytes.now ≡ Ok body) }
     ensures err { IfErr result (λ fault. fault ≢ BodyFault.NoMemory → bodies.put_body bytes.now ≡ Err fault) }
 {
-    match put_by_bytes(alloc, bytes) {
+    match scanned_text::<FoundPut>(alloc, bytes) {
         Ok(body) => Ok(body),
         Err(ScanStop::NoMemory) => Err(BodyFault::NoMemory),
         Err(ScanStop::Unusual) => put_by_tree(alloc, bytes),
