@@ -1,6 +1,7 @@
 //! The bodies of sheets and closings: what they mean as JSON, and their first faults.
 #![tactic(auto)]
 
+mod body;
 mod body_fault;
 mod close_body;
 mod close_scan;

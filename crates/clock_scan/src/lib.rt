@@ -17,7 +17,7 @@ mod words;
 
 pub use compact::CompactBid;
 pub use members::ScannedMembers;
-pub use parts::{PartReader, scanned_parts, scanned_text};
+pub use parts::{PartReader, scanned_parts, scanned_text, with_room};
 pub use rows::FlatRows;
 pub use scan::Scan;
 pub use stop::ScanStop;

@@ -1,5 +1,5 @@
 //! Parts of one kind: lists of them, and whole texts.
-ghost use Rattle.std.specs.Prelude.{◌≡◌, ℕ, suc, ◌<◌, ◌≤◌, length, map, Some, IfOk, OnOk};
+ghost use Rattle.std.specs.Prelude.{◌≡◌, [], ℕ, suc, ◌<◌, ◌≤◌, length, map, Some, IfOk, OnOk};
 ghost use Rattle.std.specs.Str.{IsUtf8};
 ghost use Rattle.serde_json.specs.Data.{Data, array};
 ghost use Rattle.serde_json.specs.Read.{read};
@@ -8,6 +8,7 @@ ghost use Rattle.clock_scan.specs.Reading.{items_of, Reads};
 use crate::scan::Scan;
 use crate::stop::ScanStop;
 use crate::words::is_text;
+use clock_device::{Items, NoMemory};
 use std::alloc::Global;
 
 /// How a part of a text is read, where it has the shape that is wanted.
@@ -27,20 +28,27 @@ pub trait PartReader<'v> {
         ensures shorter { OnOk result (length scan.new < length scan.old) };
 }
 
+/// No items yet, and room for so many. More can be added than there is room for.
+pub fn with_room<T>(alloc: Global, room: usize) -> Result<Items<T>, NoMemory>
+    ensures { IfOk result (λ list. list ≡ []) }
+{
+    Ok(Items::from_vec(Vec::with_capacity(alloc, room)?))
+}
+
 /// The list of parts that is next, with room for so many made at once.
 pub fn scanned_parts<'v, R: PartReader<'v>>(
     alloc: Global,
     scan: &mut Scan<'v>,
     room: usize,
-) -> Result<Vec<R::Part>, ScanStop>
+) -> Result<Items<R::Part>, ScanStop>
     ensures value { IfOk result (λ parts.
-        Reads (suc R.levels) scan.old (array (items_of (map R.shown parts.items))) scan.new) }
+        Reads (suc R.levels) scan.old (array (items_of (map R.shown parts))) scan.new) }
     ensures shorter { OnOk result (length scan.new < length scan.old) }
 {
     if !scan.opens_array() {
         return Err(ScanStop::Unusual);
     }
-    let mut parts = Vec::with_capacity(alloc, room)?;
+    let mut parts = with_room(alloc, room)?;
     'items: while !scan.closes_array() {
         let next = R::part(alloc, scan)?;
         parts.push(next)?;

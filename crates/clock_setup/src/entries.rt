@@ -2,6 +2,7 @@
 ghost use Rattle.std.specs.Prelude.{◌≡◌, All};
 ghost use Rattle.clock_terms.specs.Limits.{IsWithin, IsOfFirstVersion, first_granule, latest_version};
 
+use clock_device::Items;
 use std::marker::Model;
 
 /// A product as a document has it, with no limit tested yet. Contracts see a product.
@@ -43,8 +44,8 @@ pub(crate) struct VersionedProduct<'v> {
 #[derive(Drop)]
 pub(crate) struct VersionedProducts<'v> {
     pub version: u64,
-    pub entries: Vec<ProductEntry<'v>>,
-    ghost first_version: { version ≡ 1 → All (λ entry. entry.granule ≡ first_granule) entries.items },
+    pub entries: Items<ProductEntry<'v>>,
+    ghost first_version: { version ≡ 1 → All (λ entry. entry.granule ≡ first_granule) entries },
 }
 
 /// A bidder as a document has it, with no limit tested yet. Contracts see a bidder.
@@ -70,8 +71,8 @@ pub(crate) struct SetupEntries<'v> {
     pub limit: u64,
     pub requirement: u64,
     pub operator: &'v str,
-    pub products: Vec<ProductEntry<'v>>,
-    pub bidders: Vec<BidderEntry<'v>>,
+    pub products: Items<ProductEntry<'v>>,
+    pub bidders: Items<BidderEntry<'v>>,
 }
 
 impl<'v> Model for SetupEntries<'v> {
@@ -84,8 +85,8 @@ impl<'v> Model for SetupEntries<'v> {
       limit = e.limit;
       requirement = e.requirement;
       operator = e.operator.now;
-      products = e.products.items;
-      bidders = e.bidders.items;
+      products = e.products;
+      bidders = e.bidders;
     } };
 }
 

@@ -9,6 +9,7 @@ ghost use Rattle.clock_setup.specs.inside.FoundSetup.{found_setup};
 use crate::entries::{
     BidderEntry, ProductEntry, ScannedSetup, SetupEntries, VersionedProduct, VersionedProducts,
 };
+use clock_device::Items;
 use clock_scan::{PartReader, Scan, ScanStop, ScannedMembers, is_key, scanned_parts};
 use clock_terms::{FIRST_GRANULE, FIRST_LIMIT};
 use std::alloc::Global;
@@ -125,14 +126,14 @@ fn common_version(so_far: u64, next: u64) -> Option<u64>
 
 /// Products whose keys are those of one version.
 fn products<'v>(alloc: Global, scan: &mut Scan<'v>) -> Result<VersionedProducts<'v>, ScanStop>
-    ensures value { IfOk result (λ list. Reads 2 scan.old (products_data list.version list.entries.items) scan.new) }
+    ensures value { IfOk result (λ list. Reads 2 scan.old (products_data list.version list.entries) scan.new) }
     ensures shorter { OnOk result (length scan.new < length scan.old) }
 {
     if !scan.opens_array() {
         return Err(ScanStop::Unusual);
     }
     let mut version = 0;
-    let mut entries = Vec::new(alloc);
+    let mut entries = Items::new(alloc);
     'items: while !scan.closes_array() {
         let next = ProductParts::part(alloc, scan)?;
         let Some(common) = common_version(version, next.version) else {
@@ -204,7 +205,7 @@ impl<'v> ScannedMembers<'v> for BidderParts<'v> {
 /// What was found of a set-up.
 #[derive(Drop)]
 pub(crate) struct SetupParts<'v> {
-    bidders: Option<Vec<BidderEntry<'v>>>,
+    bidders: Option<Items<BidderEntry<'v>>>,
     limit: Option<u64>,
     operator: Option<&'v str>,
     products: Option<VersionedProducts<'v>>,

@@ -12,10 +12,10 @@ use Rattle.clock_setup.proofs.setup_scan.products.Goals as goal
 pub items-init : goal.items-init
 items-init c =
     let start = c.opens_array.new.self in (
-      subst (λ list. HasItems 1 start (map (product_data 0) list) start) (sym c.new-entries.ensures.items) (items_start 1 start),
+      subst (λ list. HasItems 1 start (map (product_data 0) list) start) (sym c.new-entries.ensures) (items_start 1 start),
       omega arith,
-      λ _. c.new-entries.ensures.items,
-      λ _. subst (All (λ (product : Product). product.granule ≡ first_granule)) (sym c.new-entries.ensures.items)
+      λ _. c.new-entries.ensures,
+      λ _. subst (All (λ (product : Product). product.granule ≡ first_granule)) (sym c.new-entries.ensures)
           (All-nil (λ (product : Product). product.granule ≡ first_granule)),
     )
 
@@ -35,19 +35,19 @@ items-preserved c =
     let reads : Reads 1 l.scan (product_data version entry) after =
     subst (λ v. Reads 1 l.scan (product_data v entry) after) (sym is) (subst (λ ts. Reads 1 ts (product_data known entry) after) same c.in_ok-next.ensures.value)
     in
-    let kept = of_common_version l.version version l.entries.items l.invariant.2 agrees in (
-      subst (λ list. HasItems 1 start (map (product_data version) list) after) (sym c.in_ok-push.ensures.items)
-          (items_push_next 1 (product_data version) start l.scan after l.entries.items entry
+    let kept = of_common_version l.version version l.entries l.invariant.2 agrees in (
+      subst (λ list. HasItems 1 start (map (product_data version) list) after) (sym c.in_ok-push.ensures.ok)
+          (items_push_next 1 (product_data version) start l.scan after l.entries entry
           (subst (λ values. HasItems 1 start values l.scan) kept l.invariant.0) reads),
       omega (arith, l.invariant.1, c.in_ok-next.ensures.shorter, ap length same),
       λ zero. absurd (omega (arith, zero, is, next.known.0)),
-      λ one. subst (All P) (sym c.in_ok-push.ensures.items) (All-push P l.entries.items entry
-          (of_first_version l.version version l.entries.items l.invariant.2 l.invariant.3 agrees one) (next.first_version (sym is ∙ one))),
+      λ one. subst (All P) (sym c.in_ok-push.ensures.ok) (All-push P l.entries entry
+          (of_first_version l.version version l.entries l.invariant.2 l.invariant.3 agrees one) (next.first_version (sym is ∙ one))),
     )
 
 pub returns-clause-value : goal.returns-clause-value
 returns-clause-value c =
     let l = c.items in
     let closed : l.scan ≡ Token.end_array ∷ c.closes_array.new.self = grind arith in
-    items_end 1 c.args.scan.now c.opens_array.new.self l.scan c.closes_array.new.self (map (product_data l.version) l.entries.items)
+    items_end 1 c.args.scan.now c.opens_array.new.self l.scan c.closes_array.new.self (map (product_data l.version) l.entries)
     (c.opens_array.ensures (grind arith)) l.invariant.0 closed
