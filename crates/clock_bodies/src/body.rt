@@ -20,12 +20,6 @@ pub(crate) trait Body<'v>: ScannedMembers<'v> {
     /// The body that a value means, or none where it is of another shape.
     fn of_value(alloc: Global, value: &Value) -> Result<Option<Self::Whole>, NoMemory>
         ensures { IfOk result (λ body. body ≡ meaning (view value.now)) };
-
-    /// The value that is read as a body means this body.
-    ghost means: { (body : Self.Whole) → meaning (Self.shown body) ≡ Some body };
-
-    /// So deep may values nest that are read at all.
-    ghost few: { Self.levels ≤ 126 };
 }
 
 /// The body that a value means.
@@ -40,12 +34,14 @@ fn body_in<'v, B: Body<'v>>(alloc: Global, value: &Value) -> Result<B::Whole, Bo
     }
 }
 
-/// What bytes mean as a body, or their first fault.
+/// What bytes mean as a body, or their first fault, where the value that is read as a body means this body.
 pub(crate) fn read_body<'v, B: Body<'v>>(
     alloc: Global,
     bytes: &'v [u8],
 ) -> Result<B::Whole, BodyFault>
-    ensures ok { IfOk result (λ body. meant_by B.meaning (json bytes.now) ≡ Ok body) }
+    requires { B.levels ≤ 126 }
+    ensures ok { ((body : _) → B.meaning (B.shown body) ≡ Some body)
+        → IfOk result (λ body. meant_by B.meaning (json bytes.now) ≡ Ok body) }
     ensures err { IfErr result (λ fault. fault ≢ BodyFault.NoMemory → meant_by B.meaning (json bytes.now) ≡ Err fault) }
 {
     match scanned_text::<B>(alloc, bytes) {

@@ -28,6 +28,7 @@ pub fn one_form(single: Option<u64>, listed: Option<Items<u64>>) -> Option<Incre
 }
 
 /// A tie number is read from a list of three numbers, each written in digits alone.
+#[derive(Drop)]
 pub struct TieReader;
 
 impl<'v> PartReader<'v> for TieReader {
@@ -87,7 +88,7 @@ impl<'v> ScannedMembers<'v> for FoundClose {
         if is_key(key, "ties") {
             let room = scan.bytes_left() / SHORT_TIE;
             let ties = scanned_parts::<TieReader>(alloc, scan, room)?;
-            self.ties = Some(Items::from_vec(ties));
+            self.ties = Some(ties);
             return Ok(());
         }
         if is_key(key, "increments") {

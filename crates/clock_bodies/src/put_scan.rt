@@ -69,6 +69,7 @@ impl<'v> ScannedMembers<'v> for FoundBid {
 }
 
 /// A bid is read from its members, where no key has an escape and each number is written in digits alone.
+#[derive(Drop)]
 pub struct BidReader;
 
 impl<'v> PartReader<'v> for BidReader {
