@@ -6,6 +6,7 @@ ghost use Rattle.serde_json.specs.View.{view, items_view};
 ghost use Rattle.clock_setup.specs.Members as members;
 ghost use Rattle.serde_json.specs.Data.{Data};
 ghost use Rattle.clock_setup.specs.Members.{each, number_from};
+ghost use Rattle.clock_setup.specs.OpeningShape.{row_of};
 ghost use Rattle.clock_setup.specs.SetupDocument.{json};
 
 use clock_device::{Items, NoMemory};
@@ -99,6 +100,24 @@ pub fn numbers_of(alloc: Global, items: &[Value]) -> Result<Option<Amounts>, NoM
     ensures { IfOk result (λ numbers. numbers ≡ each number_from (items_view items.now)) }
 {
     each_of(alloc, &NumberReader, items)
+}
+
+/// A row of numbers is read from a list of them.
+#[derive(Drop)]
+pub struct RowReader;
+
+#[tactic(auto, unfolding(crate::specs::OpeningShape::row_of))]
+impl<'v> ValueReader<'v> for RowReader {
+    type Part = Amounts;
+
+    ghost meaning = { λ _. row_of };
+
+    fn part_of(&self, alloc: Global, value: &'v Value) -> Result<Option<Amounts>, NoMemory> {
+        match value.as_array() {
+            Some(items) => numbers_of(alloc, items.as_slice()),
+            None => Ok(None),
+        }
+    }
 }
 
 /// The JSON value (RFC 8259) that the bytes are, or none.

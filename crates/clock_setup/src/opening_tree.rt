@@ -6,32 +6,13 @@ ghost use Rattle.clock_setup.specs.inside.OpeningData.{held_data, parts_data, so
 ghost use Rattle.clock_setup.specs.OpeningShape as shape;
 
 use crate::fault::SetupFault;
-use crate::members::{ValueReader, each_of, has_members, items_at, number_at, numbers_of};
+use crate::members::{RowReader, each_of, has_members, items_at, number_at};
 use crate::opening::OpeningFault;
 use crate::opening_entries::{InnerSetup, OpeningEntries, OpeningInput};
 use clock_device::NoMemory;
 use clock_scan::FlatRows;
-use clock_terms::Amounts;
 use serde_json::Value;
 use std::alloc::Global;
-
-/// The numbers that a value is a list of are one bidder's demands.
-#[derive(Drop)]
-struct RowReader;
-
-#[tactic(auto, unfolding(crate::specs::OpeningShape::row_of))]
-impl<'v> ValueReader<'v> for RowReader {
-    type Part = Amounts;
-
-    ghost meaning = { λ _. shape.row_of };
-
-    fn part_of(&self, alloc: Global, value: &'v Value) -> Result<Option<Amounts>, NoMemory> {
-        match value.as_array() {
-            Some(items) => numbers_of(alloc, items.as_slice()),
-            None => Ok(None),
-        }
-    }
-}
 
 /// An opening document of the right shape, or none.
 fn parts_in(alloc: Global, value: &Value) -> Result<Option<OpeningEntries<'_>>, NoMemory>

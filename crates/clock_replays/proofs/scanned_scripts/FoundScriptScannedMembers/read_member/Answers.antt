@@ -12,10 +12,8 @@ returns-then-is_key-clause-value c =
 
 pub returns-then-is_key-2-clause-value : goal.returns-then-is_key-2-clause-value
 returns-then-is_key-2-clause-value c =
-    let reads : Reads 3 c.key.new.self (sheets_data c.from_vec.result) c.scanned_parts.new.scan =
-    subst (λ list. Reads 3 c.key.new.self (sheets_data list) c.scanned_parts.new.scan) (sym c.from_vec.ensures) c.in_ok-sheets.ensures.value in
     adds_member (script_fields c.args.self.now) (codes "sheets")
-    (sheets_data c.from_vec.result) (omega arith) c.in_ok-key.ensures (c.is_key-2.ensures c.if-is_key-2.true) reads refl
+    (sheets_data c.in_ok-sheets.sheets) (omega arith) c.in_ok-key.ensures (c.is_key-2.ensures c.if-is_key-2.true) c.in_ok-sheets.ensures.value refl
 
 pub returns-then-is_key-3-clause-value : goal.returns-then-is_key-3-clause-value
 returns-then-is_key-3-clause-value c =
