@@ -93,7 +93,7 @@ impl<'v> ScannedMembers<'v> for FoundClose {
         }
         if is_key(key, "increments") {
             let increments = scan.numbers(alloc)?;
-            self.increments = Some(Items::from_vec(increments));
+            self.increments = Some(increments);
             return Ok(());
         }
         let number = scan.number()?;

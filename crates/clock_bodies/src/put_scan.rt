@@ -7,7 +7,7 @@ ghost use Rattle.clock_bodies.specs.inside.QuickBodies.{bids_data, put_fields, p
 use crate::put_body::PutBody;
 use clock_bids::Bid;
 use clock_device::Items;
-use clock_scan::{PartReader, Scan, ScanStop, ScannedMembers, is_key};
+use clock_scan::{PartReader, Scan, ScanStop, ScannedMembers, is_key, push, with_room};
 use std::alloc::Global;
 
 /// How many bytes a bid and its comma take at least.
@@ -93,11 +93,12 @@ fn compact_bids(scan: &mut Scan<'_>, list: &mut Vec<Bid>) -> Result<(), ScanStop
         × ReadsAll 1 scan.old (map bid_data bids) scan.new) }
 {
     'bids: while let Some(bid) = scan.compact_bid() {
-        list.push(Bid {
+        let bid = Bid {
             product: bid.product,
             quantity: bid.quantity,
             price: bid.price,
-        })?;
+        };
+        push(list, bid)?;
     }
     Ok(())
 }
@@ -111,11 +112,11 @@ fn bids(alloc: Global, scan: &mut Scan<'_>) -> Result<Items<Bid>, ScanStop>
     if !scan.opens_array() {
         return Err(ScanStop::Unusual);
     }
-    let mut list = Vec::with_capacity(alloc, scan.bytes_left() / LEAST_BID)?;
+    let mut list = with_room(alloc, scan.bytes_left() / LEAST_BID)?;
     compact_bids(scan, &mut list)?;
     'items: while !scan.closes_array() {
         let next = BidReader::part(alloc, scan)?;
-        list.push(next)?;
+        push(&mut list, next)?;
         compact_bids(scan, &mut list)?;
     }
     Ok(Items::from_vec(list))

@@ -41,7 +41,7 @@ impl<'v> ScannedMembers<'v> for FoundClosing {
         }
         if is_key(key, "increments") {
             let increments = scan.numbers(alloc)?;
-            self.increments = Some(Amounts::from_vec(increments));
+            self.increments = Some(increments);
             return Ok(());
         }
         if is_key(key, "increment") {

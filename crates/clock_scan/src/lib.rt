@@ -9,6 +9,7 @@ mod members;
 mod numbers;
 mod parts;
 mod place;
+mod room;
 mod rows;
 mod scan;
 mod separated;
@@ -17,7 +18,8 @@ mod words;
 
 pub use compact::CompactBid;
 pub use members::ScannedMembers;
-pub use parts::{PartReader, scanned_parts, scanned_text, with_room};
+pub use parts::{PartReader, scanned_parts, scanned_text};
+pub use room::{push, with_room};
 pub use rows::FlatRows;
 pub use scan::Scan;
 pub use stop::ScanStop;

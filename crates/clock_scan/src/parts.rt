@@ -1,14 +1,15 @@
 //! Parts of one kind: lists of them, and whole texts.
-ghost use Rattle.std.specs.Prelude.{◌≡◌, [], ℕ, suc, ◌<◌, ◌≤◌, length, map, Some, IfOk, OnOk};
+ghost use Rattle.std.specs.Prelude.{◌≡◌, ℕ, suc, ◌<◌, ◌≤◌, length, map, Some, IfOk, OnOk};
 ghost use Rattle.std.specs.Str.{IsUtf8};
 ghost use Rattle.serde_json.specs.Data.{Data, array};
 ghost use Rattle.serde_json.specs.Read.{read};
 ghost use Rattle.clock_scan.specs.Reading.{items_of, Reads};
 
+use crate::room::with_room;
 use crate::scan::Scan;
 use crate::stop::ScanStop;
 use crate::words::is_text;
-use clock_device::{Items, NoMemory};
+use clock_device::Items;
 use std::alloc::Global;
 
 /// How a part of a text is read, where it has the shape that is wanted.
@@ -28,13 +29,6 @@ pub trait PartReader<'v> {
         ensures shorter { OnOk result (length scan.new < length scan.old) };
 }
 
-/// No items yet, and room for so many. More can be added than there is room for.
-pub fn with_room<T>(alloc: Global, room: usize) -> Result<Items<T>, NoMemory>
-    ensures { IfOk result (λ list. list ≡ []) }
-{
-    Ok(Items::from_vec(Vec::with_capacity(alloc, room)?))
-}
-
 /// The list of parts that is next, with room for so many made at once.
 pub fn scanned_parts<'v, R: PartReader<'v>>(
     alloc: Global,
@@ -48,7 +42,7 @@ pub fn scanned_parts<'v, R: PartReader<'v>>(
     if !scan.opens_array() {
         return Err(ScanStop::Unusual);
     }
-    let mut parts = with_room(alloc, room)?;
+    let mut parts = Items::from_vec(with_room(alloc, room)?);
     'items: while !scan.closes_array() {
         let next = R::part(alloc, scan)?;
         parts.push(next)?;

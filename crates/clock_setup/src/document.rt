@@ -12,29 +12,29 @@ ghost use Rattle.clock_setup.specs.inside.SetupDocument.{distinct_checks, head_c
 use crate::entries::SetupEntries;
 use crate::fault::{Place, SetupFault};
 use crate::members::{number_at, read_value};
-use crate::names::{bidder_names, is_distinct, product_names, tokens};
+use crate::names::{is_distinct, names, tokens};
 use crate::setup_checks::{bidders_within, is_token, products_within};
 use crate::setup_scan::SetupParts;
 use crate::setup_tree::setup_entries;
-use clock_device::Text;
+use clock_device::{NoMemory, Text};
 use clock_scan::{PartReader, Scan, ScanStop, scanned_text};
 use clock_terms::{
     LATEST_VERSION, LEAST_LIMIT, LEAST_REQUIREMENT, MOST_LIMIT, MOST_REQUIREMENT, Setup, is_within,
 };
 use serde_json::Value;
-use std::alloc::{AllocError, Global};
+use std::alloc::Global;
 
 /// Whether no two products, and no two bidders, have one name.
-fn has_distinct_names(alloc: Global, entries: &SetupEntries) -> Result<bool, AllocError>
+fn has_distinct_names(alloc: Global, entries: &SetupEntries) -> Result<bool, NoMemory>
     ensures { IfOk result (λ distinct. distinct ≡ document.has_distinct_names entries.now) }
 {
-    let products = product_names(alloc, entries.products.as_slice())?;
-    let bidders = bidder_names(alloc, entries.bidders.as_slice())?;
+    let products = names(alloc, entries.products.as_slice())?;
+    let bidders = names(alloc, entries.bidders.as_slice())?;
     Ok(is_distinct(alloc, products.as_slice())? && is_distinct(alloc, bidders.as_slice())?)
 }
 
 /// Whether no two bidders, and no bidder and the operator, have one token.
-fn has_distinct_tokens(alloc: Global, entries: &SetupEntries) -> Result<bool, AllocError>
+fn has_distinct_tokens(alloc: Global, entries: &SetupEntries) -> Result<bool, NoMemory>
     ensures { IfOk result (λ distinct. distinct ≡ document.has_distinct_tokens entries.now) }
 {
     let tokens = tokens(alloc, entries.operator, entries.bidders.as_slice())?;

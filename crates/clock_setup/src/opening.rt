@@ -18,7 +18,7 @@ use crate::opening_tree::source_parts;
 use clock_device::NoMemory;
 use clock_scan::{FlatRows, ScanStop, scanned_text};
 use clock_terms::{Grid, Setup};
-use std::alloc::{AllocError, AllocFailed, Global};
+use std::alloc::Global;
 use thiserror::Error;
 
 /// What round 1 can be posted from: a set-up, and what each bidder demands at the opening prices. No demand is above
@@ -68,28 +68,6 @@ impl From<NoMemory> for OpeningFault {
     ghost from_gives = { λ _ fault. fault ≡ NoMemory };
 
     fn from(_refused: NoMemory) -> OpeningFault {
-        OpeningFault::NoMemory
-    }
-}
-
-impl From<AllocError> for OpeningFault {
-    ghost use Rattle.std.specs.Prelude.{◌≡◌};
-    ghost use Rattle.clock_setup.specs.declared.opening.OpeningFault.TheVariants.{NoMemory};
-
-    ghost from_gives = { λ _ fault. fault ≡ NoMemory };
-
-    fn from(_refused: AllocError) -> OpeningFault {
-        OpeningFault::NoMemory
-    }
-}
-
-impl<T: Drop> From<AllocFailed<T>> for OpeningFault {
-    ghost use Rattle.std.specs.Prelude.{◌≡◌};
-    ghost use Rattle.clock_setup.specs.declared.opening.OpeningFault.TheVariants.{NoMemory};
-
-    ghost from_gives = { λ _ fault. fault ≡ NoMemory };
-
-    fn from(_refused: AllocFailed<T>) -> OpeningFault {
         OpeningFault::NoMemory
     }
 }

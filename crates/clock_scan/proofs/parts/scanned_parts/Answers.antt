@@ -1,4 +1,4 @@
-use Rattle.std.proofs.Common.{◌≡◌, ◌∷◌, length, map, sym, ap, subst, arith}
+use Rattle.std.proofs.Common.{◌≡◌, ◌∷◌, length, map, sym, ap, ◌∙◌, subst, arith}
 use Rattle.clock_scan.specs.Reading.{Token, Reads}
 use Rattle.clock_scan.specs.inside.Reading.{HasItems}
 use Rattle.clock_scan.proofs.Steps.{items_start, items_end, items_push_next}
@@ -8,7 +8,7 @@ pub items-init : goal.items-init
 items-init g c =
     let levels = g.R.PartReader.levels in
     let start = c.opens_array.new.self in
-    (subst (λ list. HasItems levels start (map g.R.PartReader.shown list) start) (sym c.in_ok-parts.ensures) (items_start levels start), omega arith)
+    (subst (λ list. HasItems levels start (map g.R.PartReader.shown list) start) (sym (c.from_vec-parts.ensures ∙ c.in_ok-with_room.ensures.items)) (items_start levels start), omega arith)
 
 pub items-preserved : goal.items-preserved
 items-preserved g c =

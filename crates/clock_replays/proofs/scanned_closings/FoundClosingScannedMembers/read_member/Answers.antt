@@ -12,10 +12,8 @@ returns-then-is_key-clause-value c =
 
 pub returns-then-is_key-2-clause-value : goal.returns-then-is_key-2-clause-value
 returns-then-is_key-2-clause-value c =
-    let reads : Reads 1 c.key.new.self (numbers c.from_vec.result) c.numbers.new.self =
-    subst (λ list. Reads 1 c.key.new.self (numbers list) c.numbers.new.self) (sym c.from_vec.ensures) c.in_ok-increments.ensures.value in
     adds_member (closing_fields c.args.self.now) (codes "increments")
-    (numbers c.from_vec.result) (omega arith) c.in_ok-key.ensures (c.is_key-2.ensures c.if-is_key-2.true) reads refl
+    (numbers c.in_ok-increments.increments) (omega arith) c.in_ok-key.ensures (c.is_key-2.ensures c.if-is_key-2.true) c.in_ok-increments.ensures.value refl
 
 pub returns-then-is_key-3-clause-value : goal.returns-then-is_key-3-clause-value
 returns-then-is_key-3-clause-value c =
