@@ -57,7 +57,7 @@ impl<'v> PartReader<'v> for TieReader {
 }
 
 /// What was found of a closing so far.
-#[derive(Drop)]
+#[derive(Default, Drop)]
 pub(crate) struct FoundClose {
     increment: Option<u64>,
     increments: Option<Items<u64>>,
@@ -75,12 +75,7 @@ impl<'v> ScannedMembers<'v> for FoundClose {
     ghost shown = { close_data };
 
     fn nothing() -> FoundClose {
-        FoundClose {
-            increment: None,
-            increments: None,
-            round: None,
-            ties: None,
-        }
+        FoundClose::default()
     }
 
     fn read_member(&mut self, alloc: Global, scan: &mut Scan<'v>) -> Result<(), ScanStop> {

@@ -14,7 +14,7 @@ use std::alloc::Global;
 const LEAST_BID: usize = 37;
 
 /// What was found of a bid so far.
-#[derive(Clone, Copy)]
+#[derive(Clone, Copy, Default)]
 struct FoundBid {
     price: Option<u64>,
     product: Option<u64>,
@@ -32,11 +32,7 @@ impl<'v> ScannedMembers<'v> for FoundBid {
 
     #[inline(always)]
     fn nothing() -> FoundBid {
-        FoundBid {
-            price: None,
-            product: None,
-            quantity: None,
-        }
+        FoundBid::default()
     }
 
     #[inline(always)]
@@ -123,7 +119,7 @@ fn bids(alloc: Global, scan: &mut Scan<'_>) -> Result<Items<Bid>, ScanStop>
 }
 
 /// What was found of a sheet so far.
-#[derive(Drop)]
+#[derive(Default, Drop)]
 pub(crate) struct FoundPut {
     round: Option<u64>,
     bids: Option<Items<Bid>>,
@@ -139,10 +135,7 @@ impl<'v> ScannedMembers<'v> for FoundPut {
     ghost shown = { put_data };
 
     fn nothing() -> FoundPut {
-        FoundPut {
-            round: None,
-            bids: None,
-        }
+        FoundPut::default()
     }
 
     fn read_member(&mut self, alloc: Global, scan: &mut Scan<'v>) -> Result<(), ScanStop> {
