@@ -8,7 +8,7 @@ use clock_terms::{Amounts, Increments};
 use std::alloc::Global;
 
 /// What was found of a closing so far.
-#[derive(Drop)]
+#[derive(Default, Drop)]
 pub(crate) struct FoundClosing {
     increment: Option<u64>,
     increments: Option<Amounts>,
@@ -25,11 +25,7 @@ impl<'v> ScannedMembers<'v> for FoundClosing {
     ghost shown = { closing_data };
 
     fn nothing() -> FoundClosing {
-        FoundClosing {
-            increment: None,
-            increments: None,
-            ties: None,
-        }
+        FoundClosing::default()
     }
 
     fn read_member(&mut self, alloc: Global, scan: &mut Scan<'v>) -> Result<(), ScanStop> {

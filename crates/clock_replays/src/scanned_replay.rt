@@ -11,7 +11,7 @@ use clock_setup::next_setup;
 use std::alloc::Global;
 
 /// What was found of a replay so far.
-#[derive(Drop)]
+#[derive(Default, Drop)]
 pub(crate) struct FoundReplay {
     closings: Option<Closings>,
     scripts: Option<Scripts>,
@@ -36,11 +36,7 @@ impl<'v> ScannedMembers<'v> for FoundReplay {
     ghost shown = { found_data };
 
     fn nothing() -> FoundReplay {
-        FoundReplay {
-            closings: None,
-            scripts: None,
-            held: None,
-        }
+        FoundReplay::default()
     }
 
     fn read_member(&mut self, alloc: Global, scan: &mut Scan<'v>) -> Result<(), ScanStop> {

@@ -51,7 +51,7 @@ fn kind_of(word: &str) -> Option<Kind>
 }
 
 /// What was found of a script so far.
-#[derive(Drop)]
+#[derive(Default, Drop)]
 pub(crate) struct FoundScript {
     kind: Option<Kind>,
     limits: Option<LimitLists>,
@@ -89,11 +89,7 @@ impl<'v> ScannedMembers<'v> for FoundScript {
     ghost shown = { script_data };
 
     fn nothing() -> FoundScript {
-        FoundScript {
-            kind: None,
-            limits: None,
-            sheets: None,
-        }
+        FoundScript::default()
     }
 
     fn read_member(&mut self, alloc: Global, scan: &mut Scan<'v>) -> Result<(), ScanStop> {

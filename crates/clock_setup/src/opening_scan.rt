@@ -8,7 +8,7 @@ use clock_scan::{FlatRows, PartReader, Scan, ScanStop, ScannedMembers, is_key};
 use std::alloc::Global;
 
 /// What was found of an opening.
-#[derive(Drop)]
+#[derive(Default, Drop)]
 pub(crate) struct OpeningFound<'v> {
     demands: Option<FlatRows>,
     increment: Option<u64>,
@@ -25,11 +25,7 @@ impl<'v> ScannedMembers<'v> for OpeningFound<'v> {
     ghost shown = { entries_data };
 
     fn nothing() -> OpeningFound<'v> {
-        OpeningFound {
-            demands: None,
-            increment: None,
-            setup: None,
-        }
+        OpeningFound::default()
     }
 
     fn read_member(&mut self, alloc: Global, scan: &mut Scan<'v>) -> Result<(), ScanStop> {

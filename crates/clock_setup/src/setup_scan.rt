@@ -15,7 +15,7 @@ use clock_terms::{FIRST_GRANULE, FIRST_LIMIT};
 use std::alloc::Global;
 
 /// What was found of a product.
-#[derive(Clone, Copy)]
+#[derive(Clone, Copy, Default)]
 struct ProductParts<'v> {
     cap: Option<u64>,
     granule: Option<u64>,
@@ -47,14 +47,7 @@ impl<'v> ScannedMembers<'v> for ProductParts<'v> {
     ghost shown = { λ product. product_data product.version product.entry };
 
     fn nothing() -> ProductParts<'v> {
-        ProductParts {
-            cap: None,
-            granule: None,
-            name: None,
-            opening: None,
-            supply: None,
-            units: None,
-        }
+        ProductParts::default()
     }
 
     fn read_member(&mut self, _alloc: Global, scan: &mut Scan<'v>) -> Result<(), ScanStop> {
@@ -146,7 +139,7 @@ fn products<'v>(alloc: Global, scan: &mut Scan<'v>) -> Result<VersionedProducts<
 }
 
 /// What was found of a bidder.
-#[derive(Clone, Copy)]
+#[derive(Clone, Copy, Default)]
 struct BidderParts<'v> {
     eligibility: Option<u64>,
     name: Option<&'v str>,
@@ -163,11 +156,7 @@ impl<'v> ScannedMembers<'v> for BidderParts<'v> {
     ghost shown = { bidder_data };
 
     fn nothing() -> BidderParts<'v> {
-        BidderParts {
-            eligibility: None,
-            name: None,
-            token: None,
-        }
+        BidderParts::default()
     }
 
     fn read_member(&mut self, _alloc: Global, scan: &mut Scan<'v>) -> Result<(), ScanStop> {
@@ -203,7 +192,7 @@ impl<'v> ScannedMembers<'v> for BidderParts<'v> {
 }
 
 /// What was found of a set-up.
-#[derive(Drop)]
+#[derive(Default, Drop)]
 pub(crate) struct SetupParts<'v> {
     bidders: Option<Items<BidderEntry<'v>>>,
     limit: Option<u64>,
@@ -236,14 +225,7 @@ impl<'v> ScannedMembers<'v> for SetupParts<'v> {
     ghost shown = { λ setup. setup_data setup.entries };
 
     fn nothing() -> SetupParts<'v> {
-        SetupParts {
-            bidders: None,
-            limit: None,
-            operator: None,
-            products: None,
-            requirement: None,
-            version: None,
-        }
+        SetupParts::default()
     }
 
     fn read_member(&mut self, alloc: Global, scan: &mut Scan<'v>) -> Result<(), ScanStop> {
