@@ -52,7 +52,7 @@ each_means meaning data_of means (x ∷ xs) =
     ap (λ o. o >>= λ first. (each meaning (items_of (map data_of xs)) >>= λ rest. Some (first ∷ rest))) (means x)
     ∙ ap (λ o. o >>= λ rest. Some (x ∷ rest)) (each_means meaning data_of means xs)
 
-put_means : (body : PutBody) → put_of (put_data body) ≡ Some body
+pub put_means : (body : PutBody) → put_of (put_data body) ≡ Some body
 unfolding put_of
 put_means body =
     ap (λ o. o >>= λ bids. Some (record { round = body.round; bids = bids })) (each_means bid_of bid_data bid_means body.bids)
@@ -60,7 +60,7 @@ put_means body =
 abbrev closing : ℕ → List Tie → Increments → CloseBody
 closing round ties increments = record { round = round; increments = increments; ties = ties }
 
-close_means : (round : ℕ) (increments : Increments) (ties : List Tie)
+pub close_means : (round : ℕ) (increments : Increments) (ties : List Tie)
     → close_of (close_data (closing round ties increments)) ≡ Some (closing round ties increments)
 unfolding close_of
 close_means round (Single increment) ties =
@@ -69,21 +69,3 @@ close_means round (PerProduct increments) ties =
     ap (λ o. option_map PerProduct o >>= λ listed. (each tie_of (items_of (map tie_data ties)) >>= λ known. Some (closing round known listed)))
     (each_means number_from whole number_means increments)
     ∙ ap (λ o. o >>= λ known. Some (closing round known (PerProduct increments))) (each_means tie_of tie_data tie_means ties)
-
--- ---- what the bytes mean
-
-pub put_meant : (text : List ℕ) (ts : List Token) (found : Result PutBody ScanStop) → IsUtf8 text → ts ≡ tokens text
-    → IfOk found (λ body. Reads 3 ts (put_data body) []) → IfOk found (λ body. put_body text ≡ Ok body)
-unfolding put_body
-put_meant text ts (Err stop) utf8 is reads = tt
-put_meant text ts (Ok body) utf8 is reads =
-    ap (meant_by put_of) (json_value text (put_data body) utf8 (text_is 3 text ts [] (put_data body) (omega arith) is reads refl))
-    ∙ ap (or_fault Shape) (put_means body)
-
-pub close_meant : (text : List ℕ) (ts : List Token) (found : Result CloseBody ScanStop) → IsUtf8 text → ts ≡ tokens text
-    → IfOk found (λ body. Reads 3 ts (close_data body) []) → IfOk found (λ body. close_body text ≡ Ok body)
-unfolding close_body
-close_meant text ts (Err stop) utf8 is reads = tt
-close_meant text ts (Ok body) utf8 is reads =
-    ap (meant_by close_of) (json_value text (close_data body) utf8 (text_is 3 text ts [] (close_data body) (omega arith) is reads refl))
-    ∙ ap (or_fault Shape) (close_means body.round body.increments body.ties)

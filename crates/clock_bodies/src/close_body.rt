@@ -1,15 +1,15 @@
-ghost use Rattle.std.specs.Prelude.{◌≡◌, ◌≢◌, Some, Ok, Err, IfOk, IfErr};
-ghost use Rattle.serde_json.specs.View.{view, items_view};
-ghost use Rattle.clock_terms.specs.Faults.{or_fault};
-ghost use Rattle.clock_setup.specs.Members.{each};
+ghost use Rattle.std.specs.Prelude.{◌≡◌, ◌≢◌, Ok, Err, IfOk, IfErr};
+ghost use Rattle.serde_json.specs.View.{view};
 ghost use Rattle.clock_bodies.specs.CloseBodies as bodies;
 
+use crate::body::{Body, read_body};
 use crate::body_fault::BodyFault;
-use crate::close_scan::close_by_bytes;
-use clock_device::Items;
+use crate::close_scan::{FoundClose, TieReader};
+use clock_device::{Items, NoMemory};
 use clock_order::Tie;
-use clock_scan::ScanStop;
-use clock_setup::members::{has_members, items_at, number_at, numbers_of, read_value};
+use clock_setup::members::{
+    ValueReader, each_of, has_members, items_at, number_at, numbers_of,
+};
 use clock_terms::Increments;
 use serde_json::Value;
 use std::alloc::Global;
@@ -27,7 +27,7 @@ pub struct CloseBody {
 }
 
 /// The tie number that a JSON value means: a list of a bidder, a product and a number.
-pub fn tie_of(value: &Value) -> Option<Tie>
+fn tie_of(value: &Value) -> Option<Tie>
     ensures { result ≡ bodies.tie_of (view value.now) }
 {
     let items = value.as_array()?.as_slice();
@@ -41,75 +41,67 @@ pub fn tie_of(value: &Value) -> Option<Tie>
     })
 }
 
-/// The tie numbers of a list.
-fn ties_of(alloc: Global, items: &[Value]) -> Result<Items<Tie>, BodyFault>
-    ensures ok { IfOk result (λ ties. each bodies.tie_of (items_view items.now) ≡ Some ties) }
-    ensures err { IfErr result (λ fault. fault ≢ BodyFault.NoMemory
-        → or_fault BodyFault.Shape (each bodies.tie_of (items_view items.now)) ≡ Err fault) }
-{
-    let mut ties = Items::new(alloc);
-    for item in items {
-        let tie = tie_of(item).ok_or(BodyFault::Shape)?;
-        ties.push(tie)?;
+impl<'v> ValueReader<'v> for TieReader {
+    type Part = Tie;
+
+    ghost meaning = { λ _. bodies.tie_of };
+
+    fn part_of(&self, _alloc: Global, value: &'v Value) -> Result<Option<Tie>, NoMemory> {
+        Ok(tie_of(value))
     }
-    Ok(ties)
 }
 
-/// The increments of a closing, under either key.
-fn increments_of(alloc: Global, value: &Value) -> Result<Increments, BodyFault>
-    ensures ok { IfOk result (λ increments. bodies.increments_of (view value.now) ≡ Some increments) }
-    ensures err { IfErr result (λ fault. fault ≢ BodyFault.NoMemory
-        → or_fault BodyFault.Shape (bodies.increments_of (view value.now)) ≡ Err fault) }
+/// The increments of a closing, under either key, or none.
+pub fn increments_of(alloc: Global, value: &Value) -> Result<Option<Increments>, NoMemory>
+    ensures { IfOk result (λ increments. increments ≡ bodies.increments_of (view value.now)) }
 {
     if let Some(increment) = number_at(value, "increment") {
-        return Ok(Increments::Single(increment));
+        return Ok(Some(Increments::Single(increment)));
     }
-    let items = items_at(value, "increments").ok_or(BodyFault::Shape)?;
-    let increments = numbers_of(alloc, items)?.ok_or(BodyFault::Shape)?;
-    Ok(Increments::PerProduct(increments))
+    let Some(items) = items_at(value, "increments") else {
+        return Ok(None);
+    };
+    match numbers_of(alloc, items)? {
+        Some(increments) => Ok(Some(Increments::PerProduct(increments))),
+        None => Ok(None),
+    }
 }
 
-/// The closing that a JSON value means.
 #[tactic(auto, unfolding(crate::specs::CloseBodies::close_of))]
-fn close_of(alloc: Global, value: &Value) -> Result<CloseBody, BodyFault>
-    ensures ok { IfOk result (λ body. bodies.close_of (view value.now) ≡ Some body) }
-    ensures err { IfErr result (λ fault. fault ≢ BodyFault.NoMemory
-        → or_fault BodyFault.Shape (bodies.close_of (view value.now)) ≡ Err fault) }
-{
-    let round = number_at(value, "round").ok_or(BodyFault::Shape)?;
-    let increments = increments_of(alloc, value)?;
-    let items = items_at(value, "ties").ok_or(BodyFault::Shape)?;
-    let ties = ties_of(alloc, items)?;
-    if !has_members(value, 3) {
-        return Err(BodyFault::Shape);
-    }
-    Ok(CloseBody {
-        round,
-        increments,
-        ties,
-    })
-}
+impl<'v> Body<'v> for FoundClose {
+    ghost meaning = { bodies.close_of };
 
-/// What the body of a closing means, read as a tree of values.
-#[tactic(auto, unfolding(crate::specs::CloseBodies::close_body))]
-fn close_by_tree(alloc: Global, bytes: &[u8]) -> Result<CloseBody, BodyFault>
-    ensures ok { IfOk result (λ body. bodies.close_body bytes.now ≡ Ok body) }
-    ensures err { IfErr result (λ fault. fault ≢ BodyFault.NoMemory → bodies.close_body bytes.now ≡ Err fault) }
-{
-    let value = read_value(alloc, bytes)?.ok_or(BodyFault::NotJson)?;
-    close_of(alloc, &value)
+    fn of_value(alloc: Global, value: &Value) -> Result<Option<CloseBody>, NoMemory> {
+        let Some(round) = number_at(value, "round") else {
+            return Ok(None);
+        };
+        let Some(increments) = increments_of(alloc, value)? else {
+            return Ok(None);
+        };
+        let Some(items) = items_at(value, "ties") else {
+            return Ok(None);
+        };
+        let Some(ties) = each_of(alloc, &TieReader, items)? else {
+            return Ok(None);
+        };
+        if !has_members(value, 3) {
+            return Ok(None);
+        }
+        Ok(Some(CloseBody {
+            round,
+            increments,
+            ties,
+        }))
+    }
 }
 
 /// What the body of a closing means, or its first fault. Numbers are whole and have at most 64 bits.
+#[tactic(auto, unfolding(crate::specs::CloseBodies::close_body))]
 pub fn read_close(alloc: Global, bytes: &[u8]) -> Result<CloseBody, BodyFault>
     ensures ok { IfOk result (λ body. bodies.close_body bytes.now ≡ Ok body) }
     ensures err { IfErr result (λ fault. fault ≢ BodyFault.NoMemory → bodies.close_body bytes.now ≡ Err fault) }
 {
-    match close_by_bytes(alloc, bytes) {
-        Ok(body) => Ok(body),
-        Err(ScanStop::NoMemory) => Err(BodyFault::NoMemory),
-        Err(ScanStop::Unusual) => close_by_tree(alloc, bytes),
-    }
+    read_body::<FoundClose>(alloc, bytes)
 }
 
 /// Whether increments have the form of a set-up's version: one for all products in version 1, one for each later.

@@ -1,32 +1,17 @@
 //! The body of a closing read byte by byte, where it has the shape that is asked for.
-ghost use Rattle.std.specs.Prelude.{◌≡◌, [], ◌<◌, length, Ok, IfSome, IfOk, OnOk};
-ghost use Rattle.clock_scan.specs.Reading.{Reads, members_of};
-ghost use Rattle.serde_json.specs.Data.{object};
-ghost use Rattle.clock_bodies.specs.CloseBodies as bodies;
+ghost use Rattle.std.specs.Prelude.{◌≡◌, IfSome};
 ghost use Rattle.clock_bodies.specs.QuickBodies.{tie_data, single_of, listed_of};
 ghost use Rattle.clock_bodies.specs.inside.QuickBodies.{close_fields, close_data};
 
 use crate::close_body::CloseBody;
 use clock_device::Items;
 use clock_order::Tie;
-use clock_scan::{
-    PartReader, Scan, ScanStop, ScannedMembers, is_key, is_text, scanned_members, scanned_parts,
-};
+use clock_scan::{PartReader, Scan, ScanStop, ScannedMembers, is_key, scanned_parts};
 use clock_terms::Increments;
 use std::alloc::Global;
 
 /// How many bytes a tie number and its comma take, where its numbers are short.
 const SHORT_TIE: usize = 16;
-
-/// What was found of a closing so far, and for how many tie numbers room is made at once.
-#[derive(Drop)]
-struct FoundClose {
-    room: usize,
-    increment: Option<u64>,
-    increments: Option<Items<u64>>,
-    round: Option<u64>,
-    ties: Option<Items<Tie>>,
-}
 
 /// The increments, where they were found in one form and not in both.
 pub fn one_form(single: Option<u64>, listed: Option<Items<u64>>) -> Option<Increments>
@@ -43,6 +28,7 @@ pub fn one_form(single: Option<u64>, listed: Option<Items<u64>>) -> Option<Incre
 }
 
 /// A tie number is read from a list of three numbers, each written in digits alone.
+#[derive(Drop)]
 pub struct TieReader;
 
 impl<'v> PartReader<'v> for TieReader {
@@ -70,21 +56,39 @@ impl<'v> PartReader<'v> for TieReader {
     }
 }
 
+/// What was found of a closing so far.
+#[derive(Default, Drop)]
+pub(crate) struct FoundClose {
+    increment: Option<u64>,
+    increments: Option<Items<u64>>,
+    round: Option<u64>,
+    ties: Option<Items<Tie>>,
+}
+
 impl<'v> ScannedMembers<'v> for FoundClose {
+    type Whole = CloseBody;
+
     ghost levels = { 2 };
 
     ghost fields = { close_fields };
 
+    ghost shown = { close_data };
+
+    fn nothing() -> FoundClose {
+        FoundClose::default()
+    }
+
     fn read_member(&mut self, alloc: Global, scan: &mut Scan<'v>) -> Result<(), ScanStop> {
         let key = scan.key()?;
         if is_key(key, "ties") {
-            let ties = scanned_parts::<TieReader>(alloc, scan, self.room)?;
-            self.ties = Some(Items::from_vec(ties));
+            let room = scan.bytes_left() / SHORT_TIE;
+            let ties = scanned_parts::<TieReader>(alloc, scan, room)?;
+            self.ties = Some(ties);
             return Ok(());
         }
         if is_key(key, "increments") {
             let increments = scan.numbers(alloc)?;
-            self.increments = Some(Items::from_vec(increments));
+            self.increments = Some(increments);
             return Ok(());
         }
         let number = scan.number()?;
@@ -98,13 +102,8 @@ impl<'v> ScannedMembers<'v> for FoundClose {
         }
         Err(ScanStop::Unusual)
     }
-}
 
-impl FoundClose {
-    /// The closing, where all of it was found.
-    fn body(self) -> Option<CloseBody>
-        ensures { IfSome result (λ body. object (members_of (close_fields self)) ≡ close_data body) }
-    {
+    fn whole(self) -> Option<CloseBody> {
         let increments = one_form(self.increment, self.increments)?;
         Some(CloseBody {
             round: self.round?,
@@ -112,36 +111,4 @@ impl FoundClose {
             ties: self.ties?,
         })
     }
-}
-
-/// The closing that is next, where nothing follows it.
-fn close(alloc: Global, scan: &mut Scan<'_>, room: usize) -> Result<CloseBody, ScanStop>
-    ensures { IfOk result (λ body. Reads 3 scan.old (close_data body) []) }
-{
-    let nothing = FoundClose {
-        room,
-        increment: None,
-        increments: None,
-        round: None,
-        ties: None,
-    };
-    let found = scanned_members(alloc, scan, nothing)?;
-    if !scan.ends() {
-        return Err(ScanStop::Unusual);
-    }
-    let Some(body) = found.body() else {
-        return Err(ScanStop::Unusual);
-    };
-    Ok(body)
-}
-
-/// What the body of a closing means, where it is read byte by byte.
-pub(crate) fn close_by_bytes(alloc: Global, bytes: &[u8]) -> Result<CloseBody, ScanStop>
-    ensures { IfOk result (λ body. bodies.close_body bytes.now ≡ Ok body) }
-{
-    if !is_text(bytes) {
-        return Err(ScanStop::Unusual);
-    }
-    let mut scan = Scan::new(bytes);
-    close(alloc, &mut scan, bytes.len() / SHORT_TIE)
 }

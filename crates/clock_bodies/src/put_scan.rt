@@ -1,40 +1,39 @@
 //! The body of a sheet read byte by byte, where it has the shape that is asked for.
-ghost use Rattle.std.specs.Prelude.{◌≡◌, [], ◌++◌, ◌<◌, List, length, map, Ok, IfSome, IfOk, OnOk};
-ghost use Rattle.clock_scan.specs.Reading.{members_of, Reads, ReadsAll};
-ghost use Rattle.serde_json.specs.Data.{object};
-ghost use Rattle.clock_bodies.specs.Bodies as bodies;
+ghost use Rattle.std.specs.Prelude.{◌≡◌, ◌++◌, ◌<◌, List, length, map, IfOk, OnOk};
+ghost use Rattle.clock_scan.specs.Reading.{Reads, ReadsAll};
 ghost use Rattle.clock_bodies.specs.QuickBodies.{bid_fields, bid_data};
 ghost use Rattle.clock_bodies.specs.inside.QuickBodies.{bids_data, put_fields, put_data};
 
 use crate::put_body::PutBody;
 use clock_bids::Bid;
 use clock_device::Items;
-use clock_scan::{PartReader, Scan, ScanStop, ScannedMembers, is_key, is_text, scanned_members};
+use clock_scan::{PartReader, Scan, ScanStop, ScannedMembers, is_key, push, with_room};
 use std::alloc::Global;
 
 /// How many bytes a bid and its comma take at least.
 const LEAST_BID: usize = 37;
 
 /// What was found of a bid so far.
-#[derive(Clone, Copy)]
+#[derive(Clone, Copy, Default)]
 struct FoundBid {
     price: Option<u64>,
     product: Option<u64>,
     quantity: Option<u64>,
 }
 
-/// What was found of a sheet so far, and for how many bids room is made at once.
-#[derive(Drop)]
-struct FoundPut {
-    room: usize,
-    round: Option<u64>,
-    bids: Option<Items<Bid>>,
-}
-
 impl<'v> ScannedMembers<'v> for FoundBid {
+    type Whole = Bid;
+
     ghost levels = { 0 };
 
     ghost fields = { bid_fields };
+
+    ghost shown = { bid_data };
+
+    #[inline(always)]
+    fn nothing() -> FoundBid {
+        FoundBid::default()
+    }
 
     #[inline(always)]
     fn read_member(&mut self, _alloc: Global, scan: &mut Scan<'v>) -> Result<(), ScanStop> {
@@ -54,14 +53,9 @@ impl<'v> ScannedMembers<'v> for FoundBid {
         }
         Err(ScanStop::Unusual)
     }
-}
 
-impl FoundBid {
-    /// The bid, where all of it was found.
     #[inline(always)]
-    fn bid(self) -> Option<Bid>
-        ensures { IfSome result (λ bid. object (members_of (bid_fields self)) ≡ bid_data bid) }
-    {
+    fn whole(self) -> Option<Bid> {
         Some(Bid {
             product: self.product?,
             quantity: self.quantity?,
@@ -71,6 +65,7 @@ impl FoundBid {
 }
 
 /// A bid is read from its members, where no key has an escape and each number is written in digits alone.
+#[derive(Drop)]
 pub struct BidReader;
 
 impl<'v> PartReader<'v> for BidReader {
@@ -82,16 +77,7 @@ impl<'v> PartReader<'v> for BidReader {
 
     #[inline(never)]
     fn part(alloc: Global, scan: &mut Scan<'v>) -> Result<Bid, ScanStop> {
-        let nothing = FoundBid {
-            price: None,
-            product: None,
-            quantity: None,
-        };
-        let found = scanned_members(alloc, scan, nothing)?;
-        match found.bid() {
-            Some(bid) => Ok(bid),
-            None => Err(ScanStop::Unusual),
-        }
+        FoundBid::part(alloc, scan)
     }
 }
 
@@ -103,38 +89,54 @@ fn compact_bids(scan: &mut Scan<'_>, list: &mut Vec<Bid>) -> Result<(), ScanStop
         × ReadsAll 1 scan.old (map bid_data bids) scan.new) }
 {
     'bids: while let Some(bid) = scan.compact_bid() {
-        list.push(Bid {
+        let bid = Bid {
             product: bid.product,
             quantity: bid.quantity,
             price: bid.price,
-        })?;
+        };
+        push(list, bid)?;
     }
     Ok(())
 }
 
-/// The list of bids that is next, with room for so many made at once.
+/// The list of bids that is next, with room made at once for as many as there may be.
 #[inline(never)]
-fn bids(alloc: Global, scan: &mut Scan<'_>, room: usize) -> Result<Items<Bid>, ScanStop>
+fn bids(alloc: Global, scan: &mut Scan<'_>) -> Result<Items<Bid>, ScanStop>
     ensures value { IfOk result (λ bids. Reads 2 scan.old (bids_data bids) scan.new) }
     ensures shorter { OnOk result (length scan.new < length scan.old) }
 {
     if !scan.opens_array() {
         return Err(ScanStop::Unusual);
     }
-    let mut list = Vec::with_capacity(alloc, room)?;
+    let mut list = with_room(alloc, scan.bytes_left() / LEAST_BID)?;
     compact_bids(scan, &mut list)?;
     'items: while !scan.closes_array() {
         let next = BidReader::part(alloc, scan)?;
-        list.push(next)?;
+        push(&mut list, next)?;
         compact_bids(scan, &mut list)?;
     }
     Ok(Items::from_vec(list))
 }
 
+/// What was found of a sheet so far.
+#[derive(Default, Drop)]
+pub(crate) struct FoundPut {
+    round: Option<u64>,
+    bids: Option<Items<Bid>>,
+}
+
 impl<'v> ScannedMembers<'v> for FoundPut {
+    type Whole = PutBody;
+
     ghost levels = { 2 };
 
     ghost fields = { put_fields };
+
+    ghost shown = { put_data };
+
+    fn nothing() -> FoundPut {
+        FoundPut::default()
+    }
 
     fn read_member(&mut self, alloc: Global, scan: &mut Scan<'v>) -> Result<(), ScanStop> {
         let key = scan.key()?;
@@ -144,52 +146,17 @@ impl<'v> ScannedMembers<'v> for FoundPut {
             return Ok(());
         }
         if is_key(key, "bids") {
-            let bids = bids(alloc, scan, self.room)?;
+            let bids = bids(alloc, scan)?;
             self.bids = Some(bids);
             return Ok(());
         }
         Err(ScanStop::Unusual)
     }
-}
 
-impl FoundPut {
-    /// The sheet, where all of it was found.
-    fn body(self) -> Option<PutBody>
-        ensures { IfSome result (λ body. object (members_of (put_fields self)) ≡ put_data body) }
-    {
+    fn whole(self) -> Option<PutBody> {
         Some(PutBody {
             round: self.round?,
             bids: self.bids?,
         })
     }
-}
-
-/// The sheet that is next, where nothing follows it.
-fn put(alloc: Global, scan: &mut Scan<'_>, room: usize) -> Result<PutBody, ScanStop>
-    ensures { IfOk result (λ body. Reads 3 scan.old (put_data body) []) }
-{
-    let nothing = FoundPut {
-        room,
-        round: None,
-        bids: None,
-    };
-    let found = scanned_members(alloc, scan, nothing)?;
-    if !scan.ends() {
-        return Err(ScanStop::Unusual);
-    }
-    let Some(body) = found.body() else {
-        return Err(ScanStop::Unusual);
-    };
-    Ok(body)
-}
-
-/// What the body of a sheet means, where it is read byte by byte.
-pub(crate) fn put_by_bytes(alloc: Global, bytes: &[u8]) -> Result<PutBody, ScanStop>
-    ensures { IfOk result (λ body. bodies.put_body bytes.now ≡ Ok body) }
-{
-    if !is_text(bytes) {
-        return Err(ScanStop::Unusual);
-    }
-    let mut scan = Scan::new(bytes);
-    put(alloc, &mut scan, bytes.len() / LEAST_BID)
 }

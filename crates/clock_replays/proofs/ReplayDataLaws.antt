@@ -1,12 +1,14 @@
 -- What is read of a replay document without a tree is what the document means.
 use Rattle.std.proofs.Common.{◌≡◌, ℕ, List, Option, Some, None, option_map, refl, ap}
+use Rattle.std.specs.Str.{IsUtf8}
 use Rattle.serde_json.specs.Data.{Data}
+use Rattle.serde_json.specs.Read.{read}
 use Rattle.clock_scan.specs.Reading.{whole, numbers}
 use Rattle.clock_terms.specs.Faults.{first_fault, unless}
 use Rattle.clock_setup.specs.SetupData.{setup_data}
 use Rattle.clock_setup.specs.Members.{number_from}
 use Rattle.clock_setup.specs.OpeningShape.{row_of}
-use Rattle.clock_setup.specs.SetupDocument.{json}
+use Rattle.clock_setup.proofs.JsonLaws.{json_value}
 use Rattle.clock_terms.specs.declared.increments.Increments.{Increments}
 use Rattle.clock_terms.specs.declared.increments.Increments.TheVariants.{Single, PerProduct}
 use Rattle.clock_bids.specs.declared.sheet.Bid.{Bid}
@@ -64,9 +66,9 @@ parts_mean setup scripts closings =
     ) refl
 
 -- a document that is the value of a replay is judged by what is looked at behind its set-up
-pub replay_read : (bytes : List ℕ) (found : ScannedReplay) → json bytes ≡ Some (found_data found)
+pub replay_read : (bytes : List ℕ) (found : ScannedReplay) → IsUtf8 bytes → read bytes ≡ Some (found_data found)
     → document_replay bytes ≡ unless (first_fault (replay_checks (all_of found))) (all_of found)
 unfolding document_replay
-replay_read bytes found is =
+replay_read bytes found text is =
     let parts : ReplayParts = record { setup = setup_data found.held.setup; scripts = found.scripts; closings = found.closings } in
-    rw is (replay_at (found_data found) parts found.held.setup (parts_mean (setup_data found.held.setup) found.scripts found.closings) found.held.accepted)
+    rw (json_value bytes (found_data found) text is) (replay_at (found_data found) parts found.held.setup (parts_mean (setup_data found.held.setup) found.scripts found.closings) found.held.accepted)

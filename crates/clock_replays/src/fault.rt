@@ -1,6 +1,5 @@
 use clock_device::NoMemory;
 use clock_setup::SetupFault;
-use std::alloc::{AllocError, AllocFailed};
 use thiserror::Error;
 
 /// Why a replay document is refused: the first of its faults. A fault of the set-up is never `NoMemory`.
@@ -36,28 +35,6 @@ impl From<NoMemory> for ScriptFault {
     ghost from_gives = { λ _ fault. fault ≡ NoMemory };
 
     fn from(_refused: NoMemory) -> ScriptFault {
-        ScriptFault::NoMemory
-    }
-}
-
-impl From<AllocError> for ScriptFault {
-    ghost use Rattle.std.specs.Prelude.{◌≡◌};
-    ghost use Rattle.clock_replays.specs.declared.fault.ScriptFault.TheVariants.{NoMemory};
-
-    ghost from_gives = { λ _ fault. fault ≡ NoMemory };
-
-    fn from(_refused: AllocError) -> ScriptFault {
-        ScriptFault::NoMemory
-    }
-}
-
-impl<T: Drop> From<AllocFailed<T>> for ScriptFault {
-    ghost use Rattle.std.specs.Prelude.{◌≡◌};
-    ghost use Rattle.clock_replays.specs.declared.fault.ScriptFault.TheVariants.{NoMemory};
-
-    ghost from_gives = { λ _ fault. fault ≡ NoMemory };
-
-    fn from(_refused: AllocFailed<T>) -> ScriptFault {
         ScriptFault::NoMemory
     }
 }

@@ -8,7 +8,6 @@ mod held_setup;
 mod limit_lists;
 mod limit_rows;
 mod limit_walk;
-mod part;
 mod read;
 mod replay;
 mod scanned_closings;

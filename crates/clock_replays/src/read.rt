@@ -10,10 +10,10 @@ use crate::checks::replay_fault;
 use crate::closing::Closings;
 use crate::fault::ScriptFault;
 use crate::replay::Replay;
-use crate::scanned_replay::scanned_replay;
+use crate::scanned_replay::FoundReplay;
 use crate::script::Scripts;
 use crate::shape::replay_entries;
-use clock_scan::ScanStop;
+use clock_scan::{ScanStop, scanned_text};
 use clock_setup::members::read_value;
 use clock_setup::{Setup, SetupFault, setup_of};
 use serde_json::Value;
@@ -97,7 +97,7 @@ pub fn read_replay(alloc: Global, bytes: &[u8]) -> Result<Replay, ScriptFault>
     ensures err { IfErr result (IsRefusal ScriptFault.NoMemory (document_replay bytes.now)) }
     ensures held { IfErr result (λ fault. fault ≢ ScriptFault.Setup SetupFault.NoMemory) }
 {
-    match scanned_replay(alloc, bytes) {
+    match scanned_text::<FoundReplay>(alloc, bytes) {
         Ok(found) => compared(found.held.setup, found.scripts, found.closings),
         Err(ScanStop::NoMemory) => Err(ScriptFault::NoMemory),
         Err(ScanStop::Unusual) => replay_by_tree(alloc, bytes),

@@ -1,22 +1,18 @@
 //! A replay document read without a tree, where no text has an escape and each number is written in digits alone.
-ghost use Rattle.std.specs.Prelude.{◌≡◌, Some, IfSome, IfOk};
-ghost use Rattle.serde_json.specs.Data.{object};
-ghost use Rattle.clock_scan.specs.Reading.{members_of, Reads};
-ghost use Rattle.clock_setup.specs.SetupDocument.{json};
 ghost use Rattle.clock_replays.specs.inside.ReplayData.{found_replay, found_data};
 
 use crate::closing::Closings;
 use crate::held_setup::HeldSetup;
-use crate::scanned_closings::ClosingReader;
-use crate::scanned_scripts::ScriptReader;
+use crate::scanned_closings::FoundClosing;
+use crate::scanned_scripts::FoundScript;
 use crate::script::Scripts;
-use clock_scan::{Scan, ScanStop, ScannedMembers, is_key, is_text, scanned_members, scanned_parts};
+use clock_scan::{Scan, ScanStop, ScannedMembers, is_key, scanned_parts};
 use clock_setup::next_setup;
 use std::alloc::Global;
 
 /// What was found of a replay so far.
-#[derive(Drop)]
-struct FoundReplay {
+#[derive(Default, Drop)]
+pub(crate) struct FoundReplay {
     closings: Option<Closings>,
     scripts: Option<Scripts>,
     held: Option<HeldSetup>,
@@ -31,20 +27,26 @@ pub(crate) struct ScannedReplay {
 }
 
 impl<'v> ScannedMembers<'v> for FoundReplay {
+    type Whole = ScannedReplay;
+
     ghost levels = { 5 };
 
     ghost fields = { found_replay };
 
+    ghost shown = { found_data };
+
+    fn nothing() -> FoundReplay {
+        FoundReplay::default()
+    }
+
     fn read_member(&mut self, alloc: Global, scan: &mut Scan<'v>) -> Result<(), ScanStop> {
         let key = scan.key()?;
         if is_key(key, "scripts") {
-            let scripts = scanned_parts::<ScriptReader>(alloc, scan, 0)?;
-            self.scripts = Some(Scripts::from_vec(scripts));
+            self.scripts = Some(scanned_parts::<FoundScript>(alloc, scan, 0)?);
             return Ok(());
         }
         if is_key(key, "closings") {
-            let closings = scanned_parts::<ClosingReader>(alloc, scan, 0)?;
-            self.closings = Some(Closings::from_vec(closings));
+            self.closings = Some(scanned_parts::<FoundClosing>(alloc, scan, 0)?);
             return Ok(());
         }
         if is_key(key, "setup") {
@@ -54,13 +56,8 @@ impl<'v> ScannedMembers<'v> for FoundReplay {
         }
         Err(ScanStop::Unusual)
     }
-}
 
-impl FoundReplay {
-    /// The parts of a replay, where each was found.
-    fn replay(self) -> Option<ScannedReplay>
-        ensures { IfSome result (λ found. object (members_of (found_replay self)) ≡ found_data found) }
-    {
+    fn whole(self) -> Option<ScannedReplay> {
         let held = self.held?;
         let scripts = self.scripts?;
         let closings = self.closings?;
@@ -70,35 +67,4 @@ impl FoundReplay {
             closings,
         })
     }
-}
-
-/// The replay that is next.
-fn replay(alloc: Global, scan: &mut Scan<'_>) -> Result<ScannedReplay, ScanStop>
-    ensures { IfOk result (λ found. Reads 6 scan.old (found_data found) scan.new) }
-{
-    let nothing = FoundReplay {
-        closings: None,
-        scripts: None,
-        held: None,
-    };
-    let found = scanned_members(alloc, scan, nothing)?;
-    match found.replay() {
-        Some(replay) => Ok(replay),
-        None => Err(ScanStop::Unusual),
-    }
-}
-
-/// The parts of the replay that a document is.
-pub(crate) fn scanned_replay(alloc: Global, bytes: &[u8]) -> Result<ScannedReplay, ScanStop>
-    ensures { IfOk result (λ found. json bytes.now ≡ Some (found_data found)) }
-{
-    if !is_text(bytes) {
-        return Err(ScanStop::Unusual);
-    }
-    let mut scan = Scan::new(bytes);
-    let found = replay(alloc, &mut scan)?;
-    if !scan.ends() {
-        return Err(ScanStop::Unusual);
-    }
-    Ok(found)
 }

@@ -7,13 +7,12 @@ ghost use Rattle.clock_replays.specs.inside.PartData.{sheet_data, kind_text, scr
 use crate::limit_lists::{LimitLists, limit_lists};
 use crate::script::{BidList, Script, SheetList};
 use clock_bodies::BidReader;
-use clock_scan::{
-    PartReader, Scan, ScanStop, ScannedMembers, is_key, scanned_members, scanned_parts,
-};
+use clock_scan::{PartReader, Scan, ScanStop, ScannedMembers, is_key, scanned_parts};
 use std::alloc::Global;
 
 /// A sheet is read as a list of bids, or as `null` where there is none.
-struct SheetReader;
+#[derive(Drop)]
+pub(crate) struct SheetReader;
 
 impl<'v> PartReader<'v> for SheetReader {
     type Part = Option<BidList>;
@@ -27,7 +26,7 @@ impl<'v> PartReader<'v> for SheetReader {
             return Ok(None);
         }
         let bids = scanned_parts::<BidReader>(alloc, scan, 0)?;
-        Ok(Some(BidList::from_vec(bids)))
+        Ok(Some(bids))
     }
 }
 
@@ -52,8 +51,8 @@ fn kind_of(word: &str) -> Option<Kind>
 }
 
 /// What was found of a script so far.
-#[derive(Drop)]
-struct FoundScript {
+#[derive(Default, Drop)]
+pub(crate) struct FoundScript {
     kind: Option<Kind>,
     limits: Option<LimitLists>,
     sheets: Option<SheetList>,
@@ -81,9 +80,17 @@ fn script_of(kind: Kind, limits: Option<LimitLists>, sheets: Option<SheetList>) 
 }
 
 impl<'v> ScannedMembers<'v> for FoundScript {
+    type Whole = Script;
+
     ghost levels = { 3 };
 
     ghost fields = { script_fields };
+
+    ghost shown = { script_data };
+
+    fn nothing() -> FoundScript {
+        FoundScript::default()
+    }
 
     fn read_member(&mut self, alloc: Global, scan: &mut Scan<'v>) -> Result<(), ScanStop> {
         let key = scan.key()?;
@@ -94,7 +101,7 @@ impl<'v> ScannedMembers<'v> for FoundScript {
         }
         if is_key(key, "sheets") {
             let sheets = scanned_parts::<SheetReader>(alloc, scan, 0)?;
-            self.sheets = Some(SheetList::from_vec(sheets));
+            self.sheets = Some(sheets);
             return Ok(());
         }
         if is_key(key, "kind") {
@@ -107,38 +114,9 @@ impl<'v> ScannedMembers<'v> for FoundScript {
         }
         Err(ScanStop::Unusual)
     }
-}
 
-impl FoundScript {
-    /// The script, where all of it was found.
-    fn script(self) -> Option<Script>
-        ensures { IfSome result (λ script. object (members_of (script_fields self)) ≡ script_data script) }
-    {
+    fn whole(self) -> Option<Script> {
         let kind = self.kind?;
         script_of(kind, self.limits, self.sheets)
-    }
-}
-
-/// A script is read from its members.
-pub(crate) struct ScriptReader;
-
-impl<'v> PartReader<'v> for ScriptReader {
-    type Part = Script;
-
-    ghost levels = { 4 };
-
-    ghost shown = { script_data };
-
-    fn part(alloc: Global, scan: &mut Scan<'v>) -> Result<Script, ScanStop> {
-        let nothing = FoundScript {
-            kind: None,
-            limits: None,
-            sheets: None,
-        };
-        let found = scanned_members(alloc, scan, nothing)?;
-        match found.script() {
-            Some(script) => Ok(script),
-            None => Err(ScanStop::Unusual),
-        }
     }
 }

@@ -1,58 +1,37 @@
 ghost use Rattle.std.specs.Prelude.{◌≡◌, Some, IfOk, option_map};
 ghost use Rattle.serde_json.specs.View.{view};
-ghost use Rattle.clock_setup.specs.OpeningShape.{row_of};
-ghost use Rattle.clock_bodies.specs.Bodies as put_bodies;
-ghost use Rattle.clock_bodies.specs.CloseBodies as close_bodies;
 ghost use Rattle.clock_replays.specs.ReplayShape as shape;
 
 use crate::closing::{Closing, Closings};
 use crate::limit_lists::LimitLists;
-use crate::part::{Part, parts};
+use crate::scanned_scripts::SheetReader;
 use crate::script::{BidList, Script, Scripts};
-use clock_bids::Bid;
-use clock_bodies::{bid_of, tie_of};
+use clock_bodies::{BidReader, TieReader, increments_of};
 use clock_device::NoMemory;
-use clock_order::Tie;
-use clock_setup::members::{has_members, items_at, number_at, numbers_of, text_at};
-use clock_terms::{Amounts, Increments};
+use clock_setup::members::{RowReader, ValueReader, each_of, has_members, items_at, text_at};
 use serde_json::Value;
 use std::alloc::Global;
 
-impl Part for Bid {
-    ghost meaning = { put_bodies.bid_of };
-
-    fn part_of(_alloc: Global, value: &Value) -> Result<Option<Bid>, NoMemory> {
-        Ok(bid_of(value))
-    }
-}
-
 /// A sheet of a literal script: a list of bids, or null for no sheet.
 #[tactic(auto, unfolding(crate::specs::ReplayShape::sheet_of))]
-impl Part for Option<BidList> {
-    ghost meaning = { shape.sheet_of };
+impl<'v> ValueReader<'v> for SheetReader {
+    type Part = Option<BidList>;
 
-    fn part_of(alloc: Global, value: &Value) -> Result<Option<Option<BidList>>, NoMemory> {
+    ghost meaning = { λ _. shape.sheet_of };
+
+    fn part_of(
+        &self,
+        alloc: Global,
+        value: &'v Value,
+    ) -> Result<Option<Option<BidList>>, NoMemory> {
         if value.is_null() {
             return Ok(Some(None));
         }
         let Some(items) = value.as_array() else {
             return Ok(None);
         };
-        match parts(alloc, items.as_slice())? {
+        match each_of(alloc, &BidReader, items.as_slice())? {
             Some(bids) => Ok(Some(Some(bids))),
-            None => Ok(None),
-        }
-    }
-}
-
-/// The limits for a product.
-#[tactic(auto, unfolding(clock_setup::specs::OpeningShape::row_of))]
-impl Part for Amounts {
-    ghost meaning = { row_of };
-
-    fn part_of(alloc: Global, value: &Value) -> Result<Option<Amounts>, NoMemory> {
-        match value.as_array() {
-            Some(items) => numbers_of(alloc, items.as_slice()),
             None => Ok(None),
         }
     }
@@ -66,7 +45,7 @@ fn literal_of(alloc: Global, value: &Value) -> Result<Option<Script>, NoMemory>
     let Some(items) = items_at(value, "sheets") else {
         return Ok(None);
     };
-    let Some(sheets) = parts(alloc, items)? else {
+    let Some(sheets) = each_of(alloc, &SheetReader, items)? else {
         return Ok(None);
     };
     if has_members(value, 2) {
@@ -84,7 +63,7 @@ fn sincere_of(alloc: Global, value: &Value) -> Result<Option<Script>, NoMemory>
     let Some(items) = items_at(value, "limits") else {
         return Ok(None);
     };
-    let Some(lists) = parts::<Amounts>(alloc, items)? else {
+    let Some(lists) = each_of(alloc, &RowReader, items)? else {
         return Ok(None);
     };
     let limits = LimitLists::from_lists(alloc, lists.as_slice())?;
@@ -108,14 +87,17 @@ fn script_by_kind(alloc: Global, kind: &str, value: &Value) -> Result<Option<Scr
     }
 }
 
-/// What a bidder does.
+/// What a bidder does is read by its kind.
+#[derive(Drop)]
+struct ScriptReader;
+
 #[tactic(auto, unfolding(crate::specs::ReplayShape::script_of))]
-impl Part for Script {
-    ghost use Rattle.clock_replays.specs.ReplayShape as shape;
+impl<'v> ValueReader<'v> for ScriptReader {
+    type Part = Script;
 
-    ghost meaning = { shape.script_of };
+    ghost meaning = { λ _. shape.script_of };
 
-    fn part_of(alloc: Global, value: &Value) -> Result<Option<Script>, NoMemory> {
+    fn part_of(&self, alloc: Global, value: &'v Value) -> Result<Option<Script>, NoMemory> {
         match text_at(value, "kind") {
             Some(kind) => script_by_kind(alloc, kind, value),
             None => Ok(None),
@@ -123,45 +105,24 @@ impl Part for Script {
     }
 }
 
-impl Part for Tie {
-    ghost meaning = { close_bodies.tie_of };
+/// How a round is closed is read under two keys.
+#[derive(Drop)]
+struct ClosingReader;
 
-    fn part_of(_alloc: Global, value: &Value) -> Result<Option<Tie>, NoMemory> {
-        Ok(tie_of(value))
-    }
-}
-
-/// The increments of a closing, under either key.
-fn increments_of(alloc: Global, value: &Value) -> Result<Option<Increments>, NoMemory>
-    ensures { IfOk result (λ increments. increments ≡ close_bodies.increments_of (view value.now)) }
-{
-    if let Some(increment) = number_at(value, "increment") {
-        return Ok(Some(Increments::Single(increment)));
-    }
-    let Some(items) = items_at(value, "increments") else {
-        return Ok(None);
-    };
-    match numbers_of(alloc, items)? {
-        Some(increments) => Ok(Some(Increments::PerProduct(increments))),
-        None => Ok(None),
-    }
-}
-
-/// How a round is closed.
 #[tactic(auto, unfolding(crate::specs::ReplayShape::closing_from))]
-impl Part for Closing {
-    ghost use Rattle.clock_replays.specs.ReplayShape as shape;
+impl<'v> ValueReader<'v> for ClosingReader {
+    type Part = Closing;
 
-    ghost meaning = { shape.closing_from };
+    ghost meaning = { λ _. shape.closing_from };
 
-    fn part_of(alloc: Global, value: &Value) -> Result<Option<Closing>, NoMemory> {
+    fn part_of(&self, alloc: Global, value: &'v Value) -> Result<Option<Closing>, NoMemory> {
         let Some(increments) = increments_of(alloc, value)? else {
             return Ok(None);
         };
         let Some(items) = items_at(value, "ties") else {
             return Ok(None);
         };
-        let Some(ties) = parts(alloc, items)? else {
+        let Some(ties) = each_of(alloc, &TieReader, items)? else {
             return Ok(None);
         };
         if has_members(value, 2) {
@@ -195,13 +156,13 @@ pub(crate) fn replay_entries(
     let Some(items) = items_at(value, "scripts") else {
         return Ok(None);
     };
-    let Some(scripts) = parts(alloc, items)? else {
+    let Some(scripts) = each_of(alloc, &ScriptReader, items)? else {
         return Ok(None);
     };
     let Some(items) = items_at(value, "closings") else {
         return Ok(None);
     };
-    let Some(closings) = parts(alloc, items)? else {
+    let Some(closings) = each_of(alloc, &ClosingReader, items)? else {
         return Ok(None);
     };
     if has_members(value, 3) {

@@ -1,5 +1,5 @@
 -- Laws of lexemes: a byte's, and the tokens that it begins.
-use Rattle.std.proofs.Common.{◌≡◌, ℕ, ◌+◌, ◌-◌, ◌<◌, ◌≤◌, ◌^◌, ◌||◌, true, false, List, [], ◌∷◌, ◌++◌, length, take, drop, get_or, decimal}
+use Rattle.std.proofs.Common.{◌≡◌, ℕ, ◌+◌, ◌-◌, ◌<◌, ◌≤◌, ◌^◌, ◌||◌, Bool, true, false, List, [], ◌∷◌, ◌++◌, length, take, drop, get_or, decimal}
 use Rattle.std.proofs.Common.{cond, append_assoc, refl, sym, ap, ap₂, ◌∙◌, arith}
 use Rattle.std.proofs.lemmas.Bool.{true≢false, false≢true}
 use Rattle.std.proofs.lemmas.List.{drop_more, drop_all, drop-drop, get_or-drop, take_all, take-append-drop, take-append-le}
@@ -18,6 +18,7 @@ use Rattle.json.specs.Lex as lexer
 use Rattle.json.specs.Lex.{Class, Lexeme, Place, may_begin, may_close, token, comma, colon, class, lex, lex_byte, between, punctuate}
 use Rattle.json.specs.Align.{is_blank}
 use Rattle.clock_scan.specs.Left.{place_of}
+use Rattle.clock_scan.specs.inside.Marks.{IsMark}
 use Rattle.clock_scan.specs.declared.place.Place as kinds
 use Rattle.clock_scan.specs.declared.place.Place.TheVariants as ours
 use Rattle.json.proofs.Printed.Numbers.{lex-number, in_word-ended}
@@ -46,22 +47,6 @@ module _ (bytes : List ℕ) (i : ℕ) (lt : i < length bytes) where
   pub colon_at : get_or bytes i 0 ≡ 58 → lex between (drop i bytes) ≡ colon ∷ lex between (drop (i + 1) bytes)
   unfolding lex
   colon_at is = ap (lex between) (at_byte bytes i _ lt is)
-
-  pub open_brace_at : get_or bytes i 0 ≡ 123 → lex between (drop i bytes) ≡ token begin_object ∷ lex between (drop (i + 1) bytes)
-  unfolding lex
-  open_brace_at is = ap (lex between) (at_byte bytes i _ lt is)
-
-  pub close_brace_at : get_or bytes i 0 ≡ 125 → lex between (drop i bytes) ≡ token end_object ∷ lex between (drop (i + 1) bytes)
-  unfolding lex
-  close_brace_at is = ap (lex between) (at_byte bytes i _ lt is)
-
-  pub open_bracket_at : get_or bytes i 0 ≡ 91 → lex between (drop i bytes) ≡ token begin_array ∷ lex between (drop (i + 1) bytes)
-  unfolding lex
-  open_bracket_at is = ap (lex between) (at_byte bytes i _ lt is)
-
-  pub close_bracket_at : get_or bytes i 0 ≡ 93 → lex between (drop i bytes) ≡ token end_array ∷ lex between (drop (i + 1) bytes)
-  unfolding lex
-  close_bracket_at is = ap (lex between) (at_byte bytes i _ lt is)
 
 -- ---- quoted bytes
 
@@ -118,23 +103,28 @@ closed lexer.after_value ls read h fresh behind = behind
 closed lexer.after_comma ls read h fresh behind = absurd (false≢true h)
 closed lexer.after_key ls read h fresh behind = absurd (false≢true h)
 
-object_begins : (p : Place) (ls ms : List Lexeme) → may_begin p ≡ true → ls ≡ token begin_object ∷ ms → punctuate p ls ≡ begin_object ∷ punctuate lexer.fresh ms
-unfolding punctuate
-object_begins p ls ms h is = begun p ls _ h (ap (punctuate lexer.fresh) is) (ap (punctuate lexer.after_comma) is)
+pub brace_opens : IsMark may_begin 123 begin_object lexer.fresh
+unfolding lex punctuate
+brace_opens = record { lexed = λ rest. refl; placed = λ p ls h. begun p (token begin_object ∷ ls) _ h refl refl }
 
-array_begins : (p : Place) (ls ms : List Lexeme) → may_begin p ≡ true → ls ≡ token begin_array ∷ ms → punctuate p ls ≡ begin_array ∷ punctuate lexer.fresh ms
-unfolding punctuate
-array_begins p ls ms h is = begun p ls _ h (ap (punctuate lexer.fresh) is) (ap (punctuate lexer.after_comma) is)
+pub bracket_opens : IsMark may_begin 91 begin_array lexer.fresh
+unfolding lex punctuate
+bracket_opens = record { lexed = λ rest. refl; placed = λ p ls h. begun p (token begin_array ∷ ls) _ h refl refl }
 
-pub object_closes : (p : Place) (ls ms : List Lexeme) → may_close p ≡ true → ls ≡ token end_object ∷ ms
-    → punctuate p ls ≡ end_object ∷ punctuate lexer.after_value ms
-unfolding punctuate
-object_closes p ls ms h is = closed p ls _ h (ap (punctuate lexer.fresh) is) (ap (punctuate lexer.after_value) is)
+pub brace_closes : IsMark may_close 125 end_object lexer.after_value
+unfolding lex punctuate
+brace_closes = record { lexed = λ rest. refl; placed = λ p ls h. closed p (token end_object ∷ ls) _ h refl refl }
 
-pub array_closes : (p : Place) (ls ms : List Lexeme) → may_close p ≡ true → ls ≡ token end_array ∷ ms
-    → punctuate p ls ≡ end_array ∷ punctuate lexer.after_value ms
-unfolding punctuate
-array_closes p ls ms h is = closed p ls _ h (ap (punctuate lexer.fresh) is) (ap (punctuate lexer.after_value) is)
+pub bracket_closes : IsMark may_close 93 end_array lexer.after_value
+unfolding lex punctuate
+bracket_closes = record { lexed = λ rest. refl; placed = λ p ls h. closed p (token end_array ∷ ls) _ h refl refl }
+
+-- a mark behind white space
+pub mark_at : (may : Place → Bool) (mark : ℕ) (t : Token) (p next : Place) (bytes : List ℕ) (start at : ℕ) → IsMark may mark t next → may p ≡ true
+    → lex between (drop at bytes) ≡ lex between (drop start bytes) → at < length bytes → get_or bytes at 0 ≡ mark
+    → punctuate p (lex between (drop start bytes)) ≡ t ∷ punctuate next (lex between (drop (at + 1) bytes))
+mark_at may mark t p next bytes start at reads h same lt is =
+    ap (punctuate p) (sym same ∙ ap (lex between) (at_byte bytes at mark lt is) ∙ reads.lexed (drop (at + 1) bytes)) ∙ reads.placed p _ h
 
 pub number_begins : (p : Place) (ls ms : List Lexeme) (s : List ℕ) → may_begin p ≡ true → ls ≡ token (number s) ∷ ms
     → punctuate p ls ≡ number s ∷ punctuate lexer.after_value ms
@@ -168,16 +158,6 @@ nothing_left ours.AfterComma ls h is = absurd (true≢false h)
 pub at_end : (bytes : List ℕ) (i : ℕ) → length bytes ≤ i → lex between (drop i bytes) ≡ []
 unfolding lex
 at_end bytes i past = ap (lex between) (drop_all i bytes past)
-
-pub object_begins_at : (p : Place) (bytes : List ℕ) (start at : ℕ) → may_begin p ≡ true → lex between (drop at bytes) ≡ lex between (drop start bytes)
-    → at < length bytes → get_or bytes at 0 ≡ 123
-    → punctuate p (lex between (drop start bytes)) ≡ begin_object ∷ punctuate lexer.fresh (lex between (drop (at + 1) bytes))
-object_begins_at p bytes start at may same lt is = object_begins p _ _ may (sym same ∙ open_brace_at bytes at lt is)
-
-pub array_begins_at : (p : Place) (bytes : List ℕ) (start at : ℕ) → may_begin p ≡ true → lex between (drop at bytes) ≡ lex between (drop start bytes)
-    → at < length bytes → get_or bytes at 0 ≡ 91
-    → punctuate p (lex between (drop start bytes)) ≡ begin_array ∷ punctuate lexer.fresh (lex between (drop (at + 1) bytes))
-array_begins_at p bytes start at may same lt is = array_begins p _ _ may (sym same ∙ open_bracket_at bytes at lt is)
 
 -- ---- digits
 

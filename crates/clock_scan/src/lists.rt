@@ -3,20 +3,22 @@ ghost use Rattle.std.specs.Prelude.{◌≡◌, ◌<◌, ◌++◌, ℕ, List, len
 ghost use Rattle.clock_scan.specs.Reading.{numbers, rows, Reads};
 
 use crate::numbers::Numbers;
+use crate::room::push;
 use crate::rows::FlatRows;
 use crate::scan::Scan;
 use crate::stop::ScanStop;
+use clock_device::Items;
 use std::alloc::Global;
 
 impl<'a> Scan<'a> {
     /// Reads a list of numbers that are below 10^19 and written in digits alone.
-    pub fn numbers(&mut self, alloc: Global) -> Result<Vec<u64>, ScanStop>
-        ensures value { IfOk result (λ list. Reads 1 self.old (numbers list.items) self.new) }
+    pub fn numbers(&mut self, alloc: Global) -> Result<Items<u64>, ScanStop>
+        ensures value { IfOk result (λ list. Reads 1 self.old (numbers list) self.new) }
         ensures shorter { OnOk result (length self.new < length self.old) }
     {
         let mut list = Vec::new(alloc);
         self.numbers_behind(&mut list)?;
-        Ok(list)
+        Ok(Items::from_vec(list))
     }
 
     /// Reads a list of numbers as [`numbers`](Scan::numbers) does, behind those that are there.
@@ -30,7 +32,7 @@ impl<'a> Scan<'a> {
         }
         'items: while !self.closes_array() {
             let next = self.number()?;
-            list.push(next)?;
+            push(list, next)?;
             self.further_numbers(list)?;
         }
         Ok(())
@@ -51,7 +53,7 @@ impl<'a> Scan<'a> {
             row.clear();
             self.numbers_behind(&mut row)?;
             numbers.extend_from_slice(row.as_slice())?;
-            lengths.push(row.as_slice().len())?;
+            push(&mut lengths, row.as_slice().len())?;
         }
         Ok(FlatRows { lengths, numbers })
     }

@@ -1,44 +1,60 @@
 //! Objects of known keys, which may stand in any order.
-ghost use Rattle.std.specs.Prelude.{◌≡◌, ℕ, suc, ◌<◌, length, IfOk, OnOk};
-ghost use Rattle.serde_json.specs.Data.{no_members, object};
-ghost use Rattle.clock_scan.specs.Reading.{Fields, Reads, members_of};
+ghost use Rattle.std.specs.Prelude.{◌≡◌, ℕ, suc, ◌<◌, length, IfSome, OnOk};
+ghost use Rattle.serde_json.specs.Data.{Data, no_members, object};
+ghost use Rattle.clock_scan.specs.Reading.{Fields, members_of};
 ghost use Rattle.clock_scan.specs.Members.{AddsMember};
 
+use crate::parts::PartReader;
 use crate::scan::Scan;
 use crate::stop::ScanStop;
 use std::alloc::Global;
 
-/// What was found of an object while its members are read.
-pub trait ScannedMembers<'v>: Drop {
+/// What was found of an object while its members are read. Where all of it is found, the object is a part that is read.
+pub trait ScannedMembers<'v>: Sized + Drop {
+    /// What a whole object is.
+    type Whole: Drop;
+
     /// How deep the values of its members nest.
     ghost levels: { ℕ };
 
     /// Its keys, each with the value of JSON that was found.
     ghost fields: { Self → Fields };
 
+    /// The value of JSON that a whole one is.
+    ghost shown: { Self.Whole → Data };
+
+    /// An object of which nothing was found.
+    fn nothing() -> Self
+        ensures { members_of (fields result) ≡ no_members };
+
     /// Reads the member that is next, if its key is one of these.
     fn read_member(&mut self, alloc: Global, scan: &mut Scan<'v>) -> Result<(), ScanStop>
         ensures value { OnOk result (AddsMember levels scan.old (fields self.old) scan.new (fields self.new)) }
         ensures shorter { OnOk result (length scan.new < length scan.old) };
+
+    /// What the object is, where all of it was found.
+    fn whole(self) -> Option<Self::Whole>
+        ensures { IfSome result (λ whole. object (members_of (fields self)) ≡ shown whole) };
 }
 
-/// What is found of the object that is next, where nothing was found of it before.
-pub fn scanned_members<'v, M: ScannedMembers<'v>>(
-    alloc: Global,
-    scan: &mut Scan<'v>,
-    nothing: M,
-) -> Result<M, ScanStop>
-    requires { members_of (M.fields nothing) ≡ no_members }
-    ensures value { IfOk result (λ found.
-        Reads (suc M.levels) scan.old (object (members_of (M.fields found))) scan.new) }
-    ensures shorter { OnOk result (length scan.new < length scan.old) }
-{
-    if !scan.opens_object() {
-        return Err(ScanStop::Unusual);
+impl<'v, M: ScannedMembers<'v>> PartReader<'v> for M {
+    type Part = M::Whole;
+
+    ghost levels = { suc M.levels };
+
+    ghost shown = { M.shown };
+
+    fn part(alloc: Global, scan: &mut Scan<'v>) -> Result<M::Whole, ScanStop> {
+        if !scan.opens_object() {
+            return Err(ScanStop::Unusual);
+        }
+        let mut found = M::nothing();
+        'members: while !scan.closes_object() {
+            found.read_member(alloc, scan)?;
+        }
+        match found.whole() {
+            Some(whole) => Ok(whole),
+            None => Err(ScanStop::Unusual),
+        }
     }
-    let mut found = nothing;
-    'members: while !scan.closes_object() {
-        found.read_member(alloc, scan)?;
-    }
-    Ok(found)
 }

@@ -2,12 +2,13 @@
 ghost use Rattle.std.specs.Prelude.{◌≡◌, ◌∷◌, ◌++◌, [], ℕ, List, ◌<◌, length, map, replicate, IsTrue, IfSome, IfNone};
 ghost use Rattle.std.specs.Prelude.{IfOk, OnOk};
 ghost use Rattle.std.specs.Bool.{MatchBool};
-ghost use Rattle.json.specs.Token.{begin_array, begin_object, end_array, end_object, key as key_token};
-ghost use Rattle.json.specs.Lex.{tokens};
+ghost use Rattle.json.specs.Token.{Token, begin_array, begin_object, end_array, end_object, key as key_token};
+ghost use Rattle.json.specs.Lex.{after_value, fresh, may_begin, may_close, tokens};
 ghost use Rattle.serde_json.specs.Data.{null, string};
 ghost use Rattle.clock_scan.specs.Compact.{compact_bid};
 ghost use Rattle.clock_scan.specs.Left.{left};
 ghost use Rattle.clock_scan.specs.Reading.{whole, numbers, Reads, ReadsAll};
+ghost use Rattle.clock_scan.specs.inside.Marks.{IsMark};
 
 use crate::compact::{CompactBid, compact_bid_at};
 use crate::place::Place;
@@ -49,18 +50,52 @@ impl<'a> Scan<'a> {
         }
     }
 
-    /// Passes a brace that opens.
+    /// How many bytes of the text are left.
+    pub fn bytes_left(&self) -> usize {
+        self.bytes.len().saturating_sub(self.at)
+    }
+
+    /// Passes a mark that opens.
     #[inline(always)]
-    pub fn opens_object(&mut self) -> bool
-        ensures { IsTrue result → self.old ≡ begin_object ∷ self.new }
+    fn opens(&mut self, mark: u8) -> bool
+        requires { 0 < mark }
+        ensures { (t : Token) → IsMark may_begin mark t fresh → IsTrue result → self.old ≡ t ∷ self.new }
     {
         let at = after_space(self.bytes, self.at);
-        if !self.place.may_begin() || byte_at(self.bytes, at) != b'{' {
+        if !self.place.may_begin() || byte_at(self.bytes, at) != mark {
             return false;
         }
         self.at = at + 1;
         self.place = Place::Fresh;
         true
+    }
+
+    /// Passes a mark that closes.
+    #[inline(always)]
+    fn closes(&mut self, mark: u8) -> bool
+        requires { 0 < mark }
+        ensures { (t : Token) → IsMark may_close mark t after_value
+            → MatchBool result (self.old ≡ t ∷ self.new) (self.new ≡ self.old) }
+    {
+        if !self.place.may_close() {
+            return false;
+        }
+        let at = after_space(self.bytes, self.at);
+        if byte_at(self.bytes, at) != mark {
+            return false;
+        }
+        let (place, at) = after_value(self.bytes, at + 1);
+        self.at = at;
+        self.place = place;
+        true
+    }
+
+    /// Passes a brace that opens.
+    #[inline(always)]
+    pub fn opens_object(&mut self) -> bool
+        ensures { IsTrue result → self.old ≡ begin_object ∷ self.new }
+    {
+        self.opens(b'{')
     }
 
     /// Passes a bracket that opens.
@@ -68,13 +103,7 @@ impl<'a> Scan<'a> {
     pub fn opens_array(&mut self) -> bool
         ensures { IsTrue result → self.old ≡ begin_array ∷ self.new }
     {
-        let at = after_space(self.bytes, self.at);
-        if !self.place.may_begin() || byte_at(self.bytes, at) != b'[' {
-            return false;
-        }
-        self.at = at + 1;
-        self.place = Place::Fresh;
-        true
+        self.opens(b'[')
     }
 
     /// Passes a brace that closes.
@@ -82,17 +111,7 @@ impl<'a> Scan<'a> {
     pub fn closes_object(&mut self) -> bool
         ensures { MatchBool result (self.old ≡ end_object ∷ self.new) (self.new ≡ self.old) }
     {
-        if !self.place.may_close() {
-            return false;
-        }
-        let at = after_space(self.bytes, self.at);
-        if byte_at(self.bytes, at) != b'}' {
-            return false;
-        }
-        let (place, at) = after_value(self.bytes, at + 1);
-        self.at = at;
-        self.place = place;
-        true
+        self.closes(b'}')
     }
 
     /// Passes a bracket that closes.
@@ -100,17 +119,7 @@ impl<'a> Scan<'a> {
     pub fn closes_array(&mut self) -> bool
         ensures { MatchBool result (self.old ≡ end_array ∷ self.new) (self.new ≡ self.old) }
     {
-        if !self.place.may_close() {
-            return false;
-        }
-        let at = after_space(self.bytes, self.at);
-        if byte_at(self.bytes, at) != b']' {
-            return false;
-        }
-        let (place, at) = after_value(self.bytes, at + 1);
-        self.at = at;
-        self.place = place;
-        true
+        self.closes(b']')
     }
 
     /// Reads a key with no escape in it, and its colon.

@@ -9,6 +9,7 @@ ghost use Rattle.clock_scan.specs.Reading.{whole, numbers, ReadsAll};
 use crate::compact::has_room;
 use crate::digits::digits_at;
 use crate::place::Place;
+use crate::room::push;
 use crate::stop::ScanStop;
 
 /// The number of one digit that stands there with a comma behind it.
@@ -64,7 +65,7 @@ pub(crate) fn numbers_at(bytes: &[u8], start: usize, list: &mut Vec<u64>) -> Res
 {
     let mut at = start;
     'numbers: while let Some((n, end)) = number_and_comma(bytes, at) {
-        list.push(n)?;
+        push(list, n)?;
         at = end;
     }
     Ok(at)

@@ -25,7 +25,7 @@ use Rattle.clock_setup.specs.SetupShape.{fields_of}
 use Rattle.clock_terms.proofs.FaultLaws.{passed, failed, both_pass}
 use Rattle.clock_terms.specs.Faults.{first_fault, in_turn}
 use Rattle.clock_setup.specs.SetupDocument.{product_checks, bidder_checks, setup_checks, has_distinct_names, has_distinct_tokens, setup_of}
-use Rattle.clock_setup.specs.inside.SetupDocument.{head_checks, products_checks, bidders_checks, distinct_checks}
+use Rattle.clock_setup.specs.inside.SetupDocument.{head_checks, counted_checks, products_checks, bidders_checks, distinct_checks}
 
 -- every check passes
 abbrev pub Passing : {F : Type 0} → List (F × Bool) → Type 0
@@ -98,46 +98,34 @@ bidder_of_checks i bidder h =
       eligibility = leb-true bidder.eligibility most_eligibility pass.1.1.0;
     }
 
--- where the counts of a list are within their limits, its items decide
-pub products_counted : (products : List Product) (first : Option SetupFault) → is_within 1 most_products (length products) ≡ true
-    → first_fault (in_turn product_checks 0 products) ≡ first → first_fault (products_checks products) ≡ first
-unfolding products_checks
-products_counted products first counted is = rw counted is
+module _ {A : Type 0} (fault : SetupFault) (most : ℕ) (checks : ℕ → A → List (SetupFault × Bool)) (items : List A) where
+  -- where the count of a list is within its limits, its items decide
+  pub counted : (first : Option SetupFault) → is_within 1 most (length items) ≡ true → first_fault (in_turn checks 0 items) ≡ first
+      → first_fault (counted_checks fault most checks items) ≡ first
+  counted first within is = rw within is
 
-pub products_uncounted : (products : List Product) → is_within 1 most_products (length products) ≡ false
-    → first_fault (products_checks products) ≡ Some (Range Products)
-unfolding products_checks
-products_uncounted products counted = rw counted refl
+  -- and where it is not, the count is the fault
+  pub uncounted : is_within 1 most (length items) ≡ false → first_fault (counted_checks fault most checks items) ≡ Some fault
+  uncounted without = rw without refl
 
-pub bidders_counted : (bidders : List Bidder) (first : Option SetupFault) → is_within 1 most_bidders (length bidders) ≡ true
-    → first_fault (in_turn bidder_checks 0 bidders) ≡ first → first_fault (bidders_checks bidders) ≡ first
-unfolding bidders_checks
-bidders_counted bidders first counted is = rw counted is
-
-pub bidders_uncounted : (bidders : List Bidder) → is_within 1 most_bidders (length bidders) ≡ false
-    → first_fault (bidders_checks bidders) ≡ Some (Range Bidders)
-unfolding bidders_checks
-bidders_uncounted bidders counted = rw counted refl
+  of_counted : (P : A → Type 0) → ((i : ℕ) (item : A) → first_fault (checks i item) ≡ None → P item)
+      → first_fault (counted_checks fault most checks items) ≡ None → IsWithin 1 most (length items) × All P items
+  of_counted P means h =
+      let count = (fault, is_within 1 most (length items)) ∷ [] in
+      let both = both_pass count (in_turn checks 0 items) h in (
+        within_of_test 1 most (length items) (passing count both.0).0,
+        All-from_recursion P items (each_passes checks P means 0 items both.1),
+      )
 
 products_of_checks : (products : List Product) → first_fault (products_checks products) ≡ None
     → IsWithin 1 most_products (length products) × All IsProduct products
 unfolding products_checks
-products_of_checks products h =
-    let counted = (Range Products, is_within 1 most_products (length products)) ∷ [] in
-    let both = both_pass counted (in_turn product_checks 0 products) h in (
-      within_of_test 1 most_products (length products) (passing counted both.0).0,
-      All-from_recursion IsProduct products (each_passes product_checks IsProduct product_of_checks 0 products both.1),
-    )
+products_of_checks products h = of_counted (Range Products) most_products product_checks products IsProduct product_of_checks h
 
 bidders_of_checks : (bidders : List Bidder) → first_fault (bidders_checks bidders) ≡ None
     → IsWithin 1 most_bidders (length bidders) × All IsBidder bidders
 unfolding bidders_checks
-bidders_of_checks bidders h =
-    let counted = (Range Bidders, is_within 1 most_bidders (length bidders)) ∷ [] in
-    let both = both_pass counted (in_turn bidder_checks 0 bidders) h in (
-      within_of_test 1 most_bidders (length bidders) (passing counted both.0).0,
-      All-from_recursion IsBidder bidders (each_passes bidder_checks IsBidder bidder_of_checks 0 bidders both.1),
-    )
+bidders_of_checks bidders h = of_counted (Range Bidders) most_bidders bidder_checks bidders IsBidder bidder_of_checks h
 
 -- a set-up of a known version of which every check passes
 pub setup_within : (setup : SetupFields) → IsWithin 1 latest_version setup.version → (setup.version ≡ 1 → IsOfFirstVersion setup)

@@ -12,29 +12,29 @@ ghost use Rattle.clock_setup.specs.inside.SetupDocument.{distinct_checks, head_c
 use crate::entries::SetupEntries;
 use crate::fault::{Place, SetupFault};
 use crate::members::{number_at, read_value};
-use crate::names::{bidder_names, is_distinct, product_names, tokens};
+use crate::names::{is_distinct, names, tokens};
 use crate::setup_checks::{bidders_within, is_token, products_within};
-use crate::setup_scan::scanned_setup;
+use crate::setup_scan::SetupParts;
 use crate::setup_tree::setup_entries;
-use clock_device::Text;
-use clock_scan::{Scan, ScanStop, is_text};
+use clock_device::{NoMemory, Text};
+use clock_scan::{PartReader, Scan, ScanStop, scanned_text};
 use clock_terms::{
     LATEST_VERSION, LEAST_LIMIT, LEAST_REQUIREMENT, MOST_LIMIT, MOST_REQUIREMENT, Setup, is_within,
 };
 use serde_json::Value;
-use std::alloc::{AllocError, Global};
+use std::alloc::Global;
 
 /// Whether no two products, and no two bidders, have one name.
-fn has_distinct_names(alloc: Global, entries: &SetupEntries) -> Result<bool, AllocError>
+fn has_distinct_names(alloc: Global, entries: &SetupEntries) -> Result<bool, NoMemory>
     ensures { IfOk result (λ distinct. distinct ≡ document.has_distinct_names entries.now) }
 {
-    let products = product_names(alloc, entries.products.as_slice())?;
-    let bidders = bidder_names(alloc, entries.bidders.as_slice())?;
+    let products = names(alloc, entries.products.as_slice())?;
+    let bidders = names(alloc, entries.bidders.as_slice())?;
     Ok(is_distinct(alloc, products.as_slice())? && is_distinct(alloc, bidders.as_slice())?)
 }
 
 /// Whether no two bidders, and no bidder and the operator, have one token.
-fn has_distinct_tokens(alloc: Global, entries: &SetupEntries) -> Result<bool, AllocError>
+fn has_distinct_tokens(alloc: Global, entries: &SetupEntries) -> Result<bool, NoMemory>
     ensures { IfOk result (λ distinct. distinct ≡ document.has_distinct_tokens entries.now) }
 {
     let tokens = tokens(alloc, entries.operator, entries.bidders.as_slice())?;
@@ -97,23 +97,6 @@ pub(crate) fn within_limits(alloc: Global, entries: &SetupEntries) -> Result<Set
     })
 }
 
-/// The entries of a document that is read without a tree.
-fn scanned_entries(alloc: Global, bytes: &[u8]) -> Result<SetupEntries<'_>, ScanStop>
-    ensures value { IfOk result (λ entries. document.json bytes.now ≡ Some (setup_data entries)) }
-    ensures version { IfOk result (λ entries. IsWithin 1 latest_version entries.version) }
-    ensures first_version { IfOk result (λ entries. entries.version ≡ 1 → IsOfFirstVersion entries) }
-{
-    if !is_text(bytes) {
-        return Err(ScanStop::Unusual);
-    }
-    let mut scan = Scan::new(bytes);
-    let entries = scanned_setup(alloc, &mut scan)?;
-    if !scan.ends() {
-        return Err(ScanStop::Unusual);
-    }
-    Ok(entries)
-}
-
 /// The set-up that is next in a document, where it is within its limits, none of its texts has an escape, and each of
 /// its numbers is written in digits alone. Anything else is `Unusual`: then a tree of values tells what it means.
 pub fn next_setup(alloc: Global, scan: &mut Scan<'_>) -> Result<Setup, ScanStop>
@@ -121,8 +104,8 @@ pub fn next_setup(alloc: Global, scan: &mut Scan<'_>) -> Result<Setup, ScanStop>
     ensures accepted { IfOk result (λ setup. document.setup_of (setup_data setup) ≡ Ok setup) }
     ensures shorter { OnOk result (length scan.new < length scan.old) }
 {
-    let entries = scanned_setup(alloc, scan)?;
-    match within_limits(alloc, &entries) {
+    let scanned = SetupParts::part(alloc, scan)?;
+    match within_limits(alloc, &scanned.entries) {
         Ok(setup) => Ok(setup),
         Err(SetupFault::NoMemory) => Err(ScanStop::NoMemory),
         Err(_) => Err(ScanStop::Unusual),
@@ -152,8 +135,8 @@ pub fn read_setup(alloc: Global, bytes: &[u8]) -> Result<Setup, SetupFault>
     ensures ok { IfOk result (λ setup. document.document_setup bytes.now ≡ Ok setup) }
     ensures err { IfErr result (IsRefusal SetupFault.NoMemory (document.document_setup bytes.now)) }
 {
-    match scanned_entries(alloc, bytes) {
-        Ok(entries) => within_limits(alloc, &entries),
+    match scanned_text::<SetupParts>(alloc, bytes) {
+        Ok(scanned) => within_limits(alloc, &scanned.entries),
         Err(ScanStop::Unusual) => setup_by_tree(alloc, bytes),
         Err(ScanStop::NoMemory) => Err(SetupFault::NoMemory),
     }

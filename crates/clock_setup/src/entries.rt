@@ -1,7 +1,8 @@
 //! A set-up document of the right shape, with no limit tested yet.
 ghost use Rattle.std.specs.Prelude.{◌≡◌, All};
-ghost use Rattle.clock_terms.specs.Limits.{first_granule};
+ghost use Rattle.clock_terms.specs.Limits.{IsWithin, IsOfFirstVersion, first_granule, latest_version};
 
+use clock_device::Items;
 use std::marker::Model;
 
 /// A product as a document has it, with no limit tested yet. Contracts see a product.
@@ -30,12 +31,21 @@ impl<'v> Model for ProductEntry<'v> {
     } };
 }
 
+/// A product, and the first version of documents in which one has its keys.
+#[derive(Drop)]
+pub(crate) struct VersionedProduct<'v> {
+    pub version: u64,
+    pub entry: ProductEntry<'v>,
+    ghost known: { IsWithin 1 latest_version version },
+    ghost first_version: { version ≡ 1 → entry.granule ≡ first_granule },
+}
+
 /// Products whose keys are those of one version, which is 0 where there are none.
 #[derive(Drop)]
 pub(crate) struct VersionedProducts<'v> {
     pub version: u64,
-    pub entries: Vec<ProductEntry<'v>>,
-    ghost first_version: { version ≡ 1 → All (λ entry. entry.granule ≡ first_granule) entries.items },
+    pub entries: Items<ProductEntry<'v>>,
+    ghost first_version: { version ≡ 1 → All (λ entry. entry.granule ≡ first_granule) entries },
 }
 
 /// A bidder as a document has it, with no limit tested yet. Contracts see a bidder.
@@ -61,8 +71,8 @@ pub(crate) struct SetupEntries<'v> {
     pub limit: u64,
     pub requirement: u64,
     pub operator: &'v str,
-    pub products: Vec<ProductEntry<'v>>,
-    pub bidders: Vec<BidderEntry<'v>>,
+    pub products: Items<ProductEntry<'v>>,
+    pub bidders: Items<BidderEntry<'v>>,
 }
 
 impl<'v> Model for SetupEntries<'v> {
@@ -75,7 +85,15 @@ impl<'v> Model for SetupEntries<'v> {
       limit = e.limit;
       requirement = e.requirement;
       operator = e.operator.now;
-      products = e.products.items;
-      bidders = e.bidders.items;
+      products = e.products;
+      bidders = e.bidders;
     } };
+}
+
+/// The entries of a set-up of a known version.
+#[derive(Drop)]
+pub(crate) struct ScannedSetup<'v> {
+    pub entries: SetupEntries<'v>,
+    ghost version: { IsWithin 1 latest_version entries.version },
+    ghost first_version: { entries.version ≡ 1 → IsOfFirstVersion entries },
 }

@@ -1,5 +1,4 @@
 use clock_device::NoMemory;
-use std::alloc::{AllocError, AllocFailed};
 use thiserror::Error;
 
 /// Where in a set-up a value stands. Products and bidders go by their numbers, from 0.
@@ -69,28 +68,6 @@ impl From<NoMemory> for SetupFault {
     ghost from_gives = { λ _ fault. fault ≡ NoMemory };
 
     fn from(_refused: NoMemory) -> SetupFault {
-        SetupFault::NoMemory
-    }
-}
-
-impl From<AllocError> for SetupFault {
-    ghost use Rattle.std.specs.Prelude.{◌≡◌};
-    ghost use Rattle.clock_setup.specs.declared.fault.SetupFault.TheVariants.{NoMemory};
-
-    ghost from_gives = { λ _ fault. fault ≡ NoMemory };
-
-    fn from(_refused: AllocError) -> SetupFault {
-        SetupFault::NoMemory
-    }
-}
-
-impl<T: Drop> From<AllocFailed<T>> for SetupFault {
-    ghost use Rattle.std.specs.Prelude.{◌≡◌};
-    ghost use Rattle.clock_setup.specs.declared.fault.SetupFault.TheVariants.{NoMemory};
-
-    ghost from_gives = { λ _ fault. fault ≡ NoMemory };
-
-    fn from(_refused: AllocFailed<T>) -> SetupFault {
         SetupFault::NoMemory
     }
 }

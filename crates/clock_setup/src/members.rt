@@ -4,12 +4,12 @@
 ghost use Rattle.std.specs.Prelude.{◌≡◌, Option, option_map, IfOk};
 ghost use Rattle.serde_json.specs.View.{view, items_view};
 ghost use Rattle.clock_setup.specs.Members as members;
-ghost use Rattle.std.specs.Fn.{FnReturnsAt};
 ghost use Rattle.serde_json.specs.Data.{Data};
 ghost use Rattle.clock_setup.specs.Members.{each, number_from};
+ghost use Rattle.clock_setup.specs.OpeningShape.{row_of};
 ghost use Rattle.clock_setup.specs.SetupDocument.{json};
 
-use clock_device::NoMemory;
+use clock_device::{Items, NoMemory};
 use clock_scan::is_blank;
 use clock_terms::Amounts;
 use serde_json::Value;
@@ -50,36 +50,73 @@ pub fn has_members(value: &Value, count: usize) -> bool
     }
 }
 
-/// What each item of a list is read as, in order, or none where an item is read as nothing.
-pub fn each_of<'v, T: Drop, F: Fn(&'v Value) -> Option<T>>(
-    alloc: Global,
-    items: &'v [Value],
-    read: F,
-) -> Result<Option<Vec<T>>, NoMemory>
-    requires { F.IsAlwaysCallable read }
+/// How a value is read as a part of a document.
+pub trait ValueReader<'v> {
+    /// What is read.
+    type Part: Drop;
 
-    // Where an item is read as what it means, the list is read as what all its items mean.
-    ensures { (meaning : Data → Option T)
-        → ((item : _) (known : Option T) → FnReturnsAt F.Fn read item known → known ≡ meaning (view item))
-        → IfOk result (λ list. option_map (λ known. known.items) list ≡ each meaning (items_view items.now)) }
+    /// What a value means.
+    ghost meaning: { Self → Data → Option Self.Part };
+
+    /// What the value means, or none where it is of another shape.
+    fn part_of(&self, alloc: Global, value: &'v Value) -> Result<Option<Self::Part>, NoMemory>
+        ensures { IfOk result (λ part. part ≡ meaning self.now (view value.now)) };
+}
+
+/// What the items of a list mean, in order, or none where one is of another shape.
+pub fn each_of<'v, R: ValueReader<'v>>(
+    alloc: Global,
+    reader: &R,
+    items: &'v [Value],
+) -> Result<Option<Items<R::Part>>, NoMemory>
+    ensures { IfOk result (λ parts. parts ≡ each (R.meaning reader.now) (items_view items.now)) }
 {
-    let mut list = Vec::new(alloc);
+    let mut parts = Items::new(alloc);
     for item in items {
-        match read(item) {
-            Some(known) => list.push(known)?,
+        match reader.part_of(alloc, item)? {
+            Some(part) => parts.push(part)?,
             None => return Ok(None),
         }
     }
-    Ok(Some(list))
+    Ok(Some(parts))
+}
+
+/// A number is read from a whole number from 0 to 2^64 - 1.
+#[derive(Drop)]
+struct NumberReader;
+
+impl<'v> ValueReader<'v> for NumberReader {
+    type Part = u64;
+
+    ghost meaning = { λ _. number_from };
+
+    fn part_of(&self, _alloc: Global, value: &'v Value) -> Result<Option<u64>, NoMemory> {
+        Ok(value.as_u64())
+    }
 }
 
 /// The numbers of a list, or none where an item is no whole number from 0 to 2^64 - 1.
 pub fn numbers_of(alloc: Global, items: &[Value]) -> Result<Option<Amounts>, NoMemory>
     ensures { IfOk result (λ numbers. numbers ≡ each number_from (items_view items.now)) }
 {
-    match each_of(alloc, items, Value::as_u64)? {
-        Some(numbers) => Ok(Some(Amounts::from_vec(numbers))),
-        None => Ok(None),
+    each_of(alloc, &NumberReader, items)
+}
+
+/// A row of numbers is read from a list of them.
+#[derive(Drop)]
+pub struct RowReader;
+
+#[tactic(auto, unfolding(crate::specs::OpeningShape::row_of))]
+impl<'v> ValueReader<'v> for RowReader {
+    type Part = Amounts;
+
+    ghost meaning = { λ _. row_of };
+
+    fn part_of(&self, alloc: Global, value: &'v Value) -> Result<Option<Amounts>, NoMemory> {
+        match value.as_array() {
+            Some(items) => numbers_of(alloc, items.as_slice()),
+            None => Ok(None),
+        }
     }
 }
 

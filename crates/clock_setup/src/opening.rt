@@ -13,12 +13,12 @@ use crate::fault::SetupFault;
 use crate::members::read_value;
 use crate::opening_checks::grid_within;
 use crate::opening_entries::{InnerSetup, OpeningInput};
-use crate::opening_scan::scanned_opening;
+use crate::opening_scan::OpeningFound;
 use crate::opening_tree::source_parts;
 use clock_device::NoMemory;
-use clock_scan::{FlatRows, ScanStop};
+use clock_scan::{FlatRows, ScanStop, scanned_text};
 use clock_terms::{Grid, Setup};
-use std::alloc::{AllocError, AllocFailed, Global};
+use std::alloc::Global;
 use thiserror::Error;
 
 /// What round 1 can be posted from: a set-up, and what each bidder demands at the opening prices. No demand is above
@@ -68,28 +68,6 @@ impl From<NoMemory> for OpeningFault {
     ghost from_gives = { λ _ fault. fault ≡ NoMemory };
 
     fn from(_refused: NoMemory) -> OpeningFault {
-        OpeningFault::NoMemory
-    }
-}
-
-impl From<AllocError> for OpeningFault {
-    ghost use Rattle.std.specs.Prelude.{◌≡◌};
-    ghost use Rattle.clock_setup.specs.declared.opening.OpeningFault.TheVariants.{NoMemory};
-
-    ghost from_gives = { λ _ fault. fault ≡ NoMemory };
-
-    fn from(_refused: AllocError) -> OpeningFault {
-        OpeningFault::NoMemory
-    }
-}
-
-impl<T: Drop> From<AllocFailed<T>> for OpeningFault {
-    ghost use Rattle.std.specs.Prelude.{◌≡◌};
-    ghost use Rattle.clock_setup.specs.declared.opening.OpeningFault.TheVariants.{NoMemory};
-
-    ghost from_gives = { λ _ fault. fault ≡ NoMemory };
-
-    fn from(_refused: AllocFailed<T>) -> OpeningFault {
         OpeningFault::NoMemory
     }
 }
@@ -193,7 +171,7 @@ pub fn read_opening(alloc: Global, bytes: &[u8]) -> Result<Opening, OpeningFault
         (IsRefusal OpeningFault.NoMemory (document_opening bytes.now)) }
     ensures held { IfErr result (λ fault. fault ≢ OpeningFault.Setup SetupFault.NoMemory) }
 {
-    match scanned_opening(alloc, bytes) {
+    match scanned_text::<OpeningFound>(alloc, bytes) {
         Ok(entries) => opening_in(alloc, OpeningInput::Entries(entries)),
         Err(ScanStop::Unusual) => opening_by_tree(alloc, bytes),
         Err(ScanStop::NoMemory) => Err(OpeningFault::NoMemory),

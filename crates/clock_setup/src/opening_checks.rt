@@ -11,7 +11,7 @@ ghost use Rattle.clock_setup.specs.OpeningDocument.{demand_checks, row_checks, o
 use crate::fault::SetupFault;
 use crate::opening::OpeningFault;
 use clock_money::{LEAST_INCREMENT, MOST_INCREMENT};
-use clock_scan::FlatRows;
+use clock_scan::{FlatRows, push, with_room};
 use clock_terms::{Bidder, Grid, Product, Row, Setup, is_within};
 use std::alloc::Global;
 
@@ -88,10 +88,11 @@ fn rows_within(
     ensures held { IfErr result (λ fault. fault ≢ OpeningFault.Setup SetupFault.NoMemory) }
 {
     let bidders = setup.bidders.as_slice();
-    let mut rows = Vec::with_capacity(alloc, bidders.len())?;
+    let mut rows = with_room(alloc, bidders.len())?;
     for (number, bidder) in bidders.iter().enumerate() {
         demands.read_row(number, numbers)?;
-        rows.push(row_within(alloc, number as u64, setup, bidder, numbers.as_slice())?)?;
+        let row = row_within(alloc, number as u64, setup, bidder, numbers.as_slice())?;
+        push(&mut rows, row)?;
     }
     Ok(rows)
 }
@@ -106,7 +107,7 @@ fn grid_of_rows(alloc: Global, setup: &Setup, demands: &FlatRows) -> Result<Grid
         → first_fault (in_turn (row_checks setup.now.products) 0 (zip setup.now.bidders demands.now)) ≡ Some fault) }
     ensures held { IfErr result (λ fault. fault ≢ OpeningFault.Setup SetupFault.NoMemory) }
 {
-    let mut numbers = Vec::with_capacity(alloc, setup.products.as_slice().len())?;
+    let mut numbers = with_room(alloc, setup.products.as_slice().len())?;
     let rows = rows_within(alloc, setup, demands, &mut numbers)?;
     Ok(Grid::of_rows(alloc, setup, rows)?)
 }

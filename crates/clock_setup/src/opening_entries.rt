@@ -1,18 +1,8 @@
 //! What an opening is read from: a value of JSON, or parts that were read without a tree.
-ghost use Rattle.std.specs.Prelude.{◌≡◌};
-ghost use Rattle.clock_terms.specs.Limits.{IsWithin, IsOfFirstVersion, latest_version};
 
-use crate::entries::SetupEntries;
+use crate::entries::ScannedSetup;
 use clock_scan::FlatRows;
 use serde_json::Value;
-
-/// The entries of a set-up of a known version.
-#[derive(Drop)]
-pub(crate) struct ScannedSetup<'v> {
-    pub entries: SetupEntries<'v>,
-    ghost version: { IsWithin 1 latest_version entries.version },
-    ghost first_version: { entries.version ≡ 1 → IsOfFirstVersion entries },
-}
 
 /// The set-up that an opening holds: any value of JSON, or entries that were read without a tree.
 #[derive(Drop)]

@@ -6,39 +6,13 @@ ghost use Rattle.clock_setup.specs.inside.OpeningData.{held_data, parts_data, so
 ghost use Rattle.clock_setup.specs.OpeningShape as shape;
 
 use crate::fault::SetupFault;
-use crate::members::{has_members, items_at, number_at, numbers_of};
+use crate::members::{RowReader, each_of, has_members, items_at, number_at};
 use crate::opening::OpeningFault;
 use crate::opening_entries::{InnerSetup, OpeningEntries, OpeningInput};
 use clock_device::NoMemory;
 use clock_scan::FlatRows;
-use clock_terms::Amounts;
 use serde_json::Value;
 use std::alloc::Global;
-
-/// One bidder's demands, or none.
-#[tactic(auto, unfolding(crate::specs::OpeningShape::row_of))]
-fn row_entry(alloc: Global, value: &Value) -> Result<Option<Amounts>, NoMemory>
-    ensures { IfOk result (λ row. row ≡ shape.row_of (view value.now)) }
-{
-    match value.as_array() {
-        Some(items) => numbers_of(alloc, items.as_slice()),
-        None => Ok(None),
-    }
-}
-
-/// The rows of demands, or none.
-fn row_entries(alloc: Global, items: &[Value]) -> Result<Option<Vec<Amounts>>, NoMemory>
-    ensures { IfOk result (λ rows. option_map (λ list. list.items) rows ≡ each shape.row_of (items_view items.now)) }
-{
-    let mut rows = Vec::new(alloc);
-    for item in items {
-        let Some(row) = row_entry(alloc, item)? else {
-            return Ok(None);
-        };
-        rows.push(row)?;
-    }
-    Ok(Some(rows))
-}
 
 /// An opening document of the right shape, or none.
 fn parts_in(alloc: Global, value: &Value) -> Result<Option<OpeningEntries<'_>>, NoMemory>
@@ -56,7 +30,7 @@ fn parts_in(alloc: Global, value: &Value) -> Result<Option<OpeningEntries<'_>>, 
     if !has_members(value, 3) {
         return Ok(None);
     }
-    let Some(rows) = row_entries(alloc, items)? else {
+    let Some(rows) = each_of(alloc, &RowReader, items)? else {
         return Ok(None);
     };
     let demands = FlatRows::from_lists(alloc, rows.as_slice())?;

@@ -9,6 +9,7 @@ use crate::entries::{BidderEntry, ProductEntry};
 use crate::fault::{Place, SetupFault};
 use clock_device::Text;
 use clock_money::{MOST_GRANULE, Price};
+use clock_scan::{push, with_room};
 use clock_terms::{
     Bidder, Bidders, LONGEST_NAME, LONGEST_TOKEN, MOST_BIDDERS, MOST_ELIGIBILITY, MOST_PRODUCTS,
     MOST_SUPPLY, MOST_UNITS, Product, Products, SHORTEST_TOKEN, is_within,
@@ -128,10 +129,10 @@ pub(crate) fn products_within(
     if !is_within(1, MOST_PRODUCTS, entries.len() as u64) {
         return Err(SetupFault::Range(Place::Products));
     }
-    let mut products = Vec::with_capacity(alloc, entries.len())?;
+    let mut products = with_room(alloc, entries.len())?;
     for (i, entry) in entries.iter().enumerate() {
         let product = product_within(alloc, i as u64, entry)?;
-        products.push(product)?;
+        push(&mut products, product)?;
     }
     Ok(Products::from_vec(products))
 }
@@ -145,10 +146,10 @@ pub(crate) fn bidders_within(alloc: Global, entries: &[BidderEntry]) -> Result<B
     if !is_within(1, MOST_BIDDERS, entries.len() as u64) {
         return Err(SetupFault::Range(Place::Bidders));
     }
-    let mut bidders = Vec::with_capacity(alloc, entries.len())?;
+    let mut bidders = with_room(alloc, entries.len())?;
     for (i, entry) in entries.iter().enumerate() {
         let bidder = bidder_within(alloc, i as u64, entry)?;
-        bidders.push(bidder)?;
+        push(&mut bidders, bidder)?;
     }
     Ok(Bidders::from_vec(bidders))
 }

@@ -1,22 +1,21 @@
 //! A set-up read without a tree, where no text has an escape and each number is written in digits alone.
 ghost use Rattle.std.specs.Prelude.{◌≡◌, ◌⊎◌, ◌<◌, length, IfSome, IfOk, OnOk};
-ghost use Rattle.serde_json.specs.Data.{object};
-ghost use Rattle.clock_scan.specs.Reading.{members_of, Reads};
-ghost use Rattle.clock_terms.specs.Limits.{IsWithin, IsOfFirstVersion, latest_version, first_granule, first_limit};
-ghost use Rattle.clock_setup.specs.SetupData.{added, product_data, products_data, bidder_data, bidders_data};
-ghost use Rattle.clock_setup.specs.SetupData.{setup_data};
+ghost use Rattle.clock_scan.specs.Reading.{Reads};
+ghost use Rattle.clock_terms.specs.Limits.{IsWithin, latest_version, first_granule, first_limit};
+ghost use Rattle.clock_setup.specs.SetupData.{added, product_data, products_data, bidder_data, setup_data};
 ghost use Rattle.clock_setup.specs.inside.FoundEntries.{found_product, found_bidder};
 ghost use Rattle.clock_setup.specs.inside.FoundSetup.{found_setup};
 
-use crate::entries::{BidderEntry, ProductEntry, SetupEntries, VersionedProducts};
-use clock_scan::{
-    PartReader, Scan, ScanStop, ScannedMembers, is_key, scanned_members, scanned_parts,
+use crate::entries::{
+    BidderEntry, ProductEntry, ScannedSetup, SetupEntries, VersionedProduct, VersionedProducts,
 };
+use clock_device::Items;
+use clock_scan::{PartReader, Scan, ScanStop, ScannedMembers, is_key, scanned_parts};
 use clock_terms::{FIRST_GRANULE, FIRST_LIMIT};
 use std::alloc::Global;
 
 /// What was found of a product.
-#[derive(Clone, Copy)]
+#[derive(Clone, Copy, Default)]
 struct ProductParts<'v> {
     cap: Option<u64>,
     granule: Option<u64>,
@@ -26,10 +25,30 @@ struct ProductParts<'v> {
     units: Option<u64>,
 }
 
+/// The first version of documents in which a product may have such a granule or none, and the granule that it means.
+fn version_with(granule: Option<u64>) -> (u64, u64)
+    ensures found { granule ≡ added result.0 result.1 }
+    ensures version { IsWithin 1 latest_version result.0 }
+    ensures first_version { result.0 ≡ 1 → result.1 ≡ first_granule }
+{
+    match granule {
+        None => (1, FIRST_GRANULE),
+        Some(granule) => (2, granule),
+    }
+}
+
 impl<'v> ScannedMembers<'v> for ProductParts<'v> {
+    type Whole = VersionedProduct<'v>;
+
     ghost levels = { 0 };
 
     ghost fields = { found_product };
+
+    ghost shown = { λ product. product_data product.version product.entry };
+
+    fn nothing() -> ProductParts<'v> {
+        ProductParts::default()
+    }
 
     fn read_member(&mut self, _alloc: Global, scan: &mut Scan<'v>) -> Result<(), ScanStop> {
         let key = scan.key()?;
@@ -61,27 +80,7 @@ impl<'v> ScannedMembers<'v> for ProductParts<'v> {
         }
         Err(ScanStop::Unusual)
     }
-}
-
-/// The first version of documents in which a product may have such a granule or none, and the granule that it means.
-fn version_with(granule: Option<u64>) -> (u64, u64)
-    ensures found { granule ≡ added result.0 result.1 }
-    ensures version { IsWithin 1 latest_version result.0 }
-    ensures first_version { result.0 ≡ 1 → result.1 ≡ first_granule }
-{
-    match granule {
-        None => (1, FIRST_GRANULE),
-        Some(granule) => (2, granule),
-    }
-}
-
-impl<'v> ProductParts<'v> {
-    /// The product, and the first version of documents in which one has these keys.
-    fn entry(self) -> Option<(u64, ProductEntry<'v>)>
-        ensures value { IfSome result (λ r. object (members_of (found_product self.entry)) ≡ product_data r.0 r.1) }
-        ensures version { IfSome result (λ r. IsWithin 1 latest_version r.0) }
-        ensures first_version { IfSome result (λ r. r.0 ≡ 1 → r.1.granule ≡ first_granule) }
-    {
+    fn whole(self) -> Option<VersionedProduct<'v>> {
         let (Some(name), Some(units), Some(supply), Some(cap), Some(opening)) = (
             self.name,
             self.units,
@@ -92,9 +91,9 @@ impl<'v> ProductParts<'v> {
             return None;
         };
         let (version, granule) = version_with(self.granule);
-        Some((
+        Some(VersionedProduct {
             version,
-            ProductEntry {
+            entry: ProductEntry {
                 name,
                 units,
                 supply,
@@ -102,29 +101,7 @@ impl<'v> ProductParts<'v> {
                 opening,
                 granule,
             },
-        ))
-    }
-}
-
-/// A product, and the first version of documents in which one has its keys.
-fn product<'v>(alloc: Global, scan: &mut Scan<'v>) -> Result<(u64, ProductEntry<'v>), ScanStop>
-    ensures value { IfOk result (λ r. Reads 1 scan.old (product_data r.0 r.1) scan.new) }
-    ensures version { IfOk result (λ r. IsWithin 1 latest_version r.0) }
-    ensures first_version { IfOk result (λ r. r.0 ≡ 1 → r.1.granule ≡ first_granule) }
-    ensures shorter { OnOk result (length scan.new < length scan.old) }
-{
-    let nothing = ProductParts {
-        cap: None,
-        granule: None,
-        name: None,
-        opening: None,
-        supply: None,
-        units: None,
-    };
-    let parts = scanned_members(alloc, scan, nothing)?;
-    match parts.entry() {
-        Some(product) => Ok(product),
-        None => Err(ScanStop::Unusual),
+        })
     }
 }
 
@@ -142,27 +119,27 @@ fn common_version(so_far: u64, next: u64) -> Option<u64>
 
 /// Products whose keys are those of one version.
 fn products<'v>(alloc: Global, scan: &mut Scan<'v>) -> Result<VersionedProducts<'v>, ScanStop>
-    ensures value { IfOk result (λ list. Reads 2 scan.old (products_data list.version list.entries.items) scan.new) }
+    ensures value { IfOk result (λ list. Reads 2 scan.old (products_data list.version list.entries) scan.new) }
     ensures shorter { OnOk result (length scan.new < length scan.old) }
 {
     if !scan.opens_array() {
         return Err(ScanStop::Unusual);
     }
     let mut version = 0;
-    let mut entries = Vec::new(alloc);
+    let mut entries = Items::new(alloc);
     'items: while !scan.closes_array() {
-        let (next, entry) = product(alloc, scan)?;
-        let Some(common) = common_version(version, next) else {
+        let next = ProductParts::part(alloc, scan)?;
+        let Some(common) = common_version(version, next.version) else {
             return Err(ScanStop::Unusual);
         };
         version = common;
-        entries.push(entry)?;
+        entries.push(next.entry)?;
     }
     Ok(VersionedProducts { version, entries })
 }
 
 /// What was found of a bidder.
-#[derive(Clone, Copy)]
+#[derive(Clone, Copy, Default)]
 struct BidderParts<'v> {
     eligibility: Option<u64>,
     name: Option<&'v str>,
@@ -170,9 +147,17 @@ struct BidderParts<'v> {
 }
 
 impl<'v> ScannedMembers<'v> for BidderParts<'v> {
+    type Whole = BidderEntry<'v>;
+
     ghost levels = { 0 };
 
     ghost fields = { found_bidder };
+
+    ghost shown = { bidder_data };
+
+    fn nothing() -> BidderParts<'v> {
+        BidderParts::default()
+    }
 
     fn read_member(&mut self, _alloc: Global, scan: &mut Scan<'v>) -> Result<(), ScanStop> {
         let key = scan.key()?;
@@ -192,13 +177,8 @@ impl<'v> ScannedMembers<'v> for BidderParts<'v> {
         }
         Err(ScanStop::Unusual)
     }
-}
 
-impl<'v> BidderParts<'v> {
-    /// The bidder.
-    fn entry(self) -> Option<BidderEntry<'v>>
-        ensures { IfSome result (λ entry. object (members_of (found_bidder self.entry)) ≡ bidder_data entry) }
-    {
+    fn whole(self) -> Option<BidderEntry<'v>> {
         let (Some(name), Some(token), Some(eligibility)) = (self.name, self.token, self.eligibility)
         else {
             return None;
@@ -211,34 +191,10 @@ impl<'v> BidderParts<'v> {
     }
 }
 
-/// A bidder is read from its members.
-struct BidderReader;
-
-impl<'v> PartReader<'v> for BidderReader {
-    type Part = BidderEntry<'v>;
-
-    ghost levels = { 1 };
-
-    ghost shown = { bidder_data };
-
-    fn part(alloc: Global, scan: &mut Scan<'v>) -> Result<BidderEntry<'v>, ScanStop> {
-        let nothing = BidderParts {
-            eligibility: None,
-            name: None,
-            token: None,
-        };
-        let parts = scanned_members(alloc, scan, nothing)?;
-        match parts.entry() {
-            Some(bidder) => Ok(bidder),
-            None => Err(ScanStop::Unusual),
-        }
-    }
-}
-
 /// What was found of a set-up.
-#[derive(Drop)]
-struct SetupParts<'v> {
-    bidders: Option<Vec<BidderEntry<'v>>>,
+#[derive(Default, Drop)]
+pub(crate) struct SetupParts<'v> {
+    bidders: Option<Items<BidderEntry<'v>>>,
     limit: Option<u64>,
     operator: Option<&'v str>,
     products: Option<VersionedProducts<'v>>,
@@ -260,9 +216,17 @@ fn limit_of(version: u64, limit: Option<u64>) -> Option<u64>
 }
 
 impl<'v> ScannedMembers<'v> for SetupParts<'v> {
+    type Whole = ScannedSetup<'v>;
+
     ghost levels = { 2 };
 
     ghost fields = { found_setup };
+
+    ghost shown = { λ setup. setup_data setup.entries };
+
+    fn nothing() -> SetupParts<'v> {
+        SetupParts::default()
+    }
 
     fn read_member(&mut self, alloc: Global, scan: &mut Scan<'v>) -> Result<(), ScanStop> {
         let key = scan.key()?;
@@ -271,7 +235,7 @@ impl<'v> ScannedMembers<'v> for SetupParts<'v> {
             return Ok(());
         }
         if is_key(key, "bidders") {
-            self.bidders = Some(scanned_parts::<BidderReader>(alloc, scan, 0)?);
+            self.bidders = Some(scanned_parts::<BidderParts>(alloc, scan, 0)?);
             return Ok(());
         }
         if is_key(key, "operator") {
@@ -294,15 +258,8 @@ impl<'v> ScannedMembers<'v> for SetupParts<'v> {
         }
         Err(ScanStop::Unusual)
     }
-}
 
-impl<'v> SetupParts<'v> {
-    /// The entries of a known version, with the keys of this version.
-    fn entries(self) -> Option<SetupEntries<'v>>
-        ensures value { IfSome result (λ entries. object (members_of (found_setup self.entry)) ≡ setup_data entries) }
-        ensures version { IfSome result (λ entries. IsWithin 1 latest_version entries.version) }
-        ensures first_version { IfSome result (λ entries. entries.version ≡ 1 → IsOfFirstVersion entries) }
-    {
+    fn whole(self) -> Option<ScannedSetup<'v>> {
         let (Some(version), Some(requirement), Some(operator)) = (
             self.version,
             self.requirement,
@@ -317,38 +274,14 @@ impl<'v> SetupParts<'v> {
         if products.version != version {
             return None;
         }
-        Some(SetupEntries {
+        let entries = SetupEntries {
             version,
             limit,
             requirement,
             operator,
             products: products.entries,
             bidders,
-        })
-    }
-}
-
-/// The set-up that is next.
-pub(crate) fn scanned_setup<'v>(
-    alloc: Global,
-    scan: &mut Scan<'v>,
-) -> Result<SetupEntries<'v>, ScanStop>
-    ensures value { IfOk result (λ entries. Reads 3 scan.old (setup_data entries) scan.new) }
-    ensures version { IfOk result (λ entries. IsWithin 1 latest_version entries.version) }
-    ensures first_version { IfOk result (λ entries. entries.version ≡ 1 → IsOfFirstVersion entries) }
-    ensures shorter { OnOk result (length scan.new < length scan.old) }
-{
-    let nothing = SetupParts {
-        bidders: None,
-        limit: None,
-        operator: None,
-        products: None,
-        requirement: None,
-        version: None,
-    };
-    let parts = scanned_members(alloc, scan, nothing)?;
-    match parts.entries() {
-        Some(entries) => Ok(entries),
-        None => Err(ScanStop::Unusual),
+        };
+        Some(ScannedSetup { entries })
     }
 }

@@ -9,7 +9,7 @@ ghost use Rattle.clock_setup.specs.SetupShape.{product_of, bidder_of, fields_of}
 
 use crate::entries::{BidderEntry, ProductEntry, SetupEntries};
 use crate::fault::SetupFault;
-use crate::members::{each_of, has_members, items_at, number_at, text_at};
+use crate::members::{ValueReader, each_of, has_members, items_at, number_at, text_at};
 use clock_device::NoMemory;
 use clock_terms::{FIRST_GRANULE, FIRST_LIMIT};
 use serde_json::Value;
@@ -90,30 +90,42 @@ fn bidder_entry(value: &Value) -> Option<BidderEntry<'_>>
     }
 }
 
-/// Products of the right shape, or none.
-fn product_entries(
-    alloc: Global,
-    items: &[Value],
+/// Products are read with the keys of a version.
+#[derive(Drop)]
+struct ProductReader {
     version: u64,
-) -> Result<Option<Vec<ProductEntry<'_>>>, NoMemory>
-    ensures { IfOk result (λ entries.
-        option_map (λ list. list.items) entries ≡ each (product_of version) (items_view items.now)) }
-{
-    let mut entries = Vec::new(alloc);
-    for item in items {
-        let Some(entry) = product_entry(item, version) else {
-            return Ok(None);
-        };
-        entries.push(entry)?;
-    }
-    Ok(Some(entries))
 }
 
-/// Bidders of the right shape, or none.
-fn bidder_entries(alloc: Global, items: &[Value]) -> Result<Option<Vec<BidderEntry<'_>>>, NoMemory>
-    ensures { IfOk result (λ entries. option_map (λ list. list.items) entries ≡ each bidder_of (items_view items.now)) }
-{
-    each_of(alloc, items, bidder_entry)
+impl<'v> ValueReader<'v> for ProductReader {
+    type Part = ProductEntry<'v>;
+
+    ghost meaning = { λ reader. product_of reader.version };
+
+    fn part_of(
+        &self,
+        _alloc: Global,
+        value: &'v Value,
+    ) -> Result<Option<ProductEntry<'v>>, NoMemory> {
+        Ok(product_entry(value, self.version))
+    }
+}
+
+/// Bidders are read with their keys.
+#[derive(Drop)]
+struct BidderReader;
+
+impl<'v> ValueReader<'v> for BidderReader {
+    type Part = BidderEntry<'v>;
+
+    ghost meaning = { λ _. bidder_of };
+
+    fn part_of(
+        &self,
+        _alloc: Global,
+        value: &'v Value,
+    ) -> Result<Option<BidderEntry<'v>>, NoMemory> {
+        Ok(bidder_entry(value))
+    }
 }
 
 /// A set-up document of the right shape, or none.
@@ -136,13 +148,13 @@ fn entries_of(alloc: Global, value: &Value) -> Result<Option<SetupEntries<'_>>, 
     let Some(items) = items_at(value, "products") else {
         return Ok(None);
     };
-    let Some(products) = product_entries(alloc, items, version)? else {
+    let Some(products) = each_of(alloc, &ProductReader { version }, items)? else {
         return Ok(None);
     };
     let Some(items) = items_at(value, "bidders") else {
         return Ok(None);
     };
-    let Some(bidders) = bidder_entries(alloc, items)? else {
+    let Some(bidders) = each_of(alloc, &BidderReader, items)? else {
         return Ok(None);
     };
     if !has_keys(value, version, 5) {

@@ -7,5 +7,5 @@ use Rattle.clock_setup.specs.SetupData.{products_data, bidders_data, setup_field
 -- the keys of a set-up, each with its value where one was found
 abbrev pub found_setup : SetupParts → Fields
 found_setup parts =
-    setup_fields (option_map (λ list. bidders_data list.items) parts.bidders) parts.limit (option_map (λ text. text.now) parts.operator)
-    (option_map (λ list. products_data list.version list.entries.items) parts.products) parts.requirement parts.version
+    setup_fields (option_map bidders_data parts.bidders) parts.limit (option_map (λ text. text.now) parts.operator)
+    (option_map (λ list. products_data list.version list.entries) parts.products) parts.requirement parts.version

@@ -1,5 +1,5 @@
 -- The checks of a set-up, in the four parts in which they are made.
-use Rattle.std.specs.Prelude.{Bool, List, [], ◌∷◌, length}
+use Rattle.std.specs.Prelude.{ℕ, Bool, List, [], ◌∷◌, length}
 use Rattle.clock_terms.specs.declared.setup.Product.{Product}
 use Rattle.clock_terms.specs.declared.setup.Bidder.{Bidder}
 use Rattle.clock_setup.specs.declared.fault.Place.TheVariants.{Requirement, Limit, Operator, Products, Bidders}
@@ -18,13 +18,17 @@ head_checks setup =
     ∷ (Range Operator, is_token setup.operator)
     ∷ []
 
+-- how many items there are, then each of them
+abbrev pub counted_checks : {A : Type 0} → SetupFault → ℕ → (ℕ → A → List (SetupFault × Bool)) → List A → List (SetupFault × Bool)
+counted_checks fault most checks items = (fault, is_within 1 most (length items)) ∷ in_turn checks 0 items
+
 -- how many products there are, then each of them
 unfoldable pub products_checks : List Product → List (SetupFault × Bool)
-products_checks products = (Range Products, is_within 1 most_products (length products)) ∷ in_turn product_checks 0 products
+products_checks products = counted_checks (Range Products) most_products product_checks products
 
 -- how many bidders there are, then each of them
 unfoldable pub bidders_checks : List Bidder → List (SetupFault × Bool)
-bidders_checks bidders = (Range Bidders, is_within 1 most_bidders (length bidders)) ∷ in_turn bidder_checks 0 bidders
+bidders_checks bidders = counted_checks (Range Bidders) most_bidders bidder_checks bidders
 
 -- its names, then its tokens
 unfoldable pub distinct_checks : SetupFields → List (SetupFault × Bool)

@@ -1,4 +1,4 @@
-use Rattle.std.proofs.Common.{◌≡◌, ◌∷◌, length, map, sym, ap, subst, arith}
+use Rattle.std.proofs.Common.{◌≡◌, ◌∷◌, length, map, sym, ap, ◌∙◌, subst, arith}
 use Rattle.clock_scan.specs.Reading.{Token, Reads}
 use Rattle.clock_scan.specs.inside.Reading.{HasItems}
 use Rattle.clock_scan.proofs.Steps.{items_start, items_end, items_push_next}
@@ -8,7 +8,7 @@ pub items-init : goal.items-init
 items-init g c =
     let levels = g.R.PartReader.levels in
     let start = c.opens_array.new.self in
-    (subst (λ list. HasItems levels start (map g.R.PartReader.shown list) start) (sym c.in_ok-parts.ensures.items) (items_start levels start), omega arith)
+    (subst (λ list. HasItems levels start (map g.R.PartReader.shown list) start) (sym (c.from_vec-parts.ensures ∙ c.in_ok-with_room.ensures.items)) (items_start levels start), omega arith)
 
 pub items-preserved : goal.items-preserved
 items-preserved g c =
@@ -20,8 +20,8 @@ items-preserved g c =
     let next = c.in_ok-next.next in
     let same : c.closes_array.new.self ≡ l.scan = grind arith in
     let reads : Reads levels l.scan (shown next) after = subst (λ ts. Reads levels ts (shown next) after) same c.in_ok-next.ensures.value in (
-      subst (λ list. HasItems levels start (map shown list) after) (sym c.in_ok-push.ensures.items)
-          (items_push_next levels shown start l.scan after l.parts.items next l.invariant.0 reads),
+      subst (λ list. HasItems levels start (map shown list) after) (sym c.in_ok-push.ensures.ok)
+          (items_push_next levels shown start l.scan after l.parts next l.invariant.0 reads),
       omega (arith, l.invariant.1, c.in_ok-next.ensures.shorter, ap length same),
     )
 
@@ -29,5 +29,5 @@ pub returns-clause-value : goal.returns-clause-value
 returns-clause-value g c =
     let l = c.items in
     let closed : l.scan ≡ Token.end_array ∷ c.closes_array.new.self = grind arith in
-    items_end g.R.PartReader.levels c.args.scan.now c.opens_array.new.self l.scan c.closes_array.new.self (map g.R.PartReader.shown l.parts.items)
+    items_end g.R.PartReader.levels c.args.scan.now c.opens_array.new.self l.scan c.closes_array.new.self (map g.R.PartReader.shown l.parts)
     (c.opens_array.ensures (grind arith)) l.invariant.0 closed

@@ -7,9 +7,8 @@ use Rattle.clock_setup.proofs.document.next_setup.Goals as goal
 
 pub returns-in-Ok-clause-accepted : goal.returns-in-Ok-clause-accepted
 returns-in-Ok-clause-accepted c =
-    let entries = c.in_ok-entries.entries in
-    let read = c.in_ok-entries.ensures in
+    let scanned = c.in_ok-scanned.scanned in
     let known = c.in-Ok.ensures in
     ap (λ setup. setup_of (setup_data setup)) known.same
-    ∙ setup_judged entries read.version read.first_version
-    ∙ ap (λ fault. unless fault entries) known.ok ∙ ap Ok (sym known.same)
+    ∙ setup_judged scanned.entries scanned.version scanned.first_version
+    ∙ ap (λ fault. unless fault scanned.entries) known.ok ∙ ap Ok (sym known.same)

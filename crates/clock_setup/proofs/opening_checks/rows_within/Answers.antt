@@ -9,8 +9,8 @@ use Rattle.clock_terms.proofs.FaultLaws.{turn_passed, turn_failed, turn_none}
 use Rattle.clock_setup.proofs.OpeningLaws.{row_line}
 use Rattle.clock_setup.proofs.opening_checks.rows_within.Goals as goal
 
-pub returns-in_err-row_within-clause-err : goal.returns-in_err-row_within-clause-err
-returns-in_err-row_within-clause-err c =
+pub returns-in_err-row-clause-err : goal.returns-in_err-row-clause-err
+returns-in_err-row-clause-err c =
     let setup = c.args.setup.now in
     let number = c.loop-number.number in
     let bidders : c.as_slice-bidders.result.now ≡ setup.bidders = c.as_slice-bidders.ensures ∙ ap (λ s. s.bidders) c.setup.view_is in
@@ -18,11 +18,11 @@ returns-in_err-row_within-clause-err c =
     let within : number < length setup.bidders = omega (arith, c.loop-number-test.true, ap length bidders) in
     let row : c.as_slice.result.now ≡ get_or c.args.demands.now number [] = c.as_slice.ensures.value ∙ c.in_ok-read_row.ensures in
     let line = row_line setup.bidders c.args.demands.now number c.index-bidders-number.result c.as_slice.result.now within c.requires.0 bidder row in
-    let fault = c.in_err-row_within.field-0.0 in
-    let told = err_from_is_err_and c.from_residual-in_err-row_within.result c.from_residual-in_err-row_within.ensures.1 in
+    let fault = c.in_err-row.field-0.0 in
+    let told = err_from_is_err_and c.from_residual-in_err-row.result c.from_residual-in_err-row.ensures.1 in
     rw (told.1, told.2)
     (λ other. sym c.loop-number.invariant.rest
-    ∙ turn_failed (row_checks setup.products) (zip setup.bidders c.args.demands.now) number _ fault line.1 line.0 (c.in_err-row_within.ensures.err other))
+    ∙ turn_failed (row_checks setup.products) (zip setup.bidders c.args.demands.now) number _ fault line.1 line.0 (c.in_err-row.ensures.err other))
 
 pub loop-number-preserved : goal.loop-number-preserved
 loop-number-preserved c =
@@ -35,11 +35,11 @@ loop-number-preserved c =
     let held : number < length demands = omega (arith, within, c.requires.0) in
     let numbers : c.as_slice.result.now ≡ get_or demands number [] = c.as_slice.ensures.value ∙ c.in_ok-read_row.ensures in
     let line = row_line setup.bidders demands number c.index-bidders-number.result c.as_slice.result.now within c.requires.0 bidder numbers in
-    let row = c.in_ok-row_within.field-0 in
-    let same : row ≡ get_or demands number [] = c.in_ok-row_within.ensures.same ∙ numbers in
-    let pushed : c.push.new.self.items ≡ c.loop-number.rows.items ++ row ∷ [] = c.in_ok-push.ensures.items in
+    let row = c.in_ok-row.row in
+    let same : row ≡ get_or demands number [] = c.in_ok-row.ensures.same ∙ numbers in
+    let pushed : c.push.new.list.items ≡ c.loop-number.rows.items ++ row ∷ [] = c.in_ok-push.ensures.items in
     record {
-      rest = sym (turn_passed (row_checks setup.products) (zip setup.bidders demands) number _ line.1 line.0 c.in_ok-row_within.ensures.ok)
+      rest = sym (turn_passed (row_checks setup.products) (zip setup.bidders demands) number _ line.1 line.0 c.in_ok-row.ensures.ok)
           ∙ c.loop-number.invariant.rest;
       same = pushed
           ∙ ap (λ (rows : List (List ℕ)). rows ++ row ∷ []) c.loop-number.invariant.same
@@ -47,7 +47,7 @@ loop-number-preserved c =
           ∙ sym (take_more demands number [] held);
       rows = subst (λ (rows : List (List ℕ)). All (IsRow setup.products) rows) (sym pushed)
           (All-append (IsRow setup.products) c.loop-number.rows.items (row ∷ []) c.loop-number.invariant.rows
-          (All-cons (IsRow setup.products) row [] c.in_ok-row_within.ensures.row (All-nil (IsRow setup.products))));
+          (All-cons (IsRow setup.products) row [] c.in_ok-row.ensures.row (All-nil (IsRow setup.products))));
     }
 
 pub returns-clause-ok : goal.returns-clause-ok

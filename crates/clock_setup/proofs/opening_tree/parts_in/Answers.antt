@@ -28,7 +28,7 @@ pub returns : goal.returns
 returns c =
     let items = items_view c.in-Some-items_at.items.now in
     let rows : each row_of items ≡ Some c.in_ok-demands.demands =
-    sym (rw c.in-Some-2.is at c.in_ok-rows.ensures) ∙ ap Some (sym (c.in_ok-demands.ensures ∙ c.as_slice.ensures.value)) in
+    sym (rw c.in-Some-2.is at c.in_ok-rows.ensures) ∙ ap Some (sym (c.in_ok-demands.ensures ∙ c.as_slice.ensures)) in
     sym (rows_decide (view c.args.value.now) (view c.in-Some.setup.now) items (Some c.in_ok-demands.demands) c.in-Some-number_at.increment
     (sym c.in-Some.ensures) (sym c.in-Some-items_at.ensures) rows (sym c.in-Some-number_at.ensures)
     (sym c.has_members.ensures ∙ c.if-not-has_members.false))

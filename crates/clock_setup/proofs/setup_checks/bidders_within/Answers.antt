@@ -1,19 +1,25 @@
 use Rattle.std.proofs.Common.{Some, None, sym, ◌∙◌, arith}
 use Rattle.std.proofs.lemmas.Grind.{common_steps}
 use Rattle.std.proofs.lemmas.Result.{err_from_is_err_and}
+use Rattle.clock_terms.specs.Limits.{most_bidders}
+use Rattle.clock_setup.specs.declared.fault.Place.TheVariants.{Bidders}
+use Rattle.clock_setup.specs.declared.fault.SetupFault.TheVariants.{Range}
 use Rattle.clock_setup.specs.SetupDocument.{bidder_checks}
+use Rattle.clock_setup.specs.inside.SetupDocument.{bidders_checks}
 use Rattle.clock_terms.proofs.FaultLaws.{turn_passed, turn_failed, turn_none}
-use Rattle.clock_setup.proofs.LimitLaws.{bidders_counted, bidders_uncounted}
+use Rattle.clock_setup.proofs.LimitLaws.{counted, uncounted}
 use Rattle.clock_setup.proofs.setup_checks.bidders_within.Goals as goal
 
 pub returns-then-not-is_within-clause-err : goal.returns-then-not-is_within-clause-err
-returns-then-not-is_within-clause-err c = λ known. bidders_uncounted c.args.entries.now (sym c.is_within.ensures ∙ c.if-not-is_within.true)
+unfolding bidders_checks
+returns-then-not-is_within-clause-err c = λ known. uncounted (Range Bidders) most_bidders bidder_checks c.args.entries.now (sym c.is_within.ensures ∙ c.if-not-is_within.true)
 
 pub returns-in_err-bidder-clause-err : goal.returns-in_err-bidder-clause-err
+unfolding bidders_checks
 returns-in_err-bidder-clause-err c =
     let p = err_from_is_err_and c.from_residual-in_err-bidder.result c.from_residual-in_err-bidder.ensures.1 in
     rw (p.1, p.2)
-    (λ known. bidders_counted c.args.entries.now (Some _) (sym c.is_within.ensures ∙ c.if-not-is_within.false)
+    (λ known. counted (Range Bidders) most_bidders bidder_checks c.args.entries.now (Some _) (sym c.is_within.ensures ∙ c.if-not-is_within.false)
     (sym c.loop-i.invariant.rest
     ∙ turn_failed bidder_checks c.args.entries.now c.loop-i.i _ _ c.loop-i-test.true c.index-entries-i.is (c.in_err-bidder.ensures.err known)))
 
@@ -25,6 +31,7 @@ loop-i-preserved c = record {
 }
 
 pub returns-clause-ok : goal.returns-clause-ok
+unfolding bidders_checks
 returns-clause-ok c =
-    bidders_counted c.args.entries.now None (sym c.is_within.ensures ∙ c.if-not-is_within.false)
+    counted (Range Bidders) most_bidders bidder_checks c.args.entries.now None (sym c.is_within.ensures ∙ c.if-not-is_within.false)
     (sym c.loop-i.invariant.rest ∙ turn_none bidder_checks c.args.entries.now c.loop-i.i c.loop-i-test.false)

@@ -12,10 +12,10 @@ use Rattle.clock_setup.proofs.setup_scan.products.Goals as goal
 pub items-init : goal.items-init
 items-init c =
     let start = c.opens_array.new.self in (
-      subst (λ list. HasItems 1 start (map (product_data 0) list) start) (sym c.new-entries.ensures.items) (items_start 1 start),
+      subst (λ list. HasItems 1 start (map (product_data 0) list) start) (sym c.new-entries.ensures) (items_start 1 start),
       omega arith,
-      λ _. c.new-entries.ensures.items,
-      λ _. subst (All (λ (product : Product). product.granule ≡ first_granule)) (sym c.new-entries.ensures.items)
+      λ _. c.new-entries.ensures,
+      λ _. subst (All (λ (product : Product). product.granule ≡ first_granule)) (sym c.new-entries.ensures)
           (All-nil (λ (product : Product). product.granule ≡ first_granule)),
     )
 
@@ -23,10 +23,11 @@ pub items-preserved : goal.items-preserved
 items-preserved c =
     let l = c.items in
     let start = c.opens_array.new.self in
-    let after = c.product.new.scan in
-    let known = c.in_ok-next.next in
+    let after = c.part.new.scan in
+    let next = c.in_ok-next.next in
+    let known = next.version in
     let version = c.in-Some.common in
-    let entry = c.in_ok-next.entry in
+    let entry = next.entry in
     let is : version ≡ known = c.in-Some.ensures.0 in
     let agrees : (l.version ≡ 0) ⊎ (l.version ≡ version) = subst (λ v. (l.version ≡ 0) ⊎ (l.version ≡ v)) (sym is) c.in-Some.ensures.1 in
     let P = λ (product : Product). product.granule ≡ first_granule in
@@ -34,19 +35,19 @@ items-preserved c =
     let reads : Reads 1 l.scan (product_data version entry) after =
     subst (λ v. Reads 1 l.scan (product_data v entry) after) (sym is) (subst (λ ts. Reads 1 ts (product_data known entry) after) same c.in_ok-next.ensures.value)
     in
-    let kept = of_common_version l.version version l.entries.items l.invariant.2 agrees in (
-      subst (λ list. HasItems 1 start (map (product_data version) list) after) (sym c.in_ok-push.ensures.items)
-          (items_push_next 1 (product_data version) start l.scan after l.entries.items entry
+    let kept = of_common_version l.version version l.entries l.invariant.2 agrees in (
+      subst (λ list. HasItems 1 start (map (product_data version) list) after) (sym c.in_ok-push.ensures.ok)
+          (items_push_next 1 (product_data version) start l.scan after l.entries entry
           (subst (λ values. HasItems 1 start values l.scan) kept l.invariant.0) reads),
       omega (arith, l.invariant.1, c.in_ok-next.ensures.shorter, ap length same),
-      λ zero. absurd (omega (arith, zero, is, c.in_ok-next.ensures.version.0)),
-      λ one. subst (All P) (sym c.in_ok-push.ensures.items) (All-push P l.entries.items entry
-          (of_first_version l.version version l.entries.items l.invariant.2 l.invariant.3 agrees one) (c.in_ok-next.ensures.first_version (sym is ∙ one))),
+      λ zero. absurd (omega (arith, zero, is, next.known.0)),
+      λ one. subst (All P) (sym c.in_ok-push.ensures.ok) (All-push P l.entries entry
+          (of_first_version l.version version l.entries l.invariant.2 l.invariant.3 agrees one) (next.first_version (sym is ∙ one))),
     )
 
 pub returns-clause-value : goal.returns-clause-value
 returns-clause-value c =
     let l = c.items in
     let closed : l.scan ≡ Token.end_array ∷ c.closes_array.new.self = grind arith in
-    items_end 1 c.args.scan.now c.opens_array.new.self l.scan c.closes_array.new.self (map (product_data l.version) l.entries.items)
+    items_end 1 c.args.scan.now c.opens_array.new.self l.scan c.closes_array.new.self (map (product_data l.version) l.entries)
     (c.opens_array.ensures (grind arith)) l.invariant.0 closed

@@ -6,10 +6,10 @@ use Rattle.clock_setup.proofs.setup_scan.products.Given as goal
 
 abbrev pub invariant-items : goal.invariant-items
 invariant-items l =
-    HasItems 1 l.initial.scan (map (product_data l.version) l.entries.items) l.scan
+    HasItems 1 l.initial.scan (map (product_data l.version) l.entries) l.scan
     × (length l.scan ≤ length l.initial.scan)
-    × (l.version ≡ 0 → l.entries.items ≡ [])
-    × (l.version ≡ 1 → All (λ entry. entry.granule ≡ first_granule) l.entries.items)
+    × (l.version ≡ 0 → l.entries ≡ [])
+    × (l.version ≡ 1 → All (λ entry. entry.granule ≡ first_granule) l.entries)
 
 abbrev pub decreases-items : goal.decreases-items
 decreases-items l = length l.scan

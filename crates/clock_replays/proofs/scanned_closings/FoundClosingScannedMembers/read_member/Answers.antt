@@ -7,19 +7,15 @@ use Rattle.clock_replays.proofs.scanned_closings.FoundClosingScannedMembers.read
 
 pub returns-then-is_key-clause-value : goal.returns-then-is_key-clause-value
 returns-then-is_key-clause-value c =
-    let reads : Reads 2 c.key.new.self (ties_data c.from_vec.result) c.scanned_parts.new.scan =
-    subst (λ list. Reads 2 c.key.new.self (ties_data list) c.scanned_parts.new.scan) (sym c.from_vec.ensures) c.in_ok-ties.ensures.value in
-    adds_member 2 2 c.args.scan.now c.key.new.self c.scanned_parts.new.scan (closing_fields c.args.self.now) c.in_ok-key.key.now (codes "ties")
-    (ties_data c.from_vec.result) (omega arith) c.in_ok-key.ensures (c.is_key.ensures c.if-is_key.true) reads refl
+    adds_member (closing_fields c.args.self.now) (codes "ties")
+    (ties_data c.in_ok-ties.ties) (omega arith) c.in_ok-key.ensures (c.is_key.ensures c.if-is_key.true) c.in_ok-ties.ensures.value refl
 
 pub returns-then-is_key-2-clause-value : goal.returns-then-is_key-2-clause-value
 returns-then-is_key-2-clause-value c =
-    let reads : Reads 1 c.key.new.self (numbers c.from_vec-then-is_key-2.result) c.numbers.new.self =
-    subst (λ list. Reads 1 c.key.new.self (numbers list) c.numbers.new.self) (sym c.from_vec-then-is_key-2.ensures) c.in_ok-increments.ensures.value in
-    adds_member 1 2 c.args.scan.now c.key.new.self c.numbers.new.self (closing_fields c.args.self.now) c.in_ok-key.key.now (codes "increments")
-    (numbers c.from_vec-then-is_key-2.result) (omega arith) c.in_ok-key.ensures (c.is_key-2.ensures c.if-is_key-2.true) reads refl
+    adds_member (closing_fields c.args.self.now) (codes "increments")
+    (numbers c.in_ok-increments.increments) (omega arith) c.in_ok-key.ensures (c.is_key-2.ensures c.if-is_key-2.true) c.in_ok-increments.ensures.value refl
 
 pub returns-then-is_key-3-clause-value : goal.returns-then-is_key-3-clause-value
 returns-then-is_key-3-clause-value c =
-    adds_member 0 2 c.args.scan.now c.key.new.self c.number.new.self (closing_fields c.args.self.now) c.in_ok-key.key.now (codes "increment")
+    adds_member (closing_fields c.args.self.now) (codes "increment")
     (whole c.in_ok-increment.increment) (omega arith) c.in_ok-key.ensures (c.is_key-3.ensures c.if-is_key-3.true) c.in_ok-increment.ensures.value refl

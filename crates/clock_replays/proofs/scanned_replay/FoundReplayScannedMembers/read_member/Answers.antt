@@ -9,19 +9,15 @@ use Rattle.clock_replays.proofs.scanned_replay.FoundReplayScannedMembers.read_me
 
 pub returns-then-is_key-clause-value : goal.returns-then-is_key-clause-value
 returns-then-is_key-clause-value c =
-    let reads : Reads 5 c.key.new.self (array (items_of (map script_data c.from_vec.result))) c.scanned_parts.new.scan =
-    subst (λ list. Reads 5 c.key.new.self (array (items_of (map script_data list))) c.scanned_parts.new.scan) (sym c.from_vec.ensures) c.in_ok-scripts.ensures.value in
-    adds_member 5 5 c.args.scan.now c.key.new.self c.scanned_parts.new.scan (found_replay c.args.self.now) c.in_ok-key.key.now (codes "scripts")
-    (array (items_of (map script_data c.from_vec.result))) (omega arith) c.in_ok-key.ensures (c.is_key.ensures c.if-is_key.true) reads refl
+    adds_member (found_replay c.args.self.now) (codes "scripts") (array (items_of (map script_data c.in_ok-scanned_parts.field-0))) (omega arith)
+    c.in_ok-key.ensures (c.is_key.ensures c.if-is_key.true) c.in_ok-scanned_parts.ensures.value refl
 
 pub returns-then-is_key-2-clause-value : goal.returns-then-is_key-2-clause-value
 returns-then-is_key-2-clause-value c =
-    let reads : Reads 4 c.key.new.self (array (items_of (map closing_data c.from_vec-then-is_key-2.result))) c.scanned_parts-then-is_key-2.new.scan =
-    subst (λ list. Reads 4 c.key.new.self (array (items_of (map closing_data list))) c.scanned_parts-then-is_key-2.new.scan) (sym c.from_vec-then-is_key-2.ensures) c.in_ok-closings.ensures.value in
-    adds_member 4 5 c.args.scan.now c.key.new.self c.scanned_parts-then-is_key-2.new.scan (found_replay c.args.self.now) c.in_ok-key.key.now (codes "closings")
-    (array (items_of (map closing_data c.from_vec-then-is_key-2.result))) (omega arith) c.in_ok-key.ensures (c.is_key-2.ensures c.if-is_key-2.true) reads refl
+    adds_member (found_replay c.args.self.now) (codes "closings") (array (items_of (map closing_data c.in_ok-scanned_parts-2.field-0))) (omega arith)
+    c.in_ok-key.ensures (c.is_key-2.ensures c.if-is_key-2.true) c.in_ok-scanned_parts-2.ensures.value refl
 
 pub returns-then-is_key-3-clause-value : goal.returns-then-is_key-3-clause-value
 returns-then-is_key-3-clause-value c =
-    adds_member 3 5 c.args.scan.now c.key.new.self c.next_setup.new.scan (found_replay c.args.self.now) c.in_ok-key.key.now (codes "setup")
+    adds_member (found_replay c.args.self.now) (codes "setup")
     (setup_data c.in_ok-setup.setup) (omega arith) c.in_ok-key.ensures (c.is_key-3.ensures c.if-is_key-3.true) c.in_ok-setup.ensures.value refl

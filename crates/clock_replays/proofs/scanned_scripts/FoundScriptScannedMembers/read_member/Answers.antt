@@ -7,19 +7,17 @@ use Rattle.clock_replays.proofs.scanned_scripts.FoundScriptScannedMembers.read_m
 
 pub returns-then-is_key-clause-value : goal.returns-then-is_key-clause-value
 returns-then-is_key-clause-value c =
-    adds_member 2 3 c.args.scan.now c.key.new.self c.limit_lists.new.scan (script_fields c.args.self.now) c.in_ok-key.key.now (codes "limits")
+    adds_member (script_fields c.args.self.now) (codes "limits")
     (rows c.in_ok-limits.limits) (omega arith) c.in_ok-key.ensures (c.is_key.ensures c.if-is_key.true) c.in_ok-limits.ensures.value refl
 
 pub returns-then-is_key-2-clause-value : goal.returns-then-is_key-2-clause-value
 returns-then-is_key-2-clause-value c =
-    let reads : Reads 3 c.key.new.self (sheets_data c.from_vec.result) c.scanned_parts.new.scan =
-    subst (λ list. Reads 3 c.key.new.self (sheets_data list) c.scanned_parts.new.scan) (sym c.from_vec.ensures) c.in_ok-sheets.ensures.value in
-    adds_member 3 3 c.args.scan.now c.key.new.self c.scanned_parts.new.scan (script_fields c.args.self.now) c.in_ok-key.key.now (codes "sheets")
-    (sheets_data c.from_vec.result) (omega arith) c.in_ok-key.ensures (c.is_key-2.ensures c.if-is_key-2.true) reads refl
+    adds_member (script_fields c.args.self.now) (codes "sheets")
+    (sheets_data c.in_ok-sheets.sheets) (omega arith) c.in_ok-key.ensures (c.is_key-2.ensures c.if-is_key-2.true) c.in_ok-sheets.ensures.value refl
 
 pub returns-then-is_key-3-clause-value : goal.returns-then-is_key-3-clause-value
 returns-then-is_key-3-clause-value c =
     let reads : Reads 0 c.key.new.self (string (kind_text c.in-Some.kind)) c.text.new.self =
     subst (λ word. Reads 0 c.key.new.self (string word) c.text.new.self) c.in-Some.ensures c.in_ok-word.ensures.value in
-    adds_member 0 3 c.args.scan.now c.key.new.self c.text.new.self (script_fields c.args.self.now) c.in_ok-key.key.now (codes "kind")
+    adds_member (script_fields c.args.self.now) (codes "kind")
     (string (kind_text c.in-Some.kind)) (omega arith) c.in_ok-key.ensures (c.is_key-3.ensures c.if-is_key-3.true) reads refl

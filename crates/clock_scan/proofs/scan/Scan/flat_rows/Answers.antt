@@ -27,7 +27,7 @@ items-preserved c =
     c.in_ok-extend_from_slice.ensures ∙ ap (λ piece. l.numbers ++ piece) (c.as_slice.ensures.value ∙ held) in
     let count : length c.as_slice-in-items.result.now ≡ length row = ap length (c.as_slice-in-items.ensures.value ∙ held) in
     let more = one_more l.lengths.items l.numbers row c.extend_from_slice.new.self _ l.invariant.1 all count in
-    let rows : cut c.push.new.self.items c.extend_from_slice.new.self ≡ cut l.lengths.items l.numbers ++ row ∷ [] =
+    let rows : cut c.push.new.list.items c.extend_from_slice.new.self ≡ cut l.lengths.items l.numbers ++ row ∷ [] =
     ap (λ lengths. cut lengths c.extend_from_slice.new.self) c.in_ok-push.ensures.items ∙ more.0 in (
       subst (λ list. HasItems 1 c.opens_array.new.self (map numbers list) c.numbers_behind.new.self) (sym rows)
           (items_push_next 1 numbers c.opens_array.new.self l.self c.numbers_behind.new.self (cut l.lengths.items l.numbers) row l.invariant.0 reads),

@@ -1,7 +1,7 @@
 use Rattle.std.proofs.Common.{length, ◌≤◌}
 use Rattle.clock_scan.specs.Reading.{members_of}
 use Rattle.clock_scan.specs.Members.{HasMembers}
-use Rattle.clock_scan.proofs.members.scanned_members.Given as goal
+use Rattle.clock_scan.proofs.members.AnyPartReader.part.Given as goal
 
 abbrev pub invariant-members : goal.invariant-members
 invariant-members g l =

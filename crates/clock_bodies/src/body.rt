@@ -1,0 +1,55 @@
+//! Bodies that are read byte by byte where they can be, and by a tree of their values where not.
+ghost use Rattle.std.specs.Prelude.{◌≡◌, ◌≢◌, ◌≤◌, Option, Some, Ok, Err, IfOk, IfErr};
+ghost use Rattle.serde_json.specs.Data.{Data};
+ghost use Rattle.serde_json.specs.View.{view};
+ghost use Rattle.clock_setup.specs.SetupDocument.{json};
+ghost use Rattle.clock_bodies.specs.Bodies.{meant_by};
+
+use crate::body_fault::BodyFault;
+use clock_device::NoMemory;
+use clock_scan::{ScanStop, ScannedMembers, scanned_text};
+use clock_setup::members::read_value;
+use serde_json::Value;
+use std::alloc::Global;
+
+/// What is found of a body by bytes, and what the body is by a tree.
+pub(crate) trait Body<'v>: ScannedMembers<'v> {
+    /// What a value of JSON means.
+    ghost meaning: { Data → Option Self.Whole };
+
+    /// The body that a value means, or none where it is of another shape.
+    fn of_value(alloc: Global, value: &Value) -> Result<Option<Self::Whole>, NoMemory>
+        ensures { IfOk result (λ body. body ≡ meaning (view value.now)) };
+}
+
+/// The body that a value means.
+fn body_in<'v, B: Body<'v>>(alloc: Global, value: &Value) -> Result<B::Whole, BodyFault>
+    ensures ok { IfOk result (λ body. meant_by B.meaning (Some (view value.now)) ≡ Ok body) }
+    ensures err { IfErr result (λ fault. fault ≢ BodyFault.NoMemory
+        → meant_by B.meaning (Some (view value.now)) ≡ Err fault) }
+{
+    match B::of_value(alloc, value)? {
+        Some(body) => Ok(body),
+        None => Err(BodyFault::Shape),
+    }
+}
+
+/// What bytes mean as a body, or their first fault, where the value that is read as a body means this body.
+pub(crate) fn read_body<'v, B: Body<'v>>(
+    alloc: Global,
+    bytes: &'v [u8],
+) -> Result<B::Whole, BodyFault>
+    requires { B.levels ≤ 126 }
+    ensures ok { ((body : _) → B.meaning (B.shown body) ≡ Some body)
+        → IfOk result (λ body. meant_by B.meaning (json bytes.now) ≡ Ok body) }
+    ensures err { IfErr result (λ fault. fault ≢ BodyFault.NoMemory → meant_by B.meaning (json bytes.now) ≡ Err fault) }
+{
+    match scanned_text::<B>(alloc, bytes) {
+        Ok(body) => Ok(body),
+        Err(ScanStop::NoMemory) => Err(BodyFault::NoMemory),
+        Err(ScanStop::Unusual) => {
+            let value = read_value(alloc, bytes)?.ok_or(BodyFault::NotJson)?;
+            body_in::<B>(alloc, &value)
+        }
+    }
+}
