@@ -118,30 +118,22 @@ fn take<P: Processor>(
     }
 }
 
-/// The bids of a sheet.
-fn bids_of(alloc: Global, offers: &[Offer]) -> Result<Vec<Bid>, AllocError> {
-    list_of(
-        alloc,
-        offers,
-        |&(product, quantity, price)| Bid {
-            product,
-            quantity,
-            price,
-        },
-    )
+/// The bid of an offer.
+fn bid_of(&(product, quantity, price): &Offer) -> Bid {
+    Bid {
+        product,
+        quantity,
+        price,
+    }
 }
 
-/// A tie list.
-fn ties_of(alloc: Global, draws: &[Draw]) -> Result<Vec<Tie>, AllocError> {
-    list_of(
-        alloc,
-        draws,
-        |&(bidder, product, number)| Tie {
-            bidder,
-            product,
-            number,
-        },
-    )
+/// The tie number of a draw.
+fn tie_of(&(bidder, product, number): &Draw) -> Tie {
+    Tie {
+        bidder,
+        product,
+        number,
+    }
 }
 
 /// What is made of each row.
@@ -190,7 +182,7 @@ fn put<P: Processor>(
     sheet: &Sheet,
     expected: Result<(), PutFault>,
 ) -> Result<(), Fail> {
-    let bids = bids_of(alloc, sheet.1)?;
+    let bids = list_of(alloc, sheet.1, bid_of)?;
     let answer = put_bids(rt, house, sheet.0, round, bids.as_slice());
     is_answered(rt, answer, expected)
 }
@@ -218,7 +210,7 @@ fn close<P: Processor>(
     draws: &[Draw],
     expected: Result<(), CloseFault>,
 ) -> Result<(), Fail> {
-    let ties = ties_of(alloc, draws)?;
+    let ties = list_of(alloc, draws, tie_of)?;
     let answer = house.close(round, &increments, ties.as_slice());
     is_answered(rt, answer, expected)
 }
@@ -307,7 +299,7 @@ fn see_in_force<P: Processor>(
     bidder: u32,
     offers: Option<&[Offer]>,
 ) -> Result<(), Fail> {
-    let bids = bids_of(alloc, offers.unwrap_or(&[]))?;
+    let bids = list_of(alloc, offers.unwrap_or(&[]), bid_of)?;
     assert!(rt; (bidder as usize) < house.setup().bidders.as_slice().len());
     match house.bids(bidder) {
         Some(sheet) => {
