@@ -4,7 +4,6 @@ use clock_journal::{
 use std::alloc::Global;
 use std::fs::{self, File, OpenOptions};
 use std::io::{self, Write};
-use std::process::Abort;
 use std::test::Fail;
 
 /// A machine that counts its texts.
@@ -76,44 +75,21 @@ fn a_journal_is_read(rt: HostRuntime) -> Result<(), Fail> {
     Ok(())
 }
 
-/// Of each front of the file what is made is taken over with so many texts up to so many bytes.
-fn fronts_are_taken<F: Fn(Global, &[u8]) -> Result<Vec<u8>, Fail>, W: Fn(usize) -> (u64, usize)>(
-    rt: &impl Abort,
-    alloc: Global,
-    make: F,
-    whole: W,
-) -> Result<(), Fail>
-    requires made { F.IsAlwaysCallable make }
-    requires told { W.IsAlwaysCallable whole }
-{
-    let bytes = file(alloc)?;
-    for length in 0..=188usize {
-        let front = bytes.get(..length).ok_or("a shorter file")?;
-        let made = make(alloc, front)?;
-        assert_eq!(rt; taken(&made, &SETUP), Ok(whole(length)), "at {length}");
-    }
-    Ok(())
-}
-
-/// How many texts stand in a front of so many bytes, and where they end.
-fn whole_texts(length: usize) -> (u64, usize) {
-    match length {
-        0..56 => (0, 0),
-        56..101 => (0, 56),
-        101..144 => (1, 101),
-        144..188 => (2, 144),
-        _ => (3, 188),
-    }
-}
-
-/// The same bytes.
-fn as_they_are(alloc: Global, bytes: &[u8]) -> Result<Vec<u8>, Fail> {
-    Ok(bytes.to_vec(alloc)?)
-}
-
 #[test]
 fn each_front_is_read(rt: HostRuntime) -> Result<(), Fail> {
-    fronts_are_taken(&rt, rt.alloc(), as_they_are, whole_texts)
+    let bytes = file(rt.alloc())?;
+    for length in 0..=188usize {
+        let front = bytes.get(..length).ok_or("a shorter file")?;
+        let whole = match length {
+            0..56 => (0, 0),
+            56..101 => (0, 56),
+            101..144 => (1, 101),
+            144..188 => (2, 144),
+            _ => (3, 188),
+        };
+        assert_eq!(rt; taken(front, &SETUP), Ok(whole), "at {length}");
+    }
+    Ok(())
 }
 
 #[test]
@@ -178,19 +154,21 @@ fn bytes_resumed(alloc: Global, bytes: &[u8]) -> Result<Vec<u8>, Fail> {
     Ok(journal.disk().bytes().to_vec(alloc)?)
 }
 
-/// The same where another text is added to those of a front.
-fn texts_and_one(length: usize) -> (u64, usize) {
-    match length {
-        0..101 => (1, 100),
-        101..144 => (2, 145),
-        144..188 => (3, 188),
-        _ => (4, 232),
-    }
-}
-
 #[test]
 fn each_front_goes_on(rt: HostRuntime) -> Result<(), Fail> {
-    fronts_are_taken(&rt, rt.alloc(), bytes_resumed, texts_and_one)
+    let bytes = file(rt.alloc())?;
+    for length in 0..=188usize {
+        let front = bytes.get(..length).ok_or("a shorter file")?;
+        let more = bytes_resumed(rt.alloc(), front)?;
+        let whole = match length {
+            0..101 => (1, 100),
+            101..144 => (2, 145),
+            144..188 => (3, 188),
+            _ => (4, 232),
+        };
+        assert_eq!(rt; taken(&more, &SETUP), Ok(whole), "at {length}");
+    }
+    Ok(())
 }
 
 const PATH: &str = "clock_journal.trial";
