@@ -1,12 +1,13 @@
 //! An auction as data: what is done to it and what is seen of it, step by step.
 
+use crate::settle::push_demands;
 use clock_bids::Bid;
 use clock_house::{CloseFault, House, PutFault};
 use clock_order::Tie;
 use clock_posting::sheet_lines;
 use clock_processor::{Plain, Processor};
 use clock_queue::Woken;
-use clock_setup::{Amounts, Increments, Row, read_setup};
+use clock_setup::{Amounts, Increments, read_setup};
 use clock_terms::KeptRow;
 use std::alloc::{AllocError, Global};
 use std::fmt::Debug;
@@ -16,14 +17,27 @@ use std::test::Fail;
 /// A bid: the product's number, the quantity and the price.
 pub type Offer = (u64, u64, u64);
 
+/// A sheet: the bidder's number and the bids.
+pub type Sheet<'a> = (u32, &'a [Offer]);
+
 /// A tie number: the bidder's number, the product's and the tie number.
 pub type Draw = (u64, u64, u64);
+
+/// The first bidders.
+pub const X: u32 = 0;
+
+pub const Y: u32 = 1;
+
+pub const Z: u32 = 2;
+
+/// What a bidder holds: its number, its eligibility and its demands.
+pub type Held<'a> = (u32, u64, &'a [u64]);
 
 /// What is done to an auction, or seen of it.
 #[derive(Clone, Copy)]
 pub enum Step<'a> {
-    /// A bidder puts a sheet for the current round.
-    Put(u32, &'a [Offer]),
+    /// Bidders put sheets for the current round, one after the other.
+    Put(&'a [Sheet<'a>]),
     /// A bidder's sheet for a round is refused.
     RefusedPut(u32, u64, &'a [Offer], PutFault),
     /// The current round is closed with one increment for all products.
@@ -36,12 +50,12 @@ pub enum Step<'a> {
     RefusedCloseEach(&'a [u64], CloseFault),
     /// A closed round has these lines.
     Lines(u64, &'a [u8]),
-    /// A bidder holds this eligibility and these demands.
-    Holds(u32, u64, &'a [u64]),
-    /// A bidder has these bids in force, or none.
-    InForce(u32, Option<&'a [Offer]>),
+    /// Bidders hold this eligibility and these demands.
+    Hold(&'a [Held<'a>]),
     /// A bidder's slip of a round: activity, eligibility and demands.
     Slip(u32, u64, u64, u64, &'a [u64]),
+    /// A bidder has these bids in force, or none.
+    InForce(u32, Option<&'a [Offer]>),
     /// The current round, and whether the auction has ended.
     Stands(u64, bool),
 }
@@ -78,68 +92,63 @@ fn take<P: Processor>(
 ) -> Result<(), Fail> {
     let round = house.round();
     match *step {
-        Step::Put(bidder, offers) => {
-            is_answered(rt, put(rt, alloc, house, bidder, round, offers)?, Ok(()))
-        }
+        Step::Put(sheets) => put_all(rt, alloc, house, sheets),
         Step::RefusedPut(bidder, round, offers, fault) => {
-            is_answered(
-                rt,
-                put(rt, alloc, house, bidder, round, offers)?,
-                Err(fault),
-            )
+            put(rt, alloc, house, round, &(bidder, offers), Err(fault))
         }
         Step::Close(increment, draws) => {
-            is_answered(rt, close(alloc, house, round, increment, draws)?, Ok(()))
+            let increments = Increments::Single(increment);
+            close(rt, alloc, house, round, increments, draws, Ok(()))
         }
-        Step::CloseEach(increments) => {
-            is_answered(rt, close_each(alloc, house, round, increments)?, Ok(()))
-        }
+        Step::CloseEach(increments) => close_each(rt, alloc, house, round, increments, Ok(())),
         Step::RefusedClose(round, increment, draws, fault) => {
-            is_answered(
-                rt,
-                close(alloc, house, round, increment, draws)?,
-                Err(fault),
-            )
+            let increments = Increments::Single(increment);
+            close(rt, alloc, house, round, increments, draws, Err(fault))
         }
         Step::RefusedCloseEach(increments, fault) => {
-            is_answered(rt, close_each(alloc, house, round, increments)?, Err(fault))
+            close_each(rt, alloc, house, round, increments, Err(fault))
         }
         Step::Lines(round, lines) => see_lines(rt, alloc, house, round, lines),
-        Step::Holds(bidder, eligibility, demands) => {
-            see_held(rt, house, bidder, eligibility, demands)
-        }
-        Step::InForce(bidder, offers) => see_in_force(rt, alloc, house, bidder, offers),
+        Step::Hold(held) => see_held(rt, alloc, house, held),
         Step::Slip(bidder, round, activity, eligibility, demands) => {
             see_slip(rt, house, bidder, round, (activity, eligibility), demands)
         }
+        Step::InForce(bidder, offers) => see_in_force(rt, alloc, house, bidder, offers),
         Step::Stands(round, ended) => see_round(rt, house, round, ended),
     }
 }
 
-/// The bids of a sheet.
-fn bids_of(alloc: Global, offers: &[Offer]) -> Result<Vec<Bid>, AllocError> {
-    let mut bids = Vec::new(alloc);
-    for &(product, quantity, price) in offers {
-        bids.push(Bid {
-            product,
-            quantity,
-            price,
-        })?;
+/// The bid of an offer.
+fn bid_of(&(product, quantity, price): &Offer) -> Bid {
+    Bid {
+        product,
+        quantity,
+        price,
     }
-    Ok(bids)
 }
 
-/// A tie list.
-fn ties_of(alloc: Global, draws: &[Draw]) -> Result<Vec<Tie>, AllocError> {
-    let mut ties = Vec::new(alloc);
-    for &(bidder, product, number) in draws {
-        ties.push(Tie {
-            bidder,
-            product,
-            number,
-        })?;
+/// The tie number of a draw.
+fn tie_of(&(bidder, product, number): &Draw) -> Tie {
+    Tie {
+        bidder,
+        product,
+        number,
     }
-    Ok(ties)
+}
+
+/// What is made of each row.
+fn list_of<T: Drop, F: Fn(&(u64, u64, u64)) -> T>(
+    alloc: Global,
+    rows: &[(u64, u64, u64)],
+    make: F,
+) -> Result<Vec<T>, AllocError>
+    requires { F.IsAlwaysCallable make }
+{
+    let mut list = Vec::new(alloc);
+    for row in rows {
+        list.push(make(row))?;
+    }
+    Ok(list)
 }
 
 /// Asserts the answer to a sheet or a closing.
@@ -150,19 +159,6 @@ fn is_answered<T: Copy + PartialEq + Debug>(
 ) -> Result<(), Fail> {
     assert_eq!(rt; answer, expected);
     Ok(())
-}
-
-/// Puts a sheet.
-fn put<P: Processor>(
-    rt: &impl Abort,
-    alloc: Global,
-    house: &mut House<P>,
-    bidder: u32,
-    round: u64,
-    offers: &[Offer],
-) -> Result<Result<(), PutFault>, Fail> {
-    let bids = bids_of(alloc, offers)?;
-    Ok(put_bids(rt, house, bidder, round, bids.as_slice()))
 }
 
 /// Puts a sheet of these bids.
@@ -177,28 +173,59 @@ fn put_bids<P: Processor>(
     house.put_sheet(bidder, round, bids)
 }
 
-/// Closes a round with one increment for all products.
-fn close<P: Processor>(
+/// Puts a sheet, which is answered so.
+fn put<P: Processor>(
+    rt: &impl Abort,
     alloc: Global,
     house: &mut House<P>,
     round: u64,
-    increment: u64,
+    sheet: &Sheet,
+    expected: Result<(), PutFault>,
+) -> Result<(), Fail> {
+    let bids = list_of(alloc, sheet.1, bid_of)?;
+    let answer = put_bids(rt, house, sheet.0, round, bids.as_slice());
+    is_answered(rt, answer, expected)
+}
+
+/// Puts sheets for the current round.
+fn put_all<P: Processor>(
+    rt: &impl Abort,
+    alloc: Global,
+    house: &mut House<P>,
+    sheets: &[Sheet],
+) -> Result<(), Fail> {
+    for sheet in sheets {
+        put(rt, alloc, house, house.round(), sheet, Ok(()))?;
+    }
+    Ok(())
+}
+
+/// Closes a round, which is answered so.
+fn close<P: Processor>(
+    rt: &impl Abort,
+    alloc: Global,
+    house: &mut House<P>,
+    round: u64,
+    increments: Increments,
     draws: &[Draw],
-) -> Result<Result<(), CloseFault>, Fail> {
-    let ties = ties_of(alloc, draws)?;
-    let increments = Increments::Single(increment);
-    Ok(house.close(round, &increments, ties.as_slice()))
+    expected: Result<(), CloseFault>,
+) -> Result<(), Fail> {
+    let ties = list_of(alloc, draws, tie_of)?;
+    let answer = house.close(round, &increments, ties.as_slice());
+    is_answered(rt, answer, expected)
 }
 
 /// Closes a round with an increment for each product.
 fn close_each<P: Processor>(
+    rt: &impl Abort,
     alloc: Global,
     house: &mut House<P>,
     round: u64,
     increments: &[u64],
-) -> Result<Result<(), CloseFault>, Fail> {
+    expected: Result<(), CloseFault>,
+) -> Result<(), Fail> {
     let increments = Increments::PerProduct(Amounts::from_slice(alloc, increments)?);
-    Ok(house.close(round, &increments, &[]))
+    close(rt, alloc, house, round, increments, &[], expected)
 }
 
 /// Asserts the lines of a closed round.
@@ -216,50 +243,20 @@ fn see_lines<P: Processor>(
     Ok(())
 }
 
-/// Whether these are the numbers of a row.
-fn is_row(row: &Row, numbers: &[u64]) -> bool {
-    if row.len() != numbers.len() {
-        return false;
-    }
-    for (product, number) in numbers.iter().enumerate() {
-        if row.get(product) != *number {
-            return false;
-        }
-    }
-    true
-}
-
-/// Asserts what a bidder holds: its eligibility and its demands.
+/// Asserts what bidders hold: their eligibility and their demands.
 fn see_held<P: Processor>(
-    rt: &impl Abort,
-    house: &House<P>,
-    bidder: u32,
-    eligibility: u64,
-    demands: &[u64],
-) -> Result<(), Fail> {
-    assert!(rt; (bidder as usize) < house.setup().bidders.as_slice().len());
-    let own = house.own(bidder);
-    assert_eq!(rt; own.eligibility, eligibility);
-    assert!(rt; is_row(own.demands, demands));
-    Ok(())
-}
-
-/// Asserts the bids that a bidder has in force.
-fn see_in_force<P: Processor>(
     rt: &impl Abort,
     alloc: Global,
     house: &House<P>,
-    bidder: u32,
-    offers: Option<&[Offer]>,
+    held: &[Held],
 ) -> Result<(), Fail> {
-    let bids = bids_of(alloc, offers.unwrap_or(&[]))?;
-    assert!(rt; (bidder as usize) < house.setup().bidders.as_slice().len());
-    match house.bids(bidder) {
-        Some(sheet) => {
-            assert!(rt; offers.is_some());
-            assert_eq!(rt; sheet.bids(), bids.as_slice());
-        }
-        None => assert!(rt; offers.is_none()),
+    for &(bidder, eligibility, demands) in held {
+        assert!(rt; (bidder as usize) < house.setup().bidders.as_slice().len());
+        let own = house.own(bidder);
+        let mut own_demands = Amounts::new(alloc);
+        push_demands(&mut own_demands, own.demands)?;
+        assert_eq!(rt; own.eligibility, eligibility);
+        assert_eq!(rt; own_demands.as_slice(), demands);
     }
     Ok(())
 }
@@ -291,6 +288,26 @@ fn see_slip<P: Processor>(
     assert_eq!(rt; slip.round, round);
     assert_eq!(rt; (slip.activity, slip.eligibility), activity_and_eligibility);
     assert!(rt; is_kept(&slip.demands, demands));
+    Ok(())
+}
+
+/// Asserts the bids that a bidder has in force.
+fn see_in_force<P: Processor>(
+    rt: &impl Abort,
+    alloc: Global,
+    house: &House<P>,
+    bidder: u32,
+    offers: Option<&[Offer]>,
+) -> Result<(), Fail> {
+    let bids = list_of(alloc, offers.unwrap_or(&[]), bid_of)?;
+    assert!(rt; (bidder as usize) < house.setup().bidders.as_slice().len());
+    match house.bids(bidder) {
+        Some(sheet) => {
+            assert!(rt; offers.is_some());
+            assert_eq!(rt; sheet.bids(), bids.as_slice());
+        }
+        None => assert!(rt; offers.is_none()),
+    }
     Ok(())
 }
 

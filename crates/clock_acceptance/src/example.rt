@@ -9,7 +9,7 @@ use std::process::Abort;
 use std::test::Fail;
 
 /// So many blocks of the product at a price.
-fn blocks(quantity: u64, price: u64) -> Bid {
+pub(crate) fn blocks(quantity: u64, price: u64) -> Bid {
     Bid {
         product: 0,
         quantity,

@@ -160,7 +160,7 @@ fn settle<P: Processor>(
 }
 
 /// Adds a bidder's demands.
-fn push_demands(demands: &mut Amounts, row: &Row) -> Result<(), NoMemory> {
+pub fn push_demands(demands: &mut Amounts, row: &Row) -> Result<(), NoMemory> {
     for product in 0..row.len() {
         demands.push(row.get(product))?;
     }

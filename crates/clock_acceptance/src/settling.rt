@@ -72,38 +72,25 @@ fn comes_to(rt: &impl Abort, alloc: Global, requests: &[Asked], end: End) -> Res
 #[test]
 fn increase_waits_for_two_reductions(rt: HostRuntime) -> Result<(), Fail> {
     let requests = [Y_REDUCES_A, X_RAISES_A, X_REDUCES_B];
-    let tests = comes_to(
-        &rt,
-        rt.alloc(),
-        &requests,
-        (&[1, 1, 1, 0, 0, 1], &[0, 0, 0], 3),
-    )?;
+    let end: End = (&[1, 1, 1, 0, 0, 1], &[0, 0, 0], 3);
+    let tests = comes_to(&rt, rt.alloc(), &requests, end)?;
     assert!(rt; tests <= 9);
     Ok(())
 }
 
 #[test]
 fn requests_without_room_are_left(rt: HostRuntime) -> Result<(), Fail> {
+    let held = [0, 2, 2, 0, 0, 1];
     let requests = [Y_REDUCES_A, X_RAISES_A];
-    comes_to(
-        &rt,
-        rt.alloc(),
-        &requests,
-        (&[0, 2, 2, 0, 0, 1], &[1, 1], 0),
-    )?;
-    comes_to(&rt, rt.alloc(), &[], (&[0, 2, 2, 0, 0, 1], &[], 0))?;
+    comes_to(&rt, rt.alloc(), &requests, (&held, &[1, 1], 0))?;
+    comes_to(&rt, rt.alloc(), &[], (&held, &[], 0))?;
     Ok(())
 }
 
 #[test]
 fn earlier_drop_takes_the_excess(rt: HostRuntime) -> Result<(), Fail> {
-    let requests = [Z_DROPS_B, X_DROPS_B];
-    comes_to(
-        &rt,
-        rt.alloc(),
-        &requests,
-        (&[0, 2, 2, 0, 0, 0], &[0, 2], 1),
-    )?;
+    let end: End = (&[0, 2, 2, 0, 0, 0], &[0, 2], 1);
+    comes_to(&rt, rt.alloc(), &[Z_DROPS_B, X_DROPS_B], end)?;
     Ok(())
 }
 

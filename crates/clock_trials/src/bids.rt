@@ -140,70 +140,42 @@ fn held<'a>(round: &Round, row: &'a Row) -> Own<'a>
     }
 }
 
-/// The changes that the first bidder asks for by a sheet.
-fn asked_by(
+/// The changes that the first bidder asks for, by a sheet of bids or without one.
+fn asked(
     rt: &impl Abort,
     alloc: Global,
     setup: &Setup,
     prices: &Prices,
     own: Own,
-    bids: &[Bid],
+    bids: Option<&[Bid]>,
 ) -> Result<Changes, BidFault>
     requires { IsRow setup.now.products own.demands.now }
 {
     assert!(rt; own.round >= 2);
     assert!(rt; rise(prices));
     assert!(rt; are_prices(setup, prices));
+    let Some(bids) = bids else {
+        return Ok(changes_of(alloc, setup, prices, own, 0, None)?);
+    };
     let sheet = check_sheet(alloc, setup, prices, own, bids)?;
     Ok(changes_of(alloc, setup, prices, own, 0, Some(&sheet))?)
 }
 
-/// The changes that the first bidder asks for without a sheet.
-#[tactic(auto, using(clock_bids::proofs::Good::empty_sheet_good))]
-fn asked_without(
-    rt: &impl Abort,
-    alloc: Global,
-    setup: &Setup,
-    prices: &Prices,
-    own: Own,
-) -> Result<Changes, NoMemory>
-    requires { IsRow setup.now.products own.demands.now }
-{
-    assert!(rt; own.round >= 2);
-    assert!(rt; rise(prices));
-    assert!(rt; are_prices(setup, prices));
-    changes_of(alloc, setup, prices, own, 0, None)
-}
-
-/// Whether the first bidder asks for these changes by a sheet.
+/// Asserts that the first bidder asks for these changes, by a sheet of bids or without one.
 fn asks_for(
     rt: &impl Abort,
     alloc: Global,
     round: &Round,
-    bids: &[Bid],
+    bids: Option<&[Bid]>,
     wanted: &[Change],
-) -> Result<bool, Fail> {
+) -> Result<(), Fail> {
     let setup = read_setup(alloc, round.document.as_bytes())?;
     let prices = prices_of(alloc, &setup)?;
     let row = row_of(rt, alloc, &setup, round.demands)?;
     let own = held(round, &row);
-    let changes = asked_by(rt, alloc, &setup, &prices, own, bids)?;
-    Ok(changes.as_slice() == wanted)
-}
-
-/// Whether the first bidder asks for these changes without a sheet.
-fn asks_without(
-    rt: &impl Abort,
-    alloc: Global,
-    round: &Round,
-    wanted: &[Change],
-) -> Result<bool, Fail> {
-    let setup = read_setup(alloc, round.document.as_bytes())?;
-    let prices = prices_of(alloc, &setup)?;
-    let row = row_of(rt, alloc, &setup, round.demands)?;
-    let own = held(round, &row);
-    let changes = asked_without(rt, alloc, &setup, &prices, own)?;
-    Ok(changes.as_slice() == wanted)
+    let changes = asked(rt, alloc, &setup, &prices, own, bids)?;
+    assert_eq!(rt; changes.as_slice(), wanted);
+    Ok(())
 }
 
 #[test]
@@ -214,25 +186,23 @@ fn a_chain_asks_for_a_change_at_each_bid(rt: HostRuntime) -> Result<(), Fail> {
         change(0, 1, Kind::Reduction, 1, 107),
     ];
     let round = second(ONE_PRODUCT, 3, &[2]);
-    assert!(rt; asks_for(&rt, rt.alloc(), &round, &falling, &reductions)?);
+    asks_for(&rt, rt.alloc(), &round, Some(&falling), &reductions)?;
     let climbing = [bid(0, 1, 104), bid(0, 2, 110)];
     let increases = [
         change(0, 0, Kind::Increase, 1, 104),
         change(0, 1, Kind::Increase, 1, 110),
     ];
     let round = second(ONE_PRODUCT, 3, &[0]);
-    assert!(rt; asks_for(&rt, rt.alloc(), &round, &climbing, &increases)?);
-    Ok(())
+    asks_for(&rt, rt.alloc(), &round, Some(&climbing), &increases)
 }
 
 #[test]
 fn a_missing_bid_gives_up_the_demand_at_the_start_price(rt: HostRuntime) -> Result<(), Fail> {
     let round = second(ONE_PRODUCT, 3, &[2]);
     let given_up = [change(0, 0, Kind::Reduction, 2, 100)];
-    assert!(rt; asks_for(&rt, rt.alloc(), &round, &[], &given_up)?);
-    assert!(rt; asks_without(&rt, rt.alloc(), &round, &given_up)?);
-    assert!(rt; asks_for(&rt, rt.alloc(), &round, &[bid(0, 2, 110)], &[])?);
-    Ok(())
+    asks_for(&rt, rt.alloc(), &round, Some(&[]), &given_up)?;
+    asks_for(&rt, rt.alloc(), &round, None, &given_up)?;
+    asks_for(&rt, rt.alloc(), &round, Some(&[bid(0, 2, 110)]), &[])
 }
 
 #[test]
@@ -244,8 +214,7 @@ fn chains_of_two_products_may_be_interleaved(rt: HostRuntime) -> Result<(), Fail
         change(1, 0, Kind::Reduction, 1, 106),
         change(1, 1, Kind::Reduction, 1, 108),
     ];
-    assert!(rt; asks_for(&rt, rt.alloc(), &round, &bids, &by_product)?);
-    Ok(())
+    asks_for(&rt, rt.alloc(), &round, Some(&bids), &by_product)
 }
 
 /// Whether bids ask for these demands.

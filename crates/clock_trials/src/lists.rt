@@ -137,16 +137,16 @@ struct Flaky {
 
 impl Read for Flaky {
     fn read(&mut self, buffer: &mut [u8]) -> io::Result<usize> {
-        self.reads = self.reads.saturating_add(1);
-        if self.reads == 2 && !buffer.is_empty() {
-            buffer[0] = b'x';
-            return Ok(1);
+        let read = self.reads;
+        self.reads = read.saturating_add(1);
+        match (read, buffer.first_mut()) {
+            (0, _) => Err(io::Error::from(ErrorKind::Interrupted)),
+            (1, Some(byte)) => {
+                *byte = b'x';
+                Ok(1)
+            }
+            _ => Err(io::Error::from(ErrorKind::Other)),
         }
-        Err(io::Error::from(if self.reads == 1 {
-            ErrorKind::Interrupted
-        } else {
-            ErrorKind::Other
-        }))
     }
 }
 

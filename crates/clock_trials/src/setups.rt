@@ -1,3 +1,8 @@
+use clock_setup::Place::{
+    BidderName, Cap, Eligibility, Granule, Limit, Name, Opening, Operator, Requirement, Supply,
+    Token, Units,
+};
+use clock_setup::SetupFault::{DuplicateName, DuplicateToken, Range, Shape};
 use clock_setup::fixtures::{ACTIVITY_LIMIT, GRANULES_AND_INCREMENTS, ONE_PRODUCT, TWO_PRODUCTS};
 use clock_setup::{
     OpeningFault, Place, Product, Setup, SetupFault, read_opening, read_setup, setup_of,
@@ -5,6 +10,7 @@ use clock_setup::{
 use clock_terms::products_copy;
 use serde_json::Value;
 use std::alloc::Global;
+use std::process::Abort;
 use std::test::Fail;
 
 const NO_PRODUCTS: &str = r#"{
@@ -99,17 +105,6 @@ fn changed(alloc: Global, text: &str, from: &str, to: &str) -> Result<String, Fa
     Ok(format!(in alloc; "{before}{to}{after}")?)
 }
 
-/// The fault of a document with one place changed.
-fn changed_fault(
-    alloc: Global,
-    text: &str,
-    from: &str,
-    to: &str,
-) -> Result<Option<SetupFault>, Fail> {
-    let text = changed(alloc, text, from, to)?;
-    Ok(setup_fault(alloc, text.as_str()))
-}
-
 /// An opening document of a set-up.
 fn opening_text(
     alloc: Global,
@@ -175,117 +170,100 @@ fn refuses_what_is_no_setup(rt: HostRuntime) {
     }
 }
 
-#[test]
-fn refuses_each_fault_of_a_setup(rt: HostRuntime) -> Result<(), Fail> {
-    for (from, to, fault) in [
-        ("\"cap\": 2", "\"cap\": 2.0", SetupFault::Shape),
-        (
-            "\"cap\": 2",
-            "\"cap\": 2, \"granule\": 1",
-            SetupFault::Shape,
-        ),
-        ("\"units\": 1", "\"unit\": 1", SetupFault::Shape),
-        ("\"X\"", "1", SetupFault::Shape),
-        (
-            "\"bidders\": [",
-            "\"bidders\": {}, \"more\": [",
-            SetupFault::Shape,
-        ),
-        ("1,", "1, \"limit\": 100,", SetupFault::Shape),
-        ("95", "49", SetupFault::Range(Place::Requirement)),
-        ("95", "101", SetupFault::Range(Place::Requirement)),
-        ("TOR\"", "TO\"", SetupFault::Range(Place::Operator)),
-        ("\"A\"", "\"A b\"", SetupFault::Range(Place::Name(0))),
-        ("\"A\"", "\"\"", SetupFault::Range(Place::Name(0))),
-        (
-            "\"units\": 1",
-            "\"units\": 0",
-            SetupFault::Range(Place::Units(0)),
-        ),
-        (
-            "\"supply\": 2",
-            "\"supply\": 1001",
-            SetupFault::Range(Place::Supply(0)),
-        ),
-        ("\"cap\": 2", "\"cap\": 3", SetupFault::Range(Place::Cap(0))),
-        (": 100", ": 0", SetupFault::Range(Place::Opening(0))),
-        (
-            ": 100",
-            ": 1000000000001",
-            SetupFault::Range(Place::Opening(0)),
-        ),
-        ("\"Y\"", "\"Y!\"", SetupFault::Range(Place::BidderName(1))),
-        (
-            "YYYYYYYYYYYYYYYY",
-            "YYYYYYYYYYYYYYY_",
-            SetupFault::Range(Place::Token(1)),
-        ),
-        (
-            ": 10}",
-            ": 1000000000001}",
-            SetupFault::Range(Place::Eligibility(0)),
-        ),
-        ("\"Y\"", "\"X\"", SetupFault::DuplicateName),
-        (
-            "YYYYYYYYYYYYYYYY",
-            "OPERATOROPERATOR",
-            SetupFault::DuplicateToken,
-        ),
-    ] {
-        assert_eq!(rt;
-            changed_fault(rt.alloc(), ONE_PRODUCT, from, to)?,
-            Some(fault),
-            "{to}"
-        );
+/// A place of a document, what is put there, and the fault then.
+type Changed<'a> = (&'a str, &'a str, Option<SetupFault>);
+
+/// A document with one place changed has the fault of the row.
+fn has_faults(
+    rt: &impl Abort,
+    alloc: Global,
+    document: &str,
+    rows: &[Changed],
+) -> Result<(), Fail> {
+    for (from, to, fault) in rows {
+        let text = changed(alloc, document, from, to)?;
+        assert_eq!(rt; setup_fault(alloc, text.as_str()), *fault, "{to}");
     }
-    assert_eq!(rt;
-        changed_fault(rt.alloc(), ONE_PRODUCT, "\"A\"", "\"X\"")?,
-        None
-    );
     Ok(())
 }
 
+/// One fault after the other of the one product.
+const FAULTS: [Changed<'static>; 22] = [
+    ("\"cap\": 2", "\"cap\": 2.0", Some(Shape)),
+    ("\"cap\": 2", "\"cap\": 2, \"granule\": 1", Some(Shape)),
+    ("\"units\": 1", "\"unit\": 1", Some(Shape)),
+    ("\"X\"", "1", Some(Shape)),
+    (
+        "\"bidders\": [",
+        "\"bidders\": {}, \"more\": [",
+        Some(Shape),
+    ),
+    ("1,", "1, \"limit\": 100,", Some(Shape)),
+    ("95", "49", Some(Range(Requirement))),
+    ("95", "101", Some(Range(Requirement))),
+    ("TOR\"", "TO\"", Some(Range(Operator))),
+    ("\"A\"", "\"A b\"", Some(Range(Name(0)))),
+    ("\"A\"", "\"\"", Some(Range(Name(0)))),
+    ("\"units\": 1", "\"units\": 0", Some(Range(Units(0)))),
+    ("\"supply\": 2", "\"supply\": 1001", Some(Range(Supply(0)))),
+    ("\"cap\": 2", "\"cap\": 3", Some(Range(Cap(0)))),
+    (": 100", ": 0", Some(Range(Opening(0)))),
+    (": 100", ": 1000000000001", Some(Range(Opening(0)))),
+    ("\"Y\"", "\"Y!\"", Some(Range(BidderName(1)))),
+    ("YYYY\"", "YYY_\"", Some(Range(Token(1)))),
+    (": 10}", ": 1000000000001}", Some(Range(Eligibility(0)))),
+    ("\"Y\"", "\"X\"", Some(DuplicateName)),
+    ("YYYYYYYYYYYYYYYY", "OPERATOROPERATOR", Some(DuplicateToken)),
+    ("\"A\"", "\"X\"", None),
+];
+
+#[test]
+fn refuses_each_fault_of_a_setup(rt: HostRuntime) -> Result<(), Fail> {
+    has_faults(&rt, rt.alloc(), ONE_PRODUCT, &FAULTS)
+}
+
+/// The same of the second version, some of them beside a later one.
+const FAULTS_OF_VERSION_2: [Changed<'static>; 14] = [
+    ("\"limit\": 100,", "", Some(Shape)),
+    (", \"granule\": 1}", "}", Some(Shape)),
+    ("100,", "99,", Some(Range(Limit))),
+    ("100,", "101,", None),
+    ("100,", "140,", None),
+    ("100,", "141,", Some(Range(Limit))),
+    ("25", "0", Some(Range(Granule(0)))),
+    ("25", "1", None),
+    ("25", "1000000", None),
+    ("25", "1000001", Some(Range(Granule(0)))),
+    (
+        "100,\n  \"requirement\": 100",
+        "99,\n  \"requirement\": 101",
+        Some(Range(Requirement)),
+    ),
+    (
+        "100,\n  \"requirement\": 100,\n  \"operator\": \"OPERATOR",
+        "99,\n  \"requirement\": 100,\n  \"operator\": \"_",
+        Some(Range(Limit)),
+    ),
+    (
+        "100, \"granule\": 25",
+        "0, \"granule\": 0",
+        Some(Range(Opening(0))),
+    ),
+    (
+        "25},\n    {\"name\": \"B\"",
+        "0},\n    {\"name\": \"\"",
+        Some(Range(Granule(0))),
+    ),
+];
+
 #[test]
 fn refuses_each_fault_of_version_2(rt: HostRuntime) -> Result<(), Fail> {
-    for (from, to, fault) in [
-        ("\"limit\": 100,", "", Some(SetupFault::Shape)),
-        (", \"granule\": 1}", "}", Some(SetupFault::Shape)),
-        ("100,", "99,", Some(SetupFault::Range(Place::Limit))),
-        ("100,", "101,", None),
-        ("100,", "140,", None),
-        ("100,", "141,", Some(SetupFault::Range(Place::Limit))),
-        ("25", "0", Some(SetupFault::Range(Place::Granule(0)))),
-        ("25", "1", None),
-        ("25", "1000000", None),
-        ("25", "1000001", Some(SetupFault::Range(Place::Granule(0)))),
-        (
-            "100,\n  \"requirement\": 100",
-            "99,\n  \"requirement\": 101",
-            Some(SetupFault::Range(Place::Requirement)),
-        ),
-        (
-            "100,\n  \"requirement\": 100,\n  \"operator\": \"OPERATOR",
-            "99,\n  \"requirement\": 100,\n  \"operator\": \"_",
-            Some(SetupFault::Range(Place::Limit)),
-        ),
-        (
-            "100, \"granule\": 25",
-            "0, \"granule\": 0",
-            Some(SetupFault::Range(Place::Opening(0))),
-        ),
-        (
-            "25},\n    {\"name\": \"B\"",
-            "0},\n    {\"name\": \"\"",
-            Some(SetupFault::Range(Place::Granule(0))),
-        ),
-    ] {
-        assert_eq!(rt;
-            changed_fault(rt.alloc(), GRANULES_AND_INCREMENTS, from, to)?,
-            fault,
-            "{to}"
-        );
-    }
-    Ok(())
+    has_faults(
+        &rt,
+        rt.alloc(),
+        GRANULES_AND_INCREMENTS,
+        &FAULTS_OF_VERSION_2,
+    )
 }
 
 /// The total demand for an opening's first product, and the increment.

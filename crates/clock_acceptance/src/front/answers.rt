@@ -1,7 +1,9 @@
 //! What requests are answered with, one after the other.
-use super::requests::{compare, fields_of, reply_of, setup_of, text_of};
+use super::requests::{compare, reply_of, setup_of, text_of};
+use super::rows::{fields_of, whole_rows};
 use super::texts::{ACCEPTED, PUT};
-use crate::front::example::on_front;
+use crate::documents::opening_at;
+use crate::front::example::{on_front, on_one_product};
 use clock_device::{Items, Text};
 use clock_front::{Front, run};
 use clock_processor::Plain;
@@ -11,130 +13,44 @@ use std::alloc::Global;
 use std::process::Abort;
 use std::test::Fail;
 
-/// Requests in turn, with `;` between two: the request line, whose token it has, its body, and the status and page of
-/// its reply.
-const SHEETS: &str =
-    r#"GET /v1/me/bids|X||200 OK|{"bids":[{"price":100,"product":0,"quantity":2}],"round":1};
-PUT /v1/me/bids|X|{"bids":[{"price":100,"product":0,"quantity":1}],"round":1}|200 OK|{"accepted":true,"bids":1,"round":1};
-GET /v1/me/bids|X||200 OK|{"bids":[{"price":100,"product":0,"quantity":1}],"round":1};
-PUT /v1/me/bids|X|{"bids":[],"round":1}|200 OK|{"accepted":true,"bids":0,"round":1};
-GET /v1/me/bids|X||200 OK|{"bids":[],"round":1};
-GET /v1/me/bids|Y||200 OK|{"bids":null,"round":1}"#;
-
-const DROP_IN_PART: &str =
-    r#"PUT /v1/me/bids|X|{"bids":[{"price":100,"product":0,"quantity":2}],"round":1}|200 OK|{"accepted":true,"bids":1,"round":1};
-PUT /v1/me/bids|Y|{"bids":[{"price":100,"product":0,"quantity":1}],"round":1}|200 OK|{"accepted":true,"bids":1,"round":1};
-POST /v1/close|O|{"increment":10,"round":1,"ties":[]}|200 OK|{"closed":1,"ended":false};
-PUT /v1/me/bids|X|{"bids":[{"price":110,"product":0,"quantity":2}],"round":1}|409 Conflict|{"code":"wrong_round","round":2,"status":409};
-PUT /v1/me/bids|X|{"bids":[{"price":103,"product":0,"quantity":0}],"round":2}|200 OK|{"accepted":true,"bids":1,"round":2};
-PUT /v1/me/bids|Y|{"bids":[{"price":110,"product":0,"quantity":1}],"round":2}|200 OK|{"accepted":true,"bids":1,"round":2};
-GET /v1/me|X||200 OK|{"activity":2,"demands":[2],"eligibility":3,"ended":false,"name":"X","round":2};
-POST /v1/close|O|{"increment":10,"round":2,"ties":[]}|200 OK|{"closed":2,"ended":true};
-GET /v1/results|O||200 OK|{"bidders":[{"demands":[1],"eligibility":2,"name":"X"},{"demands":[1],"eligibility":2,"name":"Y"}],"ended":true,"round":2};
-GET /v1/me/rounds/2|X||200 OK|{"activity":1,"demands":[1],"eligibility":2,"round":2};
-GET /v1/rounds/2|||200 OK|{"ended":true,"products":[{"clock":110,"demand":null,"name":"A","next":null,"posted":103,"start":100}],"round":2};
-PUT /v1/me/bids|X|{"bids":[],"round":2}|409 Conflict|{"code":"ended","status":409};
-PUT /v1/me/bids|X|{"bids":[],"round":1}|409 Conflict|{"code":"ended","status":409};
-PUT /v1/me/bids|X|{"bids":[]}|422 Unprocessable Entity|{"code":"shape","status":422};
-POST /v1/close|O|{"increment":10,"round":1,"ties":[]}|409 Conflict|{"code":"ended","status":409};
-POST /v1/close|O|{"increments":[10],"round":2,"ties":[]}|422 Unprocessable Entity|{"code":"shape","status":422}"#;
-
-/// Each request has two faults or more, of which the earlier one answers.
-const REFUSALS: &str = r#"DELETE /v1/none|||404 Not Found|{"code":"no_page","status":404};
-DELETE /v1/me/bids|||405 Method Not Allowed|{"code":"method","status":405};
-PUT /v1/me/bids||x|401 Unauthorized|{"code":"token","status":401};
-PUT /v1/me/bids|O|x|403 Forbidden|{"code":"role","status":403};
-PUT /v1/me/bids|O|{"bids":[]}|403 Forbidden|{"code":"role","status":403};
-POST /v1/close|X|x|403 Forbidden|{"code":"role","status":403};
-POST /v1/close|X|{"increments":[10],"round":1,"ties":[]}|403 Forbidden|{"code":"role","status":403};
-PUT /v1/me/bids|X|x|400 Bad Request|{"code":"bad_json","status":400};
-PUT /v1/me/bids|X|{"bids":[]}|422 Unprocessable Entity|{"code":"shape","status":422};
-PUT /v1/me/bids|X|{"bids":[{"price":1,"product":1,"quantity":2}],"round":2}|409 Conflict|{"code":"wrong_round","round":1,"status":409};
-PUT /v1/me/bids|X|{"bids":[{"price":1,"product":1,"quantity":2}],"round":1}|422 Unprocessable Entity|{"code":"unknown_product","place":0,"status":422};
-PUT /v1/me/bids|X|{"bids":[{"price":101,"product":0,"quantity":3}],"round":1}|422 Unprocessable Entity|{"code":"price_range","place":0,"status":422};
-POST /v1/close|O|{"increments":[10],"round":2,"ties":[]}|422 Unprocessable Entity|{"code":"shape","status":422};
-POST /v1/close|O|{"increment":51,"round":2,"ties":[[0,1,5]]}|409 Conflict|{"code":"wrong_round","round":1,"status":409};
-POST /v1/close|O|{"increment":51,"round":1,"ties":[[0,1,5]]}|422 Unprocessable Entity|{"code":"increment","status":422};
-POST /v1/close|O|{"increment":10,"round":1,"ties":[[0,0,1],[0,0,2]]}|422 Unprocessable Entity|{"code":"tie_repeated","place":1,"status":422};
-GET /v1/rounds/01|||404 Not Found|{"code":"no_round","status":404};
-GET /v1/products|||200 OK|{"products":[{"cap":2,"name":"A","opening":100,"supply":2,"units":1}],"requirement":95,"version":1}"#;
-
-/// Each request has one fault.
-const FAULTS: &str = r#"GET /v1/me|||401 Unauthorized|{"code":"token","status":401};
-GET /v1/me|O||403 Forbidden|{"code":"role","status":403};
-GET /v1/rounds/1|||404 Not Found|{"code":"no_round","status":404};
-POST /v1/close|O|{"increment":0,"round":1,"ties":[]}|422 Unprocessable Entity|{"code":"increment","status":422};
-POST /v1/close|O|{"increment":51,"round":1,"ties":[]}|422 Unprocessable Entity|{"code":"increment","status":422};
-POST /v1/close|O|{"increment":10,"round":1,"ties":[[0,1,5]]}|422 Unprocessable Entity|{"code":"tie_range","place":0,"status":422};
-PUT /v1/me/bids|X|{"bids":[{"price":101,"product":0,"quantity":1}],"round":1}|422 Unprocessable Entity|{"code":"price_range","place":0,"status":422};
-PUT /v1/me/bids|X|{"bids":[{"price":100,"product":0,"quantity":3}],"round":1}|422 Unprocessable Entity|{"code":"over_cap","place":0,"status":422};
-PUT /v1/me/bids|X|{"bids":[{"price":100,"product":0,"quantity":1},{"price":100,"product":0,"quantity":2}],"round":1}
-|422 Unprocessable Entity|{"code":"price_order","place":1,"status":422};
-PUT /v1/me/bids|X|{"bids":[{"price":100,"product":0,"quantity":2}],"round":1}|200 OK|{"accepted":true,"bids":1,"round":1};
-PUT /v1/me/bids|Y|{"bids":[{"price":100,"product":0,"quantity":1}],"round":1}|200 OK|{"accepted":true,"bids":1,"round":1};
-POST /v1/close|O|{"increment":10,"round":1,"ties":[]}|200 OK|{"closed":1,"ended":false};
-PUT /v1/me/bids|X|{"bids":[{"price":103,"product":0,"quantity":1},{"price":105,"product":0,"quantity":2}],"round":2}
-|422 Unprocessable Entity|{"code":"mixed_direction","place":1,"status":422};
-PUT /v1/me/bids|X|{"bids":[{"price":105,"product":0,"quantity":2}],"round":2}|422 Unprocessable Entity|{"code":"keep_price","place":0,"status":422}"#;
-
-/// More activity than a bidder is eligible for.
-const ACTIVE: &str =
-    r#"PUT /v1/me/bids|X|{"bids":[{"price":100,"product":0,"quantity":4},{"price":100,"product":1,"quantity":1}],"round":1}
-|422 Unprocessable Entity|{"code":"over_activity","status":422}"#;
-
-/// One product that opens at the highest price.
-const HIGHEST_PRICE: &str = r#"{"version":1,"requirement":95,"operator":"OPERATOROPERATOR",
-"products":[{"name":"A","units":1,"supply":2,"cap":2,"opening":1000000000000}],
-"bidders":[{"name":"X","token":"XXXXXXXXXXXXXXXX","eligibility":10},{"name":"Y","token":"YYYYYYYYYYYYYYYY","eligibility":10}]}"#;
-
-/// A round that cannot be closed at its demand keeps its sheets, and can be closed once it has less.
-const PRICE_LIMIT: &str =
-    r#"PUT /v1/me/bids|X|{"bids":[{"price":1000000000000,"product":0,"quantity":2}],"round":1}
-|200 OK|{"accepted":true,"bids":1,"round":1};
-PUT /v1/me/bids|Y|{"bids":[{"price":1000000000000,"product":0,"quantity":1}],"round":1}|200 OK|{"accepted":true,"bids":1,"round":1};
-POST /v1/close|O|{"increment":1,"round":1,"ties":[[0,1,5]]}|422 Unprocessable Entity|{"code":"tie_range","place":0,"status":422};
-POST /v1/close|O|{"increment":1,"round":1,"ties":[]}|422 Unprocessable Entity|{"code":"price_limit","place":0,"status":422};
-GET /v1/status|||200 OK|{"ended":false,"round":1,"version":1};
-GET /v1/me/bids|X||200 OK|{"bids":[{"price":1000000000000,"product":0,"quantity":2}],"round":1};
-GET /v1/me/bids|Y||200 OK|{"bids":[{"price":1000000000000,"product":0,"quantity":1}],"round":1};
-PUT /v1/me/bids|X|{"bids":[{"price":1000000000000,"product":0,"quantity":1}],"round":1}|200 OK|{"accepted":true,"bids":1,"round":1};
-POST /v1/close|O|{"increment":1,"round":1,"ties":[]}|200 OK|{"closed":1,"ended":true}"#;
-
-const VERSION_2: &str =
-    r#"POST /v1/close|O|{"increment":10,"round":1,"ties":[]}|422 Unprocessable Entity|{"code":"shape","status":422};
-POST /v1/close|O|{"increments":[10],"round":1,"ties":[]}|422 Unprocessable Entity|{"code":"increment","status":422};
-POST /v1/close|O|{"increments":[10,20,30],"round":1,"ties":[]}|422 Unprocessable Entity|{"code":"increment","status":422};
-POST /v1/close|O|{"increments":[10,51],"round":1,"ties":[]}|422 Unprocessable Entity|{"code":"increment","status":422};
-POST /v1/close|O|{"increments":[10,20],"round":1,"ties":[]}|200 OK|{"closed":1,"ended":true};
-GET /v1/status|||200 OK|{"ended":true,"round":1,"version":2}"#;
-
-/// Sends the request of a line, and compares its reply.
+/// Sends the request of a row, and compares its reply.
 fn send(rt: &impl Abort, alloc: Global, front: &mut Front<Plain>, row: &str) -> Result<(), Fail> {
     let fields = fields_of(alloc, row)?;
     let &[line, who, body, status, page] = fields.as_slice() else {
         return Err("a row has five fields")?;
     };
-    let text = text_of(alloc, line, who, body.trim())?;
+    let text = text_of(alloc, line, who, body)?;
     compare(rt, alloc, front, text.as_str(), status, page)
 }
 
-/// Sends the requests of all lines in turn.
+/// Sends the requests of all rows in turn.
 fn send_rows(
     rt: &impl Abort,
     alloc: Global,
     front: &mut Front<Plain>,
     rows: &str,
 ) -> Result<(), Fail> {
-    for row in rows.split(';') {
-        send(rt, alloc, front, row.trim())?;
+    let rows = whole_rows(alloc, rows)?;
+    for row in rows.as_str().split('\n') {
+        send(rt, alloc, front, row)?;
     }
     Ok(())
 }
 
-/// Sends the requests of all lines to a front of a set-up.
+/// Sends the requests of all rows to a front of a set-up.
 fn send_all(rt: &impl Abort, alloc: Global, document: &str, rows: &str) -> Result<(), Fail> {
     on_front(alloc, document, |front| send_rows(rt, alloc, front, rows))
 }
+
+/// Requests in turn: the request line, whose token it has, its body, and the status and page of its reply. So are the
+/// other tables here.
+const SHEETS: &str =
+    r#"GET /v1/me/bids|X||200 OK|{"bids":[{"price":100,"product":0,"quantity":2}],"round":1}
+PUT /v1/me/bids|X|{"bids":[{"price":100,"product":0,"quantity":1}],"round":1}|200 OK|{"accepted":true,"bids":1,"round":1}
+GET /v1/me/bids|X||200 OK|{"bids":[{"price":100,"product":0,"quantity":1}],"round":1}
+PUT /v1/me/bids|X|{"bids":[],"round":1}|200 OK|{"accepted":true,"bids":0,"round":1}
+GET /v1/me/bids|X||200 OK|{"bids":[],"round":1}
+GET /v1/me/bids|Y||200 OK|{"bids":null,"round":1}"#;
 
 /// The 147 bytes of a sheet that X puts, byte for byte, and its reply; then the rows.
 fn put_and_told(rt: &impl Abort, alloc: Global, front: &mut Front<Plain>) -> Result<(), Fail> {
@@ -146,36 +62,122 @@ fn put_and_told(rt: &impl Abort, alloc: Global, front: &mut Front<Plain>) -> Res
 #[test]
 fn a_sheet_is_put_and_told(rt: HostRuntime) -> Result<(), Fail> {
     assert_eq!(rt; PUT.len(), 147);
-    on_front(
-        rt.alloc(),
-        ONE_PRODUCT,
-        |front| put_and_told(&rt, rt.alloc(), front),
-    )
+    on_one_product(rt.alloc(), |front| put_and_told(&rt, rt.alloc(), front))
 }
+
+/// X drops two blocks, of which one is given up.
+const DROP_IN_PART: &str =
+    r#"PUT /v1/me/bids|X|{"bids":[{"price":100,"product":0,"quantity":2}],"round":1}|200 OK|{"accepted":true,"bids":1,"round":1}
+PUT /v1/me/bids|Y|{"bids":[{"price":100,"product":0,"quantity":1}],"round":1}|200 OK|{"accepted":true,"bids":1,"round":1}
+POST /v1/close|O|{"increment":10,"round":1,"ties":[]}|200 OK|{"closed":1,"ended":false}
+PUT /v1/me/bids|X|{"bids":[{"price":110,"product":0,"quantity":2}],"round":1}|409 Conflict|{"code":"wrong_round","round":2,"status":409}
+PUT /v1/me/bids|X|{"bids":[{"price":103,"product":0,"quantity":0}],"round":2}|200 OK|{"accepted":true,"bids":1,"round":2}
+PUT /v1/me/bids|Y|{"bids":[{"price":110,"product":0,"quantity":1}],"round":2}|200 OK|{"accepted":true,"bids":1,"round":2}
+GET /v1/me|X||200 OK|{"activity":2,"demands":[2],"eligibility":3,"ended":false,"name":"X","round":2}
+POST /v1/close|O|{"increment":10,"round":2,"ties":[]}|200 OK|{"closed":2,"ended":true}
+GET /v1/results|O||200 OK|{"bidders":[{"demands":[1],"eligibility":2,"name":"X"},{"demands":[1],"eligibility":2,"name":"Y"}],"ended":true,"round":2}
+GET /v1/me/rounds/2|X||200 OK|{"activity":1,"demands":[1],"eligibility":2,"round":2}
+GET /v1/rounds/2|||200 OK|{"ended":true,"products":[{"clock":110,"demand":null,"name":"A","next":null,"posted":103,"start":100}],"round":2}
+PUT /v1/me/bids|X|{"bids":[],"round":2}|409 Conflict|{"code":"ended","status":409}
+PUT /v1/me/bids|X|{"bids":[],"round":1}|409 Conflict|{"code":"ended","status":409}
+PUT /v1/me/bids|X|{"bids":[]}|422 Unprocessable Entity|{"code":"shape","status":422}
+POST /v1/close|O|{"increment":10,"round":1,"ties":[]}|409 Conflict|{"code":"ended","status":409}
+POST /v1/close|O|{"increments":[10],"round":2,"ties":[]}|422 Unprocessable Entity|{"code":"shape","status":422}"#;
 
 #[test]
 fn a_drop_is_applied_in_part(rt: HostRuntime) -> Result<(), Fail> {
     send_all(&rt, rt.alloc(), ONE_PRODUCT, DROP_IN_PART)
 }
 
+/// Each request has two faults or more, of which the earlier one answers.
+const REFUSALS: &str = r#"DELETE /v1/none|||404 Not Found|{"code":"no_page","status":404}
+DELETE /v1/me/bids|||405 Method Not Allowed|{"code":"method","status":405}
+PUT /v1/me/bids||x|401 Unauthorized|{"code":"token","status":401}
+PUT /v1/me/bids|O|x|403 Forbidden|{"code":"role","status":403}
+PUT /v1/me/bids|O|{"bids":[]}|403 Forbidden|{"code":"role","status":403}
+POST /v1/close|X|x|403 Forbidden|{"code":"role","status":403}
+POST /v1/close|X|{"increments":[10],"round":1,"ties":[]}|403 Forbidden|{"code":"role","status":403}
+PUT /v1/me/bids|X|x|400 Bad Request|{"code":"bad_json","status":400}
+PUT /v1/me/bids|X|{"bids":[]}|422 Unprocessable Entity|{"code":"shape","status":422}
+PUT /v1/me/bids|X|{"bids":[{"price":1,"product":1,"quantity":2}],"round":2}|409 Conflict|{"code":"wrong_round","round":1,"status":409}
+PUT /v1/me/bids|X|{"bids":[{"price":1,"product":1,"quantity":2}],"round":1}|422 Unprocessable Entity|{"code":"unknown_product","place":0,"status":422}
+PUT /v1/me/bids|X|{"bids":[{"price":101,"product":0,"quantity":3}],"round":1}|422 Unprocessable Entity|{"code":"price_range","place":0,"status":422}
+POST /v1/close|O|{"increments":[10],"round":2,"ties":[]}|422 Unprocessable Entity|{"code":"shape","status":422}
+POST /v1/close|O|{"increment":51,"round":2,"ties":[[0,1,5]]}|409 Conflict|{"code":"wrong_round","round":1,"status":409}
+POST /v1/close|O|{"increment":51,"round":1,"ties":[[0,1,5]]}|422 Unprocessable Entity|{"code":"increment","status":422}
+POST /v1/close|O|{"increment":10,"round":1,"ties":[[0,0,1],[0,0,2]]}|422 Unprocessable Entity|{"code":"tie_repeated","place":1,"status":422}
+GET /v1/rounds/01|||404 Not Found|{"code":"no_round","status":404}
+GET /v1/products|||200 OK|{"products":[{"cap":2,"name":"A","opening":100,"supply":2,"units":1}],"requirement":95,"version":1}"#;
+
 #[test]
 fn an_earlier_line_refuses_first(rt: HostRuntime) -> Result<(), Fail> {
     send_all(&rt, rt.alloc(), ONE_PRODUCT, REFUSALS)
 }
+
+/// Each request has one fault.
+const FAULTS: &str = r#"GET /v1/me|||401 Unauthorized|{"code":"token","status":401}
+GET /v1/me|O||403 Forbidden|{"code":"role","status":403}
+GET /v1/rounds/1|||404 Not Found|{"code":"no_round","status":404}
+POST /v1/close|O|{"increment":0,"round":1,"ties":[]}|422 Unprocessable Entity|{"code":"increment","status":422}
+POST /v1/close|O|{"increment":51,"round":1,"ties":[]}|422 Unprocessable Entity|{"code":"increment","status":422}
+POST /v1/close|O|{"increment":10,"round":1,"ties":[[0,1,5]]}|422 Unprocessable Entity|{"code":"tie_range","place":0,"status":422}
+PUT /v1/me/bids|X|{"bids":[{"price":101,"product":0,"quantity":1}],"round":1}|422 Unprocessable Entity|{"code":"price_range","place":0,"status":422}
+PUT /v1/me/bids|X|{"bids":[{"price":100,"product":0,"quantity":3}],"round":1}|422 Unprocessable Entity|{"code":"over_cap","place":0,"status":422}
+PUT /v1/me/bids|X|{"bids":[{"price":100,"product":0,"quantity":1},{"price":100,"product":0,"quantity":2}],"round":1}
+|422 Unprocessable Entity|{"code":"price_order","place":1,"status":422}
+PUT /v1/me/bids|X|{"bids":[{"price":100,"product":0,"quantity":2}],"round":1}|200 OK|{"accepted":true,"bids":1,"round":1}
+PUT /v1/me/bids|Y|{"bids":[{"price":100,"product":0,"quantity":1}],"round":1}|200 OK|{"accepted":true,"bids":1,"round":1}
+POST /v1/close|O|{"increment":10,"round":1,"ties":[]}|200 OK|{"closed":1,"ended":false}
+PUT /v1/me/bids|X|{"bids":[{"price":103,"product":0,"quantity":1},{"price":105,"product":0,"quantity":2}],"round":2}
+|422 Unprocessable Entity|{"code":"mixed_direction","place":1,"status":422}
+PUT /v1/me/bids|X|{"bids":[{"price":105,"product":0,"quantity":2}],"round":2}|422 Unprocessable Entity|{"code":"keep_price","place":0,"status":422}"#;
 
 #[test]
 fn a_fault_is_told_by_its_page(rt: HostRuntime) -> Result<(), Fail> {
     send_all(&rt, rt.alloc(), ONE_PRODUCT, FAULTS)
 }
 
+/// More activity than a bidder is eligible for.
+const ACTIVE: &str =
+    r#"PUT /v1/me/bids|X|{"bids":[{"price":100,"product":0,"quantity":4},{"price":100,"product":1,"quantity":1}],"round":1}
+|422 Unprocessable Entity|{"code":"over_activity","status":422}"#;
+
 #[test]
 fn activity_is_within_eligibility(rt: HostRuntime) -> Result<(), Fail> {
     send_all(&rt, rt.alloc(), ACTIVITY_LIMIT, ACTIVE)
 }
 
+/// A round that cannot be closed at its demand keeps its sheets, and can be closed once it has less.
+const PRICE_LIMIT: &str =
+    r#"PUT /v1/me/bids|X|{"bids":[{"price":1000000000000,"product":0,"quantity":2}],"round":1}
+|200 OK|{"accepted":true,"bids":1,"round":1}
+PUT /v1/me/bids|Y|{"bids":[{"price":1000000000000,"product":0,"quantity":1}],"round":1}|200 OK|{"accepted":true,"bids":1,"round":1}
+POST /v1/close|O|{"increment":1,"round":1,"ties":[[0,1,5]]}|422 Unprocessable Entity|{"code":"tie_range","place":0,"status":422}
+POST /v1/close|O|{"increment":1,"round":1,"ties":[]}|422 Unprocessable Entity|{"code":"price_limit","place":0,"status":422}
+GET /v1/status|||200 OK|{"ended":false,"round":1,"version":1}
+GET /v1/me/bids|X||200 OK|{"bids":[{"price":1000000000000,"product":0,"quantity":2}],"round":1}
+GET /v1/me/bids|Y||200 OK|{"bids":[{"price":1000000000000,"product":0,"quantity":1}],"round":1}
+PUT /v1/me/bids|X|{"bids":[{"price":1000000000000,"product":0,"quantity":1}],"round":1}|200 OK|{"accepted":true,"bids":1,"round":1}
+POST /v1/close|O|{"increment":1,"round":1,"ties":[]}|200 OK|{"closed":1,"ended":true}"#;
+
 #[test]
 fn a_refused_closing_keeps_the_sheets(rt: HostRuntime) -> Result<(), Fail> {
-    send_all(&rt, rt.alloc(), HIGHEST_PRICE, PRICE_LIMIT)
+    let document = opening_at(rt.alloc(), 1_000_000_000_000)?;
+    send_all(&rt, rt.alloc(), document.as_str(), PRICE_LIMIT)
+}
+
+/// A closing has an increment for each product.
+const VERSION_2: &str =
+    r#"POST /v1/close|O|{"increment":10,"round":1,"ties":[]}|422 Unprocessable Entity|{"code":"shape","status":422}
+POST /v1/close|O|{"increments":[10],"round":1,"ties":[]}|422 Unprocessable Entity|{"code":"increment","status":422}
+POST /v1/close|O|{"increments":[10,20,30],"round":1,"ties":[]}|422 Unprocessable Entity|{"code":"increment","status":422}
+POST /v1/close|O|{"increments":[10,51],"round":1,"ties":[]}|422 Unprocessable Entity|{"code":"increment","status":422}
+POST /v1/close|O|{"increments":[10,20],"round":1,"ties":[]}|200 OK|{"closed":1,"ended":true}
+GET /v1/status|||200 OK|{"ended":true,"round":1,"version":2}"#;
+
+#[test]
+fn version_2_has_an_increment_for_each_product(rt: HostRuntime) -> Result<(), Fail> {
+    send_all(&rt, rt.alloc(), GRANULES_AND_INCREMENTS, VERSION_2)
 }
 
 /// A body of so many items, one like the other.
@@ -200,15 +202,9 @@ fn has_too_many(
     page: &str,
 ) -> Result<(), Fail> {
     let text = text_of(alloc, line, who, body)?;
-    on_front(alloc, ONE_PRODUCT, |front| {
-        compare(
-            rt,
-            alloc,
-            front,
-            text.as_str(),
-            "422 Unprocessable Entity",
-            page,
-        )
+    let status = "422 Unprocessable Entity";
+    on_one_product(alloc, |front| {
+        compare(rt, alloc, front, text.as_str(), status, page)
     })
 }
 
@@ -226,11 +222,6 @@ fn a_closing_has_at_most_16384_ties(rt: HostRuntime) -> Result<(), Fail> {
     let body = body_of(rt.alloc(), front, "[0,1,5]", 16_385, "]}")?;
     let page = r#"{"code":"too_many_ties","status":422}"#;
     has_too_many(&rt, rt.alloc(), "POST /v1/close", "O", body.as_str(), page)
-}
-
-#[test]
-fn version_2_has_an_increment_for_each_product(rt: HostRuntime) -> Result<(), Fail> {
-    send_all(&rt, rt.alloc(), GRANULES_AND_INCREMENTS, VERSION_2)
 }
 
 /// The texts of rows.

@@ -26,6 +26,16 @@ pub(crate) fn on_front<T, F: FnOnce(&mut Front<Plain>) -> Result<T, Fail>>(
     act(&mut front)
 }
 
+/// What is done with a front of the one product.
+pub(crate) fn on_one_product<T, F: FnOnce(&mut Front<Plain>) -> Result<T, Fail>>(
+    alloc: Global,
+    act: F,
+) -> Result<T, Fail>
+    requires { F.IsAlwaysCallable act }
+{
+    on_front(alloc, ONE_PRODUCT, act)
+}
+
 /// Whether the status page is told.
 fn has_status(front: &mut Front<Plain>) -> bool {
     let reply = front.answer(b"GET /v1/status HTTP/1.1\r\n\r\n");
@@ -34,7 +44,7 @@ fn has_status(front: &mut Front<Plain>) -> bool {
 
 #[test]
 fn a_front_is_opened_and_asked(rt: HostRuntime) -> Result<(), Fail> {
-    let is_told = on_front(rt.alloc(), ONE_PRODUCT, |front| Ok(has_status(front)))?;
+    let is_told = on_one_product(rt.alloc(), |front| Ok(has_status(front)))?;
     assert!(rt; is_told);
     Ok(())
 }

@@ -2,16 +2,16 @@
 ghost use Rattle.std.specs.Prelude.{◌≤◌, length};
 ghost use Rattle.clock_http.specs.Shown.{Knows};
 
-use crate::front::example::on_front;
+use super::rows::with_line_ends;
+use crate::front::example::on_one_product;
 use clock_front::{Framing, Front, Head, Progress, frame};
 use clock_processor::Plain;
-use clock_setup::fixtures::ONE_PRODUCT;
 use std::alloc::Global;
 use std::process::Abort;
 use std::test::Fail;
 
-/// Texts, and what they are: `more` is needed, a code refuses them, or they have a method, a path, a token or `-`, and
-/// a body. Here `~` stands for CR LF, `$` for LF and `^` for CR.
+/// Texts, and what they are: `more` is needed, a code refuses them, or they have a method, a path, a token or `-`, and a
+/// body.
 const TEXTS: &str = "|more
 ^|more
 $$|more
@@ -51,18 +51,6 @@ GET / HTTP/1.1~authorization: Bearer abc~authorization: Bearer abc~~|GET / - []"
 /// A request with the token of X, and the head of another behind it.
 const STATUS: &str =
     "GET /v1/status HTTP/1.1\r\nauthorization: Bearer XXXXXXXXXXXXXXXX\r\ncontent-length: 3\r\n\r\n{} GET /";
-
-/// A text with a mark replaced.
-fn replaced(alloc: Global, text: &str, mark: &str, meaning: &str) -> Result<String, Fail> {
-    Ok(text.replace(alloc, mark, meaning)?)
-}
-
-/// The row with its line ends.
-fn with_line_ends(alloc: Global, row: &str) -> Result<String, Fail> {
-    let row = replaced(alloc, row, "~", "\r\n")?;
-    let row = replaced(alloc, row.as_str(), "$", "\n")?;
-    replaced(alloc, row.as_str(), "^", "\r")
-}
 
 /// The parts of a request.
 fn told_parts(alloc: Global, head: &Head<'_>, body: &[u8]) -> Result<String, Fail> {
@@ -142,7 +130,7 @@ fn is_answered_in_two(
 #[test]
 fn a_text_in_pieces_is_answered_as_the_text(rt: HostRuntime) -> Result<(), Fail> {
     let page = r#"{"ended":false,"round":1,"version":1}"#;
-    on_front(rt.alloc(), ONE_PRODUCT, |front| {
+    on_one_product(rt.alloc(), |front| {
         is_answered_in_two(&rt, rt.alloc(), front, STATUS.as_bytes(), page)
     })
 }

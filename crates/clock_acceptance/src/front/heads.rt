@@ -1,13 +1,24 @@
 //! What is answered where a head is at a limit or past it, or is none.
-use super::requests::{compare, fields_of};
-use crate::front::example::on_front;
-use clock_setup::fixtures::ONE_PRODUCT;
+use super::requests::compare;
+use super::rows::{fields_of, with_line_ends};
+use crate::front::example::on_one_product;
 use std::alloc::Global;
 use std::process::Abort;
 use std::test::Fail;
 
-/// Header lines of a request, with `~` between two, and the status and page of its reply. Where there are two faults
-/// the earlier one answers.
+/// The status and the page of a reply.
+type Told<'a> = (&'a str, &'a str);
+
+/// Those of a head that is read, and whose path has no page.
+const NO_PAGE: Told<'static> = ("404 Not Found", r#"{"code":"no_page","status":404}"#);
+
+/// Those of a head that is too long.
+const LONG_HEAD: Told<'static> = (
+    "431 Request Header Fields Too Large",
+    r#"{"code":"long_head","status":431}"#,
+);
+
+/// Header lines of a request, and the status and page of its reply. Where there are two faults the earlier one answers.
 const HEADER_LINES: &str = r#"content-length: +5|400 Bad Request|{"code":"bad_length","status":400}
 content-length: 1048577|413 Payload Too Large|{"code":"long_body","status":413}
 content-length: 1048576|400 Bad Request|{"code":"cut_short","status":400}
@@ -39,37 +50,10 @@ fn head_filled(alloc: Global, filling: usize, end: &str) -> Result<String, Fail>
 }
 
 /// A text by itself is answered with a status and a page.
-fn answers(
-    rt: &impl Abort,
-    alloc: Global,
-    text: &str,
-    status: &str,
-    page: &str,
-) -> Result<(), Fail> {
-    on_front(alloc, ONE_PRODUCT, |front| {
-        compare(rt, alloc, front, text, status, page)
+fn answers(rt: &impl Abort, alloc: Global, text: &str, told: Told<'_>) -> Result<(), Fail> {
+    on_one_product(alloc, |front| {
+        compare(rt, alloc, front, text, told.0, told.1)
     })
-}
-
-/// The head of a text is read, and its path has no page.
-fn is_read(rt: &impl Abort, alloc: Global, text: &str) -> Result<(), Fail> {
-    answers(
-        rt,
-        alloc,
-        text,
-        "404 Not Found",
-        r#"{"code":"no_page","status":404}"#,
-    )
-}
-
-fn is_too_long(rt: &impl Abort, alloc: Global, text: &str) -> Result<(), Fail> {
-    answers(
-        rt,
-        alloc,
-        text,
-        "431 Request Header Fields Too Large",
-        r#"{"code":"long_head","status":431}"#,
-    )
 }
 
 /// A request with the header line of a row is answered as the row says.
@@ -78,58 +62,49 @@ fn answers_row(rt: &impl Abort, alloc: Global, row: &str) -> Result<(), Fail> {
     let &[line, status, page] = fields.as_slice() else {
         return Err("a row has three fields")?;
     };
-    let lines = line.replace(alloc, "~", "\r\n")?;
-    let text = format!(in alloc; "GET /v1/none HTTP/1.1\r\n{lines}\r\n\r\n")?;
-    answers(rt, alloc, text.as_str(), status, page)
+    let lines = with_line_ends(alloc, line)?;
+    let text = format!(in alloc; "GET /v1/none HTTP/1.1\r\n{}\r\n\r\n", lines.as_str())?;
+    answers(rt, alloc, text.as_str(), (status, page))
 }
 
-/// A text is too long a head, or its head is read.
-fn is_answered(rt: &impl Abort, alloc: Global, text: &str, is_long: bool) -> Result<(), Fail> {
-    if is_long {
-        is_too_long(rt, alloc, text)
-    } else {
-        is_read(rt, alloc, text)
-    }
-}
-
-/// A head of so many lines behind a beginning.
+/// A head of so many lines behind a beginning is told this.
 fn has_lines(
     rt: &impl Abort,
     alloc: Global,
     front: &str,
     count: usize,
-    is_long: bool,
+    told: Told<'_>,
 ) -> Result<(), Fail> {
     let head = head_of_lines(alloc, count)?;
     let text = format!(in alloc; "{front}{}", head.as_str())?;
-    is_answered(rt, alloc, text.as_str(), is_long)
+    answers(rt, alloc, text.as_str(), told)
 }
 
 #[test]
 fn a_head_has_at_most_64_lines(rt: HostRuntime) -> Result<(), Fail> {
-    has_lines(&rt, rt.alloc(), "", 64, false)?;
-    has_lines(&rt, rt.alloc(), "", 65, true)?;
-    has_lines(&rt, rt.alloc(), "\n", 65, true)
+    has_lines(&rt, rt.alloc(), "", 64, NO_PAGE)?;
+    has_lines(&rt, rt.alloc(), "", 65, LONG_HEAD)?;
+    has_lines(&rt, rt.alloc(), "\n", 65, LONG_HEAD)
 }
 
-/// A head with such a filling and end has so many bytes.
+/// A head with such a filling and end has so many bytes, and is told this.
 fn has_bytes(
     rt: &impl Abort,
     alloc: Global,
     filling: (usize, &str),
     length: usize,
-    is_long: bool,
+    told: Told<'_>,
 ) -> Result<(), Fail> {
     let text = head_filled(alloc, filling.0, filling.1)?;
     assert_eq!(rt; text.len(), length);
-    is_answered(rt, alloc, text.as_str(), is_long)
+    answers(rt, alloc, text.as_str(), told)
 }
 
 #[test]
 fn a_head_has_at_most_16384_bytes(rt: HostRuntime) -> Result<(), Fail> {
-    has_bytes(&rt, rt.alloc(), (16_361, "\r\n\r\n"), 16_384, false)?;
-    has_bytes(&rt, rt.alloc(), (16_362, "\r\n\r\n"), 16_385, true)?;
-    has_bytes(&rt, rt.alloc(), (16_365, ""), 16_384, true)
+    has_bytes(&rt, rt.alloc(), (16_361, "\r\n\r\n"), 16_384, NO_PAGE)?;
+    has_bytes(&rt, rt.alloc(), (16_362, "\r\n\r\n"), 16_385, LONG_HEAD)?;
+    has_bytes(&rt, rt.alloc(), (16_365, ""), 16_384, LONG_HEAD)
 }
 
 #[test]
@@ -137,11 +112,7 @@ fn header_lines_are_answered_by_their_faults(rt: HostRuntime) -> Result<(), Fail
     for row in HEADER_LINES.split('\n') {
         answers_row(&rt, rt.alloc(), row)?;
     }
-    answers(
-        &rt,
-        rt.alloc(),
-        "GET /v1/status HTTP/1.1\r\na: b\nc: d\r\n\r\n",
-        "400 Bad Request",
-        r#"{"code":"bad_head","status":400}"#,
-    )
+    let text = "GET /v1/status HTTP/1.1\r\na: b\nc: d\r\n\r\n";
+    let page = r#"{"code":"bad_head","status":400}"#;
+    answers(&rt, rt.alloc(), text, ("400 Bad Request", page))
 }

@@ -1,7 +1,9 @@
 //! One bidder's replies in two runs in which it sees the same.
 mod in_pieces;
 
-use super::requests::{fields_of, reply_of, text_of};
+use super::requests::{reply_of, text_of};
+use super::rows::fields_of;
+use crate::documents::replaced;
 use crate::front::example::on_front;
 use clock_front::Front;
 use clock_processor::Plain;
@@ -9,26 +11,15 @@ use std::alloc::Global;
 use std::process::Abort;
 use std::test::Fail;
 
-/// What is public in the first version, and in the second.
+/// What is public.
 const PUBLIC: &str =
     r#""version":1,"requirement":95,"operator":"OPERATOROPERATOR","products":[{"name":"A","units":1,"supply":2,"cap":2,"opening":100}]"#;
 
-const PUBLIC_2: &str = r#""version":2,"limit":125,"requirement":95,"operator":"OPERATOROPERATOR",
-"products":[{"name":"A","units":1,"supply":2,"cap":2,"opening":100,"granule":1}]"#;
-
-/// The bidders of a run. X has the same row in all.
+/// The bidders of a run. X has the same row in each list of them.
 const X_AND_Y: &str =
     r#"{"name":"X","token":"XXXXXXXXXXXXXXXX","eligibility":10},{"name":"Y","token":"YYYYYYYYYYYYYYYY","eligibility":10}"#;
 
-const Y_AND_X: &str =
-    r#"{"name":"Y","token":"YYYYYYYYYYYYYYYY","eligibility":10},{"name":"X","token":"XXXXXXXXXXXXXXXX","eligibility":10}"#;
-
-const V_X_AND_W: &str =
-    r#"{"name":"V","token":"VVVVVVVVVVVVVVVV","eligibility":3},{"name":"X","token":"XXXXXXXXXXXXXXXX","eligibility":10},
-{"name":"W","token":"WWWWWWWWWWWWWWWW","eligibility":5}"#;
-
-/// X's own requests, a line each: the request line, whose token it has, and its body. At each line of `~` the others
-/// send theirs.
+/// X's own requests: the request line, whose token it has, and its body. The others send theirs in turn.
 const OWN: &str = r#"GET /v1/me/bids|X|
 PUT /v1/me/bids|X|{"bids":[{"price":100,"product":0,"quantity":3}],"round":1}
 PUT /v1/me/bids|X|{"bids":[{"price":100,"product":0,"quantity":2}],"round":1}
@@ -60,92 +51,6 @@ const PAGES: &str =
     r#"{"activity":2,"demands":[2],"eligibility":3,"ended":false,"name":"X","round":2}
 {"activity":1,"demands":[1],"eligibility":2,"round":2}
 {"ended":true,"products":[{"clock":110,"demand":null,"name":"A","next":null,"posted":103,"start":100}],"round":2}"#;
-
-/// Y wants one block in both rounds.
-const BY_Y: &str = r#"PUT /v1/me/bids|Y|{"bids":[{"price":100,"product":0,"quantity":1}],"round":1}
-~
-POST /v1/close|O|{"increment":10,"round":1,"ties":[]}
-~
-PUT /v1/me/bids|Y|{"bids":[{"price":110,"product":0,"quantity":1}],"round":2}
-~
-POST /v1/close|O|{"increment":10,"round":2,"ties":[]}"#;
-
-/// W in its place, after a sheet of two blocks, and before one that is over the cap.
-const BY_W: &str = r#"PUT /v1/me/bids|W|{"bids":[{"price":100,"product":0,"quantity":2}],"round":1}
-PUT /v1/me/bids|W|{"bids":[{"price":100,"product":0,"quantity":1}],"round":1}
-PUT /v1/me/bids|W|{"bids":[{"price":100,"product":0,"quantity":3}],"round":1}
-~
-POST /v1/close|O|{"increment":10,"round":1,"ties":[]}
-~
-PUT /v1/me/bids|W|{"bids":[{"price":110,"product":0,"quantity":1}],"round":2}
-~
-POST /v1/close|O|{"increment":10,"round":2,"ties":[]}"#;
-
-/// Three further requests, each of them refused: a closing, a sheet of nobody's, and what is no head.
-const BY_Y_AND_STRANGERS: &str =
-    r#"PUT /v1/me/bids|Y|{"bids":[{"price":100,"product":0,"quantity":1}],"round":1}
-POST /v1/close|O|{"increment":0,"round":1,"ties":[]}
-~
-PUT /v1/me/bids|N|{"bids":[{"price":100,"product":0,"quantity":1}],"round":1}
-POST /v1/close|O|{"increment":10,"round":1,"ties":[]}
-~
-GET  /v1/status|N|
-PUT /v1/me/bids|Y|{"bids":[{"price":110,"product":0,"quantity":1}],"round":2}
-~
-POST /v1/close|O|{"increment":10,"round":2,"ties":[]}"#;
-
-/// The sheets of Y and of W in the second version.
-const BY_Y_2: &str =
-    r#"PUT /v1/me/bids|Y|{"bids":[{"price":100,"product":0,"quantity":1}],"round":1}
-~
-POST /v1/close|O|{"increments":[10],"round":1,"ties":[]}
-~
-PUT /v1/me/bids|Y|{"bids":[{"price":110,"product":0,"quantity":1}],"round":2}
-~
-POST /v1/close|O|{"increments":[10],"round":2,"ties":[]}"#;
-
-const BY_W_2: &str =
-    r#"PUT /v1/me/bids|W|{"bids":[{"price":100,"product":0,"quantity":2}],"round":1}
-PUT /v1/me/bids|W|{"bids":[{"price":100,"product":0,"quantity":1}],"round":1}
-PUT /v1/me/bids|W|{"bids":[{"price":100,"product":0,"quantity":3}],"round":1}
-~
-POST /v1/close|O|{"increments":[10],"round":1,"ties":[]}
-~
-PUT /v1/me/bids|W|{"bids":[{"price":110,"product":0,"quantity":1}],"round":2}
-~
-POST /v1/close|O|{"increments":[10],"round":2,"ties":[]}"#;
-
-/// Y's wrong sheets and the operator's refused closings, in another order at each place, and ties by other numbers.
-const BY_Y_WITH_FAULTS: &str = r#"POST /v1/close|O|{"increment":51,"round":1,"ties":[]}
-PUT /v1/me/bids|Y|{"bids":[{"price":101,"product":0,"quantity":1}],"round":1}
-PUT /v1/me/bids|Y|{"bids":[{"price":100,"product":0,"quantity":1}],"round":1}
-~
-PUT /v1/me/bids|Y|{"bids":[],"round":2}
-POST /v1/close|O|{"increment":10,"round":2,"ties":[]}
-POST /v1/close|O|{"increment":10,"round":1,"ties":[[0,0,7],[1,0,3]]}
-~
-PUT /v1/me/bids|Y|{"bids":[{"price":110,"product":0,"quantity":1}],"round":2}
-POST /v1/close|O|{"increments":[10],"round":2,"ties":[]}
-PUT /v1/me/bids|Y|{"bids":[{"price":110,"product":0,"quantity":1}]}
-~
-POST /v1/close|O|{"increment":10,"round":2,"ties":[[1,0,1],[1,0,1]]}
-POST /v1/close|O|{"increment":10,"round":2,"ties":[[1,0,2]]}"#;
-
-const BY_Y_WITH_OTHER_FAULTS: &str =
-    r#"PUT /v1/me/bids|Y|{"bids":[{"price":100,"product":0,"quantity":1}],"round":1}
-PUT /v1/me/bids|Y|{"bids":[{"price":100,"product":1,"quantity":1}],"round":1}
-POST /v1/close|O|{"increment":10,"round":1,"ties":[[2,0,1]]}
-~
-POST /v1/close|Y|{"increment":10,"round":1,"ties":[]}
-POST /v1/close|O|{"increment":10,"round":1,"ties":[]}
-PUT /v1/me/bids|Y|{"bids":[],"round":1}
-~
-POST /v1/close|O|{"increment":10,"round":1,"ties":[]}
-PUT /v1/me/bids|Y|{"bids":[{"price":105,"product":0,"quantity":2}],"round":2}
-PUT /v1/me/bids|Y|{"bids":[{"price":110,"product":0,"quantity":1}],"round":2}
-~
-PUT /v1/me/bids|Y|{"bids":[{"price":111,"product":0,"quantity":1}],"round":2}
-POST /v1/close|O|{"increment":10,"round":2,"ties":[[0,0,8]]}"#;
 
 /// The text of the request of a row.
 fn text_of_row(alloc: Global, row: &str) -> Result<String, Fail> {
@@ -199,49 +104,140 @@ fn has_pages(told: &str) -> bool {
     PAGES.split('\n').all(|page| told.contains(page))
 }
 
-/// A run: what is public, its bidders, and what the others send.
-type Run = (&'static str, &'static str, &'static str);
+/// A run: its bidders, and what the others send.
+type Run<'a> = (&'a str, &'a str);
 
-/// X is told the same in both runs, its pages among it.
-fn is_told_alike(rt: &impl Abort, alloc: Global, one: Run, two: Run) -> Result<(), Fail> {
-    let one = told_x(alloc, one.0, one.1, one.2)?;
+/// X is told the same in both runs of what is public, its pages among it.
+fn is_told_alike(
+    rt: &impl Abort,
+    alloc: Global,
+    public: &str,
+    one: Run<'_>,
+    two: Run<'_>,
+) -> Result<(), Fail> {
+    let one = told_x(alloc, public, one.0, one.1)?;
     assert!(rt; has_pages(one.as_str()), "{}", one.as_str());
-    let two = told_x(alloc, two.0, two.1, two.2)?;
+    let two = told_x(alloc, public, two.0, two.1)?;
     assert_eq!(rt; one.as_str(), two.as_str());
     Ok(())
 }
 
+/// Y wants one block in both rounds.
+const BY_Y: &str = r#"PUT /v1/me/bids|Y|{"bids":[{"price":100,"product":0,"quantity":1}],"round":1}
+~
+POST /v1/close|O|{"increment":10,"round":1,"ties":[]}
+~
+PUT /v1/me/bids|Y|{"bids":[{"price":110,"product":0,"quantity":1}],"round":2}
+~
+POST /v1/close|O|{"increment":10,"round":2,"ties":[]}"#;
+
+/// X among others.
+const V_X_AND_W: &str =
+    r#"{"name":"V","token":"VVVVVVVVVVVVVVVV","eligibility":3},{"name":"X","token":"XXXXXXXXXXXXXXXX","eligibility":10},
+{"name":"W","token":"WWWWWWWWWWWWWWWW","eligibility":5}"#;
+
+/// W in its place, after a sheet of two blocks, and before one that is over the cap.
+const BY_W: &str = r#"PUT /v1/me/bids|W|{"bids":[{"price":100,"product":0,"quantity":2}],"round":1}
+PUT /v1/me/bids|W|{"bids":[{"price":100,"product":0,"quantity":1}],"round":1}
+PUT /v1/me/bids|W|{"bids":[{"price":100,"product":0,"quantity":3}],"round":1}
+~
+POST /v1/close|O|{"increment":10,"round":1,"ties":[]}
+~
+PUT /v1/me/bids|W|{"bids":[{"price":110,"product":0,"quantity":1}],"round":2}
+~
+POST /v1/close|O|{"increment":10,"round":2,"ties":[]}"#;
+
 #[test]
 fn rivals_show_in_no_reply(rt: HostRuntime) -> Result<(), Fail> {
-    let one = (PUBLIC, X_AND_Y, BY_Y);
-    is_told_alike(&rt, rt.alloc(), one, (PUBLIC, V_X_AND_W, BY_W))
+    is_told_alike(&rt, rt.alloc(), PUBLIC, (X_AND_Y, BY_Y), (V_X_AND_W, BY_W))
 }
+
+/// Three further requests, each of them refused: a closing, a sheet of nobody's, and what is no head.
+const BY_Y_AND_STRANGERS: &str =
+    r#"PUT /v1/me/bids|Y|{"bids":[{"price":100,"product":0,"quantity":1}],"round":1}
+POST /v1/close|O|{"increment":0,"round":1,"ties":[]}
+~
+PUT /v1/me/bids|N|{"bids":[{"price":100,"product":0,"quantity":1}],"round":1}
+POST /v1/close|O|{"increment":10,"round":1,"ties":[]}
+~
+GET  /v1/status|N|
+PUT /v1/me/bids|Y|{"bids":[{"price":110,"product":0,"quantity":1}],"round":2}
+~
+POST /v1/close|O|{"increment":10,"round":2,"ties":[]}"#;
 
 #[test]
 fn refused_requests_show_in_no_reply(rt: HostRuntime) -> Result<(), Fail> {
-    let one = (PUBLIC, X_AND_Y, BY_Y_AND_STRANGERS);
-    is_told_alike(&rt, rt.alloc(), one, (PUBLIC, V_X_AND_W, BY_W))
+    is_told_alike(
+        &rt,
+        rt.alloc(),
+        PUBLIC,
+        (X_AND_Y, BY_Y_AND_STRANGERS),
+        (V_X_AND_W, BY_W),
+    )
+}
+
+/// The same in the second version.
+const PUBLIC_2: &str = r#""version":2,"limit":125,"requirement":95,"operator":"OPERATOROPERATOR",
+"products":[{"name":"A","units":1,"supply":2,"cap":2,"opening":100,"granule":1}]"#;
+
+/// Rows of closings in the second version.
+fn in_version_2(alloc: Global, rows: &str) -> Result<String, Fail> {
+    replaced(alloc, rows, r#""increment":10"#, r#""increments":[10]"#)
 }
 
 #[test]
 fn rivals_show_in_no_reply_of_version_2(rt: HostRuntime) -> Result<(), Fail> {
-    let one = (PUBLIC_2, X_AND_Y, BY_Y_2);
-    is_told_alike(&rt, rt.alloc(), one, (PUBLIC_2, V_X_AND_W, BY_W_2))
+    let by_y = in_version_2(rt.alloc(), BY_Y)?;
+    let by_w = in_version_2(rt.alloc(), BY_W)?;
+    let one = (X_AND_Y, by_y.as_str());
+    is_told_alike(&rt, rt.alloc(), PUBLIC_2, one, (V_X_AND_W, by_w.as_str()))
 }
+
+/// The same bidders by other numbers.
+const Y_AND_X: &str =
+    r#"{"name":"Y","token":"YYYYYYYYYYYYYYYY","eligibility":10},{"name":"X","token":"XXXXXXXXXXXXXXXX","eligibility":10}"#;
 
 #[test]
 fn its_number_shows_in_no_reply(rt: HostRuntime) -> Result<(), Fail> {
-    let one = (PUBLIC, X_AND_Y, BY_Y);
-    is_told_alike(&rt, rt.alloc(), one, (PUBLIC, Y_AND_X, BY_Y))
+    is_told_alike(&rt, rt.alloc(), PUBLIC, (X_AND_Y, BY_Y), (Y_AND_X, BY_Y))
 }
+
+/// Y's wrong sheets and the operator's refused closings, in another order at each place, and ties by other numbers.
+const BY_Y_WITH_FAULTS: &str = r#"POST /v1/close|O|{"increment":51,"round":1,"ties":[]}
+PUT /v1/me/bids|Y|{"bids":[{"price":101,"product":0,"quantity":1}],"round":1}
+PUT /v1/me/bids|Y|{"bids":[{"price":100,"product":0,"quantity":1}],"round":1}
+~
+PUT /v1/me/bids|Y|{"bids":[],"round":2}
+POST /v1/close|O|{"increment":10,"round":2,"ties":[]}
+POST /v1/close|O|{"increment":10,"round":1,"ties":[[0,0,7],[1,0,3]]}
+~
+PUT /v1/me/bids|Y|{"bids":[{"price":110,"product":0,"quantity":1}],"round":2}
+POST /v1/close|O|{"increments":[10],"round":2,"ties":[]}
+PUT /v1/me/bids|Y|{"bids":[{"price":110,"product":0,"quantity":1}]}
+~
+POST /v1/close|O|{"increment":10,"round":2,"ties":[[1,0,1],[1,0,1]]}
+POST /v1/close|O|{"increment":10,"round":2,"ties":[[1,0,2]]}"#;
+
+/// The same with other faults.
+const BY_Y_WITH_OTHER_FAULTS: &str =
+    r#"PUT /v1/me/bids|Y|{"bids":[{"price":100,"product":0,"quantity":1}],"round":1}
+PUT /v1/me/bids|Y|{"bids":[{"price":100,"product":1,"quantity":1}],"round":1}
+POST /v1/close|O|{"increment":10,"round":1,"ties":[[2,0,1]]}
+~
+POST /v1/close|Y|{"increment":10,"round":1,"ties":[]}
+POST /v1/close|O|{"increment":10,"round":1,"ties":[]}
+PUT /v1/me/bids|Y|{"bids":[],"round":1}
+~
+POST /v1/close|O|{"increment":10,"round":1,"ties":[]}
+PUT /v1/me/bids|Y|{"bids":[{"price":105,"product":0,"quantity":2}],"round":2}
+PUT /v1/me/bids|Y|{"bids":[{"price":110,"product":0,"quantity":1}],"round":2}
+~
+PUT /v1/me/bids|Y|{"bids":[{"price":111,"product":0,"quantity":1}],"round":2}
+POST /v1/close|O|{"increment":10,"round":2,"ties":[[0,0,8]]}"#;
 
 #[test]
 fn faults_and_ties_of_others_show_in_no_reply(rt: HostRuntime) -> Result<(), Fail> {
-    let one = (PUBLIC, X_AND_Y, BY_Y_WITH_FAULTS);
-    is_told_alike(
-        &rt,
-        rt.alloc(),
-        one,
-        (PUBLIC, X_AND_Y, BY_Y_WITH_OTHER_FAULTS),
-    )
+    let one = (X_AND_Y, BY_Y_WITH_FAULTS);
+    let two = (X_AND_Y, BY_Y_WITH_OTHER_FAULTS);
+    is_told_alike(&rt, rt.alloc(), PUBLIC, one, two)
 }

@@ -3,13 +3,12 @@
 ghost use Rattle.std.specs.Prelude.{◌≡◌, false};
 
 use super::texts::{ACCEPTED, CUT_SHORT, PUT, STATUS};
-use crate::front::example::on_front;
+use crate::front::example::on_one_product;
 use clock_device::Stop;
 use clock_front::Front;
 use clock_journal::{Journal, MemoryDisk};
 use clock_processor::Plain;
 use clock_serving::{Client, Keeper, Listed, ServeFault, Unkept, serve_all};
-use clock_setup::fixtures::ONE_PRODUCT;
 use std::alloc::Global;
 use std::process::Abort;
 use std::test::Fail;
@@ -90,14 +89,14 @@ const WRITTEN: [&str; 5] = [ACCEPTED, CUT_SHORT, "", "HTTP/1.1 200 OK\r\nc", FIR
 
 #[test]
 fn each_connection_gets_its_own_reply(rt: HostRuntime) -> Result<(), Fail> {
-    on_front(rt.alloc(), ONE_PRODUCT, |front| {
+    on_one_product(rt.alloc(), |front| {
         compare(&rt, rt.alloc(), front, &mut Unkept, Ok(()), &WRITTEN)
     })
 }
 
 #[test]
 fn an_accepted_text_is_kept(rt: HostRuntime) -> Result<(), Fail> {
-    on_front(rt.alloc(), ONE_PRODUCT, |front| {
+    on_one_product(rt.alloc(), |front| {
         compare_kept(&rt, rt.alloc(), front, 2, Ok(()), &WRITTEN)
     })
 }
@@ -105,7 +104,7 @@ fn an_accepted_text_is_kept(rt: HostRuntime) -> Result<(), Fail> {
 /// The sync of the first text fails: its client hears nothing, and no other connection is taken.
 #[test]
 fn a_text_that_is_not_kept_ends_the_loop(rt: HostRuntime) -> Result<(), Fail> {
-    on_front(rt.alloc(), ONE_PRODUCT, |front| {
+    on_one_product(rt.alloc(), |front| {
         compare_kept(&rt, rt.alloc(), front, 1, Err(ServeFault::Journal), &[""])
     })
 }

@@ -11,11 +11,6 @@ pub(super) fn setup_of(alloc: Global, document: &str) -> Result<Setup, Fail> {
     Ok(read_setup(alloc, document.as_bytes())?)
 }
 
-/// The fields of a row, with `|` between two.
-pub(super) fn fields_of(alloc: Global, row: &str) -> Result<Vec<&str>, Fail> {
-    Ok(row.split('|').collect(alloc)?)
-}
-
 /// The header line of a token, by whose it is: a bidder's letter, the operator's, or `N` for nobody's.
 fn token_line(who: &str) -> &'static str {
     match who {

@@ -1,7 +1,6 @@
 //! Which page a path names.
 use super::rows::have_meanings;
-use crate::front::example::on_front;
-use clock_setup::fixtures::ONE_PRODUCT;
+use crate::front::example::on_one_product;
 use std::alloc::Global;
 use std::test::Fail;
 
@@ -30,7 +29,7 @@ http://x/v1/status|NoPage";
 /// The code of the reply to who asks for a path without a token.
 fn code_of(alloc: Global, path: &str) -> Result<String, Fail> {
     let text = format!(in alloc; "GET {path} HTTP/1.1\r\n\r\n")?;
-    on_front(alloc, ONE_PRODUCT, |front| {
+    on_one_product(alloc, |front| {
         let reply = front.answer(text.as_str().as_bytes());
         Ok(format!(in alloc; "{:?}", reply.code())?)
     })

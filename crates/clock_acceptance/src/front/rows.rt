@@ -1,7 +1,27 @@
-//! Rows of what is given and what it means.
+//! Tables as texts. Each line is a row, with `|` between two fields; a long row of requests goes on in lines that begin
+//! with `|`. In a field that is a part of a text `~` stands for CR LF, `$` for LF and `^` for CR. Where two sides send
+//! requests in turn, a line of `~` alone stands between two turns.
+use crate::documents::replaced;
 use std::alloc::Global;
 use std::process::Abort;
 use std::test::Fail;
+
+/// A table of which each row is one line.
+pub(super) fn whole_rows(alloc: Global, rows: &str) -> Result<String, Fail> {
+    replaced(alloc, rows, "\n|", "|")
+}
+
+/// The fields of a row.
+pub(super) fn fields_of(alloc: Global, row: &str) -> Result<Vec<&str>, Fail> {
+    Ok(row.split('|').collect(alloc)?)
+}
+
+/// A text with its line ends.
+pub(super) fn with_line_ends(alloc: Global, text: &str) -> Result<String, Fail> {
+    let text = replaced(alloc, text, "~", "\r\n")?;
+    let text = replaced(alloc, text.as_str(), "$", "\n")?;
+    replaced(alloc, text.as_str(), "^", "\r")
+}
 
 /// Of each row what stands before its last `|` means what stands behind it.
 pub(super) fn have_meanings<F: Fn(Global, &str) -> Result<String, Fail>>(

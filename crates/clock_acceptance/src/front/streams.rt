@@ -3,11 +3,10 @@ ghost use Rattle.std.specs.Prelude.{◌≤◌};
 
 use super::requests::reply_of;
 use super::texts::{ACCEPTED, BIDS_OF_X, NO_SHEET, PUT, SHEET};
-use crate::front::example::on_front;
+use crate::front::example::on_one_product;
 use clock_device::{ListSink, ListSource, Stop, Text};
 use clock_front::{Front, StreamFault, serve_stream};
 use clock_processor::Plain;
-use clock_setup::fixtures::ONE_PRODUCT;
 use clock_views::Code;
 use std::alloc::Global;
 use std::process::Abort;
@@ -64,7 +63,7 @@ fn served_as(
 
 /// The same with a front of its own.
 fn compare(rt: &impl Abort, alloc: Global, row: &Row<'_>) -> Result<(), Fail> {
-    on_front(alloc, ONE_PRODUCT, |front| served_as(rt, alloc, front, row))
+    on_one_product(alloc, |front| served_as(rt, alloc, front, row))
 }
 
 /// The sheet is put, by reads of so many bytes.

@@ -47,43 +47,39 @@ fn requests_come_too_late(rt: HostRuntime) {
     show(&rt, 409, "Conflict", &lines);
 }
 
+/// The codes of requests that are read and refused: nine of sheets, and then five of closings.
+const UNPROCESSABLE: [(Code, &str); 14] = [
+    (Code::Shape, "shape"),
+    (Code::TooMany, "too_many"),
+    (Code::UnknownProduct, "unknown_product"),
+    (Code::PriceRange, "price_range"),
+    (Code::OverCap, "over_cap"),
+    (Code::PriceOrder, "price_order"),
+    (Code::MixedDirection, "mixed_direction"),
+    (Code::KeepPrice, "keep_price"),
+    (Code::OverActivity, "over_activity"),
+    (Code::Increment, "increment"),
+    (Code::TieRange, "tie_range"),
+    (Code::TieRepeated, "tie_repeated"),
+    (Code::TooManyTies, "too_many_ties"),
+    (Code::PriceLimit, "price_limit"),
+];
+
 #[test]
 fn bids_are_refused(rt: HostRuntime) {
-    let lines = [
-        (Code::Shape, "shape"),
-        (Code::TooMany, "too_many"),
-        (Code::UnknownProduct, "unknown_product"),
-        (Code::PriceRange, "price_range"),
-        (Code::OverCap, "over_cap"),
-        (Code::PriceOrder, "price_order"),
-        (Code::MixedDirection, "mixed_direction"),
-        (Code::KeepPrice, "keep_price"),
-        (Code::OverActivity, "over_activity"),
-    ];
-    show(&rt, 422, "Unprocessable Entity", &lines);
+    show(&rt, 422, "Unprocessable Entity", &UNPROCESSABLE[..9]);
 }
 
 #[test]
 fn closings_are_refused(rt: HostRuntime) {
-    let lines = [
-        (Code::Increment, "increment"),
-        (Code::TieRange, "tie_range"),
-        (Code::TieRepeated, "tie_repeated"),
-        (Code::TooManyTies, "too_many_ties"),
-        (Code::PriceLimit, "price_limit"),
-    ];
-    show(&rt, 422, "Unprocessable Entity", &lines);
+    show(&rt, 422, "Unprocessable Entity", &UNPROCESSABLE[9..]);
 }
 
 #[test]
 fn requests_are_too_long(rt: HostRuntime) {
+    let body = [(Code::LongBody, "long_body")];
     let head = [(Code::LongHead, "long_head")];
-    show(
-        &rt,
-        413,
-        "Payload Too Large",
-        &[(Code::LongBody, "long_body")],
-    );
+    show(&rt, 413, "Payload Too Large", &body);
     show(&rt, 431, "Request Header Fields Too Large", &head);
 }
 

@@ -60,65 +60,55 @@ fn requests_of(alloc: Global, others: &str) -> Result<Vec<Request>, Fail> {
     Ok(requests)
 }
 
-/// The bytes of a text from a place up to another one.
-fn push_bytes(
+/// Which bytes of a text come.
+#[derive(Clone, Copy)]
+enum Part {
+    All,
+    AllButLast,
+    Last,
+    /// The one at a place, where it is before the last.
+    At(usize),
+}
+
+/// The first place of a part of a text of so many bytes, and the one behind it.
+fn places_of(part: Part, count: usize) -> (usize, usize) {
+    let last = count.saturating_sub(1);
+    match part {
+        Part::All => (0, count),
+        Part::AllButLast => (0, last),
+        Part::Last => (last, count),
+        Part::At(place) => (place, last.min(place.saturating_add(1))),
+    }
+}
+
+/// The bytes of a part of a request.
+fn push_part(
     alloc: Global,
     events: &mut Vec<Event>,
     number: usize,
-    text: &str,
-    places: (usize, usize),
+    request: &Request,
+    part: Part,
 ) -> Result<(), Fail> {
-    for place in places.0..places.1 {
-        push_byte(alloc, events, number as u64, text.as_bytes(), place)?;
+    let text = request.text.as_str().as_bytes();
+    let (first, end) = places_of(part, text.len());
+    for place in first..end {
+        push_byte(alloc, events, number as u64, text, place)?;
     }
     Ok(())
 }
 
-/// The byte of each text at a place before its last one, in turn.
-fn push_turn(
+/// A part of each request, from the first to the last or the other way round.
+fn push_parts(
     alloc: Global,
     events: &mut Vec<Event>,
     requests: &[Request],
-    place: usize,
+    part: Part,
+    is_backwards: bool,
 ) -> Result<(), Fail> {
-    for (number, request) in requests.iter().enumerate() {
-        if place.saturating_add(1) < request.text.len() {
-            push_byte(
-                alloc,
-                events,
-                number as u64,
-                request.text.as_str().as_bytes(),
-                place,
-            )?;
-        }
-    }
-    Ok(())
-}
-
-/// All bytes of each text, or the last one alone.
-fn push_in_order(
-    alloc: Global,
-    events: &mut Vec<Event>,
-    requests: &[Request],
-    is_last: bool,
-) -> Result<(), Fail> {
-    for (number, request) in requests.iter().enumerate() {
-        let count = request.text.len();
-        let first = if is_last { count.saturating_sub(1) } else { 0 };
-        push_bytes(alloc, events, number, request.text.as_str(), (first, count))?;
-    }
-    Ok(())
-}
-
-/// From the last text to the first all bytes but the last.
-fn push_backwards(
-    alloc: Global,
-    events: &mut Vec<Event>,
-    requests: &[Request],
-) -> Result<(), Fail> {
-    for (number, request) in requests.iter().enumerate().rev() {
-        let last = request.text.len().saturating_sub(1);
-        push_bytes(alloc, events, number, request.text.as_str(), (0, last))?;
+    let count = requests.len();
+    for turn in 0..count {
+        let number = if is_backwards { count - 1 - turn } else { turn };
+        push_part(alloc, events, number, &requests[number], part)?;
     }
     Ok(())
 }
@@ -127,16 +117,16 @@ fn push_backwards(
 fn events_of(alloc: Global, requests: &[Request], way: Way) -> Result<Vec<Event>, Fail> {
     let mut events = connected(alloc, requests.len())?;
     match way {
-        Way::Apart => push_in_order(alloc, &mut events, requests, false)?,
+        Way::Apart => push_parts(alloc, &mut events, requests, Part::All, false)?,
         Way::InTurn => {
             for place in 0..LONGEST {
-                push_turn(alloc, &mut events, requests, place)?;
+                push_parts(alloc, &mut events, requests, Part::At(place), false)?;
             }
-            push_in_order(alloc, &mut events, requests, true)?;
+            push_parts(alloc, &mut events, requests, Part::Last, false)?;
         }
         Way::LastFirst => {
-            push_backwards(alloc, &mut events, requests)?;
-            push_in_order(alloc, &mut events, requests, true)?;
+            push_parts(alloc, &mut events, requests, Part::AllButLast, true)?;
+            push_parts(alloc, &mut events, requests, Part::Last, false)?;
         }
     }
     Ok(events)
