@@ -20,13 +20,12 @@ struct Endless {
 }
 
 impl Source for Endless {
-    ghost bytes_left = { λ source. None };
-
-    ghost calls = { λ source. source.calls };
-
-    ghost interruptions = { λ source. source.interruptions };
-
-    ghost has_failed = { λ source. false };
+    ghost told = { λ source. record {
+      left = None;
+      calls = source.calls;
+      interruptions = source.interruptions;
+      has_failed = false;
+    } };
 
     fn read(&mut self, buffer: &mut [u8]) -> Result<usize, Stop> {
         self.calls = self.calls.saturating_add(1);
