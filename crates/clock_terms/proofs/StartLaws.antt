@@ -1,36 +1,10 @@
--- Where a search for a product begins, when a demand is put in, taken out or set.
-use Rattle.std.proofs.Common.{◌≡◌, ◌≢◌, ℕ, ◌-◌, ◌/◌, ◌<◌, List, length, get_or, set, replicate, ap, sym, subst, ◌∙◌, ⊎_elim, arith}
-use Rattle.std.proofs.lemmas.Bool.{cases_eq}
-use Rattle.std.proofs.lemmas.List.{get_or_default, length-set, get_or-set_same, get_or-set_other, get_or-replicate, length-replicate}
+-- Where a search for a product begins, where nothing is held and in a row that is read.
+use Rattle.std.proofs.Common.{◌≡◌, ℕ, ◌-◌, ◌/◌, ◌<◌, List, length, get_or, replicate, ap, sym, subst, ◌∙◌, arith}
+use Rattle.std.proofs.lemmas.List.{get_or_default, get_or-replicate, length-replicate}
 use Rattle.clock_terms.specs.declared.row.HeldDemand.{HeldDemand}
 use Rattle.clock_terms.specs.HeldDemands.{demands_of}
-use Rattle.clock_terms.specs.inside.Rows.{IsStart, AreStarts, IsKeptRow, StandsAt}
+use Rattle.clock_terms.specs.inside.Rows.{IsStart, AreStarts, IsKeptRow}
 use Rattle.clock_terms.proofs.HeldLaws.{below_count}
-
--- equal demands are for one product
-same_product : {one other : HeldDemand} → one ≡ other → one.product ≡ other.product
-same_product same = ap (λ (held : HeldDemand). held.product) same
-
--- set: the products stay
-pub set_kept : (held : List HeldDemand) (one : HeldDemand) (place low start : ℕ) → StandsAt held one.product place → IsStart held low start
-    → IsStart (set held place one) low start
-set_kept held one place low start stands is = (
-  omega (arith, is.0, length-set held place one),
-  λ k d from to.
-      ⊎_elim
-      (λ (here : k ≡ place).
-      omega (
-        arith,
-        is.1 k d from to,
-        stands.2 d,
-        ap (λ (n : ℕ). (get_or held n d).product) here,
-        ap (λ (n : ℕ). (get_or (set held place one) n d).product) here,
-        same_product (get_or-set_same held place one d stands.1),
-      ))
-      (λ (elsewhere : k ≢ place).
-      omega (arith, is.1 k d from to, same_product (get_or-set_other held place k one d elsewhere)))
-      (cases_eq k place),
-)
 
 -- where nothing is held each search begins at the front
 pub starts_none : (held : List HeldDemand) (starts : List ℕ) (count : ℕ) → starts ≡ replicate count 0 → AreStarts held starts

@@ -42,6 +42,3 @@ returns-clause-exact c =
     let none = subst (λ (demands : List ℕ). AllWithin (λ demand. demand ≡ 0) demands c.held.held.from (length demands)) c.held.invariant.row
     c.in_default.ensures.passed in
     omega (arith, c.held.invariant.so_far, activity-none c.args.products.now row c.held.held.from none)
-
-pub returns-clause-most : goal.returns-clause-most
-returns-clause-most c = omega (arith, c.held.invariant.small, c.requires.row.each, c.requires.product_count)

@@ -1,10 +1,9 @@
-use Rattle.std.proofs.Common.{◌≡◌, ◌<◌, ◌≤◌, ◌*◌, ℕ, List, Result, Ok, Err, IfOk, IfErr, length, get_or, insert, sym, subst, arith}
+use Rattle.std.proofs.Common.{◌≡◌, ◌<◌, ◌≤◌, ℕ, List, Result, Ok, Err, IfOk, IfErr, length, insert, sym, subst, arith}
 use Rattle.std.proofs.lemmas.List.Edits.{length-insert}
 use Rattle.clock_terms.specs.declared.row.HeldDemand.{HeldDemand}
 use Rattle.clock_terms.specs.inside.Rows.{AreHeld, IsStored, StandsAt, WouldStandAt}
 use Rattle.clock_terms.specs.Limits.{most_supply}
 use Rattle.clock_terms.proofs.HeldLaws.{missing, counted, held_set, held_insert, held_remove, stored_none, stored_set, stored_insert, stored_remove}
-use Rattle.clock_terms.proofs.StartLaws.{set_kept}
 use Rattle.clock_terms.proofs.row.store.Goals as goal
 
 -- as it stands in the goals
@@ -56,12 +55,6 @@ returns-in-Ok-clause-stored c =
     let held = c.args.held.now.items in
     let stands = standing held c.args.one.product c.in-Ok.is c.requires.stands in
     stored_set held c.in-Ok.place c.args.one stands.0.1 stands.1 (stands.2 c.args.one)
-
-pub returns-in-Ok-clause-starts : goal.returns-in-Ok-clause-starts
-returns-in-Ok-clause-starts c block within =
-    let held = c.args.held.now.items in
-    let stands = standing held c.args.one.product c.in-Ok.is c.requires.stands in
-    set_kept held c.args.one c.in-Ok.place (block * 16) (get_or c.args.starts.now.items block 0) stands (c.requires.starts block within)
 
 pub returns-in-Ok-2-clause-order : goal.returns-in-Ok-2-clause-order
 returns-in-Ok-2-clause-order c count are within =

@@ -41,8 +41,3 @@ returns-else-demand-gt0-clause-here c =
     let none : 0 ≡ c.args.demand = omega (arith, c.if-demand-gt0.false) in
     ap (λ (list : List HeldDemand). demand_for list c.args.product) (take-set room c.args.kept one)
     ∙ none_behind 0 (take c.args.kept room) c.args.product c.args.product c.requires.order (omega arith) ∙ none
-
-pub returns-else-demand-gt0-clause-others : goal.returns-else-demand-gt0-clause-others
-returns-else-demand-gt0-clause-others c other differs =
-    let one : HeldDemand = record { product = c.args.product; demand = c.args.demand } in
-    ap (λ (list : List HeldDemand). demand_for list other) (take-set c.args.room.now c.args.kept one)

@@ -1,7 +1,6 @@
-use Rattle.std.proofs.Common.{◌≡◌, ◌≢◌, ◌<◌, ◌∙◌, ℕ, length, take, get_or, refl, sym, ⊎_elim, ap, arith}
-use Rattle.std.proofs.lemmas.Bool.{cases_eq}
+use Rattle.std.proofs.Common.{◌≡◌, ◌<◌, ◌∙◌, length, take, refl, arith}
 use Rattle.std.proofs.lemmas.List.{ext_get_or}
-use Rattle.clock_terms.specs.HeldDemands.{demand_for, demands_of}
+use Rattle.clock_terms.specs.HeldDemands.{demands_of}
 use Rattle.clock_terms.proofs.HeldLaws.{length-demands, order_none, shown}
 use Rattle.clock_terms.proofs.row.write_held.Goals as goal
 
@@ -12,23 +11,6 @@ loop-product-init c = record {
   order = order_none (take 0 c.args.room.now) 0 refl;
   shown = λ k below. absurd (omega (arith, below));
 }
-
-pub loop-product-preserved : goal.loop-product-preserved
-loop-product-preserved c =
-    let after = take c.write_demand-kept.result c.write_demand-kept.new.room in
-    record {
-      few = omega (arith, c.loop-product.invariant.few, c.write_demand-kept.ensures.count);
-      same = omega (arith, c.loop-product.invariant.same, c.write_demand-kept.ensures.length);
-      order = c.write_demand-kept.ensures.order;
-      shown = λ k below.
-          ⊎_elim
-          (λ (here : k ≡ c.loop-product.product).
-          ap (λ (product : ℕ). demand_for after product) here ∙ c.write_demand-kept.ensures.here
-          ∙ ap (λ (product : ℕ). get_or c.args.demands.now product 0) (sym here))
-          (λ (other : k ≢ c.loop-product.product).
-          c.write_demand-kept.ensures.others k other ∙ c.loop-product.invariant.shown k (omega (arith, below, other)))
-          (cases_eq k c.loop-product.product);
-    }
 
 pub returns-clause-demands : goal.returns-clause-demands
 returns-clause-demands c =
