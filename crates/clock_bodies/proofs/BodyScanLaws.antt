@@ -1,25 +1,19 @@
 -- What is read quickly of a body is what the body means.
-use Rattle.std.proofs.Common.{◌≡◌, ℕ, true, List, [], ◌∷◌, map, Option, Some, None, option_map, Result, Ok, Err}
-use Rattle.std.proofs.Common.{IfOk, IfSome, refl, ap, ◌∙◌, subst, arith}
-use Rattle.std.specs.Str.{IsUtf8}
+use Rattle.std.proofs.Common.{◌≡◌, ℕ, List, [], ◌∷◌, map, Option, Some, option_map}
+use Rattle.std.proofs.Common.{refl, ap, ◌∙◌}
 use Rattle.json.specs.Token.{Token}
-use Rattle.json.specs.Lex.{tokens}
 use Rattle.serde_json.specs.Data.{Data}
-use Rattle.clock_terms.specs.Faults.{or_fault}
 use Rattle.clock_setup.specs.Members.{each, number_from, ◌>>=◌}
-use Rattle.clock_setup.proofs.JsonLaws.{json_value}
 use Rattle.clock_terms.specs.declared.increments.Increments.{Increments}
 use Rattle.clock_terms.specs.declared.increments.Increments.TheVariants.{Single, PerProduct}
 use Rattle.clock_scan.specs.Reading.{whole, numbers, items_of, Reads}
-use Rattle.clock_scan.specs.declared.stop.ScanStop.{ScanStop}
-use Rattle.clock_scan.proofs.Steps.{items_start, items_next, items_end, text_is}
+use Rattle.clock_scan.proofs.Steps.{items_start, items_next, items_end}
 use Rattle.clock_bids.specs.declared.sheet.Bid.{Bid}
 use Rattle.clock_order.specs.declared.ties.Tie.{Tie}
 use Rattle.clock_bodies.specs.declared.put_body.PutBody.{PutBody}
 use Rattle.clock_bodies.specs.declared.close_body.CloseBody.{CloseBody}
-use Rattle.clock_bodies.specs.declared.body_fault.BodyFault.TheVariants.{Shape}
-use Rattle.clock_bodies.specs.Bodies.{bid_of, put_of, put_body, meant_by}
-use Rattle.clock_bodies.specs.CloseBodies.{tie_of, close_of, close_body}
+use Rattle.clock_bodies.specs.Bodies.{bid_of, put_of}
+use Rattle.clock_bodies.specs.CloseBodies.{tie_of, close_of}
 use Rattle.clock_bodies.specs.QuickBodies.{bid_data, tie_data}
 use Rattle.clock_bodies.specs.inside.QuickBodies.{put_data, close_data}
 

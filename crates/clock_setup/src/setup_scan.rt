@@ -80,6 +80,7 @@ impl<'v> ScannedMembers<'v> for ProductParts<'v> {
         }
         Err(ScanStop::Unusual)
     }
+
     fn whole(self) -> Option<VersionedProduct<'v>> {
         let (Some(name), Some(units), Some(supply), Some(cap), Some(opening)) = (
             self.name,

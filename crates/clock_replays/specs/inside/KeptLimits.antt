@@ -2,7 +2,7 @@
 --     AreRising from products count      products rise, from one on, and all are below a count
 --     kept_limits rows, AreKept rows      the limits that stand in rows, and that the rows are in order
 --     IsPlaceOf products product place      only products below one stand before the place
-use Rattle.std.specs.Prelude.{◌≡◌, ℕ, ◌+◌, ◌*◌, ◌<◌, ◌≤◌, List, [], ◌∷◌, length, slice_index}
+use Rattle.std.specs.Prelude.{◌≡◌, ℕ, ◌+◌, ◌<◌, ◌≤◌, List, [], ◌∷◌, length}
 use Rattle.std.specs.List.{AllWithin}
 use Rattle.clock_replays.specs.declared.limit_rows.LimitRows.{LimitRows}
 use Rattle.clock_replays.specs.EndedRows.{rows_from}

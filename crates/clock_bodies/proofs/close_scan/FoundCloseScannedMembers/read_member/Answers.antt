@@ -1,5 +1,5 @@
-use Rattle.std.proofs.Common.{codes, refl, sym, subst, arith}
-use Rattle.clock_scan.specs.Reading.{whole, numbers, Reads}
+use Rattle.std.proofs.Common.{codes, refl, arith}
+use Rattle.clock_scan.specs.Reading.{whole, numbers}
 use Rattle.clock_scan.proofs.Steps.{adds_member}
 use Rattle.clock_bodies.specs.inside.QuickBodies.{close_fields, ties_data}
 use Rattle.clock_bodies.proofs.close_scan.FoundCloseScannedMembers.read_member.Goals as goal

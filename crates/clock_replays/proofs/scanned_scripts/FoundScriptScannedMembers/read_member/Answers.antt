@@ -1,4 +1,4 @@
-use Rattle.std.proofs.Common.{codes, refl, sym, subst, arith}
+use Rattle.std.proofs.Common.{codes, refl, subst, arith}
 use Rattle.serde_json.specs.Data.{string}
 use Rattle.clock_scan.specs.Reading.{rows, Reads}
 use Rattle.clock_scan.proofs.Steps.{adds_member}
