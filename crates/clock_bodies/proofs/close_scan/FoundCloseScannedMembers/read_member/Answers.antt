@@ -1,7 +1,6 @@
-use Rattle.std.proofs.Common.{codes, refl, arith}
-use Rattle.clock_scan.specs.Reading.{whole, numbers}
+use Rattle.std.proofs.Common.{refl, arith}
 use Rattle.clock_scan.proofs.Steps.{adds_member}
-use Rattle.clock_bodies.specs.inside.QuickBodies.{close_fields, ties_data}
+use Rattle.clock_bodies.specs.inside.QuickBodies.{close_fields}
 use Rattle.clock_bodies.proofs.close_scan.FoundCloseScannedMembers.read_member.Goals as goal
 
 pub returns-then-is_key-clause-value : goal.returns-then-is_key-clause-value

@@ -1,5 +1,4 @@
-use Rattle.std.proofs.Common.{codes, refl, arith}
-use Rattle.clock_scan.specs.Reading.{whole}
+use Rattle.std.proofs.Common.{refl, arith}
 use Rattle.clock_scan.proofs.Steps.{adds_member}
 use Rattle.clock_bodies.specs.QuickBodies.{bid_fields}
 use Rattle.clock_bodies.proofs.put_scan.FoundBidScannedMembers.read_member.Goals as goal

@@ -1,7 +1,6 @@
-use Rattle.std.proofs.Common.{codes, refl, arith}
-use Rattle.clock_scan.specs.Reading.{whole}
+use Rattle.std.proofs.Common.{refl, arith}
 use Rattle.clock_scan.proofs.Steps.{adds_member}
-use Rattle.clock_bodies.specs.inside.QuickBodies.{bids_data, put_fields}
+use Rattle.clock_bodies.specs.inside.QuickBodies.{put_fields}
 use Rattle.clock_bodies.proofs.put_scan.FoundPutScannedMembers.read_member.Goals as goal
 
 pub returns-then-is_key-clause-value : goal.returns-then-is_key-clause-value

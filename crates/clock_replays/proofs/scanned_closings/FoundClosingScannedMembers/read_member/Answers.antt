@@ -1,7 +1,5 @@
-use Rattle.std.proofs.Common.{codes, refl, arith}
-use Rattle.clock_scan.specs.Reading.{whole, numbers}
+use Rattle.std.proofs.Common.{refl, arith}
 use Rattle.clock_scan.proofs.Steps.{adds_member}
-use Rattle.clock_bodies.specs.inside.QuickBodies.{ties_data}
 use Rattle.clock_replays.specs.inside.PartData.{closing_fields}
 use Rattle.clock_replays.proofs.scanned_closings.FoundClosingScannedMembers.read_member.Goals as goal
 

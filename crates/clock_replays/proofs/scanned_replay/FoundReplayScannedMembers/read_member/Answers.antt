@@ -1,9 +1,5 @@
-use Rattle.std.proofs.Common.{codes, map, refl, arith}
-use Rattle.serde_json.specs.Data.{array}
-use Rattle.clock_setup.specs.SetupData.{setup_data}
-use Rattle.clock_scan.specs.Reading.{items_of}
+use Rattle.std.proofs.Common.{refl, arith}
 use Rattle.clock_scan.proofs.Steps.{adds_member}
-use Rattle.clock_replays.specs.inside.PartData.{script_data, closing_data}
 use Rattle.clock_replays.specs.inside.ReplayData.{found_replay}
 use Rattle.clock_replays.proofs.scanned_replay.FoundReplayScannedMembers.read_member.Goals as goal
 

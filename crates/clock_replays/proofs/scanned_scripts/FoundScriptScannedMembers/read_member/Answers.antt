@@ -1,8 +1,8 @@
-use Rattle.std.proofs.Common.{codes, refl, subst, arith}
+use Rattle.std.proofs.Common.{refl, subst, arith}
 use Rattle.serde_json.specs.Data.{string}
-use Rattle.clock_scan.specs.Reading.{rows, Reads}
+use Rattle.clock_scan.specs.Reading.{Reads}
 use Rattle.clock_scan.proofs.Steps.{adds_member}
-use Rattle.clock_replays.specs.inside.PartData.{sheets_data, kind_text, script_fields}
+use Rattle.clock_replays.specs.inside.PartData.{kind_text, script_fields}
 use Rattle.clock_replays.proofs.scanned_scripts.FoundScriptScannedMembers.read_member.Goals as goal
 
 pub returns-then-is_key-clause-value : goal.returns-then-is_key-clause-value

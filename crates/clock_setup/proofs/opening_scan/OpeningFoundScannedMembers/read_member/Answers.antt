@@ -1,7 +1,5 @@
-use Rattle.std.proofs.Common.{codes, refl, arith}
-use Rattle.clock_scan.specs.Reading.{whole, rows}
+use Rattle.std.proofs.Common.{refl, arith}
 use Rattle.clock_scan.proofs.Steps.{adds_member}
-use Rattle.clock_setup.specs.SetupData.{setup_data}
 use Rattle.clock_setup.specs.inside.OpeningData.{found_opening}
 use Rattle.clock_setup.proofs.opening_scan.OpeningFoundScannedMembers.read_member.Goals as goal
 

@@ -1,6 +1,4 @@
-use Rattle.std.proofs.Common.{codes, refl, arith}
-use Rattle.serde_json.specs.Data.{string}
-use Rattle.clock_scan.specs.Reading.{whole}
+use Rattle.std.proofs.Common.{refl, arith}
 use Rattle.clock_scan.proofs.Steps.{adds_member}
 use Rattle.clock_setup.specs.inside.FoundEntries.{found_product}
 use Rattle.clock_setup.proofs.setup_scan.ProductPartsScannedMembers.read_member.Goals as goal

@@ -1,8 +1,5 @@
-use Rattle.std.proofs.Common.{codes, refl, arith}
-use Rattle.serde_json.specs.Data.{string}
-use Rattle.clock_scan.specs.Reading.{whole}
+use Rattle.std.proofs.Common.{refl, arith}
 use Rattle.clock_scan.proofs.Steps.{adds_member}
-use Rattle.clock_setup.specs.SetupData.{products_data, bidders_data}
 use Rattle.clock_setup.specs.inside.FoundSetup.{found_setup}
 use Rattle.clock_setup.proofs.setup_scan.SetupPartsScannedMembers.read_member.Goals as goal
 
