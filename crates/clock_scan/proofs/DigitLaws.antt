@@ -14,29 +14,25 @@ use Rattle.std.proofs.lemmas.Int.Digits.{digits_more, digits_value_more, digits_
 use Rattle.clock_scan.specs.inside.Digits.{AreDigits, weight, HasCounted}
 use Rattle.clock_scan.proofs.LexLaws.{digit_is}
 
+-- what holds of each number below eight
+below_eight : (P : ℕ → Type 0) → P 0 → P 1 → P 2 → P 3 → P 4 → P 5 → P 6 → P 7 → (n : ℕ) → n < 8 → P n
+below_eight P a b c d e f g h zero lt = a
+below_eight P a b c d e f g h (suc zero) lt = b
+below_eight P a b c d e f g h (suc (suc zero)) lt = c
+below_eight P a b c d e f g h (suc (suc (suc zero))) lt = d
+below_eight P a b c d e f g h (suc (suc (suc (suc zero)))) lt = e
+below_eight P a b c d e f g h (suc (suc (suc (suc (suc zero))))) lt = f
+below_eight P a b c d e f g h (suc (suc (suc (suc (suc (suc zero)))))) lt = g
+below_eight P a b c d e f g h (suc (suc (suc (suc (suc (suc (suc zero))))))) lt = h
+below_eight P a b c d e f g h (suc (suc (suc (suc (suc (suc (suc (suc n)))))))) lt = absurd (omega (arith, lt))
+
 -- the last of eight digits counts one
 weight_is : (place : ℕ) → place < 8 → weight place ≡ 10 ^ (7 - place)
-weight_is zero lt = refl
-weight_is (suc zero) lt = refl
-weight_is (suc (suc zero)) lt = refl
-weight_is (suc (suc (suc zero))) lt = refl
-weight_is (suc (suc (suc (suc zero)))) lt = refl
-weight_is (suc (suc (suc (suc (suc zero))))) lt = refl
-weight_is (suc (suc (suc (suc (suc (suc zero)))))) lt = refl
-weight_is (suc (suc (suc (suc (suc (suc (suc zero))))))) lt = refl
-weight_is (suc (suc (suc (suc (suc (suc (suc (suc n)))))))) lt = absurd (omega (arith, lt))
+weight_is = below_eight (λ place. weight place ≡ 10 ^ (7 - place)) refl refl refl refl refl refl refl refl
 
 -- behind them nothing counts
 no_weight : (n : ℕ) → n < 8 → weight (8 + n) ≡ 0
-no_weight zero lt = refl
-no_weight (suc zero) lt = refl
-no_weight (suc (suc zero)) lt = refl
-no_weight (suc (suc (suc zero))) lt = refl
-no_weight (suc (suc (suc (suc zero)))) lt = refl
-no_weight (suc (suc (suc (suc (suc zero))))) lt = refl
-no_weight (suc (suc (suc (suc (suc (suc zero)))))) lt = refl
-no_weight (suc (suc (suc (suc (suc (suc (suc zero))))))) lt = refl
-no_weight (suc (suc (suc (suc (suc (suc (suc (suc n)))))))) lt = absurd (omega (arith, lt))
+no_weight = below_eight (λ n. weight (8 + n) ≡ 0) refl refl refl refl refl refl refl refl
 
 -- a weight is at most that of the first
 pub weight_most : (place : ℕ) → place < 16 → weight place ≤ 10000000

@@ -196,10 +196,10 @@ members_end levels first start old new found opened has closed = λ depth enough
     subst (λ n. converted of_json (json.value n first) ≡ Some (object found, new)) less (object_read (depth - 1) first start new found opened inside)
 
 -- a member under one of the keys, whose value nests no deeper than others may
-pub adds_member : {few levels : ℕ} {old value new : List Token} {key : List ℕ} (fields : Fields) (name : List ℕ) (d : Data) → few ≤ levels
+pub adds_member : {few levels : ℕ} {old value new : List Token} {key name : List ℕ} {d : Data} (fields : Fields) → few ≤ levels
     → old ≡ Token.key key ∷ value → key ≡ name → Reads few value d new → is_field name fields ≡ true
     → AddsMember levels old fields new (with_field name d fields)
-adds_member {few} {levels} {old} {value} {new} {key} fields name d enough next same reads known = λ start has.
+adds_member {few} {levels} {old} {value} {new} {key} {name} {d} fields enough next same reads known = λ start has.
     subst (λ ms. HasMembers levels start ms new) (put_in name d fields known)
     (members_next levels start old value new (members_of fields) name d has (next ∙ ap (λ k. Token.key k ∷ value) same)
     (reads_deeper few levels value d new enough reads))

@@ -4,7 +4,9 @@ use Rattle.std.proofs.Common.{IfErr, codes, refl, sym, ap, ◌∙◌, subst}
 use Rattle.std.specs.Prelude.{⊤, if◌then◌else◌}
 use Rattle.std.proofs.lemmas.Bool.{eqb-true}
 use Rattle.std.proofs.lemmas.List.Elements.{All-nil, All-head, All-tail}
+use Rattle.std.specs.Str.{IsUtf8}
 use Rattle.serde_json.specs.Data.{Data, object}
+use Rattle.serde_json.specs.Read.{read}
 use Rattle.clock_scan.specs.Reading.{items_of, members_of}
 use Rattle.clock_terms.specs.declared.setup.Product.{Product}
 use Rattle.clock_terms.specs.declared.setup.Bidder.{Bidder}
@@ -15,7 +17,8 @@ use Rattle.clock_terms.specs.Faults.{first_fault, unless, IsFirstFault, IsRefusa
 use Rattle.clock_terms.proofs.WithinLaws.{test_of_within}
 use Rattle.clock_setup.specs.Members.{each, number_at, ◌>>=◌}
 use Rattle.clock_setup.specs.SetupShape.{product_of, bidder_of, fields_of}
-use Rattle.clock_setup.specs.SetupDocument.{json, setup_checks, setup_of, document_setup}
+use Rattle.clock_setup.specs.SetupDocument.{setup_checks, setup_of, document_setup}
+use Rattle.clock_setup.proofs.JsonLaws.{json_value}
 use Rattle.clock_setup.specs.SetupData.{added, product_data, products_data, bidder_data, bidders_data, setup_fields, setup_data}
 
 -- products of a version, where it is that of the next one
@@ -98,10 +101,10 @@ setup_judged setup within first =
     rw (version, test_of_within 1 latest_version setup.version within, setup_is setup first) refl
 
 -- and so is a document that is this value
-pub document_judged : (bytes : List ℕ) (setup : SetupFields) → json bytes ≡ Some (setup_data setup) → IsWithin 1 latest_version setup.version
+pub document_judged : (bytes : List ℕ) (setup : SetupFields) → IsUtf8 bytes → read bytes ≡ Some (setup_data setup) → IsWithin 1 latest_version setup.version
     → (setup.version ≡ 1 → IsOfFirstVersion setup) → document_setup bytes ≡ unless (first_fault (setup_checks setup)) setup
 unfolding document_setup
-document_judged bytes setup is within first = rw is (setup_judged setup within first)
+document_judged bytes setup text is within first = rw (json_value bytes (setup_data setup) text is) (setup_judged setup within first)
 
 -- a set-up with no fault is what the document means
 pub judged_ok : (answer : Result SetupFields SetupFault) (setup : SetupFields) (result : Result SetupFields SetupFault)

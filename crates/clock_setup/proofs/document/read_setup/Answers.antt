@@ -1,6 +1,4 @@
-use Rattle.clock_setup.specs.SetupData.{setup_data}
 use Rattle.clock_setup.specs.SetupDocument.{document_setup}
-use Rattle.clock_setup.proofs.JsonLaws.{json_value}
 use Rattle.clock_setup.proofs.ScanLaws.{document_judged, judged_ok, judged_err}
 use Rattle.clock_setup.proofs.document.read_setup.Goals as goal
 
@@ -8,16 +6,14 @@ pub returns-in-Ok-clause-ok : goal.returns-in-Ok-clause-ok
 returns-in-Ok-clause-ok c =
     let bytes = c.args.bytes.now in
     let scanned = c.in-Ok.scanned in
-    let found = c.in-Ok.ensures in
     judged_ok (document_setup bytes) scanned.entries c.within_limits.result
-    (document_judged bytes scanned.entries (json_value bytes (setup_data scanned.entries) found.text found.value) scanned.version scanned.first_version)
+    (document_judged bytes scanned.entries c.in-Ok.ensures.text c.in-Ok.ensures.value scanned.version scanned.first_version)
     c.within_limits.ensures.same c.within_limits.ensures.ok
 
 pub returns-in-Ok-clause-err : goal.returns-in-Ok-clause-err
 returns-in-Ok-clause-err c =
     let bytes = c.args.bytes.now in
     let scanned = c.in-Ok.scanned in
-    let found = c.in-Ok.ensures in
     judged_err (document_setup bytes) scanned.entries c.within_limits.result
-    (document_judged bytes scanned.entries (json_value bytes (setup_data scanned.entries) found.text found.value) scanned.version scanned.first_version)
+    (document_judged bytes scanned.entries c.in-Ok.ensures.text c.in-Ok.ensures.value scanned.version scanned.first_version)
     c.within_limits.ensures.err

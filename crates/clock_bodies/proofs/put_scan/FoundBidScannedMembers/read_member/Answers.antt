@@ -1,20 +1,16 @@
-use Rattle.std.proofs.Common.{codes, refl, arith}
-use Rattle.clock_scan.specs.Reading.{whole}
+use Rattle.std.proofs.Common.{refl, arith}
 use Rattle.clock_scan.proofs.Steps.{adds_member}
 use Rattle.clock_bodies.specs.QuickBodies.{bid_fields}
 use Rattle.clock_bodies.proofs.put_scan.FoundBidScannedMembers.read_member.Goals as goal
 
 pub returns-then-is_key-clause-value : goal.returns-then-is_key-clause-value
 returns-then-is_key-clause-value c =
-    adds_member (bid_fields c.args.self.now) (codes "price")
-    (whole c.in_ok-number.number) (omega arith) c.in_ok-key.ensures (c.is_key.ensures c.if-is_key.true) c.in_ok-number.ensures.value refl
+    adds_member (bid_fields c.args.self.now) (omega arith) c.in_ok-key.ensures (c.is_key.ensures c.if-is_key.true) c.in_ok-number.ensures.value refl
 
 pub returns-then-is_key-2-clause-value : goal.returns-then-is_key-2-clause-value
 returns-then-is_key-2-clause-value c =
-    adds_member (bid_fields c.args.self.now) (codes "product")
-    (whole c.in_ok-number.number) (omega arith) c.in_ok-key.ensures (c.is_key-2.ensures c.if-is_key-2.true) c.in_ok-number.ensures.value refl
+    adds_member (bid_fields c.args.self.now) (omega arith) c.in_ok-key.ensures (c.is_key-2.ensures c.if-is_key-2.true) c.in_ok-number.ensures.value refl
 
 pub returns-then-is_key-3-clause-value : goal.returns-then-is_key-3-clause-value
 returns-then-is_key-3-clause-value c =
-    adds_member (bid_fields c.args.self.now) (codes "quantity")
-    (whole c.in_ok-number.number) (omega arith) c.in_ok-key.ensures (c.is_key-3.ensures c.if-is_key-3.true) c.in_ok-number.ensures.value refl
+    adds_member (bid_fields c.args.self.now) (omega arith) c.in_ok-key.ensures (c.is_key-3.ensures c.if-is_key-3.true) c.in_ok-number.ensures.value refl

@@ -1,21 +1,16 @@
-use Rattle.std.proofs.Common.{codes, refl, arith}
-use Rattle.clock_scan.specs.Reading.{whole, numbers}
+use Rattle.std.proofs.Common.{refl, arith}
 use Rattle.clock_scan.proofs.Steps.{adds_member}
-use Rattle.clock_bodies.specs.inside.QuickBodies.{ties_data}
 use Rattle.clock_replays.specs.inside.PartData.{closing_fields}
 use Rattle.clock_replays.proofs.scanned_closings.FoundClosingScannedMembers.read_member.Goals as goal
 
 pub returns-then-is_key-clause-value : goal.returns-then-is_key-clause-value
 returns-then-is_key-clause-value c =
-    adds_member (closing_fields c.args.self.now) (codes "ties")
-    (ties_data c.in_ok-ties.ties) (omega arith) c.in_ok-key.ensures (c.is_key.ensures c.if-is_key.true) c.in_ok-ties.ensures.value refl
+    adds_member (closing_fields c.args.self.now) (omega arith) c.in_ok-key.ensures (c.is_key.ensures c.if-is_key.true) c.in_ok-ties.ensures.value refl
 
 pub returns-then-is_key-2-clause-value : goal.returns-then-is_key-2-clause-value
 returns-then-is_key-2-clause-value c =
-    adds_member (closing_fields c.args.self.now) (codes "increments")
-    (numbers c.in_ok-increments.increments) (omega arith) c.in_ok-key.ensures (c.is_key-2.ensures c.if-is_key-2.true) c.in_ok-increments.ensures.value refl
+    adds_member (closing_fields c.args.self.now) (omega arith) c.in_ok-key.ensures (c.is_key-2.ensures c.if-is_key-2.true) c.in_ok-increments.ensures.value refl
 
 pub returns-then-is_key-3-clause-value : goal.returns-then-is_key-3-clause-value
 returns-then-is_key-3-clause-value c =
-    adds_member (closing_fields c.args.self.now) (codes "increment")
-    (whole c.in_ok-increment.increment) (omega arith) c.in_ok-key.ensures (c.is_key-3.ensures c.if-is_key-3.true) c.in_ok-increment.ensures.value refl
+    adds_member (closing_fields c.args.self.now) (omega arith) c.in_ok-key.ensures (c.is_key-3.ensures c.if-is_key-3.true) c.in_ok-increment.ensures.value refl

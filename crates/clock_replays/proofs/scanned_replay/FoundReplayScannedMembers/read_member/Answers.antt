@@ -1,23 +1,16 @@
-use Rattle.std.proofs.Common.{codes, map, refl, arith}
-use Rattle.serde_json.specs.Data.{array}
-use Rattle.clock_setup.specs.SetupData.{setup_data}
-use Rattle.clock_scan.specs.Reading.{items_of}
+use Rattle.std.proofs.Common.{refl, arith}
 use Rattle.clock_scan.proofs.Steps.{adds_member}
-use Rattle.clock_replays.specs.inside.PartData.{script_data, closing_data}
 use Rattle.clock_replays.specs.inside.ReplayData.{found_replay}
 use Rattle.clock_replays.proofs.scanned_replay.FoundReplayScannedMembers.read_member.Goals as goal
 
 pub returns-then-is_key-clause-value : goal.returns-then-is_key-clause-value
 returns-then-is_key-clause-value c =
-    adds_member (found_replay c.args.self.now) (codes "scripts") (array (items_of (map script_data c.in_ok-scanned_parts.field-0))) (omega arith)
-    c.in_ok-key.ensures (c.is_key.ensures c.if-is_key.true) c.in_ok-scanned_parts.ensures.value refl
+    adds_member (found_replay c.args.self.now) (omega arith) c.in_ok-key.ensures (c.is_key.ensures c.if-is_key.true) c.in_ok-scanned_parts.ensures.value refl
 
 pub returns-then-is_key-2-clause-value : goal.returns-then-is_key-2-clause-value
 returns-then-is_key-2-clause-value c =
-    adds_member (found_replay c.args.self.now) (codes "closings") (array (items_of (map closing_data c.in_ok-scanned_parts-2.field-0))) (omega arith)
-    c.in_ok-key.ensures (c.is_key-2.ensures c.if-is_key-2.true) c.in_ok-scanned_parts-2.ensures.value refl
+    adds_member (found_replay c.args.self.now) (omega arith) c.in_ok-key.ensures (c.is_key-2.ensures c.if-is_key-2.true) c.in_ok-scanned_parts-2.ensures.value refl
 
 pub returns-then-is_key-3-clause-value : goal.returns-then-is_key-3-clause-value
 returns-then-is_key-3-clause-value c =
-    adds_member (found_replay c.args.self.now) (codes "setup")
-    (setup_data c.in_ok-setup.setup) (omega arith) c.in_ok-key.ensures (c.is_key-3.ensures c.if-is_key-3.true) c.in_ok-setup.ensures.value refl
+    adds_member (found_replay c.args.self.now) (omega arith) c.in_ok-key.ensures (c.is_key-3.ensures c.if-is_key-3.true) c.in_ok-setup.ensures.value refl

@@ -1,21 +1,16 @@
-use Rattle.std.proofs.Common.{codes, refl, arith}
-use Rattle.clock_scan.specs.Reading.{whole, rows}
+use Rattle.std.proofs.Common.{refl, arith}
 use Rattle.clock_scan.proofs.Steps.{adds_member}
-use Rattle.clock_setup.specs.SetupData.{setup_data}
 use Rattle.clock_setup.specs.inside.OpeningData.{found_opening}
 use Rattle.clock_setup.proofs.opening_scan.OpeningFoundScannedMembers.read_member.Goals as goal
 
 pub returns-then-is_key-clause-value : goal.returns-then-is_key-clause-value
 returns-then-is_key-clause-value c =
-    adds_member (found_opening c.args.self.now) (codes "demands")
-    (rows c.in_ok-flat_rows.field-0) (omega arith) c.in_ok-key.ensures (c.is_key.ensures c.if-is_key.true) c.in_ok-flat_rows.ensures.value refl
+    adds_member (found_opening c.args.self.now) (omega arith) c.in_ok-key.ensures (c.is_key.ensures c.if-is_key.true) c.in_ok-flat_rows.ensures.value refl
 
 pub returns-then-is_key-2-clause-value : goal.returns-then-is_key-2-clause-value
 returns-then-is_key-2-clause-value c =
-    adds_member (found_opening c.args.self.now) (codes "setup")
-    (setup_data c.in_ok-part.field-0.entries) (omega arith) c.in_ok-key.ensures (c.is_key-2.ensures c.if-is_key-2.true) c.in_ok-part.ensures.value refl
+    adds_member (found_opening c.args.self.now) (omega arith) c.in_ok-key.ensures (c.is_key-2.ensures c.if-is_key-2.true) c.in_ok-part.ensures.value refl
 
 pub returns-then-is_key-3-clause-value : goal.returns-then-is_key-3-clause-value
 returns-then-is_key-3-clause-value c =
-    adds_member (found_opening c.args.self.now) (codes "increment")
-    (whole c.in_ok-number.number) (omega arith) c.in_ok-key.ensures (c.is_key-3.ensures c.if-is_key-3.true) c.in_ok-number.ensures.value refl
+    adds_member (found_opening c.args.self.now) (omega arith) c.in_ok-key.ensures (c.is_key-3.ensures c.if-is_key-3.true) c.in_ok-number.ensures.value refl

@@ -1,21 +1,16 @@
-use Rattle.std.proofs.Common.{codes, refl, arith}
-use Rattle.serde_json.specs.Data.{string}
-use Rattle.clock_scan.specs.Reading.{whole}
+use Rattle.std.proofs.Common.{refl, arith}
 use Rattle.clock_scan.proofs.Steps.{adds_member}
 use Rattle.clock_setup.specs.inside.FoundEntries.{found_bidder}
 use Rattle.clock_setup.proofs.setup_scan.BidderPartsScannedMembers.read_member.Goals as goal
 
 pub returns-then-is_key-clause-value : goal.returns-then-is_key-clause-value
 returns-then-is_key-clause-value c =
-    adds_member (found_bidder c.args.self.now) (codes "eligibility")
-    (whole c.in_ok-number.number) (omega arith) c.in_ok-key.ensures (c.is_key.ensures c.if-is_key.true) c.in_ok-number.ensures.value refl
+    adds_member (found_bidder c.args.self.now) (omega arith) c.in_ok-key.ensures (c.is_key.ensures c.if-is_key.true) c.in_ok-number.ensures.value refl
 
 pub returns-then-is_key-2-clause-value : goal.returns-then-is_key-2-clause-value
 returns-then-is_key-2-clause-value c =
-    adds_member (found_bidder c.args.self.now) (codes "name")
-    (string c.in_ok-text.text.now) (omega arith) c.in_ok-key.ensures (c.is_key-2.ensures c.if-is_key-2.true) c.in_ok-text.ensures.value refl
+    adds_member (found_bidder c.args.self.now) (omega arith) c.in_ok-key.ensures (c.is_key-2.ensures c.if-is_key-2.true) c.in_ok-text.ensures.value refl
 
 pub returns-then-is_key-3-clause-value : goal.returns-then-is_key-3-clause-value
 returns-then-is_key-3-clause-value c =
-    adds_member (found_bidder c.args.self.now) (codes "token")
-    (string c.in_ok-text.text.now) (omega arith) c.in_ok-key.ensures (c.is_key-3.ensures c.if-is_key-3.true) c.in_ok-text.ensures.value refl
+    adds_member (found_bidder c.args.self.now) (omega arith) c.in_ok-key.ensures (c.is_key-3.ensures c.if-is_key-3.true) c.in_ok-text.ensures.value refl

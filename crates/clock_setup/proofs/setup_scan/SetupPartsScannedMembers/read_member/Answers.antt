@@ -1,37 +1,28 @@
-use Rattle.std.proofs.Common.{codes, refl, arith}
-use Rattle.serde_json.specs.Data.{string}
-use Rattle.clock_scan.specs.Reading.{whole}
+use Rattle.std.proofs.Common.{refl, arith}
 use Rattle.clock_scan.proofs.Steps.{adds_member}
-use Rattle.clock_setup.specs.SetupData.{products_data, bidders_data}
 use Rattle.clock_setup.specs.inside.FoundSetup.{found_setup}
 use Rattle.clock_setup.proofs.setup_scan.SetupPartsScannedMembers.read_member.Goals as goal
 
 pub returns-then-is_key-clause-value : goal.returns-then-is_key-clause-value
 returns-then-is_key-clause-value c =
-    adds_member (found_setup c.args.self.now) (codes "products")
-    (products_data c.in_ok-products.field-0.version c.in_ok-products.field-0.entries) (omega arith) c.in_ok-key.ensures (c.is_key.ensures c.if-is_key.true) c.in_ok-products.ensures.value refl
+    adds_member (found_setup c.args.self.now) (omega arith) c.in_ok-key.ensures (c.is_key.ensures c.if-is_key.true) c.in_ok-products.ensures.value refl
 
 pub returns-then-is_key-2-clause-value : goal.returns-then-is_key-2-clause-value
 returns-then-is_key-2-clause-value c =
-    adds_member (found_setup c.args.self.now) (codes "bidders")
-    (bidders_data c.in_ok-scanned_parts.field-0) (omega arith) c.in_ok-key.ensures (c.is_key-2.ensures c.if-is_key-2.true) c.in_ok-scanned_parts.ensures.value refl
+    adds_member (found_setup c.args.self.now) (omega arith) c.in_ok-key.ensures (c.is_key-2.ensures c.if-is_key-2.true) c.in_ok-scanned_parts.ensures.value refl
 
 pub returns-then-is_key-3-clause-value : goal.returns-then-is_key-3-clause-value
 returns-then-is_key-3-clause-value c =
-    adds_member (found_setup c.args.self.now) (codes "operator")
-    (string c.in_ok-text.text.now) (omega arith) c.in_ok-key.ensures (c.is_key-3.ensures c.if-is_key-3.true) c.in_ok-text.ensures.value refl
+    adds_member (found_setup c.args.self.now) (omega arith) c.in_ok-key.ensures (c.is_key-3.ensures c.if-is_key-3.true) c.in_ok-text.ensures.value refl
 
 pub returns-then-is_key-4-clause-value : goal.returns-then-is_key-4-clause-value
 returns-then-is_key-4-clause-value c =
-    adds_member (found_setup c.args.self.now) (codes "version")
-    (whole c.in_ok-number.number) (omega arith) c.in_ok-key.ensures (c.is_key-4.ensures c.if-is_key-4.true) c.in_ok-number.ensures.value refl
+    adds_member (found_setup c.args.self.now) (omega arith) c.in_ok-key.ensures (c.is_key-4.ensures c.if-is_key-4.true) c.in_ok-number.ensures.value refl
 
 pub returns-then-is_key-5-clause-value : goal.returns-then-is_key-5-clause-value
 returns-then-is_key-5-clause-value c =
-    adds_member (found_setup c.args.self.now) (codes "requirement")
-    (whole c.in_ok-number.number) (omega arith) c.in_ok-key.ensures (c.is_key-5.ensures c.if-is_key-5.true) c.in_ok-number.ensures.value refl
+    adds_member (found_setup c.args.self.now) (omega arith) c.in_ok-key.ensures (c.is_key-5.ensures c.if-is_key-5.true) c.in_ok-number.ensures.value refl
 
 pub returns-then-is_key-6-clause-value : goal.returns-then-is_key-6-clause-value
 returns-then-is_key-6-clause-value c =
-    adds_member (found_setup c.args.self.now) (codes "limit")
-    (whole c.in_ok-number.number) (omega arith) c.in_ok-key.ensures (c.is_key-6.ensures c.if-is_key-6.true) c.in_ok-number.ensures.value refl
+    adds_member (found_setup c.args.self.now) (omega arith) c.in_ok-key.ensures (c.is_key-6.ensures c.if-is_key-6.true) c.in_ok-number.ensures.value refl
