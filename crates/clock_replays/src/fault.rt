@@ -30,9 +30,9 @@ pub enum ScriptFault {
 
 impl From<NoMemory> for ScriptFault {
     ghost use Rattle.std.specs.Prelude.{◌≡◌};
-    ghost use Rattle.clock_replays.specs.declared.fault.ScriptFault.TheVariants.{NoMemory};
+    ghost use Rattle.clock_replays.specs.declared.fault.ScriptFault.TheVariants as faults;
 
-    ghost from_gives = { λ _ fault. fault ≡ NoMemory };
+    ghost from_gives = { λ _ fault. fault ≡ faults.NoMemory };
 
     fn from(_refused: NoMemory) -> ScriptFault {
         ScriptFault::NoMemory

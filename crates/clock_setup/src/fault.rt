@@ -63,9 +63,9 @@ pub enum SetupFault {
 
 impl From<NoMemory> for SetupFault {
     ghost use Rattle.std.specs.Prelude.{◌≡◌};
-    ghost use Rattle.clock_setup.specs.declared.fault.SetupFault.TheVariants.{NoMemory};
+    ghost use Rattle.clock_setup.specs.declared.fault.SetupFault.TheVariants as faults;
 
-    ghost from_gives = { λ _ fault. fault ≡ NoMemory };
+    ghost from_gives = { λ _ fault. fault ≡ faults.NoMemory };
 
     fn from(_refused: NoMemory) -> SetupFault {
         SetupFault::NoMemory

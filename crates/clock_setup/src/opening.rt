@@ -63,9 +63,9 @@ pub enum OpeningFault {
 
 impl From<NoMemory> for OpeningFault {
     ghost use Rattle.std.specs.Prelude.{◌≡◌};
-    ghost use Rattle.clock_setup.specs.declared.opening.OpeningFault.TheVariants.{NoMemory};
+    ghost use Rattle.clock_setup.specs.declared.opening.OpeningFault.TheVariants as faults;
 
-    ghost from_gives = { λ _ fault. fault ≡ NoMemory };
+    ghost from_gives = { λ _ fault. fault ≡ faults.NoMemory };
 
     fn from(_refused: NoMemory) -> OpeningFault {
         OpeningFault::NoMemory

@@ -24,9 +24,9 @@ pub enum SimFault {
 
 impl From<NoMemory> for SimFault {
     ghost use Rattle.std.specs.Prelude.{◌≡◌};
-    ghost use Rattle.clock_sim.specs.declared.sim_fault.SimFault.TheVariants.{NoMemory};
+    ghost use Rattle.clock_sim.specs.declared.sim_fault.SimFault.TheVariants as faults;
 
-    ghost from_gives = { λ _ fault. fault ≡ NoMemory };
+    ghost from_gives = { λ _ fault. fault ≡ faults.NoMemory };
 
     fn from(_refused: NoMemory) -> SimFault {
         SimFault::NoMemory
@@ -37,9 +37,9 @@ impl From<NoMemory> for SimFault {
 /// hub refuses, it refuses for want of memory.
 impl From<HubFault> for SimFault {
     ghost use Rattle.std.specs.Prelude.{◌≡◌};
-    ghost use Rattle.clock_sim.specs.declared.sim_fault.SimFault.TheVariants.{NoMemory};
+    ghost use Rattle.clock_sim.specs.declared.sim_fault.SimFault.TheVariants as faults;
 
-    ghost from_gives = { λ _ fault. fault ≡ NoMemory };
+    ghost from_gives = { λ _ fault. fault ≡ faults.NoMemory };
 
     fn from(_refused: HubFault) -> SimFault {
         SimFault::NoMemory
@@ -48,9 +48,9 @@ impl From<HubFault> for SimFault {
 
 impl<T: Drop> From<AllocFailed<T>> for SimFault {
     ghost use Rattle.std.specs.Prelude.{◌≡◌};
-    ghost use Rattle.clock_sim.specs.declared.sim_fault.SimFault.TheVariants.{NoMemory};
+    ghost use Rattle.clock_sim.specs.declared.sim_fault.SimFault.TheVariants as faults;
 
-    ghost from_gives = { λ _ fault. fault ≡ NoMemory };
+    ghost from_gives = { λ _ fault. fault ≡ faults.NoMemory };
 
     fn from(_refused: AllocFailed<T>) -> SimFault {
         SimFault::NoMemory
