@@ -17,8 +17,8 @@ use std::test::Fail;
 /// A bid: the product's number, the quantity and the price.
 pub type Offer = (u64, u64, u64);
 
-/// A sheet: the bidder's number and the bids.
-pub type Sheet<'a> = (u32, &'a [Offer]);
+/// A sheet of one bid: the bidder's number and the bid.
+pub type Single = (u32, Offer);
 
 /// A tie number: the bidder's number, the product's and the tie number.
 pub type Draw = (u64, u64, u64);
@@ -30,14 +30,13 @@ pub const Y: u32 = 1;
 
 pub const Z: u32 = 2;
 
-/// What a bidder holds: its number, its eligibility and its demands.
-pub type Held<'a> = (u32, u64, &'a [u64]);
-
 /// What is done to an auction, or seen of it.
 #[derive(Clone, Copy)]
 pub enum Step<'a> {
-    /// Bidders put sheets for the current round, one after the other.
-    Put(&'a [Sheet<'a>]),
+    /// A bidder puts a sheet for the current round.
+    Put(u32, &'a [Offer]),
+    /// Bidders put sheets of one bid for the current round, one after the other.
+    PutEach(&'a [Single]),
     /// A bidder's sheet for a round is refused.
     RefusedPut(u32, u64, &'a [Offer], PutFault),
     /// The current round is closed with one increment for all products.
@@ -50,8 +49,8 @@ pub enum Step<'a> {
     RefusedCloseEach(&'a [u64], CloseFault),
     /// A closed round has these lines.
     Lines(u64, &'a [u8]),
-    /// Bidders hold this eligibility and these demands.
-    Hold(&'a [Held<'a>]),
+    /// The bidders hold these eligibilities, and these demands, row by row.
+    Hold(&'a [u64], &'a [u64]),
     /// A bidder's slip of a round: activity, eligibility and demands.
     Slip(u32, u64, u64, u64, &'a [u64]),
     /// A bidder has these bids in force, or none.
@@ -92,9 +91,10 @@ fn take<P: Processor>(
 ) -> Result<(), Fail> {
     let round = house.round();
     match *step {
-        Step::Put(sheets) => put_all(rt, alloc, house, sheets),
+        Step::Put(bidder, offers) => put(rt, alloc, house, round, (bidder, offers), Ok(())),
+        Step::PutEach(sheets) => put_each(rt, alloc, house, sheets),
         Step::RefusedPut(bidder, round, offers, fault) => {
-            put(rt, alloc, house, round, &(bidder, offers), Err(fault))
+            put(rt, alloc, house, round, (bidder, offers), Err(fault))
         }
         Step::Close(increment, draws) => {
             let increments = Increments::Single(increment);
@@ -109,7 +109,7 @@ fn take<P: Processor>(
             close_each(rt, alloc, house, round, increments, Err(fault))
         }
         Step::Lines(round, lines) => see_lines(rt, alloc, house, round, lines),
-        Step::Hold(held) => see_held(rt, alloc, house, held),
+        Step::Hold(eligibilities, demands) => see_held(rt, alloc, house, eligibilities, demands),
         Step::Slip(bidder, round, activity, eligibility, demands) => {
             see_slip(rt, house, bidder, round, (activity, eligibility), demands)
         }
@@ -179,23 +179,24 @@ fn put<P: Processor>(
     alloc: Global,
     house: &mut House<P>,
     round: u64,
-    sheet: &Sheet,
+    sheet: (u32, &[Offer]),
     expected: Result<(), PutFault>,
 ) -> Result<(), Fail> {
-    let bids = list_of(alloc, sheet.1, bid_of)?;
-    let answer = put_bids(rt, house, sheet.0, round, bids.as_slice());
+    let (bidder, offers) = sheet;
+    let bids = list_of(alloc, offers, bid_of)?;
+    let answer = put_bids(rt, house, bidder, round, bids.as_slice());
     is_answered(rt, answer, expected)
 }
 
-/// Puts sheets for the current round.
-fn put_all<P: Processor>(
+/// Puts sheets of one bid for the current round.
+fn put_each<P: Processor>(
     rt: &impl Abort,
     alloc: Global,
     house: &mut House<P>,
-    sheets: &[Sheet],
+    sheets: &[Single],
 ) -> Result<(), Fail> {
-    for sheet in sheets {
-        put(rt, alloc, house, house.round(), sheet, Ok(()))?;
+    for &(bidder, offer) in sheets {
+        put(rt, alloc, house, house.round(), (bidder, &[offer]), Ok(()))?;
     }
     Ok(())
 }
@@ -243,21 +244,24 @@ fn see_lines<P: Processor>(
     Ok(())
 }
 
-/// Asserts what bidders hold: their eligibility and their demands.
+/// Asserts what bidders hold, from the first on: their eligibilities, and their demands, row by row.
 fn see_held<P: Processor>(
     rt: &impl Abort,
     alloc: Global,
     house: &House<P>,
-    held: &[Held],
+    eligibilities: &[u64],
+    demands: &[u64],
 ) -> Result<(), Fail> {
-    for &(bidder, eligibility, demands) in held {
+    let mut all = Amounts::new(alloc);
+    let mut bidder = 0u32;
+    for eligibility in eligibilities {
         assert!(rt; (bidder as usize) < house.setup().bidders.as_slice().len());
         let own = house.own(bidder);
-        let mut own_demands = Amounts::new(alloc);
-        push_demands(&mut own_demands, own.demands)?;
-        assert_eq!(rt; own.eligibility, eligibility);
-        assert_eq!(rt; own_demands.as_slice(), demands);
+        assert_eq!(rt; own.eligibility, *eligibility);
+        push_demands(&mut all, own.demands)?;
+        bidder = bidder.saturating_add(1);
     }
+    assert_eq!(rt; all.as_slice(), demands);
     Ok(())
 }
 

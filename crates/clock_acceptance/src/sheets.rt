@@ -1,6 +1,6 @@
 //! What a sheet is refused for.
 
-use crate::auction::Step::{Close, InForce, Put, RefusedPut};
+use crate::auction::Step::{Close, InForce, Put, PutEach, RefusedPut};
 use crate::auction::{Offer, X, Y, Z, play};
 use clock_bids::BidFault;
 use clock_house::PutFault;
@@ -29,7 +29,7 @@ fn a_sheet_is_refused_for_its_first_fault(rt: HostRuntime) -> Result<(), Fail> {
         RefusedPut(X, 1, &[(0, 1, 101)], PutFault::Bid(BidFault::PriceRange(0))),
         RefusedPut(X, 1, &[(0, 3, 100)], PutFault::Bid(BidFault::OverCap(0))),
         RefusedPut(X, 1, &level, PutFault::Bid(BidFault::PriceOrder(1))),
-        Put(&[(X, &[(0, 0, 100)])]),
+        Put(X, &[(0, 0, 100)]),
         InForce(X, Some(&[(0, 0, 100)])),
     ];
     play(&rt, rt.alloc(), ONE_PRODUCT, &steps)
@@ -48,7 +48,7 @@ fn a_chain_goes_one_way_at_rising_prices(rt: HostRuntime) -> Result<(), Fail> {
     let turning = [(0, 1, 103), (0, 2, 105)];
     let level = [(0, 1, 103), (0, 0, 103)];
     let steps = [
-        Put(&[(X, &[(0, 2, 100)]), (Y, &[(0, 1, 100)])]),
+        PutEach(&[(X, (0, 2, 100)), (Y, (0, 1, 100))]),
         Close(10, &[]),
         RefusedPut(X, 2, &turning, PutFault::Bid(BidFault::MixedDirection(1))),
         RefusedPut(X, 2, &[(0, 2, 105)], PutFault::Bid(BidFault::KeepPrice(0))),
@@ -59,9 +59,6 @@ fn a_chain_goes_one_way_at_rising_prices(rt: HostRuntime) -> Result<(), Fail> {
 
 #[test]
 fn a_sheet_asks_for_no_more_than_the_eligibility(rt: HostRuntime) -> Result<(), Fail> {
-    let steps = [
-        RefusedPut(Z, 1, BOTH, PutFault::Bid(BidFault::OverActivity)),
-        Put(&[(Y, BOTH)]),
-    ];
+    let steps = [RefusedPut(Z, 1, BOTH, PutFault::Bid(BidFault::OverActivity))];
     play(&rt, rt.alloc(), TWO_PRODUCTS, &steps)
 }
