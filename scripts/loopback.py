@@ -16,6 +16,9 @@ def free_port():
     while True:
         port = DRAW.choice(PORTS)
         with socket.socket() as free:
+            # a process that another thread is starting holds the socket too until it runs its own program, and a server may then
+            # listen on the port only if both sockets say so
+            free.setsockopt(socket.SOL_SOCKET, socket.SO_REUSEADDR, 1)
             try:
                 free.bind(("127.0.0.1", port))
             except OSError:
