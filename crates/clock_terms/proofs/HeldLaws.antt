@@ -165,9 +165,9 @@ gap count held given product are smaller below =
     (λ within. omega (arith, below, next_at count held given none within))
 
 -- so each demand of a row is 0 that stands before the first that is held
-pub none_first : (count : ℕ) (held : List HeldDemand) (row : List ℕ) (first : ℕ) → AreHeld 0 held count → demands_of count held ≡ row
-    → first ≡ next_of count held → AllWithin (λ demand. demand ≡ 0) row 0 first
-none_first count held row first are is same k d low high =
+pub none_first : (count : ℕ) (held : List HeldDemand) (demands : List ℕ) (first : ℕ) → AreHeld 0 held count → demands_of count held ≡ demands
+    → first ≡ next_of count held → AllWithin (λ demand. demand ≡ 0) demands 0 first
+none_first count held demands first are is same k d low high =
     ap (λ (list : List ℕ). get_or list k d) (sym is)
     ∙ shown count held k d (omega (arith, same, high, most_next count held are))
     ∙ gap count held 0 k are (λ n e from to. absurd (omega (arith, to))) (omega (arith, same, high))
