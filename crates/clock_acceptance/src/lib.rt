@@ -1,28 +1,10 @@
-//! Tests that cross crates: whole rounds, from set-up documents to sheets and slips, and settlings with both
-//! processors.
+//! Tests that ask the front: requests by their bytes, whole, in pieces and over connections, replays from their
+//! documents to their reports, and commands from their words to what they print.
 #![tactic(auto)]
 
 #[cfg(test)]
-mod auction;
-#[cfg(test)]
-mod documents;
-#[cfg(test)]
-mod example;
+mod commands;
 #[cfg(test)]
 mod front;
 #[cfg(test)]
-mod refusals;
-#[cfg(test)]
 mod replays;
-#[cfg(test)]
-mod rounds;
-#[cfg(test)]
-mod settle;
-#[cfg(test)]
-mod settling;
-#[cfg(test)]
-mod sheets;
-#[cfg(test)]
-mod terms;
-#[cfg(test)]
-mod views;

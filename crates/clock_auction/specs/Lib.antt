@@ -1,7 +1,1 @@
-pub mod Input
-pub mod PriceLines
-pub mod FaultLines
-pub mod Answers
-pub mod Run
 pub mod Audits
-pub mod inside

@@ -6,7 +6,7 @@ ghost use Rattle.clock_keeping.specs.Keeping.{IsRefused};
 ghost use Rattle.clock_auction.specs.Audits.{IsRecounted, IsRecountOf, IsSomeRecount, audited};
 
 use crate::digests::digits_of;
-use crate::fault::Fault;
+use clock_commands::Fault;
 use clock_device::{NoMemory, Text};
 use clock_front::Front;
 use clock_journal::{Link, Machine, Untaken, link_of, recover};

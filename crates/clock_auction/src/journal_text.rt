@@ -1,6 +1,6 @@
 //! `journal`: what a journal holds, text by text.
 use crate::digests::digits_of;
-use crate::fault::Fault;
+use clock_commands::Fault;
 use clock_device::{NoMemory, Text};
 use clock_journal::{Link, Machine, Untaken, link_of, recover};
 use std::alloc::Global;

@@ -4,9 +4,9 @@ ghost use Rattle.clock_front.specs.Fronts.{StandsForTexts};
 
 use crate::closings::Telling;
 use crate::digests::Hex;
-use crate::fault::Fault;
 use crate::serve::{bound, file_bytes, front_in, tell_ready};
 use crate::serving::serve_kept_on;
+use clock_commands::Fault;
 use clock_journal::{FileDisk, Journal, Link, Recovered, digest_of};
 use clock_keeping::{Auction, take_up};
 use clock_queue::Woken;

@@ -3,30 +3,19 @@
 
 ghost use Rattle.std.specs.Prelude.{◌≡◌, map, string_bytes, IfOk};
 
-mod answer;
 mod audit;
 mod closings;
-mod command;
 mod digests;
-mod fault;
-mod fault_lines;
-mod input;
 mod journal_text;
 mod kept;
-#[cfg(test)]
-mod loopback;
-mod prices;
 mod serve;
 mod serving;
 mod telling;
-#[cfg(test)]
-mod tests;
 
 use clap::error::ErrorKind;
+use clock_commands::{Fault, command, show_fault};
 use clock_device::{FromReader, ToWriter};
 use clock_words::{FileTask, file_task_asked, number_helps};
-use command::{command, show_fault};
-use fault::Fault;
 use kept::serve_kept;
 use serve::serve;
 use std::alloc::{AllocError, Global};

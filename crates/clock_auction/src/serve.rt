@@ -2,13 +2,11 @@
 ghost use Rattle.std.specs.Prelude.{[], IfOk};
 ghost use Rattle.clock_front.specs.Fronts.{StandsForTexts};
 
-use crate::answer::setup_in;
-use crate::fault::Fault;
-use crate::input::read_all;
-use crate::serving::serve_on;
+use clock_commands::{Fault, read_all, setup_in};
 use clock_device::{FromReader, Text};
 use clock_front::Front;
 use clock_queue::Woken;
+use clock_serving::serve_on;
 use clock_words::Serving;
 use std::alloc::Global;
 use std::fs::File;

@@ -1,9 +1,9 @@
 //! `journal` and `audit`: what two files tell, printed.
 use crate::audit::{audit_of, recounted};
-use crate::fault::Fault;
 use crate::journal_text::listing_of;
 use crate::kept::{bytes_of, is_plain, tell_journal};
 use crate::serve::{file_bytes, front_in};
+use clock_commands::Fault;
 use clock_device::{Sink, write_all};
 use clock_journal::{Link, digest_of};
 use clock_words::Files as Named;

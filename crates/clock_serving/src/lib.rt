@@ -2,6 +2,7 @@
 //!
 //! [`serve_all`] serves them by a front. Where they come from is a [`Connections`]: a [`Listening`] on a port of the
 //! machine, or a [`Listed`] in memory. Where accepted texts are kept is a [`Keeper`]: a journal, or [`Unkept`].
+//! [`serve_on`] is both of a port, where nothing is kept.
 #![tactic(auto)]
 
 mod closed;
@@ -11,6 +12,7 @@ mod keeper;
 mod laws;
 mod listed;
 mod listening;
+mod port;
 mod serving;
 
 pub use closed::Closed;
@@ -20,4 +22,5 @@ pub use keeper::{Keeper, Unkept};
 pub use laws::law_told_bytes;
 pub use listed::{Client, Listed};
 pub use listening::Listening;
+pub use port::serve_on;
 pub use serving::serve_all;

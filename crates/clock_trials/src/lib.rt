@@ -1,9 +1,16 @@
-//! Tests of the lower crates, each with the values that the rules and formats give. They stand here and not beside what
-//! they test, since a crate with tests of its own is proved twice.
+//! Tests of the crates below the front, each with the values that the rules and formats give: numbers and documents,
+//! sheets, whole rounds by steps, settlings with both processors, and pages. They stand here and not beside what they
+//! test, since a crate with tests of its own is proved twice.
 #![tactic(auto)]
 
 #[cfg(test)]
+mod auction;
+#[cfg(test)]
 mod bids;
+#[cfg(test)]
+mod documents;
+#[cfg(test)]
+mod example;
 #[cfg(test)]
 mod journals;
 #[cfg(test)]
@@ -15,6 +22,20 @@ mod points;
 #[cfg(test)]
 mod prices;
 #[cfg(test)]
+mod refusals;
+#[cfg(test)]
+mod rounds;
+#[cfg(test)]
 mod scanning;
 #[cfg(test)]
+mod settle;
+#[cfg(test)]
+mod settling;
+#[cfg(test)]
 mod setups;
+#[cfg(test)]
+mod sheets;
+#[cfg(test)]
+mod terms;
+#[cfg(test)]
+mod views;

@@ -1,8 +1,7 @@
 //! What requests are answered with, one after the other.
 use super::requests::{compare, reply_of, setup_of, text_of};
-use super::rows::{fields_of, whole_rows};
+use super::rows::{fields_of, replaced, whole_rows};
 use super::texts::{ACCEPTED, PUT};
-use crate::documents::opening_at;
 use crate::front::example::{on_front, on_one_product};
 use clock_device::{Items, Text};
 use clock_front::{Front, run};
@@ -162,7 +161,7 @@ POST /v1/close|O|{"increment":1,"round":1,"ties":[]}|200 OK|{"closed":1,"ended":
 
 #[test]
 fn a_refused_closing_keeps_the_sheets(rt: HostRuntime) -> Result<(), Fail> {
-    let document = opening_at(rt.alloc(), 1_000_000_000_000)?;
+    let document = replaced(rt.alloc(), ONE_PRODUCT, "100", "1000000000000")?;
     send_all(&rt, rt.alloc(), document.as_str(), PRICE_LIMIT)
 }
 

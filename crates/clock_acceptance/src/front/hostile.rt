@@ -1,9 +1,8 @@
 //! Truncated and malicious texts: over whole bytes, over a stream and over a connection the reply is the same.
 use super::hubs::{connected, on_hub};
 use super::requests::reply_with;
-use super::rows::{fields_of, with_line_ends};
+use super::rows::{fields_of, replaced, with_line_ends};
 use super::texts::{ACCEPTED, BIDS_OF_X, CUT_SHORT, LONG_HEAD, NO_SHEET, PUT, SHEET};
-use crate::documents::replaced;
 use crate::front::example::on_one_product;
 use clock_device::{ListSink, ListSource, Text};
 use clock_front::{Conn, Fed, Front, Hub, serve_stream};

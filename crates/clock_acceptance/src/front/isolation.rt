@@ -2,8 +2,7 @@
 mod in_pieces;
 
 use super::requests::{reply_of, text_of};
-use super::rows::fields_of;
-use crate::documents::replaced;
+use super::rows::{fields_of, replaced};
 use crate::front::example::on_front;
 use clock_front::Front;
 use clock_processor::Plain;

@@ -2,7 +2,7 @@
 //! kept.
 ghost use Rattle.std.specs.Prelude.{◌≡◌, false};
 
-use super::texts::{ACCEPTED, CUT_SHORT, PUT, STATUS};
+use super::texts::{ACCEPTED, CUT_SHORT, FIRST_ROUND, PUT, STATUS};
 use crate::front::example::on_one_product;
 use clock_device::Stop;
 use clock_front::Front;
@@ -12,10 +12,6 @@ use clock_serving::{Client, Keeper, Listed, ServeFault, Unkept, serve_all};
 use std::alloc::Global;
 use std::process::Abort;
 use std::test::Fail;
-
-/// The reply to a question for the status of an auction in its first round.
-const FIRST_ROUND: &str = "HTTP/1.1 200 OK\r\nconnection: close\r\n\
-    content-length: 37\r\ncontent-type: application/json\r\n\r\n{\"ended\":false,\"round\":1,\"version\":1}";
 
 /// A client that sends this in small pieces, and takes a reply in small pieces.
 fn client(text: &str) -> Client<'_> {

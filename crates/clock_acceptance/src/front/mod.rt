@@ -9,6 +9,7 @@ mod heads;
 mod hostile;
 mod hubs;
 mod isolation;
+mod loopback;
 mod loops;
 mod pieces;
 mod requests;

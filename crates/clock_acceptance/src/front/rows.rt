@@ -1,10 +1,19 @@
 //! Tables as texts. Each line is a row, with `|` between two fields; a long row of requests goes on in lines that begin
 //! with `|`. In a field that is a part of a text `~` stands for CR LF, `$` for LF and `^` for CR. Where two sides send
 //! requests in turn, a line of `~` alone stands between two turns.
-use crate::documents::replaced;
 use std::alloc::Global;
 use std::process::Abort;
 use std::test::Fail;
+
+/// A text with a mark replaced wherever it stands.
+pub(super) fn replaced(
+    alloc: Global,
+    text: &str,
+    mark: &str,
+    meaning: &str,
+) -> Result<String, Fail> {
+    Ok(text.replace(alloc, mark, meaning)?)
+}
 
 /// A table of which each row is one line.
 pub(super) fn whole_rows(alloc: Global, rows: &str) -> Result<String, Fail> {

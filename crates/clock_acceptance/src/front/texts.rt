@@ -32,3 +32,7 @@ pub(super) const BIDS_OF_Y: &str =
     "GET /v1/me/bids HTTP/1.1\r\nauthorization: Bearer YYYYYYYYYYYYYYYY\r\n\r\n";
 
 pub(super) const STATUS: &str = "GET /v1/status HTTP/1.1\r\n\r\n";
+
+/// The reply to a question for the status of an auction in its first round.
+pub(super) const FIRST_ROUND: &str = "HTTP/1.1 200 OK\r\nconnection: close\r\n\
+    content-length: 37\r\ncontent-type: application/json\r\n\r\n{\"ended\":false,\"round\":1,\"version\":1}";

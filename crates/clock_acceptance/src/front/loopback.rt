@@ -1,0 +1,73 @@
+//! Connections of this machine, which clients have made and written to before any is taken.
+use super::texts::{ACCEPTED, CUT_SHORT, FIRST_ROUND, PUT, STATUS};
+use crate::front::example::on_one_product;
+use clock_serving::serve_on;
+use std::alloc::Global;
+use std::io::{self, Read, Write};
+use std::net::{Ipv4Addr, Shutdown, SocketAddr, TcpListener, TcpStream};
+use std::process::Abort;
+use std::test::Fail;
+
+/// A port of this machine that the system chooses.
+fn any_port(rt: &HostRuntime) -> io::Result<TcpListener> {
+    TcpListener::bind(rt, (Ipv4Addr::LOCALHOST, 0))
+}
+
+/// A client that has written this.
+fn client(rt: &HostRuntime, address: SocketAddr, text: &str) -> io::Result<TcpStream> {
+    let mut stream = TcpStream::connect(rt, address)?;
+    stream.write_all(text.as_bytes())?;
+    Ok(stream)
+}
+
+/// All that a client hears.
+fn heard(alloc: Global, mut stream: TcpStream) -> io::Result<Vec<u8>> {
+    let mut bytes = Vec::new(alloc);
+    stream.read_to_end(&mut bytes)?;
+    Ok(bytes)
+}
+
+/// Asserts that a client hears this and no more.
+fn assert_hears(
+    rt: &(impl Abort + Alloc<A = Global>),
+    stream: TcpStream,
+    reply: &str,
+) -> io::Result<()> {
+    let bytes = heard(rt.alloc(), stream)?;
+    assert_eq!(rt; bytes.as_slice(), reply.as_bytes());
+    Ok(())
+}
+
+/// Serves so many connections of an auction of one product, and answers whether each could be taken.
+fn all_are_served(alloc: Global, listener: &TcpListener, connections: u64) -> Result<bool, Fail> {
+    on_one_product(alloc, |front| {
+        Ok(serve_on(alloc, front, listener, connections).is_ok())
+    })
+}
+
+#[test]
+fn connections_are_served_in_turn(rt: HostRuntime) -> Result<(), Fail> {
+    let listener = any_port(&rt)?;
+    let address = listener.local_addr()?;
+    let whole = client(&rt, address, PUT)?;
+    let cut = client(&rt, address, &PUT[..10])?;
+    cut.shutdown(Shutdown::Write)?;
+    let status = client(&rt, address, STATUS)?;
+    assert!(rt; all_are_served(rt.alloc(), &listener, 3)?);
+    assert_hears(&rt, whole, ACCEPTED)?;
+    assert_hears(&rt, cut, CUT_SHORT)?;
+    assert_hears(&rt, status, FIRST_ROUND)?;
+    Ok(())
+}
+
+#[test]
+fn a_client_that_is_gone_ends_alone(rt: HostRuntime) -> Result<(), Fail> {
+    let listener = any_port(&rt)?;
+    let address = listener.local_addr()?;
+    drop(client(&rt, address, PUT)?);
+    drop(client(&rt, address, &PUT[..10])?);
+    let status = client(&rt, address, STATUS)?;
+    assert!(rt; all_are_served(rt.alloc(), &listener, 3)?);
+    assert_hears(&rt, status, FIRST_ROUND)?;
+    Ok(())
+}

@@ -1,0 +1,114 @@
+-- The one line that a run shows of its fault. (Own format.)
+--     fault_line fault     `fault: WORDS` and a line feed
+--     of_journal fault      the fault of a journal that is not taken over
+--     of_serving fault      the fault of a loop that has not served all connections
+use Rattle.std.specs.Prelude.{ℕ, List, ◌++◌, codes, decimal}
+use Rattle.clock_setup.specs.declared.fault.Place.{Place}
+use Rattle.clock_setup.specs.declared.fault.Place.TheVariants as place
+use Rattle.clock_setup.specs.declared.fault.SetupFault.{SetupFault}
+use Rattle.clock_setup.specs.declared.fault.SetupFault.TheVariants as in_setup
+use Rattle.clock_setup.specs.declared.opening.OpeningFault.{OpeningFault}
+use Rattle.clock_setup.specs.declared.opening.OpeningFault.TheVariants as in_opening
+use Rattle.clock_replays.specs.declared.fault.ScriptFault.{ScriptFault}
+use Rattle.clock_replays.specs.declared.fault.ScriptFault.TheVariants as in_script
+use Rattle.clock_sim.specs.declared.sim_fault.SimFault.{SimFault}
+use Rattle.clock_sim.specs.declared.sim_fault.SimFault.TheVariants as in_simulation
+use Rattle.clock_journal.specs.declared.fault.JournalFault.{JournalFault}
+use Rattle.clock_journal.specs.declared.fault.JournalFault.TheVariants as in_journal
+use Rattle.clock_serving.specs.declared.fault.ServeFault.{ServeFault}
+use Rattle.clock_serving.specs.declared.fault.ServeFault.TheVariants as in_serving
+use Rattle.clock_http.specs.Codes.{text_of}
+use Rattle.clock_commands.specs.declared.fault.Fault.{Fault}
+use Rattle.clock_commands.specs.declared.fault.Fault.TheVariants as fault
+
+-- where in a set-up the value stands
+abbrev pub place_words : Place → List ℕ
+place_words place.Requirement = codes "requirement"
+place_words place.Limit = codes "limit"
+place_words place.Operator = codes "operator"
+place_words place.Products = codes "products"
+place_words (place.Name i) = codes "name " ++ decimal i
+place_words (place.Units i) = codes "units " ++ decimal i
+place_words (place.Supply i) = codes "supply " ++ decimal i
+place_words (place.Cap i) = codes "cap " ++ decimal i
+place_words (place.Opening i) = codes "opening " ++ decimal i
+place_words (place.Granule i) = codes "granule " ++ decimal i
+place_words place.Bidders = codes "bidders"
+place_words (place.BidderName i) = codes "bidder_name " ++ decimal i
+place_words (place.Token i) = codes "token " ++ decimal i
+place_words (place.Eligibility i) = codes "eligibility " ++ decimal i
+
+-- want of memory has one word, wherever it comes
+abbrev pub setup_words : SetupFault → List ℕ
+setup_words in_setup.NotJson = codes "setup_not_json"
+setup_words in_setup.Shape = codes "setup_shape"
+setup_words in_setup.Version = codes "setup_version"
+setup_words (in_setup.Range p) = codes "setup_range " ++ place_words p
+setup_words in_setup.DuplicateName = codes "setup_duplicate_name"
+setup_words in_setup.DuplicateToken = codes "setup_duplicate_token"
+setup_words in_setup.NoMemory = codes "memory"
+
+-- a fault of the set-up in an opening document has the set-up's words
+abbrev pub opening_words : OpeningFault → List ℕ
+opening_words in_opening.NotJson = codes "not_json"
+opening_words in_opening.Shape = codes "shape"
+opening_words (in_opening.Setup inner) = setup_words inner
+opening_words (in_opening.Demand bidder product) = codes "demand " ++ decimal bidder ++ (codes " " ++ decimal product)
+opening_words (in_opening.Activity bidder) = codes "activity " ++ decimal bidder
+opening_words in_opening.Increment = codes "increment"
+opening_words in_opening.NoMemory = codes "memory"
+
+-- a fault of the set-up in a replay document has the set-up's words
+abbrev pub script_words : ScriptFault → List ℕ
+script_words in_script.NotJson = codes "not_json"
+script_words in_script.Shape = codes "shape"
+script_words (in_script.Setup inner) = setup_words inner
+script_words in_script.Scripts = codes "scripts"
+script_words (in_script.Limits bidder product) = codes "limits " ++ decimal bidder ++ (codes " " ++ decimal product)
+script_words in_script.NoMemory = codes "memory"
+
+-- a sheet or a closing that was refused is told with the code of its reply
+abbrev pub simulation_words : SimFault → List ℕ
+simulation_words (in_simulation.Refused bidder round code) =
+    codes "refused " ++ decimal bidder ++ (codes " " ++ decimal round) ++ (codes " " ++ text_of code)
+simulation_words (in_simulation.Closing round code) = codes "closing " ++ decimal round ++ (codes " " ++ text_of code)
+simulation_words in_simulation.ClosingsSpent = codes "closings_spent"
+simulation_words in_simulation.NoMemory = codes "memory"
+
+-- the fault of a journal that is not taken over
+abbrev pub of_journal : JournalFault → Fault
+of_journal in_journal.Unknown = fault.JournalUnknown
+of_journal in_journal.Setup = fault.JournalSetup
+of_journal (in_journal.Damaged place) = fault.JournalDamaged place
+of_journal (in_journal.Refused place) = fault.JournalRefused place
+of_journal in_journal.NoMemory = fault.Memory
+
+-- the fault of a loop that has not served all connections
+abbrev pub of_serving : ServeFault → Fault
+of_serving in_serving.Accept = fault.Accept
+of_serving in_serving.Journal = fault.Journal
+
+-- a fault of a document has the document's words
+abbrev pub fault_words : Fault → List ℕ
+fault_words fault.File = codes "file"
+fault_words fault.Input = codes "input"
+fault_words fault.LongInput = codes "long_input"
+fault_words (fault.Setup inner) = setup_words inner
+fault_words (fault.Opening inner) = opening_words inner
+fault_words (fault.Script inner) = script_words inner
+fault_words (fault.PriceLimit product) = codes "price_limit " ++ decimal product
+fault_words (fault.Simulation inner) = simulation_words inner
+fault_words fault.Journal = codes "journal"
+fault_words fault.JournalBusy = codes "journal_busy"
+fault_words fault.JournalUnknown = codes "journal_unknown"
+fault_words fault.JournalSetup = codes "journal_setup"
+fault_words (fault.JournalDamaged place) = codes "journal_damaged " ++ decimal place
+fault_words (fault.JournalRefused place) = codes "journal_refused " ++ decimal place
+fault_words fault.Bind = codes "bind"
+fault_words fault.Output = codes "output"
+fault_words fault.Accept = codes "accept"
+fault_words fault.Memory = codes "memory"
+
+-- the whole line
+abbrev pub fault_line : Fault → List ℕ
+fault_line cause = codes "fault: " ++ fault_words cause ++ codes "\n"

@@ -1,0 +1,6 @@
+pub mod Input
+pub mod PriceLines
+pub mod FaultLines
+pub mod Answers
+pub mod Run
+pub mod inside

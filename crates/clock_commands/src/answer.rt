@@ -1,0 +1,117 @@
+ghost use Rattle.std.specs.Prelude.{◌≡◌, ◌≢◌, ◌≤◌, Ok, Err, length, IfOk, IfErr};
+ghost use Rattle.clock_terms.specs.Demands.{IsGrid};
+ghost use Rattle.clock_terms.specs.Increments.{IsIncrement};
+ghost use Rattle.clock_setup.specs.SetupDocument.{document_setup};
+ghost use Rattle.clock_commands.specs.Answers.{answer_to, first_round, played, read_in};
+ghost use Rattle.clock_sim.specs.Rehearsal.{simulated};
+ghost use Rattle.clock_words.specs.Words.{IsJob};
+
+use crate::fault::Fault;
+use crate::prices::prices_text;
+use clock_device::Text;
+use clock_posting::{PostFault, post_first, sheet_lines};
+use clock_setup::{Increments, Opening, OpeningFault, Setup, SetupFault, read_opening, read_setup};
+use clock_sim::{Replay, ScriptFault, SimFault, read_replay, replay_text};
+use clock_words::Job;
+use std::alloc::Global;
+
+/// What the job prints of the document, or the document's fault.
+pub fn answer(alloc: Global, job: Job, document: Text) -> Result<Text, Fault>
+    requires { IsJob job }
+    ensures ok { IfOk result (λ text. answer_to job document ≡ Ok text) }
+    ensures err { IfErr result (λ fault. fault ≢ Fault.Memory → answer_to job document ≡ Err fault) }
+{
+    match job {
+        Job::Prices(increment) => prices_answer(alloc, increment, document.as_slice()),
+        Job::Opening => opening_answer(alloc, document.as_slice()),
+        Job::Replay => replay_answer(alloc, document),
+    }
+}
+
+/// The set-up that a document means, or the document's fault.
+pub fn setup_in(alloc: Global, document: &[u8]) -> Result<Setup, Fault>
+    ensures ok { IfOk result (λ setup. document_setup document.now ≡ Ok setup) }
+    ensures err { IfErr result (λ fault. fault ≢ Fault.Memory → read_in (document_setup document.now) ≡ Err fault) }
+{
+    match read_setup(alloc, document) {
+        Ok(setup) => Ok(setup),
+        Err(SetupFault::NoMemory) => Err(Fault::Memory),
+        Err(fault) => Err(Fault::Setup(fault)),
+    }
+}
+
+fn prices_answer(alloc: Global, increment: u64, document: &[u8]) -> Result<Text, Fault>
+    requires { IsJob (Job.Prices increment) }
+    ensures ok { IfOk result (λ text. answer_to (Job.Prices increment) document.now ≡ Ok text) }
+    ensures err { IfErr result (λ fault. fault ≢ Fault.Memory
+        → answer_to (Job.Prices increment) document.now ≡ Err fault) }
+{
+    let setup = setup_in(alloc, document)?;
+    let text = prices_text(alloc, &setup, increment);
+    drop(setup);
+    Ok(text?)
+}
+
+/// The lines of round 1, or the product that can have no next clock price.
+fn first_lines(alloc: Global, opening: &Opening) -> Result<Text, Fault>
+    requires increment { IsIncrement opening.now.increment }
+    requires grid { IsGrid (length opening.now.setup.bidders) (length opening.now.setup.products) opening.now.grid }
+    ensures ok { IfOk result (λ text. first_round opening.now ≡ Ok text) }
+    ensures err { IfErr result (λ fault. fault ≢ Fault.Memory → first_round opening.now ≡ Err fault) }
+{
+    let increments = Increments::Single(opening.increment);
+    let posted = post_first(alloc, &opening.setup, &opening.grid, &increments);
+    drop(increments);
+    match posted {
+        Ok(posting) => {
+            let lines = sheet_lines(alloc, &opening.setup, &posting.sheet);
+            drop(posting);
+            Ok(lines?)
+        }
+        Err(PostFault::PriceLimit(product)) => Err(Fault::PriceLimit(product)),
+        Err(PostFault::NoMemory) => Err(Fault::Memory),
+    }
+}
+
+fn opening_answer(alloc: Global, document: &[u8]) -> Result<Text, Fault>
+    ensures ok { IfOk result (λ text. answer_to Job.Opening document.now ≡ Ok text) }
+    ensures err { IfErr result (λ fault. fault ≢ Fault.Memory
+        → answer_to Job.Opening document.now ≡ Err fault) }
+{
+    match read_opening(alloc, document) {
+        Ok(opening) => {
+            let lines = first_lines(alloc, &opening);
+            drop(opening);
+            lines
+        }
+        Err(OpeningFault::NoMemory) => Err(Fault::Memory),
+        Err(fault) => Err(Fault::Opening(fault)),
+    }
+}
+
+/// The report of a replay, or why it did not come to its end.
+fn report_lines(alloc: Global, replay: Replay) -> Result<Text, Fault>
+    ensures ok { IfOk result (λ text. played (simulated replay) ≡ Ok text) }
+    ensures err { IfErr result (λ fault. fault ≢ Fault.Memory → played (simulated replay) ≡ Err fault) }
+{
+    match replay_text(alloc, replay) {
+        Ok(text) => Ok(text),
+        Err(SimFault::NoMemory) => Err(Fault::Memory),
+        Err(fault) => Err(Fault::Simulation(fault)),
+    }
+}
+
+/// The report of the replay that a document means, which is let go before the auction is played.
+fn replay_answer(alloc: Global, document: Text) -> Result<Text, Fault>
+    ensures ok { IfOk result (λ text. answer_to Job.Replay document ≡ Ok text) }
+    ensures err { IfErr result (λ fault. fault ≢ Fault.Memory
+        → answer_to Job.Replay document ≡ Err fault) }
+{
+    let read = read_replay(alloc, document.as_slice());
+    drop(document);
+    match read {
+        Ok(replay) => report_lines(alloc, replay),
+        Err(ScriptFault::NoMemory) => Err(Fault::Memory),
+        Err(fault) => Err(Fault::Script(fault)),
+    }
+}

@@ -1,0 +1,104 @@
+ghost use Rattle.std.specs.Prelude.{◌≡◌, ◌≤◌, map};
+ghost use Rattle.clock_device.specs.Told.{IsUnread, IsUnused};
+ghost use Rattle.clock_commands.specs.FaultLines.{fault_line};
+ghost use Rattle.clock_commands.specs.Input.{most_document_reads};
+ghost use Rattle.clock_commands.specs.Run.{ComesTo, IsRunOf, Shows};
+ghost use Rattle.clock_words.specs.Words.{IsJob, job_of};
+
+use crate::answer::answer;
+use crate::fault::Fault;
+use crate::fault_lines::write_fault;
+use crate::input::read_all;
+use clap::error::ErrorKind;
+use clock_device::{Sink, Source, write_all};
+use clock_words::{Job, job_asked};
+use std::alloc::Global;
+
+/// What is shown of good words that ask for `serve`, which is no command on streams.
+static NOT_HERE: &str =
+    "error: `serve`, `journal` and `audit` are done by the program itself, and not over streams\n";
+
+/// One run of the program: does what the words after its name ask for, with a document from the
+/// reader, and answers the exit status.
+///
+/// - 0: the writer has the whole text, and nothing is shown on `faults`.
+/// - 1: there was a fault. Its one line is shown on `faults`, and the writer has nothing, unless it
+///   is the writer that failed.
+/// - 2: the words ask for nothing that is done here, or for help. What clap says of that is shown on
+///   `faults`, and nothing is read or written. `serve` is not done here: the program's `main` takes it.
+///
+/// At most 67,108,864 bytes are read, and one more to see that there are more, in at most
+/// 100,000,000 reads. A line that cannot be shown leaves the status as it is.
+pub fn command<R: Source, W: Sink, F: Sink>(
+    alloc: Global,
+    words: &[&str],
+    reader: &mut R,
+    writer: &mut W,
+    faults: &mut F,
+) -> u8
+    requires unread { IsUnread (R.told reader.old) }
+    requires unwritten { IsUnused (W.told writer.old) }
+    requires unshown { IsUnused (F.told faults.old) }
+    ensures ending { ComesTo (job_of (map (λ word. word.now) words.entry.now))
+        (record { before = R.told reader.old; after = R.told reader.new })
+        (record { before = W.told writer.old; after = W.told writer.new })
+        (record { before = F.told faults.old; after = F.told faults.new })
+        result }
+    ensures reads { (R.told reader.new).calls ≤ most_document_reads }
+{
+    match job_asked(alloc, words) {
+        Ok(Some(job)) => match run(alloc, job, reader, writer) {
+            Ok(()) => 0,
+            Err(fault) => {
+                show_fault(fault, faults);
+                1
+            }
+        },
+        Ok(None) => {
+            let _ = write_all(faults, NOT_HERE.as_bytes());
+            2
+        }
+        Err(error) => {
+            if error.kind() == ErrorKind::OutOfMemory {
+                show_fault(Fault::Memory, faults);
+                return 1;
+            }
+            let Ok(usage) = error.to_string(alloc) else {
+                show_fault(Fault::Memory, faults);
+                return 1;
+            };
+            let _ = write_all(faults, usage.as_bytes());
+            2
+        }
+    }
+}
+
+/// Reads the document, and prints the answer to it.
+fn run<R: Source, W: Sink>(
+    alloc: Global,
+    job: Job,
+    reader: &mut R,
+    writer: &mut W,
+) -> Result<(), Fault>
+    requires job { IsJob job }
+    requires unread { IsUnread (R.told reader.old) }
+    requires unwritten { IsUnused (W.told writer.old) }
+    ensures run { IsRunOf job (record { before = R.told reader.old; after = R.told reader.new })
+        (record { before = W.told writer.old; after = W.told writer.new }) result }
+    ensures reads { (R.told reader.new).calls ≤ most_document_reads }
+{
+    let document = read_all(alloc, reader)?;
+    let text = answer(alloc, job, document)?;
+    match write_all(writer, text.as_slice()) {
+        Ok(()) => Ok(()),
+        Err(_) => Err(Fault::Output),
+    }
+}
+
+/// Shows the line of a fault, or a front of it where it cannot all be shown.
+pub fn show_fault<F: Sink>(fault: Fault, faults: &mut F)
+    requires { IsUnused (F.told faults.old) }
+    ensures { Shows (record { before = F.told faults.old; after = F.told faults.new }) (fault_line fault) }
+{
+    let _ = write_fault(faults, fault);
+}

@@ -1,0 +1,15 @@
+//! The commands of the program that read one document and print one text: what each answers, its faults, and the line
+//! that is shown of a fault. They read and write by a source and two sinks, so that contracts see all bytes.
+#![tactic(auto)]
+
+mod answer;
+mod command;
+mod fault;
+mod fault_lines;
+mod input;
+mod prices;
+
+pub use answer::setup_in;
+pub use command::{command, show_fault};
+pub use fault::Fault;
+pub use input::read_all;
