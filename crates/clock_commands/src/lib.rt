@@ -3,13 +3,13 @@
 #![tactic(auto)]
 
 mod answer;
-mod command;
 mod fault;
 mod fault_lines;
 mod input;
 mod prices;
+mod run;
 
 pub use answer::setup_in;
-pub use command::{command, show_fault};
 pub use fault::Fault;
 pub use input::read_all;
+pub use run::{command, show_fault};

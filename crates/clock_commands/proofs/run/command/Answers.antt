@@ -2,7 +2,7 @@ use Rattle.std.proofs.Common.{refl, sym, ◌∙◌}
 use Rattle.clock_commands.specs.Run.{stopped}
 use Rattle.clock_commands.specs.declared.fault.Fault.TheVariants as fault
 use Rattle.clock_commands.proofs.RunEndings.{stopped_run, unread_for_memory, untouched}
-use Rattle.clock_commands.proofs.command.command.Goals as goal
+use Rattle.clock_commands.proofs.run.command.Goals as goal
 
 pub returns-then-eq-clause-ending : goal.returns-then-eq-clause-ending
 returns-then-eq-clause-ending g c =
