@@ -7,7 +7,7 @@ use Rattle.std.specs.List.{AllWithin}
 use Rattle.clock_terms.specs.Limits.{most_supply}
 use Rattle.clock_terms.specs.declared.row.HeldDemand.{HeldDemand}
 use Rattle.clock_terms.specs.HeldDemands.{demand_for, demands_of, next_of}
-use Rattle.clock_terms.specs.inside.Rows.{AreHeld, IsStored}
+use Rattle.clock_terms.specs.inside.Rows.{AreHeld, IsStored, StandsAt}
 
 -- what is held of the product that comes first
 at_first : (one : HeldDemand) (held : List HeldDemand) (product : ℕ) → one.product ≡ product → demand_for (one ∷ held) product ≡ one.demand
@@ -93,6 +93,15 @@ rising from (one ∷ held) count zero (suc place) d e are before within =
     omega (arith, first_least (one.product + 1) held count place e are.3 (omega (arith, within)))
 rising from (one ∷ held) count (suc k) (suc place) d e are before within =
     rising (one.product + 1) held count k place d e are.3 (omega (arith, before)) (omega (arith, within))
+
+-- a product that is found at a place stands there
+pub stands : (held : List HeldDemand) (count product place : ℕ) → AreHeld 0 held count
+    → (place < length held) × ((d : HeldDemand) → (get_or held place d).product ≡ product) → StandsAt held product place
+stands held count product place are here = (
+  (omega (arith, here.0), λ k d low high. subst (λ p. (get_or held k d).product < p) (here.1 d) (rising 0 held count k place d d are high here.0)),
+  here.0,
+  here.1,
+)
 
 -- each is of some blocks and below the count
 pub held_at : (from : ℕ) (held : List HeldDemand) (count place : ℕ) (d : HeldDemand) → AreHeld from held count → place < length held

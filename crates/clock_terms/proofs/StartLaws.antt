@@ -1,5 +1,5 @@
 -- Where a search for a product begins, where nothing is held and in a row that is read.
-use Rattle.std.proofs.Common.{◌≡◌, ℕ, ◌-◌, ◌/◌, ◌<◌, List, length, get_or, replicate, ap, sym, subst, ◌∙◌, arith}
+use Rattle.std.proofs.Common.{◌≡◌, ℕ, ◌/◌, ◌<◌, List, length, get_or, replicate, ap, sym, subst, ◌∙◌, arith}
 use Rattle.std.proofs.lemmas.List.{get_or_default, get_or-replicate, length-replicate}
 use Rattle.clock_terms.specs.declared.row.HeldDemand.{HeldDemand}
 use Rattle.clock_terms.specs.HeldDemands.{demands_of}

@@ -77,6 +77,21 @@ pub(crate) fn place_of(held: &[HeldDemand], from: usize, product: usize) -> Resu
     }
 }
 
+/// The same, looked for from the start of the product's block. Where all products of the block are held, it stands as far
+/// behind the start as the product behind the block's first one.
+fn place_in_block(held: &[HeldDemand], start: usize, product: usize) -> Result<usize, usize>
+    requires order { (count : ℕ) × AreHeld 0 held.now count }
+    requires start { IsStart held.now product start }
+    ensures stands { IfOk result (λ place. StandsAt held.now product place) }
+    ensures lacks { IfErr result (λ place. WouldStandAt held.now product place) }
+{
+    let likely = start.wrapping_add(product % BLOCK);
+    if is_at(held, likely, product) {
+        return Ok(likely);
+    }
+    place_of(held, start, product)
+}
+
 /// The demand for a product whose place was looked for.
 pub(crate) fn demand_at(held: &[HeldDemand], place: Result<usize, usize>, product: usize) -> u64
     requires held { (count : ℕ) × AreHeld 0 held.now count }
@@ -355,7 +370,7 @@ impl Row {
         ensures small { result ≤ most_supply }
     {
         let held = self.held.as_slice();
-        let place = place_of(held, self.starts[product / BLOCK] as usize, product);
+        let place = place_in_block(held, self.starts[product / BLOCK] as usize, product);
         match place {
             Ok(place) => *near = place,
             Err(place) => *near = place,
@@ -372,7 +387,7 @@ impl Row {
         ensures changed { self.new ≡ slice_set self.old product (demand_after new (slice_index self.old product)) }
     {
         let start = self.starts[product / BLOCK] as usize;
-        let place = place_of(self.held.as_slice(), start, product);
+        let place = place_in_block(self.held.as_slice(), start, product);
         let before = demand_at(self.held.as_slice(), place, product);
         let one = HeldDemand {
             product: product as u16,
