@@ -86,6 +86,25 @@ fn ends_bid(bytes: &[u8], at: usize) -> bool
     bytes[at + 1] == b','
 }
 
+/// The quantity of a bid that stands there, as [`digits_at`] reads it: mostly a single digit, with the bid's end behind it.
+#[inline(always)]
+fn quantity_at(bytes: &[u8], start: usize) -> Option<(u64, usize)>
+    requires { start + 16 ≤ length bytes.now }
+    ensures few { IfSome result (λ r. (start < r.1) × (r.1 ≤ start + 16)) }
+    ensures small { IfSome result (λ r. r.0 < 2 ^ 64) }
+    ensures value { IfSome result (λ r. ends_word (drop r.1 bytes.now) ≡ true
+        → lex between (drop start bytes.now) ≡ token (number (decimal r.0)) ∷ lex between (drop r.1 bytes.now)) }
+{
+    let byte = bytes[start];
+    if byte < b'0' || byte > b'9' {
+        return None;
+    }
+    if bytes[start + 1] == b'}' {
+        return Some((byte as u64 - 48, start + 1));
+    }
+    digits_at(bytes, start)
+}
+
 /// The numbers of a bid that is written so.
 #[derive(Clone, Copy)]
 pub struct CompactBid {
@@ -125,7 +144,7 @@ pub(crate) fn compact_bid_at(bytes: &[u8], start: usize) -> Option<(CompactBid, 
     if !has_quantity(bytes, behind_product) {
         return None;
     }
-    let (quantity, behind_quantity) = digits_at(bytes, behind_product + 12)?;
+    let (quantity, behind_quantity) = quantity_at(bytes, behind_product + 12)?;
     if !ends_bid(bytes, behind_quantity) {
         return None;
     }
