@@ -30,9 +30,9 @@ parsed bytes headers r tight all (h, at) =
     (h, (found_of_reads bytes h tight reads).head, at)
 
 -- a head that is there is found, so where none is found there is none
-pub not_parsed : (bytes : List ℕ) (headers : List HeaderSpan) (result : Result (Status RequestSpans) Error) → line_ends bytes - 2 ≤ 64 → is_loose bytes ≡ false
-    → FindsRequest bytes 64 headers result → (IsCompleteAnd result (λ r. r.len ≡ length bytes) → ⊥) → head_of bytes ≡ None
-not_parsed bytes headers result few tight finds missing = by (head_of bytes) refl
+pub not_parsed : (bytes : List ℕ) (room : ℕ) (headers : List HeaderSpan) (result : Result (Status RequestSpans) Error) → line_ends bytes - 2 ≤ room
+    → is_loose bytes ≡ false → FindsRequest bytes room headers result → (IsCompleteAnd result (λ r. r.len ≡ length bytes) → ⊥) → head_of bytes ≡ None
+not_parsed bytes room headers result few tight finds missing = by (head_of bytes) refl
   where
     weaker : (q : Result (Status RequestSpans) Error) (h : RequestHead) → bytes ≡ print_request h ++ []
         → IsCompleteAnd q (λ r. IsRequestAt bytes headers r h) → IsCompleteAnd q (λ r. r.len ≡ length bytes)
@@ -45,7 +45,7 @@ not_parsed bytes headers result few tight finds missing = by (head_of bytes) ref
     by (Some h) e =
         let reads = head_of_reads bytes h e in
         let found = found_of_reads bytes h tight reads in
-        let fits : length h.fields ≤ 64 = omega (arith, found.count) in
+        let fits : length h.fields ≤ room = omega (arith, found.count, few) in
         absurd (missing (weaker result h reads.1 (finds h [] reads fits)))
 
 abbrev parted : List ℕ → List ℕ → Option (List ℕ) → ℕ → Result (Head × ℕ) Code

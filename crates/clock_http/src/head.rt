@@ -1,4 +1,4 @@
-ghost use Rattle.std.specs.Prelude.{◌≡◌, ◌==◌, position, ◌≤◌, ◌-◌, length, false, Some, None, IfSome, IfNone, IfOk};
+ghost use Rattle.std.specs.Prelude.{◌≡◌, ◌==◌, position, ◌≤◌, ◌+◌, ◌-◌, length, false, Some, None, IfSome, IfNone, IfOk};
 ghost use Rattle.httparse.specs.Grammar.{RequestHead};
 ghost use Rattle.httparse.specs.Spans.{IsRequestWithin, IsRequestAt, IsWithin, span_bytes};
 ghost use Rattle.clock_http.specs.Heads.{head_of};
@@ -17,6 +17,9 @@ use httparse::spans::{EMPTY_HEADER_SPAN, HeaderSpan, RequestSpans, Span, parse_r
 /// The most header lines of a head.
 const LINE_LIMIT: usize = 64;
 
+/// How many header lines most heads have at most. Each place is cleared before it is written, so few are made for those.
+const FEW_LINES: usize = 8;
+
 /// Where the parts of an ended head stand in its text, and how long it and its body are.
 #[derive(Clone, Copy, Debug)]
 pub struct EndedHead {
@@ -34,8 +37,7 @@ pub struct EndedHead {
 
 /// The parts of an ended head.
 fn parse_head(bytes: &[u8], headers: &mut [HeaderSpan]) -> Option<RequestSpans>
-    requires room { length headers.old ≡ LINE_LIMIT }
-    requires few { count_of_line_ends bytes.now - 2 ≤ LINE_LIMIT }
+    requires room { count_of_line_ends bytes.now - 2 ≤ length headers.old }
     requires tight { is_loose_text bytes.now ≡ false }
     ensures none { IfNone result (head_of bytes.now ≡ None) }
     ensures within { IfSome result (λ r. IsRequestWithin bytes.now headers.new r) }
@@ -77,6 +79,29 @@ fn path_of(text: &[u8], target: Span) -> Span
     }
 }
 
+/// The parts of a head whose lines end as they should, with room for the places of so many header lines.
+fn read_parts(bytes: &[u8], spans: &mut [HeaderSpan]) -> Result<EndedHead, Code>
+    requires room { count_of_line_ends bytes.now - 2 ≤ length spans.old }
+    requires few { count_of_line_ends bytes.now ≤ LINE_LIMIT + 2 }
+    requires tight { is_loose_text bytes.now ≡ false }
+    ensures shown { shown_read bytes.now result ≡ head_with_length bytes.now }
+    ensures within { IfOk result (IsHeadWithin (length bytes.now)) }
+    ensures all { IfOk result (λ head. head.length ≡ length bytes.now) }
+{
+    let Some(found) = parse_head(bytes, spans) else {
+        return Err(Code::BadHead);
+    };
+    let fields = fields_of(bytes, &spans[..found.headers]);
+    let body = fields.body_length(bytes)?;
+    Ok(EndedHead {
+        method: found.method,
+        path: path_of(bytes, found.path),
+        token: fields.token(bytes),
+        length: bytes.len(),
+        body,
+    })
+}
+
 /// What an ended head says, or why it is refused. httparse is asked once, of exactly these bytes.
 pub(crate) fn read_head(bytes: &[u8]) -> Result<EndedHead, Code>
     ensures shown { shown_read bytes.now result ≡ head_with_length bytes.now }
@@ -90,17 +115,8 @@ pub(crate) fn read_head(bytes: &[u8]) -> Result<EndedHead, Code>
     if ends.loose {
         return Err(Code::BadHead);
     }
-    let mut spans = [EMPTY_HEADER_SPAN; LINE_LIMIT];
-    let Some(found) = parse_head(bytes, &mut spans) else {
-        return Err(Code::BadHead);
-    };
-    let fields = fields_of(bytes, &spans[..found.headers]);
-    let body = fields.body_length(bytes)?;
-    Ok(EndedHead {
-        method: found.method,
-        path: path_of(bytes, found.path),
-        token: fields.token(bytes),
-        length: bytes.len(),
-        body,
-    })
+    if ends.count <= FEW_LINES + 2 {
+        return read_parts(bytes, &mut [EMPTY_HEADER_SPAN; FEW_LINES]);
+    }
+    read_parts(bytes, &mut [EMPTY_HEADER_SPAN; LINE_LIMIT])
 }

@@ -3,7 +3,7 @@ use Rattle.httparse.specs.declared.Error.{Error}
 use Rattle.httparse.specs.declared.Status.{Status}
 use Rattle.httparse.specs.declared.spans.RequestSpans.{RequestSpans}
 use Rattle.httparse.specs.Outcome.{IfComplete, IsCompleteAnd}
-use Rattle.httparse.specs.Spans.{FindsRequest, IsRequestOf}
+use Rattle.httparse.specs.Spans.{IsRequestOf}
 use Rattle.clock_http.proofs.TextLaws.{parsed, not_parsed}
 use Rattle.clock_http.proofs.head.parse_head.Goals as goal
 
@@ -17,19 +17,16 @@ returns-then-found-bytes-clause-found c =
 pub returns-else-found-bytes-clause-none : goal.returns-else-found-bytes-clause-none
 returns-else-found-bytes-clause-none c =
     let is = c.in-Ok-Complete.is ∙ ap Ok c.in-Ok-Complete.field-0-is in
-    let finds = subst (λ n. FindsRequest c.args.bytes.now n c.parse_request.new.headers c.parse_request.result) c.requires.room c.parse_request.ensures.found in
-    not_parsed _ _ _ c.requires.few c.requires.tight finds
+    not_parsed _ _ _ _ c.requires.room c.requires.tight c.parse_request.ensures.found
     (λ h. c.if-found-bytes.false (subst (λ (r : Result (Status RequestSpans) Error). IsCompleteAnd r (λ r. r.len ≡ length c.args.bytes.now)) is h))
 
 pub returns-in-Ok-Partial-clause-none : goal.returns-in-Ok-Partial-clause-none
 returns-in-Ok-Partial-clause-none c =
     let is = c.in-Ok-Partial.is ∙ ap Ok c.in-Ok-Partial.field-0-is in
-    let finds = subst (λ n. FindsRequest c.args.bytes.now n c.parse_request.new.headers c.parse_request.result) c.requires.room c.parse_request.ensures.found in
-    not_parsed _ _ _ c.requires.few c.requires.tight finds
+    not_parsed _ _ _ _ c.requires.room c.requires.tight c.parse_request.ensures.found
     (subst (λ (r : Result (Status RequestSpans) Error). IsCompleteAnd r (λ r. r.len ≡ length c.args.bytes.now)) is)
 
 pub returns-in-Err-clause-none : goal.returns-in-Err-clause-none
 returns-in-Err-clause-none c =
-    let finds = subst (λ n. FindsRequest c.args.bytes.now n c.parse_request.new.headers c.parse_request.result) c.requires.room c.parse_request.ensures.found in
-    not_parsed _ _ _ c.requires.few c.requires.tight finds
+    not_parsed _ _ _ _ c.requires.room c.requires.tight c.parse_request.ensures.found
     (subst (λ (r : Result (Status RequestSpans) Error). IsCompleteAnd r (λ r. r.len ≡ length c.args.bytes.now)) c.in-Err.is)
