@@ -78,29 +78,20 @@ impl<'v> ScannedMembers<'v> for FoundClose {
         FoundClose::default()
     }
 
-    fn read_member(&mut self, alloc: Global, scan: &mut Scan<'v>) -> Result<(), ScanStop> {
-        let key = scan.key()?;
+    fn read(&mut self, alloc: Global, key: &[u8], scan: &mut Scan<'v>) -> Result<(), ScanStop> {
         if is_key(key, "ties") {
             let room = scan.bytes_left() / SHORT_TIE;
-            let ties = scanned_parts::<TieReader>(alloc, scan, room)?;
-            self.ties = Some(ties);
-            return Ok(());
+            self.ties = Some(scanned_parts::<TieReader>(alloc, scan, room)?);
+        } else if is_key(key, "increments") {
+            self.increments = Some(scan.numbers(alloc)?);
+        } else if is_key(key, "increment") {
+            self.increment = Some(scan.number()?);
+        } else if is_key(key, "round") {
+            self.round = Some(scan.number()?);
+        } else {
+            return Err(ScanStop::Unusual);
         }
-        if is_key(key, "increments") {
-            let increments = scan.numbers(alloc)?;
-            self.increments = Some(increments);
-            return Ok(());
-        }
-        let number = scan.number()?;
-        if is_key(key, "increment") {
-            self.increment = Some(number);
-            return Ok(());
-        }
-        if is_key(key, "round") {
-            self.round = Some(number);
-            return Ok(());
-        }
-        Err(ScanStop::Unusual)
+        Ok(())
     }
 
     fn whole(self) -> Option<CloseBody> {

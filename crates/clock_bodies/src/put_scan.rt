@@ -36,22 +36,18 @@ impl<'v> ScannedMembers<'v> for FoundBid {
     }
 
     #[inline(always)]
-    fn read_member(&mut self, _alloc: Global, scan: &mut Scan<'v>) -> Result<(), ScanStop> {
-        let key = scan.key()?;
-        let number = scan.number()?;
+    fn read(&mut self, _alloc: Global, key: &[u8], scan: &mut Scan<'v>) -> Result<(), ScanStop> {
+        let number = Some(scan.number()?);
         if is_key(key, "price") {
-            self.price = Some(number);
-            return Ok(());
+            self.price = number;
+        } else if is_key(key, "product") {
+            self.product = number;
+        } else if is_key(key, "quantity") {
+            self.quantity = number;
+        } else {
+            return Err(ScanStop::Unusual);
         }
-        if is_key(key, "product") {
-            self.product = Some(number);
-            return Ok(());
-        }
-        if is_key(key, "quantity") {
-            self.quantity = Some(number);
-            return Ok(());
-        }
-        Err(ScanStop::Unusual)
+        Ok(())
     }
 
     #[inline(always)]
@@ -138,19 +134,15 @@ impl<'v> ScannedMembers<'v> for FoundPut {
         FoundPut::default()
     }
 
-    fn read_member(&mut self, alloc: Global, scan: &mut Scan<'v>) -> Result<(), ScanStop> {
-        let key = scan.key()?;
+    fn read(&mut self, alloc: Global, key: &[u8], scan: &mut Scan<'v>) -> Result<(), ScanStop> {
         if is_key(key, "round") {
-            let round = scan.number()?;
-            self.round = Some(round);
-            return Ok(());
+            self.round = Some(scan.number()?);
+        } else if is_key(key, "bids") {
+            self.bids = Some(bids(alloc, scan)?);
+        } else {
+            return Err(ScanStop::Unusual);
         }
-        if is_key(key, "bids") {
-            let bids = bids(alloc, scan)?;
-            self.bids = Some(bids);
-            return Ok(());
-        }
-        Err(ScanStop::Unusual)
+        Ok(())
     }
 
     fn whole(self) -> Option<PutBody> {

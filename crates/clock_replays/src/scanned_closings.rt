@@ -28,24 +28,17 @@ impl<'v> ScannedMembers<'v> for FoundClosing {
         FoundClosing::default()
     }
 
-    fn read_member(&mut self, alloc: Global, scan: &mut Scan<'v>) -> Result<(), ScanStop> {
-        let key = scan.key()?;
+    fn read(&mut self, alloc: Global, key: &[u8], scan: &mut Scan<'v>) -> Result<(), ScanStop> {
         if is_key(key, "ties") {
-            let ties = scanned_parts::<TieReader>(alloc, scan, 0)?;
-            self.ties = Some(ties);
-            return Ok(());
+            self.ties = Some(scanned_parts::<TieReader>(alloc, scan, 0)?);
+        } else if is_key(key, "increments") {
+            self.increments = Some(scan.numbers(alloc)?);
+        } else if is_key(key, "increment") {
+            self.increment = Some(scan.number()?);
+        } else {
+            return Err(ScanStop::Unusual);
         }
-        if is_key(key, "increments") {
-            let increments = scan.numbers(alloc)?;
-            self.increments = Some(increments);
-            return Ok(());
-        }
-        if is_key(key, "increment") {
-            let increment = scan.number()?;
-            self.increment = Some(increment);
-            return Ok(());
-        }
-        Err(ScanStop::Unusual)
+        Ok(())
     }
 
     fn whole(self) -> Option<Closing> {

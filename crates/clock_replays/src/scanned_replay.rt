@@ -39,22 +39,18 @@ impl<'v> ScannedMembers<'v> for FoundReplay {
         FoundReplay::default()
     }
 
-    fn read_member(&mut self, alloc: Global, scan: &mut Scan<'v>) -> Result<(), ScanStop> {
-        let key = scan.key()?;
+    fn read(&mut self, alloc: Global, key: &[u8], scan: &mut Scan<'v>) -> Result<(), ScanStop> {
         if is_key(key, "scripts") {
             self.scripts = Some(scanned_parts::<FoundScript>(alloc, scan, 0)?);
-            return Ok(());
-        }
-        if is_key(key, "closings") {
+        } else if is_key(key, "closings") {
             self.closings = Some(scanned_parts::<FoundClosing>(alloc, scan, 0)?);
-            return Ok(());
-        }
-        if is_key(key, "setup") {
+        } else if is_key(key, "setup") {
             let setup = next_setup(alloc, scan)?;
             self.held = Some(HeldSetup { setup });
-            return Ok(());
+        } else {
+            return Err(ScanStop::Unusual);
         }
-        Err(ScanStop::Unusual)
+        Ok(())
     }
 
     fn whole(self) -> Option<ScannedReplay> {

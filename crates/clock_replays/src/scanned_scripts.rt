@@ -92,27 +92,20 @@ impl<'v> ScannedMembers<'v> for FoundScript {
         FoundScript::default()
     }
 
-    fn read_member(&mut self, alloc: Global, scan: &mut Scan<'v>) -> Result<(), ScanStop> {
-        let key = scan.key()?;
+    fn read(&mut self, alloc: Global, key: &[u8], scan: &mut Scan<'v>) -> Result<(), ScanStop> {
         if is_key(key, "limits") {
-            let limits = limit_lists(alloc, scan)?;
-            self.limits = Some(limits);
-            return Ok(());
-        }
-        if is_key(key, "sheets") {
-            let sheets = scanned_parts::<SheetReader>(alloc, scan, 0)?;
-            self.sheets = Some(sheets);
-            return Ok(());
-        }
-        if is_key(key, "kind") {
-            let word = scan.text()?;
-            let Some(kind) = kind_of(word) else {
+            self.limits = Some(limit_lists(alloc, scan)?);
+        } else if is_key(key, "sheets") {
+            self.sheets = Some(scanned_parts::<SheetReader>(alloc, scan, 0)?);
+        } else if is_key(key, "kind") {
+            let Some(kind) = kind_of(scan.text()?) else {
                 return Err(ScanStop::Unusual);
             };
             self.kind = Some(kind);
-            return Ok(());
+        } else {
+            return Err(ScanStop::Unusual);
         }
-        Err(ScanStop::Unusual)
+        Ok(())
     }
 
     fn whole(self) -> Option<Script> {

@@ -9,7 +9,7 @@ use Rattle.json.specs.Lex as lexer
 use Rattle.json.specs.Lex.{Lexeme, Place, may_begin, token, comma, colon, lex, between, punctuate}
 use Rattle.serde_json.specs.Data.{no_members, put}
 use Rattle.clock_scan.specs.Reading.{whole, numbers, Reads}
-use Rattle.clock_scan.specs.Members.{HasMembers}
+use Rattle.clock_scan.specs.inside.Reading.{HasMembers}
 use Rattle.clock_scan.specs.Compact.{compact_bid}
 use Rattle.clock_scan.specs.declared.compact.CompactBid.{CompactBid}
 use Rattle.clock_scan.proofs.LexLaws.{at_byte, begun}

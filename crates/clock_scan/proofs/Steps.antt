@@ -1,6 +1,7 @@
 -- Laws of reading: a list item by item, an object member by member, and the whole text.
 use Rattle.std.proofs.Common.{◌≡◌, ℕ, zero, suc, ◌-◌, ◌<◌, ◌≤◌, ◌^◌, true, List, [], ◌∷◌, ◌++◌, length, decimal, map, replicate, Option, Some, None, refl, sym, ap}
 use Rattle.std.proofs.Common.{◌∙◌, subst, arith, Bool, false, not, ◌||◌, ◌+◌, drop, get_or}
+use Rattle.std.specs.Option.{IsSomeAnd}
 use Rattle.std.proofs.lemmas.Bool.{true≢false, false≢true}
 use Rattle.std.proofs.lemmas.List.{append-nil, append_assoc}
 use Rattle.json.specs.Token.{Token}
@@ -13,8 +14,8 @@ use Rattle.serde_json.specs.Data.{Data, Items, item, array, object, string, null
 use Rattle.serde_json.specs.Read.{of_json, converted, read}
 use Rattle.serde_json.proofs.Numbers.{number_of-decimal}
 use Rattle.clock_scan.specs.Reading.{whole, items_before, items_of, Fields, members_of, Reads, ReadsAll}
-use Rattle.clock_scan.specs.Members.{HasMembers, AddsMember}
-use Rattle.clock_scan.specs.inside.Reading.{with_field, is_field, HasItems}
+use Rattle.clock_scan.specs.Members.{value_at, with_field, is_field, ReadsField}
+use Rattle.clock_scan.specs.inside.Reading.{HasItems, HasMembers}
 use Rattle.clock_scan.proofs.Turns.{converted_some, item_read, items_over, member_read, members_over, object_read, array_read, last, last_read}
 use Rattle.clock_scan.proofs.FieldLaws.{put_in}
 use Rattle.clock_scan.proofs.LexLaws.{space_at, at_end}
@@ -195,14 +196,20 @@ members_end levels first start old new found opened has closed = λ depth enough
     let inside = has.2 (depth - 1) (omega (arith, enough)) ∙ members_over (json.value (depth - 1)) found has.0 old new has.1 (ap read_key closed) in
     subst (λ n. converted of_json (json.value n first) ≡ Some (object found, new)) less (object_read (depth - 1) first start new found opened inside)
 
--- a member under one of the keys, whose value nests no deeper than others may
-pub adds_member : {few levels : ℕ} {old value new : List Token} {key name : List ℕ} {d : Data} (fields : Fields) → few ≤ levels
-    → old ≡ Token.key key ∷ value → key ≡ name → Reads few value d new → is_field name fields ≡ true
-    → AddsMember levels old fields new (with_field name d fields)
-adds_member {few} {levels} {old} {value} {new} {key} {name} {d} fields enough next same reads known = λ start has.
-    subst (λ ms. HasMembers levels start ms new) (put_in name d fields known)
-    (members_next levels start old value new (members_of fields) name d has (next ∙ ap (λ k. Token.key k ∷ value) same)
-    (reads_deeper few levels value d new enough reads))
+-- a member more, whose value was found
+found_member : (levels : ℕ) (start old value new : List Token) (key : List ℕ) (before after : Fields) (found : Option Data)
+    → HasMembers levels start (members_of before) old → old ≡ Token.key key ∷ value → is_field key before ≡ true → after ≡ with_field key found before
+    → IsSomeAnd found (λ d. Reads levels value d new) → HasMembers levels start (members_of after) new
+found_member levels start old value new key before after None has named known kept reads = absurd reads
+found_member levels start old value new key before after (Some d) has named known kept reads =
+    subst (λ ms. HasMembers levels start ms new) (put_in key d before known ∙ ap members_of (sym kept))
+    (members_next levels start old value new (members_of before) key d has named reads)
+
+-- a member more under one of the keys
+pub adds_member : (levels : ℕ) (start old value new : List Token) (key : List ℕ) (before after : Fields) → HasMembers levels start (members_of before) old
+    → old ≡ Token.key key ∷ value → ReadsField levels key value before new after → HasMembers levels start (members_of after) new
+adds_member levels start old value new key before after has named reads =
+    found_member levels start old value new key before after (value_at key after) has named reads.0 reads.1 reads.2
 
 -- ---- the whole text
 

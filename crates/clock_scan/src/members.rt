@@ -2,7 +2,7 @@
 ghost use Rattle.std.specs.Prelude.{◌≡◌, ℕ, suc, ◌<◌, length, IfSome, OnOk};
 ghost use Rattle.serde_json.specs.Data.{Data, no_members, object};
 ghost use Rattle.clock_scan.specs.Reading.{Fields, members_of};
-ghost use Rattle.clock_scan.specs.Members.{AddsMember};
+ghost use Rattle.clock_scan.specs.Members.{ReadsField};
 
 use crate::parts::PartReader;
 use crate::scan::Scan;
@@ -27,9 +27,9 @@ pub trait ScannedMembers<'v>: Sized + Drop {
     fn nothing() -> Self
         ensures { members_of (fields result) ≡ no_members };
 
-    /// Reads the member that is next, if its key is one of these.
-    fn read_member(&mut self, alloc: Global, scan: &mut Scan<'v>) -> Result<(), ScanStop>
-        ensures value { OnOk result (AddsMember levels scan.old (fields self.old) scan.new (fields self.new)) }
+    /// Reads the value that is next under a key, if the key is one of these.
+    fn read(&mut self, alloc: Global, key: &[u8], scan: &mut Scan<'v>) -> Result<(), ScanStop>
+        ensures value { OnOk result (ReadsField levels key.now scan.old (fields self.old) scan.new (fields self.new)) }
         ensures shorter { OnOk result (length scan.new < length scan.old) };
 
     /// What the object is, where all of it was found.
@@ -50,7 +50,8 @@ impl<'v, M: ScannedMembers<'v>> PartReader<'v> for M {
         }
         let mut found = M::nothing();
         'members: while !scan.closes_object() {
-            found.read_member(alloc, scan)?;
+            let key = scan.key()?;
+            found.read(alloc, key, scan)?;
         }
         match found.whole() {
             Some(whole) => Ok(whole),

@@ -28,22 +28,17 @@ impl<'v> ScannedMembers<'v> for OpeningFound<'v> {
         OpeningFound::default()
     }
 
-    fn read_member(&mut self, alloc: Global, scan: &mut Scan<'v>) -> Result<(), ScanStop> {
-        let key = scan.key()?;
+    fn read(&mut self, alloc: Global, key: &[u8], scan: &mut Scan<'v>) -> Result<(), ScanStop> {
         if is_key(key, "demands") {
             self.demands = Some(scan.flat_rows(alloc)?);
-            return Ok(());
-        }
-        if is_key(key, "setup") {
+        } else if is_key(key, "setup") {
             self.setup = Some(SetupParts::part(alloc, scan)?);
-            return Ok(());
+        } else if is_key(key, "increment") {
+            self.increment = Some(scan.number()?);
+        } else {
+            return Err(ScanStop::Unusual);
         }
-        if is_key(key, "increment") {
-            let number = scan.number()?;
-            self.increment = Some(number);
-            return Ok(());
-        }
-        Err(ScanStop::Unusual)
+        Ok(())
     }
 
     fn whole(self) -> Option<OpeningEntries<'v>> {

@@ -50,35 +50,26 @@ impl<'v> ScannedMembers<'v> for ProductParts<'v> {
         ProductParts::default()
     }
 
-    fn read_member(&mut self, _alloc: Global, scan: &mut Scan<'v>) -> Result<(), ScanStop> {
-        let key = scan.key()?;
+    fn read(&mut self, _alloc: Global, key: &[u8], scan: &mut Scan<'v>) -> Result<(), ScanStop> {
         if is_key(key, "name") {
-            let text = scan.text()?;
-            self.name = Some(text);
+            self.name = Some(scan.text()?);
             return Ok(());
         }
-        let number = scan.number()?;
+        let number = Some(scan.number()?);
         if is_key(key, "cap") {
-            self.cap = Some(number);
-            return Ok(());
+            self.cap = number;
+        } else if is_key(key, "opening") {
+            self.opening = number;
+        } else if is_key(key, "supply") {
+            self.supply = number;
+        } else if is_key(key, "units") {
+            self.units = number;
+        } else if is_key(key, "granule") {
+            self.granule = number;
+        } else {
+            return Err(ScanStop::Unusual);
         }
-        if is_key(key, "opening") {
-            self.opening = Some(number);
-            return Ok(());
-        }
-        if is_key(key, "supply") {
-            self.supply = Some(number);
-            return Ok(());
-        }
-        if is_key(key, "units") {
-            self.units = Some(number);
-            return Ok(());
-        }
-        if is_key(key, "granule") {
-            self.granule = Some(number);
-            return Ok(());
-        }
-        Err(ScanStop::Unusual)
+        Ok(())
     }
 
     fn whole(self) -> Option<VersionedProduct<'v>> {
@@ -160,23 +151,17 @@ impl<'v> ScannedMembers<'v> for BidderParts<'v> {
         BidderParts::default()
     }
 
-    fn read_member(&mut self, _alloc: Global, scan: &mut Scan<'v>) -> Result<(), ScanStop> {
-        let key = scan.key()?;
-        if is_key(key, "eligibility") {
-            let number = scan.number()?;
-            self.eligibility = Some(number);
-            return Ok(());
-        }
-        let text = scan.text()?;
+    fn read(&mut self, _alloc: Global, key: &[u8], scan: &mut Scan<'v>) -> Result<(), ScanStop> {
         if is_key(key, "name") {
-            self.name = Some(text);
-            return Ok(());
+            self.name = Some(scan.text()?);
+        } else if is_key(key, "token") {
+            self.token = Some(scan.text()?);
+        } else if is_key(key, "eligibility") {
+            self.eligibility = Some(scan.number()?);
+        } else {
+            return Err(ScanStop::Unusual);
         }
-        if is_key(key, "token") {
-            self.token = Some(text);
-            return Ok(());
-        }
-        Err(ScanStop::Unusual)
+        Ok(())
     }
 
     fn whole(self) -> Option<BidderEntry<'v>> {
@@ -229,35 +214,23 @@ impl<'v> ScannedMembers<'v> for SetupParts<'v> {
         SetupParts::default()
     }
 
-    fn read_member(&mut self, alloc: Global, scan: &mut Scan<'v>) -> Result<(), ScanStop> {
-        let key = scan.key()?;
+    fn read(&mut self, alloc: Global, key: &[u8], scan: &mut Scan<'v>) -> Result<(), ScanStop> {
         if is_key(key, "products") {
             self.products = Some(products(alloc, scan)?);
-            return Ok(());
-        }
-        if is_key(key, "bidders") {
+        } else if is_key(key, "bidders") {
             self.bidders = Some(scanned_parts::<BidderParts>(alloc, scan, 0)?);
-            return Ok(());
+        } else if is_key(key, "operator") {
+            self.operator = Some(scan.text()?);
+        } else if is_key(key, "version") {
+            self.version = Some(scan.number()?);
+        } else if is_key(key, "requirement") {
+            self.requirement = Some(scan.number()?);
+        } else if is_key(key, "limit") {
+            self.limit = Some(scan.number()?);
+        } else {
+            return Err(ScanStop::Unusual);
         }
-        if is_key(key, "operator") {
-            let text = scan.text()?;
-            self.operator = Some(text);
-            return Ok(());
-        }
-        let number = scan.number()?;
-        if is_key(key, "version") {
-            self.version = Some(number);
-            return Ok(());
-        }
-        if is_key(key, "requirement") {
-            self.requirement = Some(number);
-            return Ok(());
-        }
-        if is_key(key, "limit") {
-            self.limit = Some(number);
-            return Ok(());
-        }
-        Err(ScanStop::Unusual)
+        Ok(())
     }
 
     fn whole(self) -> Option<ScannedSetup<'v>> {

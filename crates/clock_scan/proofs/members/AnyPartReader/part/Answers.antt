@@ -1,7 +1,7 @@
 use Rattle.std.proofs.Common.{◌≡◌, ◌∷◌, suc, length, sym, ap, subst, arith}
 use Rattle.clock_scan.specs.Reading.{Token, Reads, members_of}
-use Rattle.clock_scan.specs.Members.{HasMembers}
-use Rattle.clock_scan.proofs.Steps.{members_start, members_end}
+use Rattle.clock_scan.specs.inside.Reading.{HasMembers}
+use Rattle.clock_scan.proofs.Steps.{members_start, adds_member, members_end}
 use Rattle.clock_scan.proofs.members.AnyPartReader.part.Goals as goal
 
 pub members-init : goal.members-init
@@ -13,11 +13,12 @@ members-init g c =
 pub members-preserved : goal.members-preserved
 members-preserved g c =
     let l = c.members in
+    let members = g.M.ScannedMembers in
     let start = c.opens_object.new.self in
-    let same : c.closes_object.new.self ≡ l.scan = grind arith in (
-      c.in_ok-read_member.ensures.value start
-          (subst (λ ts. HasMembers g.M.ScannedMembers.levels start (members_of (g.M.ScannedMembers.fields l.found)) ts) (sym same) l.invariant.0),
-      omega (arith, l.invariant.1, c.in_ok-read_member.ensures.shorter, ap length same),
+    let same : c.closes_object.new.self ≡ l.scan = grind arith in
+    let has = subst (λ ts. HasMembers members.levels start (members_of (members.fields l.found)) ts) (sym same) l.invariant.0 in (
+      adds_member members.levels start _ _ _ _ _ _ has c.in_ok-key.ensures c.in_ok-read.ensures.value,
+      omega (arith, l.invariant.1, c.in_ok-read.ensures.shorter, ap length c.in_ok-key.ensures, ap length same),
     )
 
 pub returns-in-Some-clause-value : goal.returns-in-Some-clause-value

@@ -1,6 +1,6 @@
 use Rattle.std.proofs.Common.{length, ◌≤◌}
 use Rattle.clock_scan.specs.Reading.{members_of}
-use Rattle.clock_scan.specs.Members.{HasMembers}
+use Rattle.clock_scan.specs.inside.Reading.{HasMembers}
 use Rattle.clock_scan.proofs.members.AnyPartReader.part.Given as goal
 
 abbrev pub invariant-members : goal.invariant-members
