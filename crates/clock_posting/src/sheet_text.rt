@@ -1,9 +1,11 @@
-ghost use Rattle.std.specs.Prelude.{◌≡◌, ◌++◌, length, IfOk, OnOk};
-ghost use Rattle.clock_posting.specs.SheetText.{sheet_text, line_text};
+ghost use Rattle.std.specs.Prelude.{◌≡◌, ◌++◌, decimal, length, IfOk, OnOk};
+ghost use Rattle.clock_device.specs.Decimal.{number_or_dash};
+ghost use Rattle.clock_posting.specs.SheetText.{sheet_text, lines_text, line_text};
 
 use crate::sheet::{Line, RoundSheet};
 use clock_device::{NoMemory, Text};
 use clock_terms::{Product, Setup};
+use itoa::Buffer;
 use std::alloc::Global;
 
 /// The lines that tell a round's sheet: `round N`, then for each product
@@ -19,31 +21,101 @@ pub fn sheet_lines(alloc: Global, setup: &Setup, sheet: &RoundSheet) -> Result<T
     requires { length sheet.now.lines ≡ length setup.now.products }
     ensures { IfOk result (λ text. text ≡ sheet_text setup.now.products sheet.now) }
 {
-    let products = setup.products.as_slice();
-    let mut text = Text::from_slice(alloc, b"round ")?;
-    text.push_number(sheet.round)?;
-    text.push(b'\n')?;
-    for (i, line) in sheet.lines.as_slice().iter().enumerate() {
-        push_line(&mut text, &products[i], line)?;
-    }
+    let mut text = Text::new(alloc);
+    push_sheet_lines(&mut text, setup, sheet)?;
     Ok(text)
 }
 
-/// Adds the line of a product.
+/// Adds the lines that tell a round's sheet to a text, as [`sheet_lines`] has them.
+pub fn push_sheet_lines(text: &mut Text, setup: &Setup, sheet: &RoundSheet) -> Result<(), NoMemory>
+    requires { length sheet.now.lines ≡ length setup.now.products }
+    ensures { OnOk result (text.new ≡ text.old ++ sheet_text setup.now.products sheet.now) }
+{
+    text.extend_from_slice(b"round ")?;
+    text.push_number(sheet.round)?;
+    text.push(b'\n')?;
+    push_lines(text, setup.products.as_slice(), sheet.lines.as_slice())
+}
+
+/// Adds the lines of the products.
+fn push_lines(text: &mut Text, products: &[Product], lines: &[Line]) -> Result<(), NoMemory>
+    requires { length lines.now ≡ length products.now }
+    ensures { OnOk result (text.new ≡ text.old ++ lines_text products.now lines.now) }
+{
+    for (i, line) in lines.iter().enumerate() {
+        push_line(text, &products[i], line)?;
+    }
+    Ok(())
+}
+
+/// A number and the digits that it is written in.
+#[derive(Clone, Copy)]
+struct Written<'a> {
+    number: u64,
+    digits: &'a [u8],
+}
+
+/// Adds a number, in digits that are written already where it is one of two others.
+fn push_again(
+    text: &mut Text,
+    number: u64,
+    first: &Written<'_>,
+    second: &Written<'_>,
+) -> Result<(), NoMemory>
+    requires first { first.now.digits.now ≡ decimal first.now.number }
+    requires second { second.now.digits.now ≡ decimal second.now.number }
+    ensures { OnOk result (text.new ≡ text.old ++ decimal number) }
+{
+    if number == second.number {
+        return text.extend_from_slice(second.digits);
+    }
+    if number == first.number {
+        return text.extend_from_slice(first.digits);
+    }
+    text.push_number(number)
+}
+
+/// Adds a next clock price, or a dash where there is none.
+fn push_next(
+    text: &mut Text,
+    next: Option<u64>,
+    start: &Written<'_>,
+    clock: &Written<'_>,
+) -> Result<(), NoMemory>
+    requires start { start.now.digits.now ≡ decimal start.now.number }
+    requires clock { clock.now.digits.now ≡ decimal clock.now.number }
+    ensures { OnOk result (text.new ≡ text.old ++ number_or_dash next) }
+{
+    match next {
+        Some(next) => push_again(text, next, start, clock),
+        None => text.push(b'-'),
+    }
+}
+
+/// Adds the line of a product. Its posted price and its next clock price are mostly its start or clock price again.
 fn push_line(text: &mut Text, product: &Product, line: &Line) -> Result<(), NoMemory>
     ensures { OnOk result (text.new ≡ text.old ++ line_text product.now line.now) }
 {
+    let (mut start_room, mut clock_room) = (Buffer::new(), Buffer::new());
+    let start = Written {
+        number: line.start.get(),
+        digits: start_room.format(line.start.get()).as_bytes(),
+    };
+    let clock = Written {
+        number: line.clock.get(),
+        digits: clock_room.format(line.clock.get()).as_bytes(),
+    };
     text.extend_from_slice(product.name.as_slice())?;
     text.push(b' ')?;
-    text.push_number(line.start.get())?;
+    text.extend_from_slice(start.digits)?;
     text.push(b' ')?;
-    text.push_number(line.clock.get())?;
+    text.extend_from_slice(clock.digits)?;
     text.push(b' ')?;
-    text.push_number(line.posted.get())?;
+    push_again(text, line.posted.get(), &start, &clock)?;
     text.push(b' ')?;
     text.push_or_dash(line.demand)?;
     text.push(b' ')?;
-    text.push_or_dash(line.next)?;
+    push_next(text, line.next, &start, &clock)?;
     text.push(b'\n')?;
     Ok(())
 }

@@ -85,19 +85,6 @@ head_came group i one initial old new fed is_group here is stand is_fed =
           (λ at. more.1.stands ∙ ap Some (sym came)),
     )
 
--- no head has come yet
-pub none_came : (connections : ConnectionFields) (group : List Request) → IsGroup connections group → StandFrom 0 connections group (heads_to 0)
-none_came connections group is_group = λ k other at below.
-    let no : nat_lt k 0 ≡ false = grind (arith, nat_tests) in
-    is_group.stand k other at below ∙ ap (λ (b : Bool). Some (if b then (get_or group k other).head else [])) (sym no)
-
--- all heads have come
-pub all_came : (connections : ConnectionFields) (group : List Request) (i : ℕ) → length group ≤ i → StandFrom 0 connections group (heads_to i)
-    → StandFrom 0 connections group (λ k one. one.head)
-all_came connections group i past stand = λ k other at below.
-    let yes : nat_lt k i ≡ true = grind (arith, nat_tests) in
-    stand k other at below ∙ ap (λ (b : Bool). Some (if b then (get_or group k other).head else [])) yes
-
 -- ---- bodies
 
 -- what came over the connection at a place
@@ -143,13 +130,6 @@ body_refused {U = U} {T = T} whole group i one initial now next fault below is b
     stops {U = U} {T = T} whole (one_step initial.setup one) (after_group initial.setup (drop (i + 1) group)) initial now next fault
     (before_body whole group i one initial now below is before)
     (subst (λ (setup : SetupFields). MakesStep {T = U} (one_step setup one) now next (Err fault)) before.setup made)
-
--- all are done
-pub bodies_done : {T : Type 0} (whole : Step) (group : List Request) (i : ℕ) (initial now : HouseFields) (done : T) → length group ≤ i
-    → IsOnWay whole (after_group initial.setup (drop i group)) initial now → MakesStep whole initial now (Ok done)
-bodies_done whole group i initial now done past before =
-    let P : List Request → Type 0 = λ rest. IsOnWay whole (after_group initial.setup rest) initial now in
-    ends whole (after_group initial.setup []) initial now done (subst P (drop_all i group past) before) (λ texts. refl)
 
 -- ---- one more waits
 

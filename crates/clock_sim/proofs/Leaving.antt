@@ -173,23 +173,6 @@ bids_of_blocks product past pair (x ∷ xs) h = law_by product past pair x xs h 
 pub one_back : (limits : List ℕ) (k : ℕ) → k < length limits → reverse (take (suc k) limits) ≡ get_or limits k 0 ∷ reverse (take k limits)
 one_back limits k below = ap reverse (take-suc limits k 0 below) ∙ reverse-append (take k limits) (get_or limits k 0 ∷ [])
 
--- the bid of a block is added, and those of the blocks before it are left
-pub block_added : (product past : ℕ) (pair : PricePair) (limits : List ℕ) (k : ℕ) (text next : List ℕ) → k < length limits
-    → Adds (bids_text (block_bid product (past + k) (leaving_price pair (get_or limits k 0)) (last_leaving pair (reverse (take k limits))))) text next
-    → next ++ bids_text (block_bids product past pair (reverse (take k limits)))
-    ≡ text ++ bids_text (block_bids product past pair (reverse (take (k + 1) limits)))
-block_added product past pair limits k text next below added =
-    let before = reverse (take k limits) in
-    let count : length before ≡ k = omega (arith, length-reverse (take k limits), length-take k limits) in
-    let bid = block_bid product (past + k) (leaving_price pair (get_or limits k 0)) (last_leaving pair before) in
-    let rest = block_bids product past pair before in
-    ap (λ (first : List ℕ). first ++ bids_text rest) added.is
-    ∙ append_assoc text (bids_text bid) (bids_text rest)
-    ∙ ap (λ (more : List ℕ). text ++ more) (sym (flat_map-append bid_text bid rest))
-    ∙ ap (λ (n : ℕ). text ++ bids_text (block_bid product (past + n) (leaving_price pair (get_or limits k 0)) (last_leaving pair before) ++ rest)) (sym count)
-    ∙ ap (λ (all : List ℕ). text ++ bids_text (block_bids product past pair all)) (sym (one_back limits k below))
-    ∙ ap (λ (n : ℕ). text ++ bids_text (block_bids product past pair (reverse (take n limits)))) (sym (add-one k))
-
 least_reversed : (limits : List ℕ) (low k : ℕ) → k ≤ length limits → ((i : ℕ) → i < k → low ≤ get_or limits i 0) → AtLeast low (reverse (take k limits))
 least_reversed limits low zero within h = tt
 least_reversed limits low (suc k) within h =
@@ -231,12 +214,6 @@ pub all_stay : (product held : ℕ) (pair : PricePair) (limits : List ℕ) → N
     → keeping_or_leaving product pair held (leaving_prices pair limits) ≡ bid_for product held pair.clock ∷ []
 all_stay product held pair limits falls none =
     none_first product held pair (leaving_prices pair limits) (sym (first_leaves pair (reverse limits) (rises_back limits falls)) ∙ none)
-
--- where the last block leaves, there are leaving prices
-pub some_leave : (product held : ℕ) (pair : PricePair) (limits : List ℕ) (price : ℕ) → NeverRises limits → last_leaving pair (reverse limits) ≡ Some price
-    → keeping_or_leaving product pair held (leaving_prices pair limits) ≡ leaving_bids product held (leaving_prices pair limits)
-some_leave product held pair limits price falls some =
-    some_first product held pair (leaving_prices pair limits) price (sym (first_leaves pair (reverse limits) (rises_back limits falls)) ∙ some)
 
 -- the first of some limits never rise either
 pub first_never_rise : (limits : List ℕ) (n : ℕ) → NeverRises limits → NeverRises (take n limits)

@@ -80,51 +80,6 @@ on_ok : {T : Type 0} (P : Type 0) (result : Result T SimFault) → P → OnOk re
 on_ok P (Ok done) is = is
 on_ok P (Err fault) is = tt
 
--- nothing is made
-pub same_way : {T : Type 0} (whole : Step) (old : HouseFields) (done : T) → MakesWay whole whole old old (Ok done)
-same_way whole old done = record { setup = refl; comes = λ texts stands. record { texts = texts; stands = stands; same = refl } }
-
--- one part of the steps is made, and then another
-pub two_ways : {U T : Type 0} (first left second last : Step) (old mid new : HouseFields) (done : U) (result : Result T SimFault)
-    → MakesWay first left old mid (Ok done) → MakesWay (λ texts. left texts >>= second) last mid new result
-    → MakesWay (λ texts. first texts >>= second) last old new result
-two_ways {T = T} first left second last old mid new done result one two = record {
-  setup = two.setup ∙ one.setup;
-  comes = λ texts stands.
-      let way = one.comes texts stands in
-      let P : Result Texts SimFault → Type 0 = λ answer. MatchResult result (λ (_ : T). IsLeft last answer new) (IsRefusal NoMemory answer) in
-      subst P (ap (λ (answer : Result Texts SimFault). answer >>= second) way.same) (two.comes way.texts way.stands);
-}
-
-pub first_stops : {U T : Type 0} (first left second last : Step) (old new : HouseFields) (fault : SimFault)
-    → MakesWay {T = U} first left old new (Err fault) → MakesWay {T = T} (λ texts. first texts >>= second) last old new (Err fault)
-first_stops first left second last old new fault one = record {
-  setup = one.setup;
-  comes = λ texts stands other. ap (λ (answer : Result Texts SimFault). answer >>= second) (one.comes texts stands other);
-}
-
--- the requests of a group are sent, and then one more
-pub sent_after : {U T : Type 0} (group waiting : List Request) (bidder round : ℕ) (text : List ℕ) (old mid new : HouseFields) (done : U)
-    (result : Result T SimFault)
-    → MakesStep (after_group old.setup group) old mid (Ok done) → length waiting ≡ 0
-    → MakesStep (λ texts. after_request mid.setup texts (Some bidder) round text) mid new result
-    → MakesWay (with_request old.setup group bidder round text) (after_group old.setup waiting) old new result
-sent_after group waiting bidder round text old mid new done result one none two =
-    whole_way (with_request old.setup group bidder round text) old.setup waiting old new result
-    (and_then (after_group old.setup group) (λ texts. after_request old.setup texts (Some bidder) round text) old mid new done result one
-    (subst (λ (setup : SetupFields). MakesStep (λ texts. after_request setup texts (Some bidder) round text) mid new result) one.setup two))
-    (on_ok (length waiting ≡ 0) result none)
-
--- one of them is refused
-pub refused_before : {U T : Type 0} (group : List Request) (rest : Step) (bidder round : ℕ) (text : List ℕ) (old new : HouseFields) (fault : SimFault)
-    → MakesStep {T = U} (after_group old.setup group) old new (Err fault)
-    → MakesWay {T = T} (with_request old.setup group bidder round text) rest old new (Err fault)
-refused_before group rest bidder round text old new fault one = record {
-  setup = one.setup;
-  comes = λ texts stands other.
-      ap (λ (answer : Result Texts SimFault). answer >>= (λ sent. after_request old.setup sent (Some bidder) round text)) (one.comes texts stands other);
-}
-
 -- one more waits
 pub one_waits : {T : Type 0} (group waiting : List Request) (one : Request) (text : List ℕ) (old new : HouseFields) (done : T) → new ≡ old
     → waiting ≡ group ++ one ∷ [] → text_in one ≡ text

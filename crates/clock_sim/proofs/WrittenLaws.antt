@@ -59,14 +59,6 @@ longer old new more rest waiting heads bodies = λ all.
       kept,
     )
 
--- where none waits, none does with other texts
-pub none_kept : (old new : Group) → old.waiting.items ≡ [] → new.waiting.items ≡ [] → Keeps old new
-none_kept old new none still = λ all. (
-  ap (λ (list : List Waiting). map (request_in new.heads.items new.bodies.text.items) list) still
-      ∙ sym (ap (λ (list : List Waiting). map (request_in old.heads.items old.bodies.text.items) list) none),
-  λ k other below. absurd (omega (arith, below, ap (λ (list : List Waiting). length list) still)),
-)
-
 -- one more waits
 pub one_more : (heads bodies : List ℕ) (waiting next : List Waiting) (one : Waiting) → next ≡ waiting ++ one ∷ []
     → map (request_in heads bodies) next ≡ map (request_in heads bodies) waiting ++ request_in heads bodies one ∷ []

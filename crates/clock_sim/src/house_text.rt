@@ -11,7 +11,7 @@ use crate::final_report::sheet_at;
 use crate::report_lines::push_won_by_all;
 use clock_device::{NoMemory, Text};
 use clock_house::House;
-use clock_posting::sheet_lines;
+use clock_posting::push_sheet_lines;
 use std::alloc::Global;
 
 /// How many bytes a line of a product takes, about.
@@ -40,7 +40,7 @@ pub(crate) fn final_text<P>(alloc: Global, house: &House<P>) -> Result<Text, NoM
 {
     house.law_of_house();
     let mut text = empty_text(alloc, house)?;
-    push_closed_rounds(alloc, &mut text, house)?;
+    push_closed_rounds(&mut text, house)?;
     let last = sheet_at(house, house.closed_rounds() - 1);
     push_won_by_all(
         alloc,
@@ -53,13 +53,12 @@ pub(crate) fn final_text<P>(alloc: Global, house: &House<P>) -> Result<Text, NoM
 }
 
 /// Adds the lines of the closed rounds.
-fn push_closed_rounds<P>(alloc: Global, text: &mut Text, house: &House<P>) -> Result<(), NoMemory>
+fn push_closed_rounds<P>(text: &mut Text, house: &House<P>) -> Result<(), NoMemory>
     ensures { OnOk result (text.new ≡ text.old ++ flat_map (sheet_text house.now.setup.products)
         (map (λ closed. closed.sheet) (reverse house.now.closed))) }
 {
     for round in 0..house.closed_rounds() {
-        let lines = sheet_lines(alloc, house.setup(), sheet_at(house, round))?;
-        text.extend_from_slice(lines.as_slice())?;
+        push_sheet_lines(text, house.setup(), sheet_at(house, round))?;
     }
     Ok(())
 }

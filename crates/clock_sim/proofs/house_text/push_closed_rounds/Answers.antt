@@ -17,7 +17,7 @@ loop-round-preserved g c =
     let sheet = c.sheet_at.result.now in
     let rest = drop (c.loop-round.round + 1) sheets in
     ap (λ (text : List ℕ). text ++ flat_map f rest)
-    (c.in_ok-extend_from_slice.ensures.ok ∙ ap (λ (lines : List ℕ). c.loop-round.text ++ lines) (c.as_slice.ensures ∙ c.in_ok-lines.ensures ∙ ap (λ (setup : SetupFields). sheet_text setup.products sheet) c.setup.ensures))
+    (c.in_ok-push_sheet_lines.ensures ∙ ap (λ (setup : SetupFields). c.loop-round.text ++ sheet_text setup.products sheet) c.setup.ensures)
     ∙ append_assoc c.loop-round.text (f sheet) (flat_map f rest)
     ∙ ap (λ (left : List RoundSheet). c.loop-round.text ++ flat_map f left) (sym (drop_next sheets c.loop-round.round sheet c.sheet_at.ensures.is))
     ∙ c.loop-round.invariant
