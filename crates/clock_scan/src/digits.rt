@@ -52,7 +52,7 @@ fn value_of(bytes: &[u8], at: usize, count: usize) -> u64
 
 /// Whether digits begin with a zero that is not the only one.
 #[inline(always)]
-fn has_leading_zero(first: u8, count: usize) -> bool
+pub(crate) fn has_leading_zero(first: u8, count: usize) -> bool
     ensures { result ≡ false → first ≡ 48 → count ≡ 1 }
 {
     first == b'0' && count != 1
