@@ -7,7 +7,7 @@ ghost use Rattle.json.specs.Token.{begin_object, end_object, number, string};
 ghost use Rattle.json.specs.Lex.{lex, between, token, comma, colon};
 ghost use Rattle.json.specs.Word.{ends_word};
 
-use crate::digits::{digits_at, uneven_digits_at};
+use crate::digits::{digits_up_to, uneven_digits_at};
 
 /// Eight bytes as one number.
 #[inline(always)]
@@ -121,11 +121,15 @@ pub(crate) fn compact_bid_at(bytes: &[u8], start: usize) -> Option<(CompactBid, 
     if !has_product(bytes, behind_price) {
         return None;
     }
-    let (product, behind_product) = digits_at(bytes, behind_price + 11)?;
+    let (product, behind_product) = digits_up_to(bytes, behind_price + 11, behind_price + 27)?;
     if !has_quantity(bytes, behind_product) {
         return None;
     }
-    let (quantity, behind_quantity) = digits_at(bytes, behind_product + 12)?;
+    let (quantity, behind_quantity) = digits_up_to(
+        bytes,
+        behind_product + 12,
+        behind_product + 28,
+    )?;
     if !ends_bid(bytes, behind_quantity) {
         return None;
     }

@@ -17,6 +17,7 @@ fn stops(bytes: u8x16) -> u64
 }
 
 /// Where the plain text ends that begins there, byte by byte.
+#[inline(never)]
 fn plain_end_slowly(bytes: &[u8], start: usize) -> usize
     requires { start ≤ length bytes.now }
     ensures { result ≡ start + prefix_len is_plain (drop start bytes.now) }

@@ -9,7 +9,7 @@ ghost use Rattle.json.specs.Align.{is_blank as is_blank_class};
 ghost use Rattle.serde_json.specs.Read.{read};
 ghost use Rattle.clock_scan.specs.Left.{left};
 
-use crate::digits::has_leading_zero;
+use crate::digits::digits_up_to;
 use crate::place::Place;
 use crate::plain::plain_end;
 
@@ -91,9 +91,8 @@ pub(crate) fn after_value(bytes: &[u8], start: usize) -> (Place, usize)
     }
 }
 
-/// The bytes that are quoted there, with no escape among them, and where they end. It stands apart: within a caller LLVM keeps
-/// each place that is worked out of theirs beside the one that the loop counts.
-#[inline(never)]
+/// The bytes that are quoted there, with no escape among them, and where they end.
+#[inline(always)]
 pub(crate) fn quoted(bytes: &[u8], at: usize) -> Option<(&[u8], usize)>
     ensures { IfSome result (λ r. lex between (drop at bytes.now)
         ≡ token (string r.0.now) ∷ lex between (drop r.1 bytes.now)) }
@@ -142,26 +141,15 @@ pub(crate) fn number_at(bytes: &[u8], at: usize) -> Option<(u64, usize)>
     ensures value { IfSome result (λ r. lex between (drop at bytes.now)
         ≡ token (number (decimal r.0)) ∷ lex between (drop r.1 bytes.now)) }
 {
-    let mut end = at;
-    let mut value = 0u64;
-    'digits: while end < bytes.len() {
-        let byte = bytes[end];
-        if byte < b'0' || byte > b'9' {
-            break;
-        }
-        if value >= 1_000_000_000_000_000_000 {
-            return None;
-        }
-        value = value * 10 + (byte - b'0') as u64;
-        end += 1;
-    }
-    if end == at || has_leading_zero(bytes[at], end - at) {
+    if at >= bytes.len() {
         return None;
     }
+    let left = (bytes.len() - at).min(19);
+    let (n, end) = digits_up_to(bytes, at, at + left)?;
     if end == bytes.len() || !ends_word(bytes[end]) {
         return None;
     }
-    Some((value, end))
+    Some((n, end))
 }
 
 /// Where the word `null` ends that stands there.

@@ -85,18 +85,10 @@ pub(crate) fn within_limits(alloc: Global, entries: &SetupEntries) -> Result<Set
     if let Some(fault) = head_fault(entries) {
         return Err(fault);
     }
-    let products = each_within(
-        alloc,
-        Place::Products,
-        MOST_PRODUCTS,
-        entries.products.as_slice(),
-    )?;
-    let bidders = each_within(
-        alloc,
-        Place::Bidders,
-        MOST_BIDDERS,
-        entries.bidders.as_slice(),
-    )?;
+    let products = entries.products.as_slice();
+    let products = each_within(alloc, Place::Products, MOST_PRODUCTS, products)?;
+    let bidders = entries.bidders.as_slice();
+    let bidders = each_within(alloc, Place::Bidders, MOST_BIDDERS, bidders)?;
     check_distinct(alloc, entries)?;
     Ok(Setup {
         version: entries.version,
