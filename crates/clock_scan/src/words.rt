@@ -134,8 +134,9 @@ fn ends_word(byte: u8) -> bool
     matches!(byte, b',' | b'}' | b']' | b' ' | b'\n' | b'\r' | b'\t')
 }
 
-/// The number there in its digits, with no zero before them, below 10^19, and where it ends.
-#[inline(always)]
+/// The number there in its digits, with no zero before them, below 10^19, and where it ends. It stands apart: within a
+/// caller LLVM keeps the number in memory while its digits are read.
+#[inline(never)]
 pub(crate) fn number_at(bytes: &[u8], at: usize) -> Option<(u64, usize)>
     ensures small { IfSome result (λ r. r.0 < 2 ^ 64) }
     ensures value { IfSome result (λ r. lex between (drop at bytes.now)
