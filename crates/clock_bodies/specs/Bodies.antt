@@ -3,7 +3,7 @@
 --     meant_by meaning value      what a value means, or the first fault of its bytes
 --     put_body bytes      what bytes mean as a sheet, or their first fault
 -- An object has exactly the keys that are shown: each is looked up, and there are no more members than these.
-use Rattle.std.specs.Prelude.{ℕ, List, Option, Some, None, Result, Err, if◌then◌else◌, codes}
+use Rattle.std.specs.Prelude.{ℕ, List, Option, Some, None, option_and_then, Result, Err, if◌then◌else◌, codes}
 use Rattle.serde_json.specs.Data.{Data}
 use Rattle.clock_terms.specs.Faults.{or_fault}
 use Rattle.clock_setup.specs.Members.{number_at, items_at, has_members, each, ◌>>=◌}
@@ -25,8 +25,7 @@ bid_of value = do
 unfoldable pub put_of : Data → Option PutBody
 put_of value = do
   round ← number_at (codes "round") value
-  items ← items_at (codes "bids") value
-  bids ← each bid_of items
+  bids ← option_and_then (each bid_of) (items_at (codes "bids") value)
   if has_members 2 value then Some (record { round = round; bids = bids }) else None
 
 -- what a JSON value means, where there is one

@@ -42,8 +42,7 @@ unfoldable pub close_of : Data → Option CloseBody
 close_of value = do
   round ← number_at (codes "round") value
   increments ← increments_of value
-  items ← items_at (codes "ties") value
-  ties ← each tie_of items
+  ties ← option_and_then (each tie_of) (items_at (codes "ties") value)
   if has_members 3 value then Some (record { round = round; increments = increments; ties = ties }) else None
 
 -- what bytes mean as a closing, or their first fault

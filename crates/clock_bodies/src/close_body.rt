@@ -7,7 +7,7 @@ use crate::body_fault::BodyFault;
 use crate::close_scan::{FoundClose, TieReader};
 use clock_device::{Items, NoMemory};
 use clock_order::Tie;
-use clock_setup::members::{ValueReader, each_of, has_members, items_at, number_at, numbers_of};
+use clock_setup::members::{ValueReader, each_at, has_members, items_at, number_at, numbers_of};
 use clock_terms::Increments;
 use serde_json::Value;
 use std::alloc::Global;
@@ -76,10 +76,7 @@ impl<'v> Body<'v> for FoundClose {
         let Some(increments) = increments_of(alloc, value)? else {
             return Ok(None);
         };
-        let Some(items) = items_at(value, "ties") else {
-            return Ok(None);
-        };
-        let Some(ties) = each_of(alloc, &TieReader, items)? else {
+        let Some(ties) = each_at(alloc, value, "ties", &TieReader)? else {
             return Ok(None);
         };
         if !has_members(value, 3) {

@@ -7,7 +7,7 @@ use crate::body_fault::BodyFault;
 use crate::put_scan::{BidReader, FoundPut};
 use clock_bids::Bid;
 use clock_device::{Items, NoMemory};
-use clock_setup::members::{ValueReader, each_of, has_members, items_at, number_at};
+use clock_setup::members::{ValueReader, each_at, has_members, number_at};
 use serde_json::Value;
 use std::alloc::Global;
 
@@ -57,10 +57,7 @@ impl<'v> Body<'v> for FoundPut {
         let Some(round) = number_at(value, "round") else {
             return Ok(None);
         };
-        let Some(items) = items_at(value, "bids") else {
-            return Ok(None);
-        };
-        let Some(bids) = each_of(alloc, &BidReader, items)? else {
+        let Some(bids) = each_at(alloc, value, "bids", &BidReader)? else {
             return Ok(None);
         };
         if has_members(value, 2) {

@@ -28,12 +28,7 @@ fn held_setup(alloc: Global, value: &Value) -> Result<Setup, ScriptFault>
     match setup_of(alloc, value) {
         Ok(setup) => Ok(setup),
         Err(SetupFault::NoMemory) => Err(ScriptFault::NoMemory),
-        Err(SetupFault::NotJson) => Err(ScriptFault::Setup(SetupFault::NotJson)),
-        Err(SetupFault::Shape) => Err(ScriptFault::Setup(SetupFault::Shape)),
-        Err(SetupFault::Version) => Err(ScriptFault::Setup(SetupFault::Version)),
-        Err(SetupFault::Range(place)) => Err(ScriptFault::Setup(SetupFault::Range(place))),
-        Err(SetupFault::DuplicateName) => Err(ScriptFault::Setup(SetupFault::DuplicateName)),
-        Err(SetupFault::DuplicateToken) => Err(ScriptFault::Setup(SetupFault::DuplicateToken)),
+        Err(fault) => Err(ScriptFault::Setup(fault)),
     }
 }
 
@@ -69,17 +64,6 @@ fn replay_in(alloc: Global, value: &Value) -> Result<Replay, ScriptFault>
     compared(setup, entries.scripts, entries.closings)
 }
 
-/// What [`read_replay`] answers, by a tree of the document's values.
-#[tactic(auto, unfolding(crate::specs::ReplayDocument::document_replay))]
-fn replay_by_tree(alloc: Global, bytes: &[u8]) -> Result<Replay, ScriptFault>
-    ensures ok { IfOk result (λ replay. document_replay bytes.now ≡ Ok replay) }
-    ensures err { IfErr result (IsRefusal ScriptFault.NoMemory (document_replay bytes.now)) }
-    ensures held { IfErr result (λ fault. fault ≢ ScriptFault.Setup SetupFault.NoMemory) }
-{
-    let value = read_value(alloc, bytes)?.ok_or(ScriptFault::NotJson)?;
-    replay_in(alloc, &value)
-}
-
 /// The replay that the bytes of a document mean, or the document's first fault.
 ///
 /// The document is `{"closings":[CLOSING,..],"scripts":[SCRIPT,..],"setup":SETUP}` with a script for each bidder and a
@@ -91,6 +75,7 @@ fn replay_by_tree(alloc: Global, bytes: &[u8]) -> Result<Replay, ScriptFault>
 ///
 /// [`ScriptFault`] has the faults in the order in which they are looked at. Nothing is kept of a document that is
 /// refused.
+#[tactic(auto, unfolding(crate::specs::ReplayDocument::document_replay))]
 pub fn read_replay(alloc: Global, bytes: &[u8]) -> Result<Replay, ScriptFault>
     ensures ok { IfOk result (λ replay. document_replay bytes.now ≡ Ok replay) }
     ensures replay { IfOk result IsReplay }
@@ -100,6 +85,9 @@ pub fn read_replay(alloc: Global, bytes: &[u8]) -> Result<Replay, ScriptFault>
     match scanned_text::<FoundReplay>(alloc, bytes) {
         Ok(found) => compared(found.held.setup, found.scripts, found.closings),
         Err(ScanStop::NoMemory) => Err(ScriptFault::NoMemory),
-        Err(ScanStop::Unusual) => replay_by_tree(alloc, bytes),
+        Err(ScanStop::Unusual) => {
+            let value = read_value(alloc, bytes)?.ok_or(ScriptFault::NotJson)?;
+            replay_in(alloc, &value)
+        }
     }
 }

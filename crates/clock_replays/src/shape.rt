@@ -8,7 +8,7 @@ use crate::scanned_scripts::SheetReader;
 use crate::script::{BidList, Script, Scripts};
 use clock_bodies::{BidReader, TieReader, increments_of};
 use clock_device::NoMemory;
-use clock_setup::members::{RowReader, ValueReader, each_of, has_members, items_at, text_at};
+use clock_setup::members::{RowReader, ValueReader, each_at, each_of, has_members, text_at};
 use serde_json::Value;
 use std::alloc::Global;
 
@@ -42,10 +42,7 @@ impl<'v> ValueReader<'v> for SheetReader {
 fn literal_of(alloc: Global, value: &Value) -> Result<Option<Script>, NoMemory>
     ensures { IfOk result (λ script. script ≡ shape.literal_of (view value.now)) }
 {
-    let Some(items) = items_at(value, "sheets") else {
-        return Ok(None);
-    };
-    let Some(sheets) = each_of(alloc, &SheetReader, items)? else {
+    let Some(sheets) = each_at(alloc, value, "sheets", &SheetReader)? else {
         return Ok(None);
     };
     if has_members(value, 2) {
@@ -60,10 +57,7 @@ fn literal_of(alloc: Global, value: &Value) -> Result<Option<Script>, NoMemory>
 fn sincere_of(alloc: Global, value: &Value) -> Result<Option<Script>, NoMemory>
     ensures { IfOk result (λ script. script ≡ shape.sincere_of (view value.now)) }
 {
-    let Some(items) = items_at(value, "limits") else {
-        return Ok(None);
-    };
-    let Some(lists) = each_of(alloc, &RowReader, items)? else {
+    let Some(lists) = each_at(alloc, value, "limits", &RowReader)? else {
         return Ok(None);
     };
     let limits = LimitLists::from_lists(alloc, lists.as_slice())?;
@@ -119,10 +113,7 @@ impl<'v> ValueReader<'v> for ClosingReader {
         let Some(increments) = increments_of(alloc, value)? else {
             return Ok(None);
         };
-        let Some(items) = items_at(value, "ties") else {
-            return Ok(None);
-        };
-        let Some(ties) = each_of(alloc, &TieReader, items)? else {
+        let Some(ties) = each_at(alloc, value, "ties", &TieReader)? else {
             return Ok(None);
         };
         if has_members(value, 2) {
@@ -153,16 +144,10 @@ pub(crate) fn replay_entries(
     let Some(setup) = value.get("setup") else {
         return Ok(None);
     };
-    let Some(items) = items_at(value, "scripts") else {
+    let Some(scripts) = each_at(alloc, value, "scripts", &ScriptReader)? else {
         return Ok(None);
     };
-    let Some(scripts) = each_of(alloc, &ScriptReader, items)? else {
-        return Ok(None);
-    };
-    let Some(items) = items_at(value, "closings") else {
-        return Ok(None);
-    };
-    let Some(closings) = each_of(alloc, &ClosingReader, items)? else {
+    let Some(closings) = each_at(alloc, value, "closings", &ClosingReader)? else {
         return Ok(None);
     };
     if has_members(value, 3) {

@@ -71,13 +71,13 @@ unfolding lex
 end_follows bytes rest is = (ap ends_word is, ap (lex between) is)
 
 -- one digit more of a number of at most sixteen
-pub digit_more : (value count digit : ℕ) → value < 10 ^ count → count < 16 → digit ≤ 9
-    → (value * 10 + digit < 10 ^ (count + 1)) × (value * 10 + digit < 10000000000000000)
+pub digit_more : (value count digit : ℕ) → value < 10 ^ count → count < 19 → digit ≤ 9
+    → (value * 10 + digit < 10 ^ (count + 1)) × (value * 10 + digit < 10000000000000000000)
 digit_more value count digit small few one =
     let next : 10 ^ suc count ≡ 10 ^ count * 10 = pow-suc 10 count in
     let same : 10 ^ (count + 1) ≡ 10 ^ suc count = ap (λ n. 10 ^ n) (omega arith) in
-    let below : count ≤ 15 = omega (arith, few) in
-    let most : 10 ^ count ≤ 1000000000000000 = pow-le-pow_right {n = 10} (omega arith) {i = count} {j = 15} below in
+    let below : count ≤ 18 = omega (arith, few) in
+    let most : 10 ^ count ≤ 1000000000000000000 = pow-le-pow_right {n = 10} (omega arith) {i = count} {j = 18} below in
     (omega (arith, next, same, small, one), omega (arith, most, small, one))
 
 -- the lexemes of a bid and its comma

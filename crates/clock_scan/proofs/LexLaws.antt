@@ -1,6 +1,6 @@
 -- Laws of lexemes: a byte's, and the tokens that it begins.
 use Rattle.std.proofs.Common.{◌≡◌, ℕ, ◌+◌, ◌-◌, ◌<◌, ◌≤◌, ◌^◌, ◌||◌, Bool, true, false, List, [], ◌∷◌, ◌++◌, length, take, drop, get_or, decimal}
-use Rattle.std.proofs.Common.{cond, append_assoc, refl, sym, ap, ap₂, ◌∙◌, arith}
+use Rattle.std.proofs.Common.{cond, refl, sym, ap, ap₂, ◌∙◌, arith}
 use Rattle.std.proofs.lemmas.Bool.{true≢false, false≢true}
 use Rattle.std.proofs.lemmas.List.{drop_more, drop_all, drop-drop, get_or-drop, take_all, take-append-drop, take-append-le}
 use Rattle.std.proofs.lemmas.Fmt.{decimal-digits_value}
@@ -11,7 +11,7 @@ use Rattle.std.specs.Str.Parse.{AllDigits, digits_value}
 use Rattle.json.specs.Token.{Token, key, begin_object, end_object, begin_array, end_array, number, string, null, bad}
 use Rattle.json.specs.Text as text
 use Rattle.json.specs.Text.{content}
-use Rattle.json.specs.Print.{escape, escape_byte}
+use Rattle.json.specs.Print.{escape}
 use Rattle.json.proofs.Printed.Strings.{content-escape, lex-escape}
 use Rattle.json.specs.Word.{is_operator, is_space, ends_word, word}
 use Rattle.json.specs.Lex as lexer
@@ -49,14 +49,6 @@ module _ (bytes : List ℕ) (i : ℕ) (lt : i < length bytes) where
   colon_at is = ap (lex between) (at_byte bytes i _ lt is)
 
 -- ---- quoted bytes
-
-escape-append : (xs ys : List ℕ) → escape (xs ++ ys) ≡ escape xs ++ escape ys
-escape-append [] ys = refl
-escape-append (x ∷ xs) ys = ap (λ r. escape_byte x ++ r) (escape-append xs ys) ∙ sym (append_assoc (escape_byte x) (escape xs) (escape ys))
-
--- one plain byte more
-pub escape-push : (xs : List ℕ) (x : ℕ) → escape xs ≡ xs → escape_byte x ≡ x ∷ [] → escape (xs ++ x ∷ []) ≡ xs ++ x ∷ []
-escape-push xs x plain one = escape-append xs (x ∷ []) ∙ ap₂ (λ r s. r ++ (s ++ [])) plain one
 
 lex-quoted : (s rest : List ℕ) → escape s ≡ s → lex between (34 ∷ (s ++ 34 ∷ rest)) ≡ token (string s) ∷ lex between rest
 unfolding lex

@@ -6,3 +6,4 @@ mod RowSteps
 mod CompactLaws
 mod DigitLaws
 mod PieceLaws
+mod PlainLaws

@@ -6,8 +6,9 @@ ghost use Rattle.std.specs.Int.{w64, to_le_bytes};
 ghost use Rattle.json.specs.Token.{begin_object, end_object, number, string};
 ghost use Rattle.json.specs.Lex.{lex, between, token, comma, colon};
 ghost use Rattle.json.specs.Word.{ends_word};
+ghost use Rattle.clock_scan.specs.inside.Digits.{IsNumberUpTo};
 
-use crate::digits::{digits_at, uneven_digits_at};
+use crate::digits::{digits_up_to, uneven_digits_at};
 
 /// Eight bytes as one number.
 #[inline(always)]
@@ -86,14 +87,11 @@ fn ends_bid(bytes: &[u8], at: usize) -> bool
     bytes[at + 1] == b','
 }
 
-/// The quantity of a bid that stands there, as [`digits_at`] reads it: mostly a single digit, with the bid's end behind it.
+/// The quantity of a bid that stands there: mostly a single digit, with the bid's end behind it.
 #[inline(always)]
 fn quantity_at(bytes: &[u8], start: usize) -> Option<(u64, usize)>
     requires { start + 16 ≤ length bytes.now }
-    ensures few { IfSome result (λ r. (start < r.1) × (r.1 ≤ start + 16)) }
-    ensures small { IfSome result (λ r. r.0 < 2 ^ 64) }
-    ensures value { IfSome result (λ r. ends_word (drop r.1 bytes.now) ≡ true
-        → lex between (drop start bytes.now) ≡ token (number (decimal r.0)) ∷ lex between (drop r.1 bytes.now)) }
+    ensures { IfSome result (IsNumberUpTo bytes.now start (start + 16)) }
 {
     let byte = bytes[start];
     if byte < b'0' || byte > b'9' {
@@ -102,7 +100,7 @@ fn quantity_at(bytes: &[u8], start: usize) -> Option<(u64, usize)>
     if bytes[start + 1] == b'}' {
         return Some((byte as u64 - 48, start + 1));
     }
-    digits_at(bytes, start)
+    digits_up_to(bytes, start, start + 16)
 }
 
 /// The numbers of a bid that is written so.
@@ -140,7 +138,7 @@ pub(crate) fn compact_bid_at(bytes: &[u8], start: usize) -> Option<(CompactBid, 
     if !has_product(bytes, behind_price) {
         return None;
     }
-    let (product, behind_product) = digits_at(bytes, behind_price + 11)?;
+    let (product, behind_product) = digits_up_to(bytes, behind_price + 11, behind_price + 27)?;
     if !has_quantity(bytes, behind_product) {
         return None;
     }

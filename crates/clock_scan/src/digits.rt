@@ -1,11 +1,7 @@
 //! Numbers of digits alone, whose digits are counted sixteen at a time.
-ghost use Rattle.std.specs.Prelude.{◌≡◌, ◌+◌, ◌≤◌, ◌<◌, ◌^◌, ◌∷◌, true, false, decimal, drop, length, take};
-ghost use Rattle.std.specs.Prelude.{IfSome};
-ghost use Rattle.json.specs.Token.{number};
-ghost use Rattle.json.specs.Lex.{lex, between, token};
-ghost use Rattle.json.specs.Word.{ends_word};
+ghost use Rattle.std.specs.Prelude.{◌≡◌, ◌+◌, ◌≤◌, ◌<◌, ◌^◌, false, drop, length, take, IfSome};
 ghost use Rattle.std.specs.Str.Parse.{AllDigits, digits_value};
-ghost use Rattle.clock_scan.specs.inside.Digits.{AreDigits};
+ghost use Rattle.clock_scan.specs.inside.Digits.{AreDigits, IsNumberUpTo};
 
 use std::simd::prelude::*;
 
@@ -52,25 +48,24 @@ fn value_of(bytes: &[u8], at: usize, count: usize) -> u64
 
 /// Whether digits begin with a zero that is not the only one.
 #[inline(always)]
-fn has_leading_zero(first: u8, count: usize) -> bool
+pub(crate) fn has_leading_zero(first: u8, count: usize) -> bool
     ensures { result ≡ false → first ≡ 48 → count ≡ 1 }
 {
     first == b'0' && count != 1
 }
 
-/// The number that stands there in at most sixteen digits, with no zero before them, and where they end. It is a number
-/// where its digits end a word.
+/// The number that stands there in its digits, of which there are at most nineteen, before a place, with no zero before
+/// them, and where they end.
 #[inline(always)]
-pub(crate) fn digits_at(bytes: &[u8], start: usize) -> Option<(u64, usize)>
-    requires { start + 16 ≤ length bytes.now }
-    ensures few { IfSome result (λ r. (start < r.1) × (r.1 ≤ start + 16)) }
-    ensures small { IfSome result (λ r. r.0 < 2 ^ 64) }
-    ensures value { IfSome result (λ r. ends_word (drop r.1 bytes.now) ≡ true
-        → lex between (drop start bytes.now) ≡ token (number (decimal r.0)) ∷ lex between (drop r.1 bytes.now)) }
+pub(crate) fn digits_up_to(bytes: &[u8], start: usize, stop: usize) -> Option<(u64, usize)>
+    requires order { start ≤ stop }
+    requires few { stop ≤ start + 19 }
+    requires within { stop ≤ length bytes.now }
+    ensures { IfSome result (IsNumberUpTo bytes.now start stop) }
 {
     let mut end = start;
     let mut value = 0u64;
-    'digits: while end < start + 16 {
+    'digits: while end < stop {
         let byte = bytes[end];
         if byte < b'0' || byte > b'9' {
             break;
@@ -84,18 +79,15 @@ pub(crate) fn digits_at(bytes: &[u8], start: usize) -> Option<(u64, usize)>
     Some((value, end))
 }
 
-/// The same, of numbers that often have another count of digits than the one before.
+/// The same for at most sixteen digits, where numbers often have another count of digits than the one before.
 #[inline(always)]
 pub(crate) fn uneven_digits_at(bytes: &[u8], start: usize) -> Option<(u64, usize)>
     requires { start + 16 ≤ length bytes.now }
-    ensures few { IfSome result (λ r. (start < r.1) × (r.1 ≤ start + 16)) }
-    ensures small { IfSome result (λ r. r.0 < 2 ^ 64) }
-    ensures value { IfSome result (λ r. ends_word (drop r.1 bytes.now) ≡ true
-        → lex between (drop start bytes.now) ≡ token (number (decimal r.0)) ∷ lex between (drop r.1 bytes.now)) }
+    ensures { IfSome result (IsNumberUpTo bytes.now start (start + 16)) }
 {
     let count = digits_ahead(bytes, start);
     if count > 8 {
-        return digits_at(bytes, start);
+        return digits_up_to(bytes, start, start + 16);
     }
     if count == 0 || has_leading_zero(bytes[start], count) {
         return None;

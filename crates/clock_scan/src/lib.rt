@@ -9,6 +9,7 @@ mod members;
 mod numbers;
 mod parts;
 mod place;
+mod plain;
 mod room;
 mod rows;
 mod scan;

@@ -7,7 +7,7 @@ ghost use Rattle.clock_scan.specs.Left.{left};
 ghost use Rattle.clock_scan.specs.Reading.{whole, numbers, ReadsAll};
 
 use crate::compact::has_room;
-use crate::digits::digits_at;
+use crate::digits::digits_up_to;
 use crate::place::Place;
 use crate::room::push;
 use crate::stop::ScanStop;
@@ -48,7 +48,7 @@ fn number_and_comma(bytes: &[u8], at: usize) -> Option<(u64, usize)>
     if let Some(n) = digit_at(bytes, at) {
         return Some((n, at + 2));
     }
-    let (n, end) = digits_at(bytes, at)?;
+    let (n, end) = digits_up_to(bytes, at, at + 16)?;
     if bytes[end] != b',' {
         return None;
     }

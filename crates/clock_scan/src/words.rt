@@ -6,11 +6,12 @@ ghost use Rattle.json.specs.Token.{null, number, string};
 ghost use Rattle.json.specs.Lex.{lex, between, token, class, begins_colon, after_value as past_value, punctuate};
 ghost use Rattle.json.specs.Word.{is_operator, is_space as is_blank_byte};
 ghost use Rattle.json.specs.Align.{is_blank as is_blank_class};
-ghost use Rattle.json.specs.Print.{escape_byte};
 ghost use Rattle.serde_json.specs.Read.{read};
 ghost use Rattle.clock_scan.specs.Left.{left};
 
+use crate::digits::digits_up_to;
 use crate::place::Place;
+use crate::plain::plain_end;
 
 /// The byte there, or 0 past the end.
 #[inline(always)]
@@ -90,23 +91,8 @@ pub(crate) fn after_value(bytes: &[u8], start: usize) -> (Place, usize)
     }
 }
 
-/// Whether a byte stands for itself between quotes.
+/// The bytes that are quoted there, with no escape among them, and where they end.
 #[inline(always)]
-fn is_plain(byte: u8) -> bool
-    ensures { IsTrue result → escape_byte byte ≡ byte ∷ [] }
-{
-    if byte < b' ' || byte == b'"' {
-        return false;
-    }
-    if byte == b'\\' {
-        return false;
-    }
-    true
-}
-
-/// The bytes that are quoted there, with no escape among them, and where they end. It stands apart: within a caller LLVM keeps
-/// each place that is worked out of theirs beside the one that the loop counts.
-#[inline(never)]
 pub(crate) fn quoted(bytes: &[u8], at: usize) -> Option<(&[u8], usize)>
     ensures { IfSome result (λ r. lex between (drop at bytes.now)
         ≡ token (string r.0.now) ∷ lex between (drop r.1 bytes.now)) }
@@ -115,13 +101,7 @@ pub(crate) fn quoted(bytes: &[u8], at: usize) -> Option<(&[u8], usize)>
         return None;
     }
     let start = at + 1;
-    let mut end = start;
-    'text: while end < bytes.len() {
-        if !is_plain(bytes[end]) {
-            break;
-        }
-        end += 1;
-    }
+    let end = plain_end(bytes, start);
     if byte_at(bytes, end) != b'"' {
         return None;
     }
@@ -154,40 +134,23 @@ fn ends_word(byte: u8) -> bool
     matches!(byte, b',' | b'}' | b']' | b' ' | b'\n' | b'\r' | b'\t')
 }
 
-#[inline(always)]
-fn has_leading_zero(first: u8, count: usize) -> bool
-    ensures { result ≡ false → first ≡ 48 → count ≡ 1 }
-{
-    first == b'0' && count != 1
-}
-
-/// The number there in its digits, with no zero before them, below 10^19, and where it ends.
-#[inline(always)]
+/// The number there in its digits, with no zero before them, below 10^19, and where it ends. It stands apart: within a
+/// caller LLVM keeps the number in memory while its digits are read.
+#[inline(never)]
 pub(crate) fn number_at(bytes: &[u8], at: usize) -> Option<(u64, usize)>
     ensures small { IfSome result (λ r. r.0 < 2 ^ 64) }
     ensures value { IfSome result (λ r. lex between (drop at bytes.now)
         ≡ token (number (decimal r.0)) ∷ lex between (drop r.1 bytes.now)) }
 {
-    let mut end = at;
-    let mut value = 0u64;
-    'digits: while end < bytes.len() {
-        let byte = bytes[end];
-        if byte < b'0' || byte > b'9' {
-            break;
-        }
-        if value >= 1_000_000_000_000_000_000 {
-            return None;
-        }
-        value = value * 10 + (byte - b'0') as u64;
-        end += 1;
-    }
-    if end == at || has_leading_zero(bytes[at], end - at) {
+    if at >= bytes.len() {
         return None;
     }
+    let left = (bytes.len() - at).min(19);
+    let (n, end) = digits_up_to(bytes, at, at + left)?;
     if end == bytes.len() || !ends_word(bytes[end]) {
         return None;
     }
-    Some((value, end))
+    Some((n, end))
 }
 
 /// Where the word `null` ends that stands there.

@@ -13,13 +13,14 @@ use crate::entries::SetupEntries;
 use crate::fault::{Place, SetupFault};
 use crate::members::{number_at, read_value};
 use crate::names::{is_distinct, names, tokens};
-use crate::setup_checks::{bidders_within, is_token, products_within};
+use crate::setup_checks::{each_within, is_token};
 use crate::setup_scan::SetupParts;
 use crate::setup_tree::setup_entries;
 use clock_device::{NoMemory, Text};
 use clock_scan::{PartReader, Scan, ScanStop, scanned_text};
 use clock_terms::{
-    LATEST_VERSION, LEAST_LIMIT, LEAST_REQUIREMENT, MOST_LIMIT, MOST_REQUIREMENT, Setup, is_within,
+    LATEST_VERSION, LEAST_LIMIT, LEAST_REQUIREMENT, MOST_BIDDERS, MOST_LIMIT, MOST_PRODUCTS,
+    MOST_REQUIREMENT, Setup, is_within,
 };
 use serde_json::Value;
 use std::alloc::Global;
@@ -84,8 +85,10 @@ pub(crate) fn within_limits(alloc: Global, entries: &SetupEntries) -> Result<Set
     if let Some(fault) = head_fault(entries) {
         return Err(fault);
     }
-    let products = products_within(alloc, entries.products.as_slice())?;
-    let bidders = bidders_within(alloc, entries.bidders.as_slice())?;
+    let products = entries.products.as_slice();
+    let products = each_within(alloc, Place::Products, MOST_PRODUCTS, products)?;
+    let bidders = entries.bidders.as_slice();
+    let bidders = each_within(alloc, Place::Bidders, MOST_BIDDERS, bidders)?;
     check_distinct(alloc, entries)?;
     Ok(Setup {
         version: entries.version,
@@ -112,16 +115,6 @@ pub fn next_setup(alloc: Global, scan: &mut Scan<'_>) -> Result<Setup, ScanStop>
     }
 }
 
-/// What [`read_setup`] answers, by a tree of the document's values.
-#[tactic(auto, unfolding(crate::specs::SetupDocument::document_setup))]
-fn setup_by_tree(alloc: Global, bytes: &[u8]) -> Result<Setup, SetupFault>
-    ensures ok { IfOk result (λ setup. document.document_setup bytes.now ≡ Ok setup) }
-    ensures err { IfErr result (IsRefusal SetupFault.NoMemory (document.document_setup bytes.now)) }
-{
-    let value = read_value(alloc, bytes)?.ok_or(SetupFault::NotJson)?;
-    setup_of(alloc, &value)
-}
-
 /// The set-up that the bytes of a document mean, or the document's first fault.
 ///
 /// A document is one JSON value (RFC 8259), in any order of keys and with any white space:
@@ -131,13 +124,17 @@ fn setup_by_tree(alloc: Global, bytes: &[u8]) -> Result<Setup, SetupFault>
 /// keys, and its numbers are whole numbers below 2^64. [`SetupFault`] has the faults in the order in which they are
 /// looked at, and [`Place`] the limits. Reading takes time and memory in proportion to the document's length. Nothing
 /// is kept of a document that is refused.
+#[tactic(auto, unfolding(crate::specs::SetupDocument::document_setup))]
 pub fn read_setup(alloc: Global, bytes: &[u8]) -> Result<Setup, SetupFault>
     ensures ok { IfOk result (λ setup. document.document_setup bytes.now ≡ Ok setup) }
     ensures err { IfErr result (IsRefusal SetupFault.NoMemory (document.document_setup bytes.now)) }
 {
     match scanned_text::<SetupParts>(alloc, bytes) {
         Ok(scanned) => within_limits(alloc, &scanned.entries),
-        Err(ScanStop::Unusual) => setup_by_tree(alloc, bytes),
+        Err(ScanStop::Unusual) => {
+            let value = read_value(alloc, bytes)?.ok_or(SetupFault::NotJson)?;
+            setup_of(alloc, &value)
+        }
         Err(ScanStop::NoMemory) => Err(SetupFault::NoMemory),
     }
 }

@@ -1,7 +1,7 @@
 //! What a JSON value has: the value that bytes are, and under a key a number, a text, or the items of a list.
 //! `Value::get` gives the value under a key itself.
 
-ghost use Rattle.std.specs.Prelude.{◌≡◌, Option, option_map, IfOk};
+ghost use Rattle.std.specs.Prelude.{◌≡◌, Option, option_and_then, option_map, IfOk};
 ghost use Rattle.serde_json.specs.View.{view, items_view};
 ghost use Rattle.clock_setup.specs.Members as members;
 ghost use Rattle.serde_json.specs.Data.{Data};
@@ -79,6 +79,22 @@ pub fn each_of<'v, R: ValueReader<'v>>(
         }
     }
     Ok(Some(parts))
+}
+
+/// What the items of a list under a key mean, in order, or none where there is no list or one is of another shape.
+pub fn each_at<'v, R: ValueReader<'v>>(
+    alloc: Global,
+    value: &'v Value,
+    key: &str,
+    reader: &R,
+) -> Result<Option<Items<R::Part>>, NoMemory>
+    ensures { IfOk result (λ parts. parts
+        ≡ option_and_then (each (R.meaning reader.now)) (members.items_at key.now (view value.now))) }
+{
+    match items_at(value, key) {
+        Some(items) => each_of(alloc, reader, items),
+        None => Ok(None),
+    }
 }
 
 /// A number is read from a whole number from 0 to 2^64 - 1.

@@ -92,12 +92,7 @@ fn held_setup(alloc: Global, held: &InnerSetup<'_>) -> Result<Setup, OpeningFaul
     match judged_setup(alloc, held) {
         Ok(setup) => Ok(setup),
         Err(SetupFault::NoMemory) => Err(OpeningFault::NoMemory),
-        Err(SetupFault::NotJson) => Err(OpeningFault::Setup(SetupFault::NotJson)),
-        Err(SetupFault::Shape) => Err(OpeningFault::Setup(SetupFault::Shape)),
-        Err(SetupFault::Version) => Err(OpeningFault::Setup(SetupFault::Version)),
-        Err(SetupFault::Range(place)) => Err(OpeningFault::Setup(SetupFault::Range(place))),
-        Err(SetupFault::DuplicateName) => Err(OpeningFault::Setup(SetupFault::DuplicateName)),
-        Err(SetupFault::DuplicateToken) => Err(OpeningFault::Setup(SetupFault::DuplicateToken)),
+        Err(fault) => Err(OpeningFault::Setup(fault)),
     }
 }
 
@@ -143,25 +138,11 @@ fn opening_in(alloc: Global, source: OpeningInput<'_>) -> Result<Opening, Openin
     opening_of_parts(alloc, &parts.setup, demands, parts.increment)
 }
 
-/// What [`read_opening`] answers, by a tree of the document's values.
-#[tactic(auto, unfolding(crate::specs::OpeningDocument::document_opening))]
-fn opening_by_tree(alloc: Global, bytes: &[u8]) -> Result<Opening, OpeningFault>
-    ensures ok { IfOk result (λ opening. document_opening bytes.now ≡ Ok opening) }
-    ensures grid { IfOk result
-        (λ opening. IsGrid (length opening.setup.bidders) (length opening.setup.products) opening.grid) }
-    ensures increment { IfOk result (λ opening. IsWithin least_increment most_increment opening.increment) }
-    ensures err { IfErr result
-        (IsRefusal OpeningFault.NoMemory (document_opening bytes.now)) }
-    ensures held { IfErr result (λ fault. fault ≢ OpeningFault.Setup SetupFault.NoMemory) }
-{
-    let value = read_value(alloc, bytes)?.ok_or(OpeningFault::NotJson)?;
-    opening_in(alloc, OpeningInput::Document(&value))
-}
-
 /// The opening that the bytes of a document mean, or the document's first fault.
 ///
 /// The document is `{"demands":[[N,..],..],"increment":N,"setup":SETUP}` with a row for each bidder, a number of blocks
 /// for each product, and a set-up as [`read_setup`](crate::read_setup) reads it.
+#[tactic(auto, unfolding(crate::specs::OpeningDocument::document_opening))]
 pub fn read_opening(alloc: Global, bytes: &[u8]) -> Result<Opening, OpeningFault>
     ensures ok { IfOk result (λ opening. document_opening bytes.now ≡ Ok opening) }
     ensures grid { IfOk result
@@ -173,7 +154,10 @@ pub fn read_opening(alloc: Global, bytes: &[u8]) -> Result<Opening, OpeningFault
 {
     match scanned_text::<OpeningFound>(alloc, bytes) {
         Ok(entries) => opening_in(alloc, OpeningInput::Entries(entries)),
-        Err(ScanStop::Unusual) => opening_by_tree(alloc, bytes),
+        Err(ScanStop::Unusual) => {
+            let value = read_value(alloc, bytes)?.ok_or(OpeningFault::NotJson)?;
+            opening_in(alloc, OpeningInput::Document(&value))
+        }
         Err(ScanStop::NoMemory) => Err(OpeningFault::NoMemory),
     }
 }

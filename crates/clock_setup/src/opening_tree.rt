@@ -6,7 +6,7 @@ ghost use Rattle.clock_setup.specs.inside.OpeningData.{held_data, parts_data, so
 ghost use Rattle.clock_setup.specs.OpeningShape as shape;
 
 use crate::fault::SetupFault;
-use crate::members::{RowReader, each_of, has_members, items_at, number_at};
+use crate::members::{RowReader, each_at, has_members, number_at};
 use crate::opening::OpeningFault;
 use crate::opening_entries::{InnerSetup, OpeningEntries, OpeningInput};
 use clock_device::NoMemory;
@@ -15,13 +15,14 @@ use serde_json::Value;
 use std::alloc::Global;
 
 /// An opening document of the right shape, or none.
+#[tactic(auto, unfolding(crate::specs::OpeningShape::parts_of))]
 fn parts_in(alloc: Global, value: &Value) -> Result<Option<OpeningEntries<'_>>, NoMemory>
     ensures { IfOk result (λ parts. option_map parts_data parts ≡ shape.parts_of (view value.now)) }
 {
     let Some(setup) = value.get("setup") else {
         return Ok(None);
     };
-    let Some(items) = items_at(value, "demands") else {
+    let Some(rows) = each_at(alloc, value, "demands", &RowReader)? else {
         return Ok(None);
     };
     let Some(increment) = number_at(value, "increment") else {
@@ -30,9 +31,6 @@ fn parts_in(alloc: Global, value: &Value) -> Result<Option<OpeningEntries<'_>>, 
     if !has_members(value, 3) {
         return Ok(None);
     }
-    let Some(rows) = each_of(alloc, &RowReader, items)? else {
-        return Ok(None);
-    };
     let demands = FlatRows::from_lists(alloc, rows.as_slice())?;
     Ok(Some(OpeningEntries {
         setup: InnerSetup::Tree(setup),

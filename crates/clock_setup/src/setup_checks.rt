@@ -1,18 +1,19 @@
-ghost use Rattle.std.specs.Prelude.{◌≡◌, None, IfOk, IfErr};
+ghost use Rattle.std.specs.Prelude.{◌≡◌, ℕ, List, Bool, map, None, IfOk, IfErr};
 ghost use Rattle.std.specs.List.{list_all};
 ghost use Rattle.clock_terms.specs.Limits as limits;
 ghost use Rattle.clock_terms.specs.Faults.{IsFirstFault, first_fault};
+ghost use Rattle.clock_setup.specs.declared.fault.SetupFault.{SetupFault};
 ghost use Rattle.clock_setup.specs.SetupDocument.{product_checks, bidder_checks};
-ghost use Rattle.clock_setup.specs.inside.SetupDocument.{products_checks, bidders_checks};
+ghost use Rattle.clock_setup.specs.inside.SetupDocument.{counted_checks};
 
 use crate::entries::{BidderEntry, ProductEntry};
 use crate::fault::{Place, SetupFault};
-use clock_device::Text;
+use clock_device::{Items, Text};
 use clock_money::{MOST_GRANULE, Price};
 use clock_scan::{push, with_room};
 use clock_terms::{
-    Bidder, Bidders, LONGEST_NAME, LONGEST_TOKEN, MOST_BIDDERS, MOST_ELIGIBILITY, MOST_PRODUCTS,
-    MOST_SUPPLY, MOST_UNITS, Product, Products, SHORTEST_TOKEN, is_within,
+    Bidder, LONGEST_NAME, LONGEST_TOKEN, MOST_ELIGIBILITY, MOST_SUPPLY, MOST_UNITS, Product,
+    SHORTEST_TOKEN, is_within,
 };
 use std::alloc::Global;
 
@@ -59,97 +60,109 @@ pub(crate) fn is_token(token: &str) -> bool
         && has_letters_and_digits(token.as_bytes())
 }
 
-/// A product within its limits, or its first fault.
+/// An entry of a document, which has limits of its own.
+pub(crate) trait LimitedEntry {
+    /// What an entry is that is within its limits.
+    type Whole: Drop;
+
+    /// What is looked at in the entry of a place, in order.
+    ghost checks: { ℕ → Self → List (SetupFault × Bool) };
+
+    /// The same, as what is read of an entry.
+    ghost shown: { Self → Self.Whole };
+
+    /// The entry of a place within its limits, or its first fault.
+    fn within(&self, alloc: Global, i: u64) -> Result<Self::Whole, SetupFault>
+        ensures same { IfOk result (λ whole. whole ≡ shown self.now) }
+        ensures ok { IfOk result (λ _. first_fault (checks i self.now) ≡ None) }
+        ensures err { IfErr result (IsFirstFault SetupFault.NoMemory (first_fault (checks i self.now))) };
+}
+
 #[tactic(auto, unfolding(crate::specs::SetupDocument::product_checks))]
-fn product_within(alloc: Global, i: u64, entry: &ProductEntry) -> Result<Product, SetupFault>
-    ensures same { IfOk result (λ product. product ≡ entry.now) }
-    ensures ok { IfOk result (λ _. first_fault (product_checks i entry.now) ≡ None) }
-    ensures err { IfErr result (IsFirstFault SetupFault.NoMemory (first_fault (product_checks i entry.now))) }
-{
-    if !is_name(entry.name) {
-        return Err(SetupFault::Range(Place::Name(i)));
+impl<'v> LimitedEntry for ProductEntry<'v> {
+    type Whole = Product;
+
+    ghost checks = { product_checks };
+
+    ghost shown = { λ entry. entry };
+
+    fn within(&self, alloc: Global, i: u64) -> Result<Product, SetupFault> {
+        if !is_name(self.name) {
+            return Err(SetupFault::Range(Place::Name(i)));
+        }
+        if !is_within(1, MOST_UNITS, self.units) {
+            return Err(SetupFault::Range(Place::Units(i)));
+        }
+        if !is_within(1, MOST_SUPPLY, self.supply) {
+            return Err(SetupFault::Range(Place::Supply(i)));
+        }
+        if !is_within(1, self.supply, self.cap) {
+            return Err(SetupFault::Range(Place::Cap(i)));
+        }
+        let Some(opening) = Price::new(self.opening) else {
+            return Err(SetupFault::Range(Place::Opening(i)));
+        };
+        if !is_within(1, MOST_GRANULE, self.granule) {
+            return Err(SetupFault::Range(Place::Granule(i)));
+        }
+        Ok(Product {
+            name: Text::from_slice(alloc, self.name.as_bytes())?,
+            units: self.units,
+            supply: self.supply,
+            cap: self.cap,
+            opening,
+            granule: self.granule,
+        })
     }
-    if !is_within(1, MOST_UNITS, entry.units) {
-        return Err(SetupFault::Range(Place::Units(i)));
-    }
-    if !is_within(1, MOST_SUPPLY, entry.supply) {
-        return Err(SetupFault::Range(Place::Supply(i)));
-    }
-    if !is_within(1, entry.supply, entry.cap) {
-        return Err(SetupFault::Range(Place::Cap(i)));
-    }
-    let Some(opening) = Price::new(entry.opening) else {
-        return Err(SetupFault::Range(Place::Opening(i)));
-    };
-    if !is_within(1, MOST_GRANULE, entry.granule) {
-        return Err(SetupFault::Range(Place::Granule(i)));
-    }
-    Ok(Product {
-        name: Text::from_slice(alloc, entry.name.as_bytes())?,
-        units: entry.units,
-        supply: entry.supply,
-        cap: entry.cap,
-        opening,
-        granule: entry.granule,
-    })
 }
 
-/// A bidder within its limits, or its first fault.
 #[tactic(auto, unfolding(crate::specs::SetupDocument::bidder_checks))]
-fn bidder_within(alloc: Global, i: u64, entry: &BidderEntry) -> Result<Bidder, SetupFault>
-    ensures same { IfOk result (λ bidder. bidder ≡ entry.now) }
-    ensures ok { IfOk result (λ _. first_fault (bidder_checks i entry.now) ≡ None) }
-    ensures err { IfErr result (IsFirstFault SetupFault.NoMemory (first_fault (bidder_checks i entry.now))) }
-{
-    if !is_name(entry.name) {
-        return Err(SetupFault::Range(Place::BidderName(i)));
+impl<'v> LimitedEntry for BidderEntry<'v> {
+    type Whole = Bidder;
+
+    ghost checks = { bidder_checks };
+
+    ghost shown = { λ entry. entry };
+
+    fn within(&self, alloc: Global, i: u64) -> Result<Bidder, SetupFault> {
+        if !is_name(self.name) {
+            return Err(SetupFault::Range(Place::BidderName(i)));
+        }
+        if !is_token(self.token) {
+            return Err(SetupFault::Range(Place::Token(i)));
+        }
+        if self.eligibility > MOST_ELIGIBILITY {
+            return Err(SetupFault::Range(Place::Eligibility(i)));
+        }
+        Ok(Bidder {
+            name: Text::from_slice(alloc, self.name.as_bytes())?,
+            token: Text::from_slice(alloc, self.token.as_bytes())?,
+            eligibility: self.eligibility,
+        })
     }
-    if !is_token(entry.token) {
-        return Err(SetupFault::Range(Place::Token(i)));
-    }
-    if entry.eligibility > MOST_ELIGIBILITY {
-        return Err(SetupFault::Range(Place::Eligibility(i)));
-    }
-    Ok(Bidder {
-        name: Text::from_slice(alloc, entry.name.as_bytes())?,
-        token: Text::from_slice(alloc, entry.token.as_bytes())?,
-        eligibility: entry.eligibility,
-    })
 }
 
-/// Products of which there are so many as there may be, within their limits, or the first fault.
-pub(crate) fn products_within(
+/// Entries of which there are so many as there may be, within their limits, or the first fault. A wrong count is a
+/// fault of the place where they stand.
+pub(crate) fn each_within<E: LimitedEntry>(
     alloc: Global,
-    entries: &[ProductEntry],
-) -> Result<Products, SetupFault>
-    ensures same { IfOk result (λ products. products ≡ entries.now) }
-    ensures ok { IfOk result (λ _. first_fault (products_checks entries.now) ≡ None) }
-    ensures err { IfErr result (IsFirstFault SetupFault.NoMemory (first_fault (products_checks entries.now))) }
+    place: Place,
+    most: u64,
+    entries: &[E],
+) -> Result<Items<E::Whole>, SetupFault>
+    ensures same { IfOk result (λ wholes. wholes ≡ map E.shown entries.now) }
+    ensures ok { IfOk result
+        (λ _. first_fault (counted_checks (SetupFault.Range place) most E.checks entries.now) ≡ None) }
+    ensures err { IfErr result (IsFirstFault SetupFault.NoMemory
+        (first_fault (counted_checks (SetupFault.Range place) most E.checks entries.now))) }
 {
-    if !is_within(1, MOST_PRODUCTS, entries.len() as u64) {
-        return Err(SetupFault::Range(Place::Products));
+    if !is_within(1, most, entries.len() as u64) {
+        return Err(SetupFault::Range(place));
     }
-    let mut products = with_room(alloc, entries.len())?;
+    let mut wholes = with_room(alloc, entries.len())?;
     for (i, entry) in entries.iter().enumerate() {
-        let product = product_within(alloc, i as u64, entry)?;
-        push(&mut products, product)?;
+        let whole = entry.within(alloc, i as u64)?;
+        push(&mut wholes, whole)?;
     }
-    Ok(Products::from_vec(products))
-}
-
-/// Bidders of whom there are so many as there may be, within their limits, or the first fault.
-pub(crate) fn bidders_within(alloc: Global, entries: &[BidderEntry]) -> Result<Bidders, SetupFault>
-    ensures same { IfOk result (λ bidders. bidders ≡ entries.now) }
-    ensures ok { IfOk result (λ _. first_fault (bidders_checks entries.now) ≡ None) }
-    ensures err { IfErr result (IsFirstFault SetupFault.NoMemory (first_fault (bidders_checks entries.now))) }
-{
-    if !is_within(1, MOST_BIDDERS, entries.len() as u64) {
-        return Err(SetupFault::Range(Place::Bidders));
-    }
-    let mut bidders = with_room(alloc, entries.len())?;
-    for (i, entry) in entries.iter().enumerate() {
-        let bidder = bidder_within(alloc, i as u64, entry)?;
-        push(&mut bidders, bidder)?;
-    }
-    Ok(Bidders::from_vec(bidders))
+    Ok(Items::from_vec(wholes))
 }

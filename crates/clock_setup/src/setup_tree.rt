@@ -9,7 +9,7 @@ ghost use Rattle.clock_setup.specs.SetupShape.{product_of, bidder_of, fields_of}
 
 use crate::entries::{BidderEntry, ProductEntry, SetupEntries};
 use crate::fault::SetupFault;
-use crate::members::{ValueReader, each_of, has_members, items_at, number_at, text_at};
+use crate::members::{ValueReader, each_at, has_members, number_at, text_at};
 use clock_device::NoMemory;
 use clock_terms::{FIRST_GRANULE, FIRST_LIMIT};
 use serde_json::Value;
@@ -145,16 +145,10 @@ fn entries_of(alloc: Global, value: &Value) -> Result<Option<SetupEntries<'_>>, 
     let Some(operator) = text_at(value, "operator") else {
         return Ok(None);
     };
-    let Some(items) = items_at(value, "products") else {
+    let Some(products) = each_at(alloc, value, "products", &ProductReader { version })? else {
         return Ok(None);
     };
-    let Some(products) = each_of(alloc, &ProductReader { version }, items)? else {
-        return Ok(None);
-    };
-    let Some(items) = items_at(value, "bidders") else {
-        return Ok(None);
-    };
-    let Some(bidders) = each_of(alloc, &BidderReader, items)? else {
+    let Some(bidders) = each_at(alloc, value, "bidders", &BidderReader)? else {
         return Ok(None);
     };
     if !has_keys(value, version, 5) {

@@ -1,29 +1,27 @@
-use Rattle.std.proofs.Common.{◌+◌, [], ◌∷◌, ◌++◌, drop, get_or, append_assoc, length-append, refl, sym, ap, ◌∙◌, arith}
+use Rattle.std.proofs.Common.{◌≡◌, ◌+◌, ◌∷◌, ◌++◌, take, drop, refl, sym, ap, ◌∙◌, arith}
+use Rattle.std.specs.List.{prefix_len}
+use Rattle.std.proofs.lemmas.List.{take-append-drop, drop-drop}
+use Rattle.std.proofs.lemmas.List.Folds.{length-prefix_len}
+use Rattle.json.specs.Run.{is_plain}
 use Rattle.json.specs.Token.{string}
 use Rattle.json.specs.Lex.{lex, between, token}
-use Rattle.clock_scan.proofs.LexLaws.{at_byte, escape-push, quoted_at, taken}
+use Rattle.clock_scan.proofs.LexLaws.{quoted_at, taken}
+use Rattle.clock_scan.proofs.PlainLaws.{plain_front}
 use Rattle.clock_scan.proofs.words.quoted.Goals as goal
-
-pub text-preserved : goal.text-preserved
-text-preserved c =
-    let l = c.text in
-    let s = l.invariant.0 in
-    let bytes = c.args.bytes.now in
-    let x = get_or bytes l.end 0 in (
-      s ++ x ∷ [],
-      l.invariant.1 ∙ ap (λ r. s ++ r) (at_byte bytes l.end x c.text-test.true refl) ∙ sym (append_assoc s (x ∷ []) (drop (l.end + 1) bytes)),
-      escape-push s x l.invariant.2 (c.is_plain.ensures c.if-not-is_plain.false),
-      omega (arith, length-append s (x ∷ []), l.invariant.3),
-      omega (arith, c.text-test.true),
-    )
 
 pub returns : goal.returns
 returns c =
-    let l = c.text in
-    let s = l.invariant.0 in
     let bytes = c.args.bytes.now in
+    let at = c.args.at in
+    let end = c.plain_end-end.result in
+    let rest = drop (at + 1) bytes in
+    let n = prefix_len is_plain rest in
+    let s = take n rest in
+    let is : rest ≡ s ++ drop end bytes =
+    sym (take-append-drop n rest) ∙ ap (λ r. s ++ r) (drop-drop n (at + 1) bytes ∙ ap (λ k. drop k bytes) (sym c.plain_end-end.ensures)) in
     let opens = c.if-byte_at-ne34.false in
     let closes = c.if-byte_at-ne34-2.false in
-    quoted_at bytes s c.args.at l.end (c.byte_at.ensures.within (omega (arith, opens))) (sym c.byte_at.ensures.value ∙ opens) l.invariant.1 l.invariant.2
+    quoted_at bytes s at end (c.byte_at.ensures.within (omega (arith, opens))) (sym c.byte_at.ensures.value ∙ opens) is (plain_front rest)
     (c.byte_at-2.ensures.within (omega (arith, closes))) (sym c.byte_at-2.ensures.value ∙ closes)
-    ∙ ap (λ t. token (string t) ∷ lex between (drop (l.end + 1) bytes)) (taken bytes s c.args.at l.end l.invariant.1 l.invariant.3)
+    ∙ ap (λ t. token (string t) ∷ lex between (drop (end + 1) bytes))
+    (taken bytes s at end is (omega (arith, length-prefix_len is_plain rest, c.plain_end-end.ensures)))

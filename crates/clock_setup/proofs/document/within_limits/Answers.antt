@@ -1,4 +1,5 @@
 use Rattle.std.proofs.Common.{◌≡◌, Bool, List, Option, None, sym, ap, ◌∙◌}
+use Rattle.std.proofs.lemmas.List.{map-id}
 use Rattle.std.proofs.lemmas.Result.{err_from_is_err_and}
 use Rattle.clock_terms.specs.Faults.{first_fault}
 use Rattle.clock_terms.specs.Limits.{SetupFields, IsSetup}
@@ -13,52 +14,59 @@ first_of : {A : Type 0} {slice : List A} {inside setup : SetupFields} {first : O
 first_of checks list read same is = ap (λ items. first_fault (checks items)) (sym (read ∙ ap list same)) ∙ is
 
 pub returns-in_err-products-clause-err : goal.returns-in_err-products-clause-err
+unfolding products_checks bidders_checks
 returns-in_err-products-clause-err c =
     let p = err_from_is_err_and c.from_residual.result c.from_residual.ensures.1 in
     rw (p.1, p.2)
     (λ known. products_first c.args.entries.now _ (sym c.in_default.ensures)
-    (first_of products_checks (λ s. s.products) c.as_slice.ensures c.entries.view_is (c.in_err-products.ensures.err known)))
+    (first_of products_checks (λ s. s.products) c.as_slice-products.ensures c.entries.view_is (c.in_err-products.ensures.err known)))
 
 pub returns-in_err-bidders-clause-err : goal.returns-in_err-bidders-clause-err
+unfolding products_checks bidders_checks
 returns-in_err-bidders-clause-err c =
     let p = err_from_is_err_and c.from_residual-in_err-bidders.result c.from_residual-in_err-bidders.ensures.1 in
     rw (p.1, p.2)
     (λ known. bidders_first c.args.entries.now _ (sym c.in_default.ensures)
-    (first_of products_checks (λ s. s.products) c.as_slice.ensures c.entries.view_is c.in_ok-products.ensures.ok)
-    (first_of bidders_checks (λ s. s.bidders) c.as_slice-2.ensures c.entries.view_is (c.in_err-bidders.ensures.err known)))
+    (first_of products_checks (λ s. s.products) c.as_slice-products.ensures c.entries.view_is c.in_ok-products.ensures.ok)
+    (first_of bidders_checks (λ s. s.bidders) c.as_slice-bidders.ensures c.entries.view_is (c.in_err-bidders.ensures.err known)))
 
 pub returns-in_err-check_distinct-clause-err : goal.returns-in_err-check_distinct-clause-err
+unfolding products_checks bidders_checks
 returns-in_err-check_distinct-clause-err c =
     let p = err_from_is_err_and c.from_residual-in_err-check_distinct.result c.from_residual-in_err-check_distinct.ensures.1 in
     rw (p.1, p.2)
     (λ known. distinct_decide c.args.entries.now _ (sym c.in_default.ensures)
-    (first_of products_checks (λ s. s.products) c.as_slice.ensures c.entries.view_is c.in_ok-products.ensures.ok)
-    (first_of bidders_checks (λ s. s.bidders) c.as_slice-2.ensures c.entries.view_is c.in_ok-bidders.ensures.ok)
+    (first_of products_checks (λ s. s.products) c.as_slice-products.ensures c.entries.view_is c.in_ok-products.ensures.ok)
+    (first_of bidders_checks (λ s. s.bidders) c.as_slice-bidders.ensures c.entries.view_is c.in_ok-bidders.ensures.ok)
     (c.in_err-check_distinct.ensures.err known))
 
 pub returns-in-Some-clause-err : goal.returns-in-Some-clause-err
 returns-in-Some-clause-err c = λ known. head_first c.args.entries.now c.in-Some.fault (sym c.in-Some.ensures)
 
 pub invariant_of-result : goal.invariant_of-result
+unfolding products_checks bidders_checks
 invariant_of-result c =
     let within : IsSetup c.args.entries.now =
     setup_within c.args.entries.now c.requires.version c.requires.first_version (sym c.in_default.ensures)
-    (first_of products_checks (λ s. s.products) c.as_slice.ensures c.entries.view_is c.in_ok-products.ensures.ok)
-    (first_of bidders_checks (λ s. s.bidders) c.as_slice-2.ensures c.entries.view_is c.in_ok-bidders.ensures.ok)
+    (first_of products_checks (λ s. s.products) c.as_slice-products.ensures c.entries.view_is c.in_ok-products.ensures.ok)
+    (first_of bidders_checks (λ s. s.bidders) c.as_slice-bidders.ensures c.entries.view_is c.in_ok-bidders.ensures.ok)
     c.in_ok-check_distinct.ensures.ok in
     rw (
       c.in_ok-from_slice.ensures,
       c.as_bytes.ensures.value,
       c.in_ok-products.ensures.same,
-      c.as_slice.ensures,
+      map-id,
+      c.as_slice-products.ensures,
       c.in_ok-bidders.ensures.same,
-      c.as_slice-2.ensures,
+      map-id,
+      c.as_slice-bidders.ensures,
       c.entries.view_is,
     ) within
 
 pub returns-clause-ok : goal.returns-clause-ok
+unfolding products_checks bidders_checks
 returns-clause-ok c =
     distinct_decide c.args.entries.now None (sym c.in_default.ensures)
-    (first_of products_checks (λ s. s.products) c.as_slice.ensures c.entries.view_is c.in_ok-products.ensures.ok)
-    (first_of bidders_checks (λ s. s.bidders) c.as_slice-2.ensures c.entries.view_is c.in_ok-bidders.ensures.ok)
+    (first_of products_checks (λ s. s.products) c.as_slice-products.ensures c.entries.view_is c.in_ok-products.ensures.ok)
+    (first_of bidders_checks (λ s. s.bidders) c.as_slice-bidders.ensures c.entries.view_is c.in_ok-bidders.ensures.ok)
     c.in_ok-check_distinct.ensures.ok

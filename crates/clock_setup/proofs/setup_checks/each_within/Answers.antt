@@ -1,0 +1,30 @@
+use Rattle.std.proofs.Common.{Some, None, sym, ◌∙◌, arith}
+use Rattle.std.proofs.lemmas.Grind.{common_steps}
+use Rattle.std.proofs.lemmas.Result.{err_from_is_err_and}
+use Rattle.clock_setup.specs.declared.fault.SetupFault.TheVariants.{Range}
+use Rattle.clock_terms.proofs.FaultLaws.{turn_passed, turn_failed, turn_none}
+use Rattle.clock_setup.proofs.LimitLaws.{counted, uncounted}
+use Rattle.clock_setup.proofs.setup_checks.each_within.Goals as goal
+
+pub returns-then-not-is_within-clause-err : goal.returns-then-not-is_within-clause-err
+returns-then-not-is_within-clause-err g c = λ known. uncounted (Range c.args.place) c.args.most g.E.LimitedEntry.checks c.args.entries.now (sym c.is_within.ensures ∙ c.if-not-is_within.true)
+
+pub returns-in_err-whole-clause-err : goal.returns-in_err-whole-clause-err
+returns-in_err-whole-clause-err g c =
+    let p = err_from_is_err_and c.from_residual-in_err-whole.result c.from_residual-in_err-whole.ensures.1 in
+    rw (p.1, p.2)
+    (λ known. counted (Range c.args.place) c.args.most g.E.LimitedEntry.checks c.args.entries.now (Some _) (sym c.is_within.ensures ∙ c.if-not-is_within.false)
+    (sym c.loop-i.invariant.rest
+    ∙ turn_failed g.E.LimitedEntry.checks c.args.entries.now c.loop-i.i _ _ c.loop-i-test.true c.index-entries-i.is (c.in_err-whole.ensures.err known)))
+
+pub loop-i-preserved : goal.loop-i-preserved
+loop-i-preserved g c = record {
+  same = grind (arith, common_steps);
+  rest = sym (turn_passed g.E.LimitedEntry.checks c.args.entries.now c.loop-i.i _ c.loop-i-test.true c.index-entries-i.is c.in_ok-whole.ensures.ok)
+      ∙ c.loop-i.invariant.rest;
+}
+
+pub returns-clause-ok : goal.returns-clause-ok
+returns-clause-ok g c =
+    counted (Range c.args.place) c.args.most g.E.LimitedEntry.checks c.args.entries.now None (sym c.is_within.ensures ∙ c.if-not-is_within.false)
+    (sym c.loop-i.invariant.rest ∙ turn_none g.E.LimitedEntry.checks c.args.entries.now c.loop-i.i c.loop-i-test.false)
