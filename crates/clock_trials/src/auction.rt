@@ -89,7 +89,9 @@ fn play_with<P: Processor + Drop>(
 ) -> Result<(), Fail> {
     let setup = read_setup(alloc, document.as_bytes())?;
     let mut house = House::new(alloc, setup, processor)?;
-    take_all(rt, alloc, &mut house, steps)
+    let taken = take_all(rt, alloc, &mut house, steps);
+    drop(house);
+    taken
 }
 
 /// Takes one step.
@@ -301,6 +303,22 @@ fn see_slip<P: Processor>(
     Ok(())
 }
 
+/// Asserts whether a bidder has a sheet in force, and its bids.
+fn is_in_force<P: Processor>(
+    rt: &impl Abort,
+    house: &House<P>,
+    bidder: u32,
+    is_put: bool,
+    bids: &[Bid],
+) {
+    assert!(rt; (bidder as usize) < house.setup().bidders.as_slice().len());
+    let sheet = house.bids(bidder);
+    assert_is(rt, sheet.is_some(), is_put);
+    if let Some(sheet) = sheet {
+        assert_is(rt, sheet.bids(), bids);
+    }
+}
+
 /// Asserts the bids that a bidder has in force.
 fn see_in_force<P: Processor>(
     rt: &impl Abort,
@@ -310,14 +328,7 @@ fn see_in_force<P: Processor>(
     offers: Option<&[Offer]>,
 ) -> Result<(), Fail> {
     let bids = list_of(alloc, offers.unwrap_or(&[]), bid_of)?;
-    assert!(rt; (bidder as usize) < house.setup().bidders.as_slice().len());
-    match house.bids(bidder) {
-        Some(sheet) => {
-            assert!(rt; offers.is_some());
-            assert_is(rt, sheet.bids(), bids.as_slice());
-        }
-        None => assert!(rt; offers.is_none()),
-    }
+    is_in_force(rt, house, bidder, offers.is_some(), bids.as_slice());
     Ok(())
 }
 

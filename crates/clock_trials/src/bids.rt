@@ -184,8 +184,9 @@ fn asks_for(
     wanted: &[Change],
 ) -> Result<(), Fail> {
     let setup = read_setup(alloc, round.document.as_bytes())?;
-    let changes = asked_in(rt, alloc, &setup, round, bids)?;
-    assert_is(rt, changes.as_slice(), wanted);
+    let changes = asked_in(rt, alloc, &setup, round, bids);
+    drop(setup);
+    assert_is(rt, changes?.as_slice(), wanted);
     Ok(())
 }
 
@@ -237,8 +238,9 @@ fn asks_for_demands(
 ) -> Result<bool, Fail> {
     let setup = read_setup(alloc, TWO_PRODUCTS.as_bytes())?;
     assert!(rt; are_known(&setup, bids));
-    let demands = asked_demands(alloc, &setup, bids)?;
-    Ok(demands.as_slice() == wanted)
+    let demands = asked_demands(alloc, &setup, bids);
+    drop(setup);
+    Ok(demands?.as_slice() == wanted)
 }
 
 #[test]

@@ -216,14 +216,18 @@ fn is_torn(rt: &HostRuntime, file: &mut File) -> io::Result<bool> {
     Ok(had_two && has_two(rt)? && file.metadata()?.len() == 144)
 }
 
+/// Whether both holds of the file.
+fn is_locked_and_torn(rt: &HostRuntime) -> Result<bool, Fail> {
+    let mut file = opened(rt)?;
+    Ok(is_locked(rt, &file)? && is_torn(rt, &mut file)?)
+}
+
 #[test]
 fn a_file_is_taken_over(rt: HostRuntime) -> Result<(), Fail> {
     let _ = fs::remove_file(&rt, PATH);
     assert!(rt; two_in_file(opened(&rt)?));
     assert!(rt; has_two(&rt)?);
-    let mut file = opened(&rt)?;
-    assert!(rt; is_locked(&rt, &file)?);
-    assert!(rt; is_torn(&rt, &mut file)?);
+    assert!(rt; is_locked_and_torn(&rt)?);
     fs::remove_file(&rt, PATH)?;
     Ok(())
 }

@@ -70,7 +70,9 @@ fn both(alloc: Global, first: &Change, second: &Change) -> Result<Changes, NoMem
 /// The tie numbers of a list, in the auction of a set-up document, or their fault.
 fn ties_of(alloc: Global, document: &str, ties: &[Tie]) -> Result<Result<Ties, TieFault>, Fail> {
     let setup = read_setup(alloc, document.as_bytes())?;
-    Ok(Ties::new(alloc, &setup, ties))
+    let ties = Ties::new(alloc, &setup, ties);
+    drop(setup);
+    Ok(ties)
 }
 
 /// The bidder of the first of some changes.

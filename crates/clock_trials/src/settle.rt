@@ -230,5 +230,7 @@ pub fn settle_twice<P: Processor>(
     requests: (&[Asked], &[Asked]),
 ) -> Result<(Amounts, Settled), Fail> {
     let setup = read_setup(alloc, document.as_bytes())?;
-    demands_and_end(alloc, processor, &setup, requests)
+    let end = demands_and_end(alloc, processor, &setup, requests);
+    drop(setup);
+    end
 }

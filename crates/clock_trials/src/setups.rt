@@ -61,14 +61,20 @@ fn limits_of_first(products: &[Product]) -> Option<Limits> {
 /// What a document is read as, told of a copy of what was read.
 fn read(alloc: Global, text: &str) -> Result<Numbers, SetupFault> {
     let setup = read_setup(alloc, text.as_bytes())?;
-    Ok(numbers(&setup.copy(alloc)?))
+    let copy = setup.copy(alloc);
+    drop(setup);
+    let copy = copy?;
+    let told = numbers(&copy);
+    drop(copy);
+    Ok(told)
 }
 
 /// What a document's first product is read as, told of a copy of what was read.
 fn first_product(alloc: Global, text: &str) -> Result<Option<Limits>, SetupFault> {
     let setup = read_setup(alloc, text.as_bytes())?;
-    let products = products_copy(alloc, setup.products.as_slice())?;
-    Ok(limits_of_first(products.as_slice()))
+    let products = products_copy(alloc, setup.products.as_slice());
+    drop(setup);
+    Ok(limits_of_first(products?.as_slice()))
 }
 
 /// The last bidder's name, token and eligibility are these.
@@ -83,13 +89,20 @@ fn is_last_bidder(setup: &Setup, name: &[u8], token: &[u8], eligibility: u64) ->
 
 fn has_z_last(alloc: Global, text: &str) -> Result<bool, SetupFault> {
     let setup = read_setup(alloc, text.as_bytes())?;
-    Ok(is_last_bidder(&setup, b"Z", b"ZZZZZZZZZZZZZZZZ", 1))
+    let has_z = is_last_bidder(&setup, b"Z", b"ZZZZZZZZZZZZZZZZ", 1);
+    drop(setup);
+    Ok(has_z)
 }
 
 /// What the value of a text is read as.
 fn read_value(alloc: Global, text: &str) -> Result<Numbers, Fail> {
     let value = Value::from_str(alloc, text)?;
-    Ok(numbers(&setup_of(alloc, &value)?))
+    let setup = setup_of(alloc, &value);
+    drop(value);
+    let setup = setup?;
+    let told = numbers(&setup);
+    drop(setup);
+    Ok(told)
 }
 
 fn setup_fault(alloc: Global, text: &str) -> Option<SetupFault> {

@@ -15,7 +15,9 @@ use std::test::Fail;
 /// Start and clock price of the last product in round 1.
 fn last_prices(alloc: Global, text: &str) -> Result<Option<(u64, u64)>, SetupFault> {
     let setup = read_setup(alloc, text.as_bytes())?;
-    let prices = Prices::opening(alloc, &setup)?;
+    let prices = Prices::opening(alloc, &setup);
+    drop(setup);
+    let prices = prices?;
     let Some(pair) = prices.as_slice().last() else {
         return Ok(None);
     };
