@@ -1,5 +1,6 @@
 //! Runs of the program on bytes in memory. What it answers to each kind of document and words is
 //! compared by the gate on the built program.
+use crate::comparing::assert_is;
 use clock_commands::command;
 use clock_device::{ListSink, ListSource, NoMemory, Stop};
 use clock_setup::fixtures::ONE_PRODUCT;
@@ -57,9 +58,23 @@ fn run(
 
 /// Asserts that a run ends with this status, this output and this fault.
 fn assert_ends(rt: &impl Abort, run: &Ending, status: u8, output: &str, fault: &str) {
-    assert_eq!(rt; run.output.bytes(), output.as_bytes());
-    assert_eq!(rt; run.faults.bytes(), fault.as_bytes());
-    assert_eq!(rt; run.status, status);
+    assert_is(rt, run.output.bytes(), output.as_bytes());
+    assert_is(rt, run.faults.bytes(), fault.as_bytes());
+    assert_is(rt, run.status, status);
+}
+
+/// A run of these words on a document has this status, this output and this fault.
+fn ends(
+    rt: &impl Abort,
+    alloc: Global,
+    words: &[&str],
+    document: &str,
+    streams: &Streams,
+    expected: (u8, &str, &str),
+) -> Result<(), Fail> {
+    let run = run(alloc, words, document, streams)?;
+    assert_ends(rt, &run, expected.0, expected.1, expected.2);
+    Ok(())
 }
 
 #[test]
@@ -70,8 +85,7 @@ fn words_ask_for_the_lines_of_a_document(rt: HostRuntime) -> Result<(), Fail> {
         (["prices"].as_slice(), prices),
         (["prices", "--increment=1"].as_slice(), "A 100 101\n"),
     ] {
-        let run = run(rt.alloc(), words, ONE_PRODUCT, &SOUND)?;
-        assert_ends(&rt, &run, 0, output, "");
+        ends(&rt, rt.alloc(), words, ONE_PRODUCT, &SOUND, (0, output, ""))?;
     }
     Ok(())
 }
@@ -84,14 +98,15 @@ fn opening_document(alloc: Global) -> Result<String, AllocError> {
 #[test]
 fn an_opening_has_a_first_round(rt: HostRuntime) -> Result<(), Fail> {
     let document = opening_document(rt.alloc())?;
-    let run = run(
+    let expected = (0, "round 1\nA 100 100 100 3 110\n", "");
+    ends(
+        &rt,
         rt.alloc(),
-        ["opening"].as_slice(),
+        &["opening"],
         document.as_str(),
         &SOUND,
-    )?;
-    assert_ends(&rt, &run, 0, "round 1\nA 100 100 100 3 110\n", "");
-    Ok(())
+        expected,
+    )
 }
 
 #[test]
@@ -106,13 +121,7 @@ fn a_document_has_a_fault(rt: HostRuntime) -> Result<(), Fail> {
             "fault: setup_shape\n",
         ),
     ] {
-        assert_ends(
-            &rt,
-            &run(rt.alloc(), words, document, &SOUND)?,
-            1,
-            "",
-            fault,
-        );
+        ends(&rt, rt.alloc(), words, document, &SOUND, (1, "", fault))?;
     }
     Ok(())
 }
@@ -172,21 +181,37 @@ const REPLAY_FAULTS: [(&str, &str, &str); 8] = [
     ),
 ];
 
+/// The replay of these scripts and closings has this status, this output and this fault.
+fn replay_ends(
+    rt: &impl Abort,
+    alloc: Global,
+    scripts: &str,
+    closings: &str,
+    expected: (u8, &str, &str),
+) -> Result<(), Fail> {
+    let document = replay_document(alloc, scripts, closings)?;
+    ends(rt, alloc, &["replay"], document.as_str(), &SOUND, expected)
+}
+
 #[test]
 fn a_replay_has_a_report(rt: HostRuntime) -> Result<(), Fail> {
-    let document = replay_document(rt.alloc(), SINCERE, CLOSINGS)?;
-    let run = run(rt.alloc(), ["replay"].as_slice(), document.as_str(), &SOUND)?;
-    assert_ends(&rt, &run, 0, REPORT, "");
-    Ok(())
+    replay_ends(&rt, rt.alloc(), SINCERE, CLOSINGS, (0, REPORT, ""))
 }
 
 #[test]
 fn a_replay_has_a_fault(rt: HostRuntime) -> Result<(), Fail> {
     for (scripts, closings, fault) in REPLAY_FAULTS {
-        let document = replay_document(rt.alloc(), scripts, closings)?;
-        let run = run(rt.alloc(), ["replay"].as_slice(), document.as_str(), &SOUND)?;
-        assert_ends(&rt, &run, 1, "", fault);
+        replay_ends(&rt, rt.alloc(), scripts, closings, (1, "", fault))?;
     }
+    Ok(())
+}
+
+/// Words are refused with a line that clap writes, whatever it says.
+fn are_refused(rt: &impl Abort, alloc: Global, words: &[&str]) -> Result<(), Fail> {
+    let run = run(alloc, words, ONE_PRODUCT, &SOUND)?;
+    assert_is(rt, run.status, 2);
+    assert!(rt; run.output.bytes().is_empty());
+    assert!(rt; !run.faults.bytes().is_empty());
     Ok(())
 }
 
@@ -200,10 +225,7 @@ fn other_words_are_refused(rt: HostRuntime) -> Result<(), Fail> {
         ["--help"].as_slice(),
         ["--version"].as_slice(),
     ] {
-        let run = run(rt.alloc(), words, ONE_PRODUCT, &SOUND)?;
-        assert_eq!(rt; run.status, 2);
-        assert_eq!(rt; run.output.bytes(), b"".as_slice());
-        assert!(rt; !run.faults.bytes().is_empty());
+        are_refused(&rt, rt.alloc(), words)?;
     }
     Ok(())
 }
@@ -220,8 +242,15 @@ fn an_interrupted_read_is_tried_again_and_a_failed_one_is_a_fault(
             read_stop: Some((2, stop)),
             ..SOUND
         };
-        let run = run(rt.alloc(), ["prices"].as_slice(), ONE_PRODUCT, &streams)?;
-        assert_ends(&rt, &run, status, output, fault);
+        let expected = (status, output, fault);
+        ends(
+            &rt,
+            rt.alloc(),
+            &["prices"],
+            ONE_PRODUCT,
+            &streams,
+            expected,
+        )?;
     }
     Ok(())
 }
@@ -238,8 +267,15 @@ fn a_writer_that_fails_or_is_full_is_a_fault(rt: HostRuntime) -> Result<(), Fail
             output_stop,
             ..SOUND
         };
-        let run = run(rt.alloc(), ["prices"].as_slice(), ONE_PRODUCT, &streams)?;
-        assert_ends(&rt, &run, 1, output, "fault: output\n");
+        let expected = (1, output, "fault: output\n");
+        ends(
+            &rt,
+            rt.alloc(),
+            &["prices"],
+            ONE_PRODUCT,
+            &streams,
+            expected,
+        )?;
     }
     Ok(())
 }
@@ -255,13 +291,7 @@ fn a_line_that_cannot_be_shown_leaves_the_status(rt: HostRuntime) -> Result<(), 
             fault_stop: Some(fault_stop),
             ..SOUND
         };
-        assert_ends(
-            &rt,
-            &run(rt.alloc(), words, "{", &streams)?,
-            status,
-            "",
-            fault,
-        );
+        ends(&rt, rt.alloc(), words, "{", &streams, (status, "", fault))?;
     }
     Ok(())
 }

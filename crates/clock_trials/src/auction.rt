@@ -1,5 +1,6 @@
 //! An auction as data: what is done to it and what is seen of it, step by step.
 
+use crate::comparing::assert_is;
 use crate::settle::push_demands;
 use clock_bids::Bid;
 use clock_house::{CloseFault, House, PutFault};
@@ -10,7 +11,6 @@ use clock_queue::Woken;
 use clock_setup::{Amounts, Increments, read_setup};
 use clock_terms::KeptRow;
 use std::alloc::{AllocError, Global};
-use std::fmt::Debug;
 use std::process::Abort;
 use std::test::Fail;
 
@@ -66,7 +66,20 @@ pub fn play(rt: &impl Abort, alloc: Global, document: &str, steps: &[Step]) -> R
     play_with(rt, alloc, document, Woken, steps)
 }
 
-/// Takes the steps one after the other, on an auction of this set-up with this processor.
+/// Takes the steps one after the other.
+fn take_all<P: Processor>(
+    rt: &impl Abort,
+    alloc: Global,
+    house: &mut House<P>,
+    steps: &[Step],
+) -> Result<(), Fail> {
+    for step in steps {
+        take(rt, alloc, house, step)?;
+    }
+    Ok(())
+}
+
+/// Does so on an auction of this set-up with this processor.
 fn play_with<P: Processor + Drop>(
     rt: &impl Abort,
     alloc: Global,
@@ -76,10 +89,9 @@ fn play_with<P: Processor + Drop>(
 ) -> Result<(), Fail> {
     let setup = read_setup(alloc, document.as_bytes())?;
     let mut house = House::new(alloc, setup, processor)?;
-    for step in steps {
-        take(rt, alloc, &mut house, step)?;
-    }
-    Ok(())
+    let taken = take_all(rt, alloc, &mut house, steps);
+    drop(house);
+    taken
 }
 
 /// Takes one step.
@@ -151,16 +163,6 @@ fn list_of<T: Drop, F: Fn(&(u64, u64, u64)) -> T>(
     Ok(list)
 }
 
-/// Asserts the answer to a sheet or a closing.
-fn is_answered<T: Copy + PartialEq + Debug>(
-    rt: &impl Abort,
-    answer: Result<(), T>,
-    expected: Result<(), T>,
-) -> Result<(), Fail> {
-    assert_eq!(rt; answer, expected);
-    Ok(())
-}
-
 /// Puts a sheet of these bids.
 fn put_bids<P: Processor>(
     rt: &impl Abort,
@@ -185,7 +187,8 @@ fn put<P: Processor>(
     let (bidder, offers) = sheet;
     let bids = list_of(alloc, offers, bid_of)?;
     let answer = put_bids(rt, house, bidder, round, bids.as_slice());
-    is_answered(rt, answer, expected)
+    assert_is(rt, answer, expected);
+    Ok(())
 }
 
 /// Puts sheets of one bid for the current round.
@@ -213,7 +216,8 @@ fn close<P: Processor>(
 ) -> Result<(), Fail> {
     let ties = list_of(alloc, draws, tie_of)?;
     let answer = house.close(round, &increments, ties.as_slice());
-    is_answered(rt, answer, expected)
+    assert_is(rt, answer, expected);
+    Ok(())
 }
 
 /// Closes a round with an increment for each product.
@@ -240,7 +244,7 @@ fn see_lines<P: Processor>(
     let sheet = house.sheet(round).ok_or("the round is not closed")?;
     assert!(rt; sheet.lines.as_slice().len() == house.setup().products.as_slice().len());
     let text = sheet_lines(alloc, house.setup(), sheet)?;
-    assert_eq!(rt; text.as_slice(), expected);
+    assert_is(rt, text.as_slice(), expected);
     Ok(())
 }
 
@@ -257,11 +261,11 @@ fn see_held<P: Processor>(
     for eligibility in eligibilities {
         assert!(rt; (bidder as usize) < house.setup().bidders.as_slice().len());
         let own = house.own(bidder);
-        assert_eq!(rt; own.eligibility, *eligibility);
+        assert_is(rt, own.eligibility, *eligibility);
         push_demands(&mut all, own.demands)?;
         bidder = bidder.saturating_add(1);
     }
-    assert_eq!(rt; all.as_slice(), demands);
+    assert_is(rt, all.as_slice(), demands);
     Ok(())
 }
 
@@ -289,10 +293,30 @@ fn see_slip<P: Processor>(
 ) -> Result<(), Fail> {
     assert!(rt; (bidder as usize) < house.setup().bidders.as_slice().len());
     let slip = house.slip(bidder, round).ok_or("no slip")?;
-    assert_eq!(rt; slip.round, round);
-    assert_eq!(rt; (slip.activity, slip.eligibility), activity_and_eligibility);
+    assert_is(rt, slip.round, round);
+    assert_is(
+        rt,
+        (slip.activity, slip.eligibility),
+        activity_and_eligibility,
+    );
     assert!(rt; is_kept(&slip.demands, demands));
     Ok(())
+}
+
+/// Asserts whether a bidder has a sheet in force, and its bids.
+fn is_in_force<P: Processor>(
+    rt: &impl Abort,
+    house: &House<P>,
+    bidder: u32,
+    is_put: bool,
+    bids: &[Bid],
+) {
+    assert!(rt; (bidder as usize) < house.setup().bidders.as_slice().len());
+    let sheet = house.bids(bidder);
+    assert_is(rt, sheet.is_some(), is_put);
+    if let Some(sheet) = sheet {
+        assert_is(rt, sheet.bids(), bids);
+    }
 }
 
 /// Asserts the bids that a bidder has in force.
@@ -304,14 +328,7 @@ fn see_in_force<P: Processor>(
     offers: Option<&[Offer]>,
 ) -> Result<(), Fail> {
     let bids = list_of(alloc, offers.unwrap_or(&[]), bid_of)?;
-    assert!(rt; (bidder as usize) < house.setup().bidders.as_slice().len());
-    match house.bids(bidder) {
-        Some(sheet) => {
-            assert!(rt; offers.is_some());
-            assert_eq!(rt; sheet.bids(), bids.as_slice());
-        }
-        None => assert!(rt; offers.is_none()),
-    }
+    is_in_force(rt, house, bidder, offers.is_some(), bids.as_slice());
     Ok(())
 }
 
@@ -322,9 +339,9 @@ fn see_round<P: Processor>(
     round: u64,
     ended: bool,
 ) -> Result<(), Fail> {
-    assert_eq!(rt; house.round(), round);
-    assert_eq!(rt; house.ended(), ended);
-    assert_eq!(rt; house.sheet(round).is_some(), ended);
+    assert_is(rt, house.round(), round);
+    assert_is(rt, house.ended(), ended);
+    assert_is(rt, house.sheet(round).is_some(), ended);
     assert!(rt; house.sheet(0).is_none());
     Ok(())
 }

@@ -3,6 +3,7 @@
 ghost use Rattle.std.specs.Prelude.{◌≡◌, ◌≤◌, ◌<◌, length, All, IsTrue, IfOk};
 ghost use Rattle.clock_terms.specs.Limits.{IsRow};
 
+use crate::comparing::assert_is;
 use clock_bids::{
     Bid, BidFault, Change, Changes, Kind, Own, asked_demands, changes_of, check_sheet,
 };
@@ -161,6 +162,19 @@ fn asked(
     Ok(changes_of(alloc, setup, prices, own, 0, Some(&sheet))?)
 }
 
+/// The same of what a bidder holds in the second round.
+fn asked_in(
+    rt: &impl Abort,
+    alloc: Global,
+    setup: &Setup,
+    round: &Round,
+    bids: Option<&[Bid]>,
+) -> Result<Changes, Fail> {
+    let prices = prices_of(alloc, setup)?;
+    let row = row_of(rt, alloc, setup, round.demands)?;
+    Ok(asked(rt, alloc, setup, &prices, held(round, &row), bids)?)
+}
+
 /// Asserts that the first bidder asks for these changes, by a sheet of bids or without one.
 fn asks_for(
     rt: &impl Abort,
@@ -170,11 +184,9 @@ fn asks_for(
     wanted: &[Change],
 ) -> Result<(), Fail> {
     let setup = read_setup(alloc, round.document.as_bytes())?;
-    let prices = prices_of(alloc, &setup)?;
-    let row = row_of(rt, alloc, &setup, round.demands)?;
-    let own = held(round, &row);
-    let changes = asked(rt, alloc, &setup, &prices, own, bids)?;
-    assert_eq!(rt; changes.as_slice(), wanted);
+    let changes = asked_in(rt, alloc, &setup, round, bids);
+    drop(setup);
+    assert_is(rt, changes?.as_slice(), wanted);
     Ok(())
 }
 
@@ -226,8 +238,9 @@ fn asks_for_demands(
 ) -> Result<bool, Fail> {
     let setup = read_setup(alloc, TWO_PRODUCTS.as_bytes())?;
     assert!(rt; are_known(&setup, bids));
-    let demands = asked_demands(alloc, &setup, bids)?;
-    Ok(demands.as_slice() == wanted)
+    let demands = asked_demands(alloc, &setup, bids);
+    drop(setup);
+    Ok(demands?.as_slice() == wanted)
 }
 
 #[test]

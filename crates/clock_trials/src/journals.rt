@@ -1,3 +1,4 @@
+use crate::comparing::{assert_is, assert_is_at};
 use clock_journal::{
     Durable, FileDisk, Journal, JournalFault, Link, Machine, MemoryDisk, Untaken, recover,
 };
@@ -64,14 +65,12 @@ fn file(alloc: Global) -> Result<Vec<u8>, Fail> {
 #[test]
 fn a_journal_is_read(rt: HostRuntime) -> Result<(), Fail> {
     let bytes = file(rt.alloc())?;
-    assert_eq!(rt; bytes.len(), 188);
-    assert_eq!(rt; taken(&bytes, &SETUP), Ok((3, 188)));
-    assert_eq!(rt; taken(&bytes, &OTHER), Err(JournalFault::Setup));
-    assert_eq!(rt;
-        taken(b"clock_auction jourmal 1\n", &SETUP),
-        Err(JournalFault::Unknown)
-    );
-    assert_eq!(rt; taken(b"", &SETUP), Ok((0, 0)));
+    assert_is(&rt, bytes.len(), 188);
+    assert_is(&rt, taken(&bytes, &SETUP), Ok((3, 188)));
+    assert_is(&rt, taken(&bytes, &OTHER), Err(JournalFault::Setup));
+    let other = b"clock_auction jourmal 1\n";
+    assert_is(&rt, taken(other, &SETUP), Err(JournalFault::Unknown));
+    assert_is(&rt, taken(b"", &SETUP), Ok((0, 0)));
     Ok(())
 }
 
@@ -87,7 +86,7 @@ fn each_front_is_read(rt: HostRuntime) -> Result<(), Fail> {
             144..188 => (2, 144),
             _ => (3, 188),
         };
-        assert_eq!(rt; taken(front, &SETUP), Ok(whole), "at {length}");
+        assert_is_at(&rt, length, taken(front, &SETUP), Ok(whole));
     }
     Ok(())
 }
@@ -110,7 +109,7 @@ fn each_damaged_byte_is_told(rt: HostRuntime) -> Result<(), Fail> {
             // the last record, behind which nothing stands, counts as torn
             _ => Ok((2, 144)),
         };
-        assert_eq!(rt; found, told, "at {place}");
+        assert_is_at(&rt, place, found, told);
         let Some(byte) = bytes.get_mut(place) else {
             return Ok(());
         };
@@ -166,7 +165,7 @@ fn each_front_goes_on(rt: HostRuntime) -> Result<(), Fail> {
             144..188 => (3, 188),
             _ => (4, 232),
         };
-        assert_eq!(rt; taken(&more, &SETUP), Ok(whole), "at {length}");
+        assert_is_at(&rt, length, taken(&more, &SETUP), Ok(whole));
     }
     Ok(())
 }
@@ -197,20 +196,38 @@ fn found(rt: &HostRuntime) -> io::Result<Result<(u64, usize), JournalFault>> {
     Ok(taken(&bytes, &SETUP))
 }
 
+/// Whether the file is taken over with its two texts.
+fn has_two(rt: &HostRuntime) -> io::Result<bool> {
+    Ok(found(rt)? == Ok((2, 144)))
+}
+
+/// Whether a file that is locked can't be locked again by who opens it anew.
+fn is_locked(rt: &HostRuntime, file: &File) -> Result<bool, Fail> {
+    file.try_lock()?;
+    Ok(opened(rt)?.try_lock().is_err())
+}
+
+/// Whether a front of a third text is not taken over, and is gone once it is cut away.
+fn is_torn(rt: &HostRuntime, file: &mut File) -> io::Result<bool> {
+    file.write_all(b"\0\0\0\x05\0\0\0\x05 and a front of more")?;
+    let had_two = has_two(rt)?;
+    file.set_len(144)?;
+    file.sync_all()?;
+    Ok(had_two && has_two(rt)? && file.metadata()?.len() == 144)
+}
+
+/// Whether both holds of the file.
+fn is_locked_and_torn(rt: &HostRuntime) -> Result<bool, Fail> {
+    let mut file = opened(rt)?;
+    Ok(is_locked(rt, &file)? && is_torn(rt, &mut file)?)
+}
+
 #[test]
 fn a_file_is_taken_over(rt: HostRuntime) -> Result<(), Fail> {
     let _ = fs::remove_file(&rt, PATH);
     assert!(rt; two_in_file(opened(&rt)?));
-    assert_eq!(rt; found(&rt)?, Ok((2, 144)));
-    let mut torn = opened(&rt)?;
-    torn.try_lock()?;
-    assert!(rt; opened(&rt)?.try_lock().is_err());
-    torn.write_all(b"\0\0\0\x05\0\0\0\x05 and a front of more")?;
-    assert_eq!(rt; found(&rt)?, Ok((2, 144)));
-    torn.set_len(144)?;
-    torn.sync_all()?;
-    assert_eq!(rt; found(&rt)?, Ok((2, 144)));
-    assert_eq!(rt; torn.metadata()?.len(), 144);
+    assert!(rt; has_two(&rt)?);
+    assert!(rt; is_locked_and_torn(&rt)?);
     fs::remove_file(&rt, PATH)?;
     Ok(())
 }

@@ -8,6 +8,8 @@ mod auction;
 #[cfg(test)]
 mod bids;
 #[cfg(test)]
+mod comparing;
+#[cfg(test)]
 mod documents;
 #[cfg(test)]
 mod example;

@@ -1,4 +1,5 @@
 //! Each call once: on bytes in memory, and on std's readers and writers.
+use crate::comparing::assert_is;
 use clock_device::{
     Failed, FromReader, Items, ListSink, ListSource, NoMemory, Sink, Source, Stop, Text, ToWriter,
 };
@@ -49,19 +50,27 @@ fn zeros(alloc: Global, count: usize) -> Result<Items<u64>, NoMemory> {
 fn lists_grow_and_change(rt: HostRuntime) -> Result<(), Fail> {
     let alloc = rt.alloc();
     let list = three(alloc)?;
-    assert_eq!(rt; list.as_slice().len(), 3);
-    assert_eq!(rt; copied(alloc, &list)?.as_slice(), [3, 4, 5].as_slice());
-    assert_eq!(rt; zeros(alloc, 2)?.as_slice(), [0, 0].as_slice());
-    assert_eq!(rt; taken(alloc)?.as_slice(), [7, 8].as_slice());
+    assert_is(&rt, list.as_slice().len(), 3);
+    assert_is(&rt, copied(alloc, &list)?.as_slice(), [3, 4, 5].as_slice());
+    assert_is(&rt, zeros(alloc, 2)?.as_slice(), [0, 0].as_slice());
+    assert_is(&rt, taken(alloc)?.as_slice(), [7, 8].as_slice());
     Ok(())
 }
 
 #[test]
 fn numbers_and_dashes_are_written(rt: HostRuntime) -> Result<(), Fail> {
     let text = numbered(rt.alloc(), 18_446_744_073_709_551_615)?;
-    assert_eq!(rt; text.as_slice(), b"round 18446744073709551615".as_slice());
+    assert_is(
+        &rt,
+        text.as_slice(),
+        b"round 18446744073709551615".as_slice(),
+    );
     let text = dashed(text, &[None, Some(0)])?;
-    assert_eq!(rt; text.as_slice(), b"round 18446744073709551615-0".as_slice());
+    assert_is(
+        &rt,
+        text.as_slice(),
+        b"round 18446744073709551615-0".as_slice(),
+    );
     Ok(())
 }
 
@@ -69,7 +78,7 @@ fn numbers_and_dashes_are_written(rt: HostRuntime) -> Result<(), Fail> {
 fn an_item_is_put_in_the_place_of_another(rt: HostRuntime) -> Result<(), NoMemory> {
     let mut text = Text::from_slice(rt.alloc(), b"cat")?;
     text.set(1, b'u');
-    assert_eq!(rt; text.as_slice(), b"cut".as_slice());
+    assert_is(&rt, text.as_slice(), b"cut".as_slice());
     Ok(())
 }
 
@@ -87,14 +96,14 @@ fn write<S: Sink>(sink: &mut S, bytes: &[u8]) -> Result<usize, Failed> {
 fn a_list_source_gives_its_bytes_in_pieces(rt: HostRuntime) {
     let mut source = ListSource::new(b"hello", 2, None);
     let mut buffer = *b"----";
-    assert_eq!(rt; read(&mut source, &mut buffer), Ok(2));
-    assert_eq!(rt; buffer, *b"he--");
-    assert_eq!(rt; read(&mut source, &mut buffer[..1]), Ok(1));
-    assert_eq!(rt; buffer, *b"le--");
-    assert_eq!(rt; read(&mut source, &mut buffer), Ok(2));
-    assert_eq!(rt; buffer, *b"lo--");
-    assert_eq!(rt; read(&mut source, &mut buffer), Ok(0));
-    assert_eq!(rt; read(&mut source, &mut buffer), Ok(0));
+    assert_is(&rt, read(&mut source, &mut buffer), Ok(2));
+    assert_is(&rt, buffer, *b"he--");
+    assert_is(&rt, read(&mut source, &mut buffer[..1]), Ok(1));
+    assert_is(&rt, buffer, *b"le--");
+    assert_is(&rt, read(&mut source, &mut buffer), Ok(2));
+    assert_is(&rt, buffer, *b"lo--");
+    assert_is(&rt, read(&mut source, &mut buffer), Ok(0));
+    assert_is(&rt, read(&mut source, &mut buffer), Ok(0));
 }
 
 #[test]
@@ -102,30 +111,30 @@ fn a_list_source_stops_at_one_read(rt: HostRuntime) {
     for stop in [Stop::Interrupted, Stop::Failed] {
         let mut source = ListSource::new(b"hello", 4, Some((1, stop)));
         let mut buffer = *b"----";
-        assert_eq!(rt; read(&mut source, &mut buffer), Ok(4));
-        assert_eq!(rt; read(&mut source, &mut buffer), Err(stop));
-        assert_eq!(rt; buffer, *b"hell");
-        assert_eq!(rt; read(&mut source, &mut buffer), Ok(1));
+        assert_is(&rt, read(&mut source, &mut buffer), Ok(4));
+        assert_is(&rt, read(&mut source, &mut buffer), Err(stop));
+        assert_is(&rt, buffer, *b"hell");
+        assert_is(&rt, read(&mut source, &mut buffer), Ok(1));
     }
 }
 
 #[test]
 fn a_list_sink_takes_pieces_until_it_is_full(rt: HostRuntime) -> Result<(), NoMemory> {
     let mut sink = ListSink::new(rt.alloc(), 3, 2, None)?;
-    assert_eq!(rt; write(&mut sink, b"hello"), Ok(2));
-    assert_eq!(rt; write(&mut sink, b""), Err(Failed));
-    assert_eq!(rt; write(&mut sink, b"llo"), Ok(1));
-    assert_eq!(rt; write(&mut sink, b"lo"), Err(Failed));
-    assert_eq!(rt; sink.bytes(), b"hel".as_slice());
+    assert_is(&rt, write(&mut sink, b"hello"), Ok(2));
+    assert_is(&rt, write(&mut sink, b""), Err(Failed));
+    assert_is(&rt, write(&mut sink, b"llo"), Ok(1));
+    assert_is(&rt, write(&mut sink, b"lo"), Err(Failed));
+    assert_is(&rt, sink.bytes(), b"hel".as_slice());
     Ok(())
 }
 
 #[test]
 fn a_list_sink_fails_at_one_write(rt: HostRuntime) -> Result<(), NoMemory> {
     let mut sink = ListSink::new(rt.alloc(), 8, 8, Some(0))?;
-    assert_eq!(rt; write(&mut sink, b"hello"), Err(Failed));
-    assert_eq!(rt; write(&mut sink, b"hello"), Ok(5));
-    assert_eq!(rt; sink.bytes(), b"hello".as_slice());
+    assert_is(&rt, write(&mut sink, b"hello"), Err(Failed));
+    assert_is(&rt, write(&mut sink, b"hello"), Ok(5));
+    assert_is(&rt, sink.bytes(), b"hello".as_slice());
     Ok(())
 }
 
@@ -154,10 +163,10 @@ impl Read for Flaky {
 fn a_reader_is_interrupted_or_fails(rt: HostRuntime) {
     let mut source = FromReader::new(Flaky { reads: 0 });
     let mut buffer = *b"--";
-    assert_eq!(rt; read(&mut source, &mut buffer), Err(Stop::Interrupted));
-    assert_eq!(rt; read(&mut source, &mut buffer), Ok(1));
-    assert_eq!(rt; buffer, *b"x-");
-    assert_eq!(rt; read(&mut source, &mut buffer), Err(Stop::Failed));
+    assert_is(&rt, read(&mut source, &mut buffer), Err(Stop::Interrupted));
+    assert_is(&rt, read(&mut source, &mut buffer), Ok(1));
+    assert_is(&rt, buffer, *b"x-");
+    assert_is(&rt, read(&mut source, &mut buffer), Err(Stop::Failed));
 }
 
 /// A reader and a writer that tell how many calls they have had: by the byte that a read gives,
@@ -195,9 +204,9 @@ fn each_call_is_one_call_of_the_reader_or_writer_below(rt: HostRuntime) {
     let mut sink = ToWriter::new(Counter { calls: 0 });
     let mut byte = [0];
     for call in 1..=8u8 {
-        assert_eq!(rt; read(&mut source, &mut byte), Ok(1));
-        assert_eq!(rt; byte, [call]);
-        assert_eq!(rt; write(&mut sink, b"12345678"), Ok(usize::from(call)));
+        assert_is(&rt, read(&mut source, &mut byte), Ok(1));
+        assert_is(&rt, byte, [call]);
+        assert_is(&rt, write(&mut sink, b"12345678"), Ok(usize::from(call)));
     }
 }
 
@@ -205,12 +214,12 @@ fn each_call_is_one_call_of_the_reader_or_writer_below(rt: HostRuntime) {
 fn a_slice_is_read_and_a_vector_written(rt: HostRuntime) {
     let mut source = FromReader::new(b"hi".as_slice());
     let mut buffer = *b"---";
-    assert_eq!(rt; read(&mut source, &mut buffer), Ok(2));
-    assert_eq!(rt; buffer, *b"hi-");
-    assert_eq!(rt; read(&mut source, &mut buffer), Ok(0));
+    assert_is(&rt, read(&mut source, &mut buffer), Ok(2));
+    assert_is(&rt, buffer, *b"hi-");
+    assert_is(&rt, read(&mut source, &mut buffer), Ok(0));
     let mut sink = ToWriter::new(Vec::new(rt.alloc()));
-    assert_eq!(rt; write(&mut sink, b"hi"), Ok(2));
-    assert_eq!(rt; write(&mut sink, b""), Err(Failed));
+    assert_is(&rt, write(&mut sink, b"hi"), Ok(2));
+    assert_is(&rt, write(&mut sink, b""), Err(Failed));
 }
 
 /// The sum of numbers.
@@ -239,7 +248,7 @@ fn in_room(alloc: Global) -> Result<Items<u64>, NoMemory> {
 #[test]
 fn a_list_is_read_as_a_slice(rt: HostRuntime) -> Result<(), NoMemory> {
     let list = in_room(rt.alloc())?;
-    assert_eq!(rt; read_list(&list), (3, false, Some(4), 12));
-    assert_eq!(rt; read_list(&Items::new(rt.alloc())), (0, true, None, 0));
+    assert_is(&rt, read_list(&list), (3, false, Some(4), 12));
+    assert_is(&rt, read_list(&Items::new(rt.alloc())), (0, true, None, 0));
     Ok(())
 }

@@ -3,6 +3,7 @@
 ghost use Rattle.std.specs.Prelude.{◌≡◌, ◌≢◌, AllPairs, IfOk};
 ghost use Rattle.clock_terms.specs.Requests.{AreApart};
 
+use crate::comparing::assert_is;
 use clock_device::NoMemory;
 use clock_money::Point;
 use clock_order::{Tie, TieFault, Ties, ordered};
@@ -10,6 +11,7 @@ use clock_setup::fixtures::{ONE_PRODUCT, TWO_PRODUCTS};
 use clock_setup::read_setup;
 use clock_terms::{Change, Changes, Kind};
 use std::alloc::Global;
+use std::process::Abort;
 use std::test::Fail;
 
 /// A step of demand for a product, at a price between a start price and a clock price.
@@ -68,7 +70,9 @@ fn both(alloc: Global, first: &Change, second: &Change) -> Result<Changes, NoMem
 /// The tie numbers of a list, in the auction of a set-up document, or their fault.
 fn ties_of(alloc: Global, document: &str, ties: &[Tie]) -> Result<Result<Ties, TieFault>, Fail> {
     let setup = read_setup(alloc, document.as_bytes())?;
-    Ok(Ties::new(alloc, &setup, ties))
+    let ties = Ties::new(alloc, &setup, ties);
+    drop(setup);
+    Ok(ties)
 }
 
 /// The bidder of the first of some changes.
@@ -100,40 +104,51 @@ fn fault_of(alloc: Global, document: &str, ties: &[Tie]) -> Result<Option<TieFau
     Ok(ties_of(alloc, document, ties)?.err())
 }
 
+/// The reduction of this bidder is processed first.
+fn goes_first(
+    rt: &impl Abort,
+    alloc: Global,
+    document: &str,
+    ties: &[Tie],
+    steps: (&Step, &Step),
+    bidder: u32,
+) -> Result<(), Fail> {
+    let first = first_in(alloc, document, ties, steps.0, steps.1)?;
+    assert_is(rt, first, Some(bidder));
+    Ok(())
+}
+
 #[test]
 fn changes_go_by_point_and_then_by_tie_number_and_bidder(rt: HostRuntime) -> Result<(), Fail> {
     let alloc = rt.alloc();
     let (x, y) = (reduction(0, 100, 105, 110), reduction(1, 1000, 1050, 1100));
     let numbered = [tie(0, 0, 2), tie(1, 1, 1)];
-    assert_eq!(rt; first_in(alloc, TWO_PRODUCTS, &numbered, &x, &y)?, Some(1));
-    assert_eq!(rt; first_in(alloc, TWO_PRODUCTS, &[], &x, &y)?, Some(0));
+    goes_first(&rt, alloc, TWO_PRODUCTS, &numbered, (&x, &y), 1)?;
+    goes_first(&rt, alloc, TWO_PRODUCTS, &[], (&x, &y), 0)?;
     let same = reduction(0, 100, 104, 110);
     let numbered = [tie(0, 0, 9), tie(1, 0, 3)];
-    assert_eq!(rt;
-        first_in(alloc, ONE_PRODUCT, &numbered, &same, &same)?,
-        Some(1)
-    );
-    assert_eq!(rt; first_in(alloc, ONE_PRODUCT, &[], &same, &same)?, Some(0));
+    goes_first(&rt, alloc, ONE_PRODUCT, &numbered, (&same, &same), 1)?;
+    goes_first(&rt, alloc, ONE_PRODUCT, &[], (&same, &same), 0)
+}
+
+/// A list of tie numbers is refused in the auction of one product.
+fn is_refused(
+    rt: &impl Abort,
+    alloc: Global,
+    ties: &[Tie],
+    expected: TieFault,
+) -> Result<(), Fail> {
+    let fault = fault_of(alloc, ONE_PRODUCT, ties)?;
+    assert_is(rt, fault, Some(expected));
     Ok(())
 }
 
 #[test]
 fn a_tie_list_is_refused_for_its_first_fault(rt: HostRuntime) -> Result<(), Fail> {
     let alloc = rt.alloc();
-    let unknown = [tie(0, 1, 5)];
-    assert_eq!(rt;
-        fault_of(alloc, ONE_PRODUCT, &unknown)?,
-        Some(TieFault::Range(0))
-    );
+    is_refused(&rt, alloc, &[tie(0, 1, 5)], TieFault::Range(0))?;
     let repeated = [tie(0, 0, 1), tie(0, 0, 2)];
-    assert_eq!(rt;
-        fault_of(alloc, ONE_PRODUCT, &repeated)?,
-        Some(TieFault::Repeated(1))
-    );
+    is_refused(&rt, alloc, &repeated, TieFault::Repeated(1))?;
     let many = vec![in alloc; tie(0, 1, 5); 16_385]?;
-    assert_eq!(rt;
-        fault_of(alloc, ONE_PRODUCT, many.as_slice())?,
-        Some(TieFault::TooMany)
-    );
-    Ok(())
+    is_refused(&rt, alloc, many.as_slice(), TieFault::TooMany)
 }

@@ -1,5 +1,6 @@
 //! Price points, and how they compare.
 
+use crate::comparing::assert_is;
 use clock_money::Point;
 use std::cmp::Ordering;
 use std::test::Fail;
@@ -7,7 +8,7 @@ use std::test::Fail;
 #[test]
 fn a_price_outside_has_no_point(rt: HostRuntime) {
     for (start, price, clock) in [(100, 100, 100), (100, 99, 110), (100, 111, 110)] {
-        assert_eq!(rt; Point::of(start, price, clock), None);
+        assert_is(&rt, Point::of(start, price, clock), None);
     }
 }
 
@@ -24,6 +25,6 @@ fn points_compare_as_values(rt: HostRuntime) {
         ([10, 11, 13], [100, 133, 200], Ordering::Greater),
         ([100, 133, 200], [10, 11, 13], Ordering::Less),
     ] {
-        assert_eq!(rt; compared(one, other), Some(order));
+        assert_is(&rt, compared(one, other), Some(order));
     }
 }

@@ -1,5 +1,6 @@
 //! Prices, and how a clock price is raised.
 
+use crate::comparing::assert_is;
 use clock_money::{LEAST_INCREMENT, MOST_GRANULE, MOST_INCREMENT, Price, clock_price};
 use std::test::Fail;
 
@@ -16,10 +17,14 @@ fn raised(start: u64, percent: u64, granule: u64) -> Option<Option<u64>> {
 
 #[test]
 fn a_price_is_from_one_dollar_to_the_highest(rt: HostRuntime) {
-    assert_eq!(rt; Price::new(0), None);
-    assert_eq!(rt; Price::new(Price::HIGHEST + 1), None);
+    assert_is(&rt, Price::new(0), None);
+    assert_is(&rt, Price::new(Price::HIGHEST + 1), None);
     for dollars in [1, Price::HIGHEST] {
-        assert_eq!(rt; Price::new(dollars).map(|price| price.get()), Some(dollars));
+        assert_is(
+            &rt,
+            Price::new(dollars).map(|price| price.get()),
+            Some(dollars),
+        );
     }
 }
 
@@ -37,6 +42,6 @@ fn clock_prices_round_up_to_whole_granules(rt: HostRuntime) {
         (990_099_009_901, 1, 1, None),
         (Price::HIGHEST, 1, 1, None),
     ] {
-        assert_eq!(rt; raised(start, percent, granule), Some(clock));
+        assert_is(&rt, raised(start, percent, granule), Some(clock));
     }
 }

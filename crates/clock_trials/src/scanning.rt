@@ -1,3 +1,4 @@
+use crate::comparing::assert_is;
 use clock_scan::{Scan, ScanStop, is_blank};
 use std::alloc::Global;
 use std::test::Fail;
@@ -62,7 +63,7 @@ fn rows_in_one_list(rt: HostRuntime) -> Result<(), Fail> {
         (b"[1]", (9, 0, false)),
     ];
     for (text, shown) in rows.iter() {
-        assert_eq!(rt; flat_rows_of(alloc, text), *shown);
+        assert_is(&rt, flat_rows_of(alloc, text), *shown);
     }
     Ok(())
 }
@@ -79,7 +80,7 @@ fn members_with_texts(rt: HostRuntime) -> Result<(), Fail> {
         (b"{\"name\" \"P\"}", None),
     ];
     for (text, shown) in rows.iter() {
-        assert_eq!(rt; member_of(text), *shown);
+        assert_is(&rt, member_of(text), *shown);
     }
     Ok(())
 }
@@ -110,7 +111,7 @@ fn the_word_null(rt: HostRuntime) -> Result<(), Fail> {
         (b"[null", false),
     ];
     for (text, is_one) in texts {
-        assert_eq!(rt; is_one_null(text), is_one);
+        assert_is(&rt, is_one_null(text), is_one);
     }
     Ok(())
 }

@@ -210,7 +210,19 @@ fn settle_from_none<P: Processor>(
     settle_in_turn(alloc, processor, setup, &eligibilities, &none, requests)
 }
 
-/// What first requests, settled on no demands, and then others come to. The demands are those at the end, row by row.
+/// The same with the demands at the end, row by row.
+fn demands_and_end<P: Processor>(
+    alloc: Global,
+    processor: &P,
+    setup: &Setup,
+    requests: (&[Asked], &[Asked]),
+) -> Result<(Amounts, Settled), Fail> {
+    let end = settle_from_none(alloc, processor, setup, requests)?;
+    let demands = demands_of(alloc, end.grid(), setup.bidders.as_slice().len())?;
+    Ok((demands, end))
+}
+
+/// The same in the auction of a set-up document.
 pub fn settle_twice<P: Processor>(
     alloc: Global,
     processor: &P,
@@ -218,7 +230,7 @@ pub fn settle_twice<P: Processor>(
     requests: (&[Asked], &[Asked]),
 ) -> Result<(Amounts, Settled), Fail> {
     let setup = read_setup(alloc, document.as_bytes())?;
-    let end = settle_from_none(alloc, processor, &setup, requests)?;
-    let demands = demands_of(alloc, end.grid(), setup.bidders.as_slice().len())?;
-    Ok((demands, end))
+    let end = demands_and_end(alloc, processor, &setup, requests);
+    drop(setup);
+    end
 }

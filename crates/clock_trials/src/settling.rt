@@ -1,7 +1,8 @@
 //! Settlings: what requests come to, with the rescanned list and with the event queue.
 
+use crate::comparing::assert_is;
 use crate::settle::{Asked, settle_twice};
-use clock_processor::{Plain, Processor};
+use clock_processor::{Plain, Processor, Settled};
 use clock_queue::Woken;
 use clock_setup::fixtures::TWO_PRODUCTS;
 use clock_terms::Kind;
@@ -35,6 +36,14 @@ const OPENS_BIDDERS: &str = r#"{"bidders":["#;
 const A_HUNDRED_BLOCKS: &str =
     r#"],"operator":"OPERATOROPERATOR","products":[{"cap":1,"name":"A","opening":100,"supply":100,"units":1}],"requirement":100,"version":1}"#;
 
+/// Asserts what a settling comes to.
+fn compare(rt: &impl Abort, demands: &[u64], settled: &Settled, end: End) {
+    let (all, left, applied) = end;
+    assert_is(rt, demands, all);
+    assert_is(rt, settled.left(), left);
+    assert_is(rt, settled.applied(), applied);
+}
+
 /// Settles requests after first ones, and asserts what they come to. The answer is how often a room was looked at.
 fn settles_with<P: Processor>(
     rt: &impl Abort,
@@ -45,10 +54,7 @@ fn settles_with<P: Processor>(
     end: End,
 ) -> Result<u64, Fail> {
     let (demands, settled) = settle_twice(alloc, processor, document, requests)?;
-    let (all, left, applied) = end;
-    assert_eq!(rt; demands.as_slice(), all);
-    assert_eq!(rt; settled.left(), left);
-    assert_eq!(rt; settled.applied(), applied);
+    compare(rt, demands.as_slice(), &settled, end);
     Ok(settled.tests())
 }
 
@@ -136,20 +142,25 @@ fn of_each(alloc: Global, kind: Kind) -> Result<Vec<Asked>, AllocError> {
     Ok(asked)
 }
 
+/// Each of a hundred bidders takes a block, and keeps it when all ask to give theirs up.
+fn each_keeps_a_block(rt: &impl Abort, alloc: Global, document: &str) -> Result<u64, Fail> {
+    let taken = of_each(alloc, Kind::Increase)?;
+    let given = of_each(alloc, Kind::Reduction)?;
+    let ones = ones(alloc, 100)?;
+    let end: End = (ones.as_slice(), ones.as_slice(), 0);
+    settles(
+        rt,
+        alloc,
+        document,
+        (taken.as_slice(), given.as_slice()),
+        end,
+    )
+}
+
 #[test]
 fn nobody_can_give_up_a_block_without_excess(rt: HostRuntime) -> Result<(), Fail> {
     let document = document_of_a_hundred(rt.alloc())?;
-    let taken = of_each(rt.alloc(), Kind::Increase)?;
-    let given = of_each(rt.alloc(), Kind::Reduction)?;
-    let requests = (taken.as_slice(), given.as_slice());
-    let ones = ones(rt.alloc(), 100)?;
-    let tests = settles(
-        &rt,
-        rt.alloc(),
-        document.as_str(),
-        requests,
-        (ones.as_slice(), ones.as_slice(), 0),
-    )?;
+    let tests = each_keeps_a_block(&rt, rt.alloc(), document.as_str())?;
     assert!(rt; tests <= 100);
     Ok(())
 }

@@ -1,3 +1,4 @@
+use crate::comparing::{assert_is, assert_is_at};
 use clock_setup::Place::{
     BidderName, Cap, Eligibility, Granule, Limit, Name, Opening, Operator, Requirement, Supply,
     Token, Units,
@@ -60,14 +61,20 @@ fn limits_of_first(products: &[Product]) -> Option<Limits> {
 /// What a document is read as, told of a copy of what was read.
 fn read(alloc: Global, text: &str) -> Result<Numbers, SetupFault> {
     let setup = read_setup(alloc, text.as_bytes())?;
-    Ok(numbers(&setup.copy(alloc)?))
+    let copy = setup.copy(alloc);
+    drop(setup);
+    let copy = copy?;
+    let told = numbers(&copy);
+    drop(copy);
+    Ok(told)
 }
 
 /// What a document's first product is read as, told of a copy of what was read.
 fn first_product(alloc: Global, text: &str) -> Result<Option<Limits>, SetupFault> {
     let setup = read_setup(alloc, text.as_bytes())?;
-    let products = products_copy(alloc, setup.products.as_slice())?;
-    Ok(limits_of_first(products.as_slice()))
+    let products = products_copy(alloc, setup.products.as_slice());
+    drop(setup);
+    Ok(limits_of_first(products?.as_slice()))
 }
 
 /// The last bidder's name, token and eligibility are these.
@@ -82,13 +89,20 @@ fn is_last_bidder(setup: &Setup, name: &[u8], token: &[u8], eligibility: u64) ->
 
 fn has_z_last(alloc: Global, text: &str) -> Result<bool, SetupFault> {
     let setup = read_setup(alloc, text.as_bytes())?;
-    Ok(is_last_bidder(&setup, b"Z", b"ZZZZZZZZZZZZZZZZ", 1))
+    let has_z = is_last_bidder(&setup, b"Z", b"ZZZZZZZZZZZZZZZZ", 1);
+    drop(setup);
+    Ok(has_z)
 }
 
 /// What the value of a text is read as.
 fn read_value(alloc: Global, text: &str) -> Result<Numbers, Fail> {
     let value = Value::from_str(alloc, text)?;
-    Ok(numbers(&setup_of(alloc, &value)?))
+    let setup = setup_of(alloc, &value);
+    drop(value);
+    let setup = setup?;
+    let told = numbers(&setup);
+    drop(setup);
+    Ok(told)
 }
 
 fn setup_fault(alloc: Global, text: &str) -> Option<SetupFault> {
@@ -126,6 +140,20 @@ fn opened_fault(
     Ok(opening_fault(alloc, text.as_str()))
 }
 
+/// A document is read with these numbers, and its first product with these limits.
+fn is_read(
+    rt: &impl Abort,
+    alloc: Global,
+    text: &str,
+    numbers: Numbers,
+    product: Limits,
+) -> Result<(), Fail> {
+    assert_is(rt, read(alloc, text)?, numbers);
+    assert_is(rt, first_product(alloc, text)?, Some(product));
+    assert_is(rt, read_value(alloc, text)?, numbers);
+    Ok(())
+}
+
 #[test]
 fn reads_both_versions(rt: HostRuntime) -> Result<(), Fail> {
     for (text, numbers, product) in [
@@ -138,35 +166,36 @@ fn reads_both_versions(rt: HostRuntime) -> Result<(), Fail> {
         ),
         (ACTIVITY_LIMIT, [2, 125, 100, 2, 2], [2, 4, 4, 100, 1]),
     ] {
-        assert_eq!(rt; read(rt.alloc(), text)?, numbers);
-        assert_eq!(rt; first_product(rt.alloc(), text)?, Some(product));
-        assert_eq!(rt; read_value(rt.alloc(), text)?, numbers);
+        is_read(&rt, rt.alloc(), text, numbers, product)?;
     }
     assert!(rt; has_z_last(rt.alloc(), TWO_PRODUCTS)?);
     Ok(())
 }
 
+/// Texts that are no set-up, and their faults.
+const NO_SETUPS: [(&str, SetupFault); 16] = [
+    ("{", SetupFault::NotJson),
+    ("", SetupFault::NotJson),
+    ("\u{feff}{}", SetupFault::NotJson),
+    ("{\"version\":1e400}", SetupFault::NotJson),
+    ("\"\\ud800\"", SetupFault::NotJson),
+    ("[]", Shape),
+    ("{}", Shape),
+    ("{\"version\":1.0}", Shape),
+    ("{\"version\":-1}", Shape),
+    ("{\"version\":18446744073709551616}", Shape),
+    ("{\"version\":1}", Shape),
+    ("{\"version\":2}", Shape),
+    ("{\"version\":0}", SetupFault::Version),
+    ("{\"version\":3}", SetupFault::Version),
+    (NO_PRODUCTS, Range(Place::Products)),
+    (NO_BIDDERS, Range(Place::Bidders)),
+];
+
 #[test]
 fn refuses_what_is_no_setup(rt: HostRuntime) {
-    for (text, fault) in [
-        ("{", SetupFault::NotJson),
-        ("", SetupFault::NotJson),
-        ("\u{feff}{}", SetupFault::NotJson),
-        ("{\"version\":1e400}", SetupFault::NotJson),
-        ("\"\\ud800\"", SetupFault::NotJson),
-        ("[]", SetupFault::Shape),
-        ("{}", SetupFault::Shape),
-        ("{\"version\":1.0}", SetupFault::Shape),
-        ("{\"version\":-1}", SetupFault::Shape),
-        ("{\"version\":18446744073709551616}", SetupFault::Shape),
-        ("{\"version\":1}", SetupFault::Shape),
-        ("{\"version\":2}", SetupFault::Shape),
-        ("{\"version\":0}", SetupFault::Version),
-        ("{\"version\":3}", SetupFault::Version),
-        (NO_PRODUCTS, SetupFault::Range(Place::Products)),
-        (NO_BIDDERS, SetupFault::Range(Place::Bidders)),
-    ] {
-        assert_eq!(rt; setup_fault(rt.alloc(), text), Some(fault), "{text}");
+    for &(text, fault) in NO_SETUPS.iter() {
+        assert_is_at(&rt, text, setup_fault(rt.alloc(), text), Some(fault));
     }
 }
 
@@ -182,7 +211,7 @@ fn has_faults(
 ) -> Result<(), Fail> {
     for (from, to, fault) in rows {
         let text = changed(alloc, document, from, to)?;
-        assert_eq!(rt; setup_fault(alloc, text.as_str()), *fault, "{to}");
+        assert_is_at(rt, to, setup_fault(alloc, text.as_str()), *fault);
     }
     Ok(())
 }
@@ -279,43 +308,62 @@ fn reads_an_opening(rt: HostRuntime) -> Result<(), Fail> {
         ("[[0,2],[2,0],[0,1]]", GRANULES_AND_INCREMENTS, 2),
     ] {
         let text = opening_text(rt.alloc(), demands, "10", setup)?;
-        assert_eq!(rt; opening_read(rt.alloc(), text.as_str())?, (total, 10));
+        assert_is(&rt, opening_read(rt.alloc(), text.as_str())?, (total, 10));
     }
     Ok(())
 }
 
+/// The demands and the increment of an opening, and its fault.
+type OpeningRow<'a> = (&'a str, &'a str, OpeningFault);
+
+/// Openings of a set-up have the faults of the rows.
+fn openings_have_faults(
+    rt: &impl Abort,
+    alloc: Global,
+    setup: &str,
+    rows: &[OpeningRow],
+) -> Result<(), Fail> {
+    for &(demands, increment, fault) in rows {
+        let found = opened_fault(alloc, demands, increment, setup)?;
+        assert_is_at(rt, demands, found, Some(fault));
+    }
+    Ok(())
+}
+
+/// Openings of the one product.
+const OPENINGS: [OpeningRow<'static>; 10] = [
+    ("[", "10", OpeningFault::NotJson),
+    ("[[1],[1]]", "1.0", OpeningFault::Shape),
+    ("[[1],\"1\"]", "10", OpeningFault::Shape),
+    ("[[1]]", "51", OpeningFault::Shape),
+    ("[[3],[1,1]]", "10", OpeningFault::Shape),
+    ("[[3],[1]]", "10", OpeningFault::Demand(0, 0)),
+    ("[[2],[3]]", "51", OpeningFault::Demand(1, 0)),
+    ("[[1],[1]]", "0", OpeningFault::Increment),
+    ("[[1],[1]]", "51", OpeningFault::Increment),
+    ("[[1],[1]]", "[10]", OpeningFault::Shape),
+];
+
+/// Openings where X may have only one block.
+const WEAK_OPENINGS: [OpeningRow<'static>; 3] = [
+    ("[[3],[1]]", "10", OpeningFault::Demand(0, 0)),
+    ("[[2],[3]]", "10", OpeningFault::Activity(0)),
+    ("[[2],[1]]", "51", OpeningFault::Activity(0)),
+];
+
+/// Openings of a set-up of no version.
+const OPENINGS_OF_NO_VERSION: [OpeningRow<'static>; 2] = [
+    ("[]", "0", OpeningFault::Setup(SetupFault::Version)),
+    ("[7]", "0", OpeningFault::Shape),
+];
+
 #[test]
 fn refuses_each_fault_of_an_opening(rt: HostRuntime) -> Result<(), Fail> {
-    let weak = changed(rt.alloc(), ONE_PRODUCT, ": 10}", ": 1}")?;
-    for (demands, increment, setup, fault) in [
-        ("[", "10", ONE_PRODUCT, OpeningFault::NotJson),
-        ("[[1],[1]]", "1.0", ONE_PRODUCT, OpeningFault::Shape),
-        ("[[1],\"1\"]", "10", ONE_PRODUCT, OpeningFault::Shape),
-        ("[[1]]", "51", ONE_PRODUCT, OpeningFault::Shape),
-        ("[[3],[1,1]]", "10", ONE_PRODUCT, OpeningFault::Shape),
-        ("[[3],[1]]", "10", ONE_PRODUCT, OpeningFault::Demand(0, 0)),
-        ("[[2],[3]]", "51", ONE_PRODUCT, OpeningFault::Demand(1, 0)),
-        ("[[3],[1]]", "10", weak.as_str(), OpeningFault::Demand(0, 0)),
-        ("[[2],[3]]", "10", weak.as_str(), OpeningFault::Activity(0)),
-        ("[[2],[1]]", "51", weak.as_str(), OpeningFault::Activity(0)),
-        ("[[1],[1]]", "0", ONE_PRODUCT, OpeningFault::Increment),
-        ("[[1],[1]]", "51", ONE_PRODUCT, OpeningFault::Increment),
-        ("[[1],[1]]", "[10]", ONE_PRODUCT, OpeningFault::Shape),
-        (
-            "[]",
-            "0",
-            "{\"version\":3}",
-            OpeningFault::Setup(SetupFault::Version),
-        ),
-        ("[7]", "0", "{\"version\":3}", OpeningFault::Shape),
-    ] {
-        assert_eq!(rt;
-            opened_fault(rt.alloc(), demands, increment, setup)?,
-            Some(fault),
-            "{demands}"
-        );
-    }
+    openings_have_faults(&rt, rt.alloc(), ONE_PRODUCT, &OPENINGS)?;
+    let no_version = "{\"version\":3}";
+    openings_have_faults(&rt, rt.alloc(), no_version, &OPENINGS_OF_NO_VERSION)?;
     let bare = opening_fault(rt.alloc(), "{\"demands\":[],\"increment\":10}");
-    assert_eq!(rt; bare, Some(OpeningFault::Shape));
-    Ok(())
+    assert_is(&rt, bare, Some(OpeningFault::Shape));
+    let weak = changed(rt.alloc(), ONE_PRODUCT, ": 10}", ": 1}")?;
+    openings_have_faults(&rt, rt.alloc(), weak.as_str(), &WEAK_OPENINGS)
 }

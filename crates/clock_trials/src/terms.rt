@@ -3,6 +3,7 @@
 ghost use Rattle.std.specs.Prelude.{◌≤◌, IfOk};
 ghost use Rattle.clock_terms.specs.Demands.{IsGrid};
 
+use crate::comparing::assert_is;
 use clock_device::NoMemory;
 use clock_money::Price;
 use clock_setup::fixtures::{ONE_PRODUCT, PRICE_EDGES};
@@ -14,7 +15,9 @@ use std::test::Fail;
 /// Start and clock price of the last product in round 1.
 fn last_prices(alloc: Global, text: &str) -> Result<Option<(u64, u64)>, SetupFault> {
     let setup = read_setup(alloc, text.as_bytes())?;
-    let prices = Prices::opening(alloc, &setup)?;
+    let prices = Prices::opening(alloc, &setup);
+    drop(setup);
+    let prices = prices?;
     let Some(pair) = prices.as_slice().last() else {
         return Ok(None);
     };
@@ -24,7 +27,7 @@ fn last_prices(alloc: Global, text: &str) -> Result<Option<(u64, u64)>, SetupFau
 #[test]
 fn opens_at_the_opening_prices(rt: HostRuntime) -> Result<(), Fail> {
     for (text, price) in [(ONE_PRODUCT, 100), (PRICE_EDGES, Price::HIGHEST)] {
-        assert_eq!(rt; last_prices(rt.alloc(), text)?, Some((price, price)));
+        assert_is(&rt, last_prices(rt.alloc(), text)?, Some((price, price)));
     }
     Ok(())
 }
@@ -56,7 +59,7 @@ fn totals(alloc: Global, grid: &mut Grid, first: u64, second: u64) -> Result<(u6
 #[test]
 fn a_copy_of_a_grid_is_its_own(rt: HostRuntime) -> Result<(), Fail> {
     let mut grid = zero_grid(rt.alloc(), ONE_PRODUCT)?;
-    assert_eq!(rt; totals(rt.alloc(), &mut grid, 2, 1)?, (3, 1));
+    assert_is(&rt, totals(rt.alloc(), &mut grid, 2, 1)?, (3, 1));
     Ok(())
 }
 

@@ -2,6 +2,7 @@
 use super::requests::{compare, reply_of, setup_of, text_of};
 use super::rows::{fields_of, replaced, whole_rows};
 use super::texts::{ACCEPTED, PUT};
+use crate::comparing::assert_is;
 use crate::front::example::{on_front, on_one_product};
 use clock_device::{Items, Text};
 use clock_front::{Front, run};
@@ -54,13 +55,13 @@ GET /v1/me/bids|Y||200 OK|{"bids":null,"round":1}"#;
 /// The 147 bytes of a sheet that X puts, byte for byte, and its reply; then the rows.
 fn put_and_told(rt: &impl Abort, alloc: Global, front: &mut Front<Plain>) -> Result<(), Fail> {
     let reply = reply_of(alloc, front, PUT)?;
-    assert_eq!(rt; reply.as_str(), ACCEPTED);
+    assert_is(rt, reply.as_str(), ACCEPTED);
     send_rows(rt, alloc, front, SHEETS)
 }
 
 #[test]
 fn a_sheet_is_put_and_told(rt: HostRuntime) -> Result<(), Fail> {
-    assert_eq!(rt; PUT.len(), 147);
+    assert_is(&rt, PUT.len(), 147);
     on_one_product(rt.alloc(), |front| put_and_told(&rt, rt.alloc(), front))
 }
 
@@ -248,6 +249,10 @@ fn a_run_gives_a_reply_to_each_text(rt: HostRuntime) -> Result<(), Fail> {
     let rows = "GET /v1/status HTTP/1.1\r\n\r\n|GET /v1/status";
     let texts = texts_of(rt.alloc(), rows)?;
     let codes = codes_of(rt.alloc(), texts.as_slice())?;
-    assert_eq!(rt; codes.as_slice(), [Code::Done, Code::CutShort].as_slice());
+    assert_is(
+        &rt,
+        codes.as_slice(),
+        [Code::Done, Code::CutShort].as_slice(),
+    );
     Ok(())
 }

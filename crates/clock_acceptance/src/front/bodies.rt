@@ -1,5 +1,6 @@
 //! What the bodies of requests mean.
 use super::rows::have_meanings;
+use crate::comparing::assert_is;
 use clock_bids::Bid;
 use clock_front::{BodyFault, read_close, read_put};
 use clock_terms::Increments;
@@ -87,7 +88,11 @@ fn a_body_that_is_no_text_is_no_json(rt: HostRuntime) {
         b"\xef\xbb\xbf{\"bids\":[],\"round\":1}".as_slice(),
         b"{\"bids\":[],\"round\":\"\xff\"}",
     ] {
-        assert_eq!(rt; read_put(rt.alloc(), body).err(), Some(BodyFault::NotJson));
+        assert_is(
+            &rt,
+            read_put(rt.alloc(), body).err(),
+            Some(BodyFault::NotJson),
+        );
     }
 }
 

@@ -2,6 +2,7 @@
 ghost use Rattle.std.specs.Prelude.{None, false};
 
 use super::texts::LONG_HEAD;
+use crate::comparing::assert_is;
 use crate::front::example::on_one_product;
 use clock_device::{ListSink, Source, Stop};
 use clock_front::{Front, StreamFault, serve_stream};
@@ -58,9 +59,9 @@ fn is_served(
     };
     let mut sink = ListSink::new(alloc, 1024, 1024, None)?;
     let served = serve_stream(alloc, front, &mut source, &mut sink);
-    assert_eq!(rt; served, answer);
-    assert_eq!(rt; sink.bytes(), written.as_bytes());
-    assert_eq!(rt; source.calls, calls);
+    assert_is(rt, served, answer);
+    assert_is(rt, sink.bytes(), written.as_bytes());
+    assert_is(rt, source.calls, calls);
     Ok(())
 }
 

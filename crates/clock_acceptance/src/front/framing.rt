@@ -3,6 +3,7 @@ ghost use Rattle.std.specs.Prelude.{◌≤◌, length};
 ghost use Rattle.clock_http.specs.Shown.{Knows};
 
 use super::rows::with_line_ends;
+use crate::comparing::assert_is_at;
 use crate::front::example::on_one_product;
 use clock_front::{Framing, Front, Head, Progress, frame};
 use clock_processor::Plain;
@@ -82,7 +83,7 @@ fn a_text_is_a_request_or_refused_or_needs_more(rt: HostRuntime) -> Result<(), F
         let row = with_line_ends(rt.alloc(), row)?;
         let (text, meaning) = row.as_str().rsplit_once('|').unwrap_or(("", ""));
         let is = told(rt.alloc(), text.as_bytes())?;
-        assert_eq!(rt; is.as_str(), meaning, "{text}");
+        assert_is_at(&rt, text, is.as_str(), meaning);
     }
     Ok(())
 }

@@ -1,6 +1,7 @@
 //! What is answered where a head is at a limit or past it, or is none.
 use super::requests::compare;
 use super::rows::{fields_of, with_line_ends};
+use crate::comparing::assert_is;
 use crate::front::example::on_one_product;
 use std::alloc::Global;
 use std::process::Abort;
@@ -96,7 +97,7 @@ fn has_bytes(
     told: Told<'_>,
 ) -> Result<(), Fail> {
     let text = head_filled(alloc, filling.0, filling.1)?;
-    assert_eq!(rt; text.len(), length);
+    assert_is(rt, text.len(), length);
     answers(rt, alloc, text.as_str(), told)
 }
 

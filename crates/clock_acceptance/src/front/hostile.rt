@@ -3,6 +3,7 @@ use super::hubs::{connected, on_hub};
 use super::requests::reply_with;
 use super::rows::{fields_of, replaced, with_line_ends};
 use super::texts::{ACCEPTED, BIDS_OF_X, CUT_SHORT, LONG_HEAD, NO_SHEET, PUT, SHEET};
+use crate::comparing::assert_is;
 use crate::front::example::on_one_product;
 use clock_device::{ListSink, ListSource, Text};
 use clock_front::{Conn, Fed, Front, Hub, serve_stream};
@@ -110,7 +111,7 @@ fn compare<S, F: Fn(Global, &mut S, &[u8]) -> Result<Text, Fail>>(
 {
     let reply = send(alloc, server, text)?;
     let bids = send(alloc, server, BIDS_OF_X.as_bytes())?;
-    assert_eq!(rt; reply.as_slice(), told.0.as_bytes());
+    assert_is(rt, reply.as_slice(), told.0.as_bytes());
     assert!(rt; bids.as_slice().ends_with(told.1.as_bytes()));
     Ok(())
 }

@@ -3,6 +3,7 @@ mod in_pieces;
 
 use super::requests::{reply_of, text_of};
 use super::rows::{fields_of, replaced};
+use crate::comparing::assert_is;
 use crate::front::example::on_front;
 use clock_front::Front;
 use clock_processor::Plain;
@@ -117,7 +118,7 @@ fn is_told_alike(
     let one = told_x(alloc, public, one.0, one.1)?;
     assert!(rt; has_pages(one.as_str()), "{}", one.as_str());
     let two = told_x(alloc, public, two.0, two.1)?;
-    assert_eq!(rt; one.as_str(), two.as_str());
+    assert_is(rt, one.as_str(), two.as_str());
     Ok(())
 }
 

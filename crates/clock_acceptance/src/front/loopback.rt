@@ -1,5 +1,6 @@
 //! Connections of this machine, which clients have made and written to before any is taken.
 use super::texts::{ACCEPTED, CUT_SHORT, FIRST_ROUND, PUT, STATUS};
+use crate::comparing::assert_is;
 use crate::front::example::on_one_product;
 use clock_serving::serve_on;
 use std::alloc::Global;
@@ -34,8 +35,45 @@ fn assert_hears(
     reply: &str,
 ) -> io::Result<()> {
     let bytes = heard(rt.alloc(), stream)?;
-    assert_eq!(rt; bytes.as_slice(), reply.as_bytes());
+    assert_is(rt, bytes.as_slice(), reply.as_bytes());
     Ok(())
+}
+
+/// A client that has written a part of a sheet, and writes no more.
+fn cut_client(rt: &HostRuntime, address: SocketAddr) -> io::Result<TcpStream> {
+    let stream = client(rt, address, &PUT[..10])?;
+    stream.shutdown(Shutdown::Write)?;
+    Ok(stream)
+}
+
+/// Clients that have written a sheet, a part of one, and a question.
+#[derive(Drop)]
+struct Clients {
+    whole: TcpStream,
+    cut: TcpStream,
+    status: TcpStream,
+}
+
+/// Three clients, one after the other.
+fn three_clients(rt: &HostRuntime, address: SocketAddr) -> io::Result<Clients> {
+    let whole = client(rt, address, PUT)?;
+    let cut = cut_client(rt, address)?;
+    let status = client(rt, address, STATUS)?;
+    Ok(Clients { whole, cut, status })
+}
+
+/// Asserts what each of them hears.
+fn assert_each_hears(rt: &(impl Abort + Alloc<A = Global>), clients: Clients) -> io::Result<()> {
+    assert_hears(rt, clients.whole, ACCEPTED)?;
+    assert_hears(rt, clients.cut, CUT_SHORT)?;
+    assert_hears(rt, clients.status, FIRST_ROUND)
+}
+
+/// Two clients that are gone before they are served, and one that asks for the status.
+fn left_client(rt: &HostRuntime, address: SocketAddr) -> io::Result<TcpStream> {
+    drop(client(rt, address, PUT)?);
+    drop(client(rt, address, &PUT[..10])?);
+    client(rt, address, STATUS)
 }
 
 /// Serves so many connections of an auction of one product, and answers whether each could be taken.
@@ -49,14 +87,9 @@ fn all_are_served(alloc: Global, listener: &TcpListener, connections: u64) -> Re
 fn connections_are_served_in_turn(rt: HostRuntime) -> Result<(), Fail> {
     let listener = any_port(&rt)?;
     let address = listener.local_addr()?;
-    let whole = client(&rt, address, PUT)?;
-    let cut = client(&rt, address, &PUT[..10])?;
-    cut.shutdown(Shutdown::Write)?;
-    let status = client(&rt, address, STATUS)?;
+    let clients = three_clients(&rt, address)?;
     assert!(rt; all_are_served(rt.alloc(), &listener, 3)?);
-    assert_hears(&rt, whole, ACCEPTED)?;
-    assert_hears(&rt, cut, CUT_SHORT)?;
-    assert_hears(&rt, status, FIRST_ROUND)?;
+    assert_each_hears(&rt, clients)?;
     Ok(())
 }
 
@@ -64,9 +97,7 @@ fn connections_are_served_in_turn(rt: HostRuntime) -> Result<(), Fail> {
 fn a_client_that_is_gone_ends_alone(rt: HostRuntime) -> Result<(), Fail> {
     let listener = any_port(&rt)?;
     let address = listener.local_addr()?;
-    drop(client(&rt, address, PUT)?);
-    drop(client(&rt, address, &PUT[..10])?);
-    let status = client(&rt, address, STATUS)?;
+    let status = left_client(&rt, address)?;
     assert!(rt; all_are_served(rt.alloc(), &listener, 3)?);
     assert_hears(&rt, status, FIRST_ROUND)?;
     Ok(())

@@ -3,6 +3,7 @@
 ghost use Rattle.std.specs.Prelude.{◌≡◌, false};
 
 use super::texts::{ACCEPTED, CUT_SHORT, FIRST_ROUND, PUT, STATUS};
+use crate::comparing::assert_is;
 use crate::front::example::on_one_product;
 use clock_device::Stop;
 use clock_front::Front;
@@ -55,10 +56,10 @@ fn compare<K: Keeper>(
     let clients = clients();
     let mut listed = Listed::new(alloc, &clients)?;
     let end = serve_all(alloc, front, keeper, &mut listed, 5);
-    assert_eq!(rt; end, ended);
-    assert_eq!(rt; listed.closed().len(), written.len());
+    assert_is(rt, end, ended);
+    assert_is(rt, listed.closed().len(), written.len());
     for (closed, bytes) in listed.closed().iter().zip(written) {
-        assert_eq!(rt; closed.written(), bytes.as_bytes());
+        assert_is(rt, closed.written(), bytes.as_bytes());
     }
     Ok(())
 }
@@ -76,7 +77,7 @@ fn compare_kept(
         return Err("no journal")?;
     };
     compare(rt, alloc, front, &mut journal, ended, written)?;
-    assert_eq!(rt; journal.disk().bytes().len(), 56 + 40 + PUT.len());
+    assert_is(rt, journal.disk().bytes().len(), 56 + 40 + PUT.len());
     Ok(())
 }
 

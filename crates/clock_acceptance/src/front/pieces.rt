@@ -4,6 +4,7 @@ use super::hubs;
 use super::hubs::{fed, finished, on_hub, shown};
 use super::requests::setup_of;
 use super::texts::{BIDS_OF_Y, PUT, STATUS};
+use crate::comparing::{assert_is, assert_is_at};
 use clock_front::{Conn, Event, EventReplies, Hub, HubFault, run_events};
 use clock_processor::Plain;
 use clock_setup::fixtures::ONE_PRODUCT;
@@ -68,7 +69,7 @@ fn three_connections_in_single_bytes(rt: HostRuntime) -> Result<(), Fail> {
     let events = in_single_bytes(rt.alloc())?;
     let replies = replies_to(rt.alloc(), events.as_slice())?;
     let told = all_shown(rt.alloc(), &replies)?;
-    assert_eq!(rt; told.as_str(), IN_ORDER_OF_COMPLETION);
+    assert_is(&rt, told.as_str(), IN_ORDER_OF_COMPLETION);
     Ok(())
 }
 
@@ -83,7 +84,7 @@ fn connect_all(hub: &mut Hub<Plain>, count: usize) -> Result<(), HubFault> {
 /// So many stand, and no further one.
 fn is_full_at(rt: &impl Abort, hub: &mut Hub<Plain>, count: usize) -> Result<(), Fail> {
     connect_all(hub, count)?;
-    assert_eq!(rt; hubs::connected(hub), Err(HubFault::Full));
+    assert_is(rt, hubs::connected(hub), Err(HubFault::Full));
     Ok(())
 }
 
@@ -133,7 +134,7 @@ fn take_steps(rt: &impl Abort, alloc: Global, hub: &mut Hub<Plain>) -> Result<()
     let mut conns = Vec::new(alloc);
     for (number, step, expected) in STEPS {
         let told = told_at(alloc, hub, &mut conns, number, step)?;
-        assert_eq!(rt; told.as_str(), expected, "{number} {step}");
+        assert_is_at(rt, (number, step), told.as_str(), expected);
     }
     Ok(())
 }

@@ -1,4 +1,5 @@
 //! Requests as rows of text, and their replies.
+use crate::comparing::assert_is;
 use clock_front::Front;
 use clock_processor::Plain;
 use clock_setup::{Setup, read_setup};
@@ -72,6 +73,6 @@ pub(super) fn compare(
 ) -> Result<(), Fail> {
     let reply = reply_of(alloc, front, text)?;
     let expected = reply_with(alloc, status, page)?;
-    assert_eq!(rt; reply.as_str(), expected.as_str());
+    assert_is(rt, reply.as_str(), expected.as_str());
     Ok(())
 }

@@ -1,6 +1,7 @@
 //! Tables as texts. Each line is a row, with `|` between two fields; a long row of requests goes on in lines that begin
 //! with `|`. In a field that is a part of a text `~` stands for CR LF, `$` for LF and `^` for CR. Where two sides send
 //! requests in turn, a line of `~` alone stands between two turns.
+use crate::comparing::assert_is_at;
 use std::alloc::Global;
 use std::process::Abort;
 use std::test::Fail;
@@ -44,7 +45,7 @@ pub(super) fn have_meanings<F: Fn(Global, &str) -> Result<String, Fail>>(
     for row in rows.split('\n') {
         let (given, expected) = row.rsplit_once('|').unwrap_or((row, ""));
         let meaning = meaning_of(alloc, given)?;
-        assert_eq!(rt; meaning.as_str(), expected, "{given}");
+        assert_is_at(rt, given, meaning.as_str(), expected);
     }
     Ok(())
 }

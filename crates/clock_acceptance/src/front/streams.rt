@@ -3,6 +3,7 @@ ghost use Rattle.std.specs.Prelude.{◌≤◌};
 
 use super::requests::reply_of;
 use super::texts::{ACCEPTED, BIDS_OF_X, NO_SHEET, PUT, SHEET};
+use crate::comparing::assert_is;
 use crate::front::example::on_one_product;
 use clock_device::{ListSink, ListSource, Stop, Text};
 use clock_front::{Front, StreamFault, serve_stream};
@@ -55,9 +56,10 @@ fn served_as(
     row: &Row<'_>,
 ) -> Result<(), Fail> {
     let (answer, written) = serve(alloc, front, row)?;
-    assert_eq!(rt; answer, row.answer);
-    assert_eq!(rt; written.as_slice(), row.written);
-    assert_eq!(rt; has_sheet(alloc, front)?, row.has_sheet);
+    assert_is(rt, answer, row.answer);
+    assert_is(rt, written.as_slice(), row.written);
+    drop(written);
+    assert_is(rt, has_sheet(alloc, front)?, row.has_sheet);
     Ok(())
 }
 

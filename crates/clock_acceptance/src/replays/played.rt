@@ -1,6 +1,7 @@
 //! A replay is played, and its report or its first fault is told.
 
 use super::documents::{document, joined};
+use crate::comparing::assert_is;
 use clock_device::{NoMemory, Text};
 use clock_processor::Plain;
 use clock_setup::fixtures::ONE_PRODUCT;
@@ -88,7 +89,7 @@ fn sincere_bidders_leave_at_their_limits(rt: HostRuntime) -> Result<(), Fail> {
     let document = with_scripts(rt.alloc(), THREE_CLOSINGS, FALLING_LIMITS, ONE_BLOCK)?;
     for settled in ALL_WAYS {
         let text = outcome(rt.alloc(), document.as_slice(), settled)?;
-        assert_eq!(rt; text.as_slice(), REPORT.as_bytes());
+        assert_is(&rt, text.as_slice(), REPORT.as_bytes());
     }
     Ok(())
 }
@@ -114,7 +115,7 @@ fn the_first_fault_is_told(rt: HostRuntime) -> Result<(), Fail> {
         let document = with_scripts(rt.alloc(), closings, script, ONE_BLOCK)?;
         for settled in ALL_WAYS {
             let told = outcome(rt.alloc(), document.as_slice(), settled);
-            assert_eq!(rt; told.err(), Some(*fault));
+            assert_is(&rt, told.err(), Some(*fault));
         }
     }
     Ok(())
@@ -209,7 +210,7 @@ const FAULTY: [(u64, Option<SimFault>); 6] = [
 fn groups_are_answered_in_the_order_of_the_bidders(rt: HostRuntime) -> Result<(), Fail> {
     for (faulty, fault) in FAULTY.iter() {
         let document = many_sheets(rt.alloc(), *faulty)?;
-        assert_eq!(rt; fault_of(rt.alloc(), document.as_slice()), *fault);
+        assert_is(&rt, fault_of(rt.alloc(), document.as_slice()), *fault);
     }
     Ok(())
 }
@@ -248,7 +249,7 @@ const BEFORE: [(&str, SimFault); 2] = [
 fn a_sheet_that_is_too_long_waits_for_those_before_it(rt: HostRuntime) -> Result<(), Fail> {
     for (script, fault) in BEFORE.iter() {
         let document = before_long(rt.alloc(), script)?;
-        assert_eq!(rt; fault_of(rt.alloc(), document.as_slice()), Some(*fault));
+        assert_is(&rt, fault_of(rt.alloc(), document.as_slice()), Some(*fault));
     }
     Ok(())
 }

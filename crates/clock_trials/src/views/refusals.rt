@@ -22,8 +22,10 @@ fn is_told(rt: &impl Abort, alloc: Global, refusal: Refusal, expected: &[u8]) ->
 fn codes_that_stand_alone(rt: HostRuntime) -> Result<(), Fail> {
     let page = refusal_page(rt.alloc(), Code::NoPage, None, None)?;
     reads(&rt, &page, b"{\"code\":\"no_page\",\"status\":404}");
+    drop(page);
     let page = refusal_page(rt.alloc(), Code::CutShort, None, None)?;
     reads(&rt, &page, b"{\"code\":\"cut_short\",\"status\":400}");
+    drop(page);
     let page = refusal_page(rt.alloc(), Code::Memory, None, None)?;
     reads(&rt, &page, b"{\"code\":\"memory\",\"status\":503}");
     Ok(())

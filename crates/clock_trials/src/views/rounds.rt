@@ -25,7 +25,9 @@ fn on_house<F: FnOnce(&mut House<Plain>) -> Result<(), Fail>>(
 {
     let setup = read_setup(alloc, ONE_PRODUCT.as_bytes())?;
     let mut house = House::new(alloc, setup, Plain)?;
-    act(&mut house)
+    let done = act(&mut house);
+    drop(house);
+    done
 }
 
 /// A bidder of the house puts a sheet for the current round.

@@ -1,5 +1,6 @@
 //! The same where each request comes over a connection of its own, in single bytes.
 use super::{BY_W, BY_Y, OWN, PUBLIC, V_X_AND_W, X_AND_Y, text_of_row, told_x};
+use crate::comparing::assert_is;
 use crate::front::events::{connected, push_byte};
 use crate::front::requests::setup_of;
 use clock_front::{Event, EventReplies, run_events};
@@ -179,9 +180,9 @@ fn is_told_alike(
     two: Way,
 ) -> Result<(), Fail> {
     let one = told_x_in_pieces(alloc, X_AND_Y, BY_Y, one)?;
-    assert_eq!(rt; one.as_str(), whole);
+    assert_is(rt, one.as_str(), whole);
     let two = told_x_in_pieces(alloc, V_X_AND_W, BY_W, two)?;
-    assert_eq!(rt; two.as_str(), whole);
+    assert_is(rt, two.as_str(), whole);
     Ok(())
 }
 
