@@ -101,10 +101,10 @@ setup_judged setup within first =
     rw (version, test_of_within 1 latest_version setup.version within, setup_is setup first) refl
 
 -- and so is a document that is this value
-pub document_judged : (bytes : List ℕ) (setup : SetupFields) → IsUtf8 bytes → read bytes ≡ Some (setup_data setup) → IsWithin 1 latest_version setup.version
-    → (setup.version ≡ 1 → IsOfFirstVersion setup) → document_setup bytes ≡ unless (first_fault (setup_checks setup)) setup
+pub document_is : (bytes : List ℕ) (setup : SetupFields) → IsUtf8 bytes → read bytes ≡ Some (setup_data setup)
+    → document_setup bytes ≡ setup_of (setup_data setup)
 unfolding document_setup
-document_judged bytes setup text is within first = rw (json_value bytes (setup_data setup) text is) (setup_judged setup within first)
+document_is bytes setup text is = rw (json_value bytes (setup_data setup) text is) refl
 
 -- a set-up with no fault is what the document means
 pub judged_ok : (answer : Result SetupFields SetupFault) (setup : SetupFields) (result : Result SetupFields SetupFault)

@@ -9,7 +9,7 @@ ghost use Rattle.clock_setup.specs.SetupShape.{fields_of};
 ghost use Rattle.clock_setup.specs.SetupDocument as document;
 ghost use Rattle.clock_setup.specs.inside.SetupDocument.{distinct_checks, head_checks};
 
-use crate::entries::SetupEntries;
+use crate::entries::{ScannedSetup, SetupEntries};
 use crate::fault::{Place, SetupFault};
 use crate::members::{number_at, read_value};
 use crate::names::{is_distinct, names, tokens};
@@ -75,7 +75,7 @@ fn check_distinct(alloc: Global, entries: &SetupEntries) -> Result<(), SetupFaul
 }
 
 /// The set-up, where it is within its limits, or the first fault.
-pub(crate) fn within_limits(alloc: Global, entries: &SetupEntries) -> Result<Setup, SetupFault>
+fn within_limits(alloc: Global, entries: &SetupEntries) -> Result<Setup, SetupFault>
     requires version { IsWithin 1 latest_version entries.now.version }
     requires first_version { entries.now.version ≡ 1 → IsOfFirstVersion entries.now }
     ensures same { IfOk result (λ setup. setup ≡ entries.now) }
@@ -100,6 +100,16 @@ pub(crate) fn within_limits(alloc: Global, entries: &SetupEntries) -> Result<Set
     })
 }
 
+/// The set-up that a document of these entries means, or its first fault.
+pub(crate) fn judged(alloc: Global, scanned: &ScannedSetup) -> Result<Setup, SetupFault>
+    ensures same { IfOk result (λ setup. setup ≡ scanned.now.entries) }
+    ensures ok { IfOk result (λ setup. document.setup_of (setup_data scanned.now.entries) ≡ Ok setup) }
+    ensures err { IfErr result
+        (IsRefusal SetupFault.NoMemory (document.setup_of (setup_data scanned.now.entries))) }
+{
+    within_limits(alloc, &scanned.entries)
+}
+
 /// The set-up that is next in a document, where it is within its limits, none of its texts has an escape, and each of
 /// its numbers is written in digits alone. Anything else is `Unusual`: then a tree of values tells what it means.
 pub fn next_setup(alloc: Global, scan: &mut Scan<'_>) -> Result<Setup, ScanStop>
@@ -108,7 +118,7 @@ pub fn next_setup(alloc: Global, scan: &mut Scan<'_>) -> Result<Setup, ScanStop>
     ensures shorter { OnOk result (length scan.new < length scan.old) }
 {
     let scanned = SetupParts::part(alloc, scan)?;
-    match within_limits(alloc, &scanned.entries) {
+    match judged(alloc, &scanned) {
         Ok(setup) => Ok(setup),
         Err(SetupFault::NoMemory) => Err(ScanStop::NoMemory),
         Err(_) => Err(ScanStop::Unusual),
@@ -124,13 +134,13 @@ pub fn next_setup(alloc: Global, scan: &mut Scan<'_>) -> Result<Setup, ScanStop>
 /// keys, and its numbers are whole numbers below 2^64. [`SetupFault`] has the faults in the order in which they are
 /// looked at, and [`Place`] the limits. Reading takes time and memory in proportion to the document's length. Nothing
 /// is kept of a document that is refused.
-#[tactic(auto, unfolding(crate::specs::SetupDocument::document_setup))]
+#[tactic(auto, using(crate::proofs::JsonLaws::json_value), unfolding(crate::specs::SetupDocument::document_setup))]
 pub fn read_setup(alloc: Global, bytes: &[u8]) -> Result<Setup, SetupFault>
     ensures ok { IfOk result (λ setup. document.document_setup bytes.now ≡ Ok setup) }
     ensures err { IfErr result (IsRefusal SetupFault.NoMemory (document.document_setup bytes.now)) }
 {
     match scanned_text::<SetupParts>(alloc, bytes) {
-        Ok(scanned) => within_limits(alloc, &scanned.entries),
+        Ok(scanned) => judged(alloc, &scanned),
         Err(ScanStop::Unusual) => {
             let value = read_value(alloc, bytes)?.ok_or(SetupFault::NotJson)?;
             setup_of(alloc, &value)

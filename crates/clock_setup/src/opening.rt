@@ -8,7 +8,7 @@ ghost use Rattle.clock_setup.specs.OpeningDocument.{document_opening, opening_of
 ghost use Rattle.clock_setup.specs.OpeningShape.{parts_of};
 ghost use Rattle.clock_setup.specs.SetupDocument as document;
 
-use crate::document::{setup_of, within_limits};
+use crate::document::{judged, setup_of};
 use crate::fault::SetupFault;
 use crate::members::read_value;
 use crate::opening_checks::grid_within;
@@ -79,7 +79,7 @@ fn judged_setup(alloc: Global, held: &InnerSetup<'_>) -> Result<Setup, SetupFaul
 {
     match held {
         InnerSetup::Tree(value) => setup_of(alloc, value),
-        InnerSetup::Scanned(setup) => within_limits(alloc, &setup.entries),
+        InnerSetup::Scanned(setup) => judged(alloc, setup),
     }
 }
 
