@@ -1,15 +1,13 @@
 -- What is known of a set-up that a value of JSON has the shape of.
 use Rattle.std.proofs.Common.{◌≡◌, ℕ, Bool, true, false, List, ◌∷◌, All, Option, Some, None, codes, refl, sym, ap, ◌∙◌, subst}
-use Rattle.std.specs.Prelude.{if◌then◌else◌, option_and_then, option_map}
+use Rattle.std.specs.Prelude.{if◌then◌else◌, option_and_then}
 use Rattle.std.proofs.lemmas.List.Elements.{All-nil, All-cons}
 use Rattle.serde_json.specs.Data.{Data, Items, no_items, item}
-use Rattle.serde_json.specs.Find.{get}
 use Rattle.clock_terms.specs.declared.setup.Product.{Product}
 use Rattle.clock_terms.specs.declared.setup.Bidder.{Bidder}
 use Rattle.clock_terms.specs.Limits.{SetupFields, IsOfFirstVersion, first_granule, first_limit}
 use Rattle.clock_setup.specs.Members.{number_at, text_at, items_at, has_members, each, ◌>>=◌}
 use Rattle.clock_setup.specs.SetupShape.{added_number, key_count, product_of, bidder_of, fields_of}
-use Rattle.clock_setup.specs.OpeningShape.{OpeningParts, row_of, parts_of}
 
 if_some : {A : Type 0} (b : Bool) (x y : A) → (if b then Some x else None) ≡ Some y → x ≡ y
 if_some true x y h = cc
