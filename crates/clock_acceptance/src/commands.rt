@@ -74,6 +74,7 @@ fn ends(
 ) -> Result<(), Fail> {
     let run = run(alloc, words, document, streams)?;
     assert_ends(rt, &run, expected.0, expected.1, expected.2);
+    drop(run);
     Ok(())
 }
 
@@ -200,7 +201,7 @@ fn a_replay_has_a_report(rt: HostRuntime) -> Result<(), Fail> {
 
 #[test]
 fn a_replay_has_a_fault(rt: HostRuntime) -> Result<(), Fail> {
-    for (scripts, closings, fault) in REPLAY_FAULTS {
+    for &(scripts, closings, fault) in REPLAY_FAULTS.iter() {
         replay_ends(&rt, rt.alloc(), scripts, closings, (1, "", fault))?;
     }
     Ok(())
@@ -212,6 +213,7 @@ fn are_refused(rt: &impl Abort, alloc: Global, words: &[&str]) -> Result<(), Fai
     assert_is(rt, run.status, 2);
     assert!(rt; run.output.bytes().is_empty());
     assert!(rt; !run.faults.bytes().is_empty());
+    drop(run);
     Ok(())
 }
 

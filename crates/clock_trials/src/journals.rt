@@ -216,7 +216,7 @@ fn is_torn(rt: &HostRuntime, file: &mut File) -> io::Result<bool> {
     Ok(had_two && has_two(rt)? && file.metadata()?.len() == 144)
 }
 
-/// Whether both holds of the file.
+/// Whether both hold of the file.
 fn is_locked_and_torn(rt: &HostRuntime) -> Result<bool, Fail> {
     let mut file = opened(rt)?;
     Ok(is_locked(rt, &file)? && is_torn(rt, &mut file)?)

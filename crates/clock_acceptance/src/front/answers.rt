@@ -13,14 +13,25 @@ use std::alloc::Global;
 use std::process::Abort;
 use std::test::Fail;
 
+/// Sends a request, of its line, whose token it has and its body, and compares the status and page of its reply.
+fn send_request(
+    rt: &impl Abort,
+    alloc: Global,
+    front: &mut Front<Plain>,
+    request: (&str, &str, &str),
+    told: (&str, &str),
+) -> Result<(), Fail> {
+    let text = text_of(alloc, request.0, request.1, request.2)?;
+    compare(rt, alloc, front, text.as_str(), told.0, told.1)
+}
+
 /// Sends the request of a row, and compares its reply.
 fn send(rt: &impl Abort, alloc: Global, front: &mut Front<Plain>, row: &str) -> Result<(), Fail> {
     let fields = fields_of(alloc, row)?;
     let &[line, who, body, status, page] = fields.as_slice() else {
         return Err("a row has five fields")?;
     };
-    let text = text_of(alloc, line, who, body)?;
-    compare(rt, alloc, front, text.as_str(), status, page)
+    send_request(rt, alloc, front, (line, who, body), (status, page))
 }
 
 /// Sends the requests of all rows in turn.

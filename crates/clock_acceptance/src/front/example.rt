@@ -23,7 +23,9 @@ pub(crate) fn on_front<T, F: FnOnce(&mut Front<Plain>) -> Result<T, Fail>>(
     requires { F.IsAlwaysCallable act }
 {
     let mut front = opened(alloc, document)?;
-    act(&mut front)
+    let done = act(&mut front);
+    drop(front);
+    done
 }
 
 /// What is done with a front of the one product.

@@ -57,15 +57,25 @@ fn answers(rt: &impl Abort, alloc: Global, text: &str, told: Told<'_>) -> Result
     })
 }
 
-/// A request with the header line of a row is answered as the row says.
+/// A request with these header lines.
+fn text_with(alloc: Global, lines: &str) -> Result<String, Fail> {
+    let lines = with_line_ends(alloc, lines)?;
+    Ok(format!(in alloc; "GET /v1/none HTTP/1.1\r\n{}\r\n\r\n", lines.as_str())?)
+}
+
+/// It is answered with a status and a page.
+fn lines_answer(rt: &impl Abort, alloc: Global, lines: &str, told: Told<'_>) -> Result<(), Fail> {
+    let text = text_with(alloc, lines)?;
+    answers(rt, alloc, text.as_str(), told)
+}
+
+/// A request with the header lines of a row is answered as the row says.
 fn answers_row(rt: &impl Abort, alloc: Global, row: &str) -> Result<(), Fail> {
     let fields = fields_of(alloc, row)?;
-    let &[line, status, page] = fields.as_slice() else {
+    let &[lines, status, page] = fields.as_slice() else {
         return Err("a row has three fields")?;
     };
-    let lines = with_line_ends(alloc, line)?;
-    let text = format!(in alloc; "GET /v1/none HTTP/1.1\r\n{}\r\n\r\n", lines.as_str())?;
-    answers(rt, alloc, text.as_str(), (status, page))
+    lines_answer(rt, alloc, lines, (status, page))
 }
 
 /// A head of so many lines behind a beginning is told this.

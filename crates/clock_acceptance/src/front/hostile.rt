@@ -41,11 +41,16 @@ fn bytes_of(alloc: Global, shown: &str) -> Result<Text, Fail> {
     Ok(text)
 }
 
+/// Header lines in front of a body of so many bytes.
+fn lines_with(alloc: Global, lines: &str, length: usize) -> Result<String, Fail> {
+    let length = format!(in alloc; "{length}")?;
+    let lines = replaced(alloc, lines, "=", length.as_str())?;
+    with_line_ends(alloc, lines.as_str())
+}
+
 /// The text of a sheet with other lines and another body.
 fn text_with(alloc: Global, lines: &str, body: &str) -> Result<Text, Fail> {
-    let length = format!(in alloc; "{}", body.len())?;
-    let lines = replaced(alloc, lines, "=", length.as_str())?;
-    let lines = with_line_ends(alloc, lines.as_str())?;
+    let lines = lines_with(alloc, lines, body.len())?;
     let text = format!(in alloc;
         "PUT /v1/me/bids HTTP/1.1\r\nauthorization: Bearer XXXXXXXXXXXXXXXX\r\n{}\r\n\r\n{body}",
         lines.as_str()
@@ -55,15 +60,21 @@ fn text_with(alloc: Global, lines: &str, body: &str) -> Result<Text, Fail> {
 
 /// The reply to a text.
 fn by_answer(alloc: Global, front: &mut Front<Plain>, text: &[u8]) -> Result<Text, Fail> {
-    Ok(Text::from_slice(alloc, front.answer(text).bytes())?)
+    let reply = front.answer(text);
+    let bytes = Text::from_slice(alloc, reply.bytes());
+    drop(reply);
+    Ok(bytes?)
 }
 
 /// What is written for a text that comes over a stream.
 fn by_stream(alloc: Global, front: &mut Front<Plain>, text: &[u8]) -> Result<Text, Fail> {
     let mut source = ListSource::new(text, 100, None);
     let mut sink = ListSink::new(alloc, 1024, 100, None)?;
-    serve_stream(alloc, front, &mut source, &mut sink)?;
-    Ok(Text::from_slice(alloc, sink.bytes())?)
+    let served = serve_stream(alloc, front, &mut source, &mut sink);
+    let written = Text::from_slice(alloc, sink.bytes());
+    drop(sink);
+    served?;
+    Ok(written?)
 }
 
 /// The bytes of the reply to which a piece leads.
@@ -81,7 +92,10 @@ fn fed(
 
 /// The reply where the input has ended.
 fn finished(alloc: Global, hub: &mut Hub<Plain>, conn: Conn) -> Result<Text, Fail> {
-    Ok(Text::from_slice(alloc, hub.finish(conn)?.bytes())?)
+    let reply = hub.finish(conn)?;
+    let bytes = Text::from_slice(alloc, reply.bytes());
+    drop(reply);
+    Ok(bytes?)
 }
 
 /// The reply to a text that comes over a connection in single bytes.
@@ -110,8 +124,9 @@ fn compare<S, F: Fn(Global, &mut S, &[u8]) -> Result<Text, Fail>>(
     requires { F.IsAlwaysCallable send }
 {
     let reply = send(alloc, server, text)?;
-    let bids = send(alloc, server, BIDS_OF_X.as_bytes())?;
     assert_is(rt, reply.as_slice(), told.0.as_bytes());
+    drop(reply);
+    let bids = send(alloc, server, BIDS_OF_X.as_bytes())?;
     assert!(rt; bids.as_slice().ends_with(told.1.as_bytes()));
     Ok(())
 }
@@ -134,21 +149,32 @@ fn is_told(
     on_hub(alloc, |hub| compare(rt, alloc, hub, by_hub, text, told))
 }
 
-/// The text of a row is refused as the row says, and no sheet is in force.
-fn is_refused(rt: &impl Abort, alloc: Global, row: &str) -> Result<(), Fail> {
+/// A text is refused with a status and a page, and no sheet is in force.
+fn is_refused(
+    rt: &impl Abort,
+    alloc: Global,
+    text: &[u8],
+    status: &str,
+    page: &str,
+) -> Result<(), Fail> {
+    let reply = reply_with(alloc, status, page)?;
+    is_told(rt, alloc, text, reply.as_str(), NO_SHEET)
+}
+
+/// The text of a row is refused as the row says.
+fn row_is_refused(rt: &impl Abort, alloc: Global, row: &str) -> Result<(), Fail> {
     let fields = fields_of(alloc, row)?;
     let &[lines, body, status, page] = fields.as_slice() else {
         return Err("a row has four fields")?;
     };
     let text = text_with(alloc, lines, body)?;
-    let reply = reply_with(alloc, status, page)?;
-    is_told(rt, alloc, text.as_slice(), reply.as_str(), NO_SHEET)
+    is_refused(rt, alloc, text.as_slice(), status, page)
 }
 
 #[test]
 fn malicious_texts_are_refused(rt: HostRuntime) -> Result<(), Fail> {
     for row in ROWS.split('\n') {
-        is_refused(&rt, rt.alloc(), row)?;
+        row_is_refused(&rt, rt.alloc(), row)?;
     }
     Ok(())
 }
@@ -189,17 +215,20 @@ fn spaces_are_too_long_a_head_at_the_limit(rt: HostRuntime) -> Result<(), Fail> 
     spaces_are_told(&rt, rt.alloc(), 16_384, LONG_HEAD)
 }
 
+/// A head, and so many lists behind it, each within the one before.
+fn nested(alloc: Global, head: &str, count: usize) -> Result<Text, Fail> {
+    let mut text = followed_by(alloc, head, b'[', count)?;
+    for _ in 0..count {
+        text.push(b']')?;
+    }
+    Ok(text)
+}
+
 #[test]
 fn deep_nesting_is_no_json(rt: HostRuntime) -> Result<(), Fail> {
     let head =
         "PUT /v1/me/bids HTTP/1.1\r\nauthorization: Bearer XXXXXXXXXXXXXXXX\r\ncontent-length: 2000\r\n\r\n";
-    let mut text = followed_by(rt.alloc(), head, b'[', 1_000)?;
-    let closing = followed_by(rt.alloc(), "", b']', 1_000)?;
-    text.extend_from_slice(closing.as_slice())?;
-    let reply = reply_with(
-        rt.alloc(),
-        "400 Bad Request",
-        r#"{"code":"bad_json","status":400}"#,
-    )?;
-    is_told(&rt, rt.alloc(), text.as_slice(), reply.as_str(), NO_SHEET)
+    let text = nested(rt.alloc(), head, 1_000)?;
+    let page = r#"{"code":"bad_json","status":400}"#;
+    is_refused(&rt, rt.alloc(), text.as_slice(), "400 Bad Request", page)
 }

@@ -20,7 +20,9 @@ pub(super) fn on_hub<T, F: FnOnce(&mut Hub<Plain>) -> Result<T, Fail>>(
     requires { F.IsAlwaysCallable act }
 {
     let mut hub = hub_of(alloc)?;
-    act(&mut hub)
+    let done = act(&mut hub);
+    drop(hub);
+    done
 }
 
 /// One more connection.

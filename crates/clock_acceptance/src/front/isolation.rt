@@ -79,13 +79,24 @@ fn replies_to(alloc: Global, front: &mut Front<Plain>, rows: &str) -> Result<Str
     Ok(replies)
 }
 
+/// Adds them to what was told.
+fn push_replies(
+    alloc: Global,
+    front: &mut Front<Plain>,
+    told: &mut String,
+    rows: &str,
+) -> Result<(), Fail> {
+    let replies = replies_to(alloc, front, rows)?;
+    told.push_str(replies.as_str())?;
+    Ok(())
+}
+
 /// All replies to X's own requests, between which the others send theirs.
 fn replies_between(alloc: Global, front: &mut Front<Plain>, others: &str) -> Result<String, Fail> {
     let mut others = others.split('~');
     let mut told = String::new(alloc);
     for own in OWN.split('~') {
-        let replies = replies_to(alloc, front, own)?;
-        told.push_str(replies.as_str())?;
+        push_replies(alloc, front, &mut told, own)?;
         replies_to(alloc, front, others.next().unwrap_or(""))?;
     }
     Ok(told)

@@ -83,22 +83,42 @@ fn all_are_served(alloc: Global, listener: &TcpListener, connections: u64) -> Re
     })
 }
 
+/// The clients of a port, each of which is served.
+fn served_clients(
+    rt: &HostRuntime,
+    alloc: Global,
+    listener: &TcpListener,
+) -> Result<Clients, Fail> {
+    let clients = three_clients(rt, listener.local_addr()?)?;
+    if !all_are_served(alloc, listener, 3)? {
+        return Err("a connection is not taken")?;
+    }
+    Ok(clients)
+}
+
 #[test]
 fn connections_are_served_in_turn(rt: HostRuntime) -> Result<(), Fail> {
     let listener = any_port(&rt)?;
-    let address = listener.local_addr()?;
-    let clients = three_clients(&rt, address)?;
-    assert!(rt; all_are_served(rt.alloc(), &listener, 3)?);
-    assert_each_hears(&rt, clients)?;
+    let clients = served_clients(&rt, rt.alloc(), &listener);
+    drop(listener);
+    assert_each_hears(&rt, clients?)?;
     Ok(())
+}
+
+/// The last of three clients of a port, each of which is served.
+fn served_last(rt: &HostRuntime, alloc: Global, listener: &TcpListener) -> Result<TcpStream, Fail> {
+    let status = left_client(rt, listener.local_addr()?)?;
+    if !all_are_served(alloc, listener, 3)? {
+        return Err("a connection is not taken")?;
+    }
+    Ok(status)
 }
 
 #[test]
 fn a_client_that_is_gone_ends_alone(rt: HostRuntime) -> Result<(), Fail> {
     let listener = any_port(&rt)?;
-    let address = listener.local_addr()?;
-    let status = left_client(&rt, address)?;
-    assert!(rt; all_are_served(rt.alloc(), &listener, 3)?);
-    assert_hears(&rt, status, FIRST_ROUND)?;
+    let status = served_last(&rt, rt.alloc(), &listener);
+    drop(listener);
+    assert_hears(&rt, status?, FIRST_ROUND)?;
     Ok(())
 }

@@ -9,7 +9,7 @@ use clock_device::Stop;
 use clock_front::Front;
 use clock_journal::{Journal, MemoryDisk};
 use clock_processor::Plain;
-use clock_serving::{Client, Keeper, Listed, ServeFault, Unkept, serve_all};
+use clock_serving::{Client, Closed, Keeper, Listed, ServeFault, Unkept, serve_all};
 use std::alloc::Global;
 use std::process::Abort;
 use std::test::Fail;
@@ -42,6 +42,14 @@ fn clients() -> [Client<'static>; 5] {
     ]
 }
 
+/// Asserts what was written on each connection.
+fn assert_written(rt: &impl Abort, connections: &[Closed<'_>], written: &[&str]) {
+    assert_is(rt, connections.len(), written.len());
+    for (closed, bytes) in connections.iter().zip(written) {
+        assert_is(rt, closed.written(), bytes.as_bytes());
+    }
+}
+
 /// Serves clients, and compares how that ends and what is written on each connection that was taken.
 fn compare<K: Keeper>(
     rt: &impl Abort,
@@ -57,10 +65,7 @@ fn compare<K: Keeper>(
     let mut listed = Listed::new(alloc, &clients)?;
     let end = serve_all(alloc, front, keeper, &mut listed, 5);
     assert_is(rt, end, ended);
-    assert_is(rt, listed.closed().len(), written.len());
-    for (closed, bytes) in listed.closed().iter().zip(written) {
-        assert_is(rt, closed.written(), bytes.as_bytes());
-    }
+    assert_written(rt, listed.closed(), written);
     Ok(())
 }
 
@@ -76,9 +81,11 @@ fn compare_kept(
     let Ok(mut journal) = Journal::begin(MemoryDisk::new(alloc, 4096, syncs), [7; 32]) else {
         return Err("no journal")?;
     };
-    compare(rt, alloc, front, &mut journal, ended, written)?;
-    assert_is(rt, journal.disk().bytes().len(), 56 + 40 + PUT.len());
-    Ok(())
+    let compared = compare(rt, alloc, front, &mut journal, ended, written);
+    let length = journal.disk().bytes().len();
+    drop(journal);
+    assert_is(rt, length, 56 + 40 + PUT.len());
+    compared
 }
 
 /// What is written where nothing fails but what the clients do.

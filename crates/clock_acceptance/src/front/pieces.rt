@@ -5,7 +5,7 @@ use super::hubs::{fed, finished, on_hub, shown};
 use super::requests::setup_of;
 use super::texts::{BIDS_OF_Y, PUT, STATUS};
 use crate::comparing::{assert_is, assert_is_at};
-use clock_front::{Conn, Event, EventReplies, Hub, HubFault, run_events};
+use clock_front::{Conn, Event, EventReplies, EventReply, Hub, HubFault, run_events};
 use clock_processor::Plain;
 use clock_setup::fixtures::ONE_PRODUCT;
 use std::alloc::Global;
@@ -37,14 +37,20 @@ fn push_bytes(alloc: Global, events: &mut Vec<Event>, place: usize) -> Result<()
 }
 
 /// Three connections get their texts one byte at a time in turn, and the last one ends. Then Y asks for its bids.
-fn in_single_bytes(alloc: Global) -> Result<Vec<Event>, Fail> {
-    let mut events = connected(alloc, 3)?;
+fn push_all(alloc: Global, events: &mut Vec<Event>) -> Result<(), Fail> {
     for place in 0..PUT.len() {
-        push_bytes(alloc, &mut events, place)?;
+        push_bytes(alloc, events, place)?;
     }
     events.push(Event::Finish(2))?;
     events.push(Event::Connect)?;
     events.push(piece(alloc, 3, BIDS_OF_Y.as_bytes())?)?;
+    Ok(())
+}
+
+/// What comes of these connections.
+fn in_single_bytes(alloc: Global) -> Result<Vec<Event>, Fail> {
+    let mut events = connected(alloc, 3)?;
+    push_all(alloc, &mut events)?;
     Ok(events)
 }
 
@@ -53,23 +59,37 @@ fn replies_to(alloc: Global, events: &[Event]) -> Result<EventReplies, Fail> {
     Ok(run_events(alloc, setup_of(alloc, ONE_PRODUCT)?, Plain, events)?)
 }
 
-/// The number of each reply, its status and its page.
+/// Adds the number of a reply, its status and its page.
+fn push_shown(alloc: Global, all: &mut String, one: &EventReply) -> Result<(), Fail> {
+    let reply = shown(alloc, &one.reply)?;
+    let line = format!(in alloc; "{} {}\n", one.number, reply.as_str())?;
+    all.push_str(line.as_str())?;
+    Ok(())
+}
+
+/// The same of each reply.
 fn all_shown(alloc: Global, replies: &EventReplies) -> Result<String, Fail> {
     let mut all = String::new(alloc);
     for one in replies.as_slice() {
-        let reply = shown(alloc, &one.reply)?;
-        let line = format!(in alloc; "{} {}\n", one.number, reply.as_str())?;
-        all.push_str(line.as_str())?;
+        push_shown(alloc, &mut all, one)?;
     }
     Ok(all)
+}
+
+/// The same of the replies to events.
+fn all_told(alloc: Global, events: &[Event]) -> Result<String, Fail> {
+    let replies = replies_to(alloc, events)?;
+    let told = all_shown(alloc, &replies);
+    drop(replies);
+    told
 }
 
 #[test]
 fn three_connections_in_single_bytes(rt: HostRuntime) -> Result<(), Fail> {
     let events = in_single_bytes(rt.alloc())?;
-    let replies = replies_to(rt.alloc(), events.as_slice())?;
-    let told = all_shown(rt.alloc(), &replies)?;
-    assert_is(&rt, told.as_str(), IN_ORDER_OF_COMPLETION);
+    let told = all_told(rt.alloc(), events.as_slice());
+    drop(events);
+    assert_is(&rt, told?.as_str(), IN_ORDER_OF_COMPLETION);
     Ok(())
 }
 
@@ -129,12 +149,25 @@ fn told_at(
     }
 }
 
+/// Takes a step.
+fn take_step(
+    rt: &impl Abort,
+    alloc: Global,
+    hub: &mut Hub<Plain>,
+    conns: &mut Vec<Conn>,
+    step: (usize, &str, &str),
+) -> Result<(), Fail> {
+    let (number, text, expected) = step;
+    let told = told_at(alloc, hub, conns, number, text)?;
+    assert_is_at(rt, (number, text), told.as_str(), expected);
+    Ok(())
+}
+
 /// Takes all steps.
 fn take_steps(rt: &impl Abort, alloc: Global, hub: &mut Hub<Plain>) -> Result<(), Fail> {
     let mut conns = Vec::new(alloc);
-    for (number, step, expected) in STEPS {
-        let told = told_at(alloc, hub, &mut conns, number, step)?;
-        assert_is_at(rt, (number, step), told.as_str(), expected);
+    for step in STEPS.iter() {
+        take_step(rt, alloc, hub, &mut conns, *step)?;
     }
     Ok(())
 }

@@ -36,7 +36,9 @@ fn serve(
     let mut source = ListSource::new(row.text, row.piece, row.read);
     let mut sink = ListSink::new(alloc, 1024, row.piece, row.write)?;
     let answer = serve_stream(alloc, front, &mut source, &mut sink);
-    Ok((answer, Text::from_slice(alloc, sink.bytes())?))
+    let written = Text::from_slice(alloc, sink.bytes());
+    drop(sink);
+    Ok((answer, written?))
 }
 
 /// Whether X's sheet is in force, by its page.

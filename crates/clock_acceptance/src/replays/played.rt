@@ -10,6 +10,7 @@ use clock_sim::{
 };
 use clock_views::Code;
 use std::alloc::Global;
+use std::process::Abort;
 use std::test::Fail;
 
 const FALLING_LIMITS: &str = r#"{"kind":"sincere","limits":[[120,115]]}"#;
@@ -32,7 +33,11 @@ const REPORT: &str =
 /// The text of a report, or the fault in its place.
 fn told(alloc: Global, report: Result<Report, SimFault>) -> Result<Text, SimFault> {
     match report {
-        Ok(report) => Ok(report_text(alloc, &report)?),
+        Ok(report) => {
+            let text = report_text(alloc, &report);
+            drop(report);
+            Ok(text?)
+        }
         Err(fault) => Err(fault),
     }
 }
@@ -84,14 +89,19 @@ fn with_scripts(
     document(alloc, closings, scripts, ONE_PRODUCT)
 }
 
+/// A document comes to this report in each way.
+fn has_report(rt: &impl Abort, alloc: Global, document: &[u8], report: &str) -> Result<(), Fail> {
+    for settled in ALL_WAYS.iter() {
+        let text = outcome(alloc, document, *settled)?;
+        assert_is(rt, text.as_slice(), report.as_bytes());
+    }
+    Ok(())
+}
+
 #[test]
 fn sincere_bidders_leave_at_their_limits(rt: HostRuntime) -> Result<(), Fail> {
     let document = with_scripts(rt.alloc(), THREE_CLOSINGS, FALLING_LIMITS, ONE_BLOCK)?;
-    for settled in ALL_WAYS {
-        let text = outcome(rt.alloc(), document.as_slice(), settled)?;
-        assert_is(&rt, text.as_slice(), REPORT.as_bytes());
-    }
-    Ok(())
+    has_report(&rt, rt.alloc(), document.as_slice(), REPORT)
 }
 
 /// A script of X, the closings, and the fault.
@@ -109,14 +119,19 @@ const FAULTS: [(&str, &str, SimFault); 3] = [
     ),
 ];
 
+/// A document has this fault in each way.
+fn has_fault(rt: &impl Abort, alloc: Global, document: &[u8], fault: SimFault) {
+    for settled in ALL_WAYS.iter() {
+        let told = outcome(alloc, document, *settled);
+        assert_is(rt, told.err(), Some(fault));
+    }
+}
+
 #[test]
 fn the_first_fault_is_told(rt: HostRuntime) -> Result<(), Fail> {
     for (script, closings, fault) in FAULTS.iter() {
         let document = with_scripts(rt.alloc(), closings, script, ONE_BLOCK)?;
-        for settled in ALL_WAYS {
-            let told = outcome(rt.alloc(), document.as_slice(), settled);
-            assert_is(&rt, told.err(), Some(*fault));
-        }
+        has_fault(&rt, rt.alloc(), document.as_slice(), *fault);
     }
     Ok(())
 }
@@ -184,15 +199,20 @@ const BEFORE_PRODUCT: &str =
 const BEFORE_BIDDERS: &str =
     "{\"name\":\"A\",\"units\":1,\"supply\":200,\"cap\":1,\"opening\":100}],\"bidders\":[";
 
+/// The parts of a document with their sheets.
+fn push_parts(text: &mut Text, faulty: u64) -> Result<(), NoMemory> {
+    text.extend_from_slice(BEFORE_SCRIPTS.as_bytes())?;
+    push_scripts(text, faulty)?;
+    text.extend_from_slice(BEFORE_PRODUCT.as_bytes())?;
+    text.extend_from_slice(BEFORE_BIDDERS.as_bytes())?;
+    push_bidders(text)?;
+    text.extend_from_slice(b"]}}")
+}
+
 /// A document of a round with many sheets.
 fn many_sheets(alloc: Global, faulty: u64) -> Result<Text, NoMemory> {
     let mut text = Text::new(alloc);
-    text.extend_from_slice(BEFORE_SCRIPTS.as_bytes())?;
-    push_scripts(&mut text, faulty)?;
-    text.extend_from_slice(BEFORE_PRODUCT.as_bytes())?;
-    text.extend_from_slice(BEFORE_BIDDERS.as_bytes())?;
-    push_bidders(&mut text)?;
-    text.extend_from_slice(b"]}}")?;
+    push_parts(&mut text, faulty)?;
     Ok(text)
 }
 
@@ -226,16 +246,21 @@ fn push_many_bids(text: &mut Text) -> Result<(), NoMemory> {
     Ok(())
 }
 
+/// Adds them, and the set-up of one product.
+fn push_rest(text: &mut Text) -> Result<(), NoMemory> {
+    push_many_bids(text)?;
+    text.extend_from_slice(b"]]}],\"setup\":")?;
+    text.extend_from_slice(ONE_PRODUCT.as_bytes())?;
+    text.push(b'}')
+}
+
 /// A document with a script of X where Y's sheet is too long.
 fn before_long(alloc: Global, script: &str) -> Result<Text, NoMemory> {
     let mut text = joined(
         alloc,
         &["{\"closings\":[],\"scripts\":[", script, BEFORE_LONG],
     )?;
-    push_many_bids(&mut text)?;
-    text.extend_from_slice(b"]]}],\"setup\":")?;
-    text.extend_from_slice(ONE_PRODUCT.as_bytes())?;
-    text.push(b'}')?;
+    push_rest(&mut text)?;
     Ok(text)
 }
 

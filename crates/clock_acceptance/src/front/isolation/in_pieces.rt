@@ -31,6 +31,21 @@ enum Way {
     LastFirst,
 }
 
+/// The request of a row.
+fn push_row(
+    alloc: Global,
+    requests: &mut Vec<Request>,
+    row: &str,
+    is_own: bool,
+) -> Result<(), Fail> {
+    let text = text_of_row(alloc, row)?;
+    if text.len() > LONGEST {
+        return Err("a longer request")?;
+    }
+    requests.push(Request { is_own, text })?;
+    Ok(())
+}
+
 /// The requests of rows.
 fn push_rows(
     alloc: Global,
@@ -40,11 +55,7 @@ fn push_rows(
 ) -> Result<(), Fail> {
     for row in rows.split('\n') {
         if !row.is_empty() {
-            let text = text_of_row(alloc, row)?;
-            if text.len() > LONGEST {
-                return Err("a longer request")?;
-            }
-            requests.push(Request { is_own, text })?;
+            push_row(alloc, requests, row, is_own)?;
         }
     }
     Ok(())
@@ -114,22 +125,33 @@ fn push_parts(
     Ok(())
 }
 
+/// A byte of each request in turn, but their last ones.
+fn push_in_turn(alloc: Global, events: &mut Vec<Event>, requests: &[Request]) -> Result<(), Fail> {
+    for place in 0..LONGEST {
+        push_parts(alloc, events, requests, Part::At(place), false)?;
+    }
+    Ok(())
+}
+
+/// The bytes of the requests as they come.
+fn push_requests(
+    alloc: Global,
+    events: &mut Vec<Event>,
+    requests: &[Request],
+    way: Way,
+) -> Result<(), Fail> {
+    match way {
+        Way::Apart => return push_parts(alloc, events, requests, Part::All, false),
+        Way::InTurn => push_in_turn(alloc, events, requests)?,
+        Way::LastFirst => push_parts(alloc, events, requests, Part::AllButLast, true)?,
+    }
+    push_parts(alloc, events, requests, Part::Last, false)
+}
+
 /// What comes of the connections of a run.
 fn events_of(alloc: Global, requests: &[Request], way: Way) -> Result<Vec<Event>, Fail> {
     let mut events = connected(alloc, requests.len())?;
-    match way {
-        Way::Apart => push_parts(alloc, &mut events, requests, Part::All, false)?,
-        Way::InTurn => {
-            for place in 0..LONGEST {
-                push_parts(alloc, &mut events, requests, Part::At(place), false)?;
-            }
-            push_parts(alloc, &mut events, requests, Part::Last, false)?;
-        }
-        Way::LastFirst => {
-            push_parts(alloc, &mut events, requests, Part::AllButLast, true)?;
-            push_parts(alloc, &mut events, requests, Part::Last, false)?;
-        }
-    }
+    push_requests(alloc, &mut events, requests, way)?;
     Ok(events)
 }
 
@@ -163,12 +185,31 @@ fn own_replies(
     Ok(told)
 }
 
-/// All replies to X's own requests of a run.
+/// The replies to the requests of a run.
+fn replies_in(
+    alloc: Global,
+    bidders: &str,
+    requests: &[Request],
+    way: Way,
+) -> Result<EventReplies, Fail> {
+    let events = events_of(alloc, requests, way)?;
+    replies_to(alloc, bidders, events.as_slice())
+}
+
+/// The replies to X's own requests among them.
+fn told_in(alloc: Global, bidders: &str, requests: &[Request], way: Way) -> Result<String, Fail> {
+    let replies = replies_in(alloc, bidders, requests, way)?;
+    let told = own_replies(alloc, requests, &replies);
+    drop(replies);
+    told
+}
+
+/// The same in a run of these bidders and others.
 fn told_x_in_pieces(alloc: Global, bidders: &str, others: &str, way: Way) -> Result<String, Fail> {
     let requests = requests_of(alloc, others)?;
-    let events = events_of(alloc, requests.as_slice(), way)?;
-    let replies = replies_to(alloc, bidders, events.as_slice())?;
-    own_replies(alloc, requests.as_slice(), &replies)
+    let told = told_in(alloc, bidders, requests.as_slice(), way);
+    drop(requests);
+    told
 }
 
 /// X is told the same in both runs whose bytes come in these ways, as where each request comes whole.
@@ -181,15 +222,21 @@ fn is_told_alike(
 ) -> Result<(), Fail> {
     let one = told_x_in_pieces(alloc, X_AND_Y, BY_Y, one)?;
     assert_is(rt, one.as_str(), whole);
+    drop(one);
     let two = told_x_in_pieces(alloc, V_X_AND_W, BY_W, two)?;
     assert_is(rt, two.as_str(), whole);
     Ok(())
 }
 
+/// So it is however the bytes come.
+fn is_told_alike_in_all_ways(rt: &impl Abort, alloc: Global, whole: &str) -> Result<(), Fail> {
+    is_told_alike(rt, alloc, whole, Way::Apart, Way::Apart)?;
+    is_told_alike(rt, alloc, whole, Way::InTurn, Way::LastFirst)?;
+    is_told_alike(rt, alloc, whole, Way::LastFirst, Way::InTurn)
+}
+
 #[test]
 fn rivals_show_in_no_reply_to_pieces(rt: HostRuntime) -> Result<(), Fail> {
     let whole = told_x(rt.alloc(), PUBLIC, X_AND_Y, BY_Y)?;
-    is_told_alike(&rt, rt.alloc(), whole.as_str(), Way::Apart, Way::Apart)?;
-    is_told_alike(&rt, rt.alloc(), whole.as_str(), Way::InTurn, Way::LastFirst)?;
-    is_told_alike(&rt, rt.alloc(), whole.as_str(), Way::LastFirst, Way::InTurn)
+    is_told_alike_in_all_ways(&rt, rt.alloc(), whole.as_str())
 }
