@@ -81,43 +81,15 @@ impl Front {
         text.truncate(text.len() - (FRONT_ROOM - self.length));
         Ok(())
     }
-}
 
-/// What stands in a bid for a product between the price and the quantity. Contracts see the product.
-#[derive(Drop)]
-struct Middle {
-    product: u64,
-    text: Vec<u8>,
-}
-
-impl Model for Middle {
-    ghost use Rattle.std.specs.Prelude.{◌≡◌, ℕ};
-    ghost use Rattle.clock_sim.specs.inside.Bodies.{bid_middle};
-
-    ghost Value = { ℕ };
-
-    ghost view = { λ m. m.product };
-
-    ghost invariant = { λ m. m.text.items ≡ bid_middle m.product };
-}
-
-impl Middle {
-    /// That of a product.
-    fn of(alloc: Global, product: u64) -> Result<Middle, NoMemory>
-        ensures { IfOk result (λ middle. middle ≡ product) }
+    /// Adds the front of a price and a product, which it then is if there is room for its bytes.
+    #[inline(never)]
+    fn push_other(&mut self, text: &mut Vec<u8>, price: u64, product: u64) -> Result<(), NoMemory>
+        ensures { OnOk result (Adds (bid_front price product) text.old.items text.new.items) }
     {
-        let mut text = Vec::new(alloc);
-        push_number(&mut text, b",\"product\":", product)?;
-        push_label(&mut text, b",\"quantity\":")?;
-        Ok(Middle { product, text })
-    }
-
-    /// Adds the front of a price and of its product.
-    fn push_front(&self, text: &mut Vec<u8>, price: u64) -> Result<(), NoMemory>
-        ensures { OnOk result (Adds (bid_front price self.now) text.old.items text.new.items) }
-    {
-        push_number(text, b"{\"price\":", price)?;
-        push_label(text, self.text.as_slice())?;
+        let start = text.len();
+        push_front(text, price, product)?;
+        self.keep(price, product, &text.as_slice()[start..]);
         Ok(())
     }
 }
@@ -153,47 +125,19 @@ pub(crate) struct Bodies {
     pub(crate) text: Vec<u8>,
     /// For each product the front of its last bid: most bids for it in a round are at one price.
     fronts: Vec<Front>,
-    /// For each product what stands behind the price in each front of it.
-    middles: Vec<Middle>,
 }
 
 impl Bodies {
     /// None yet, of an auction of so many products.
     pub(crate) fn new(alloc: Global, products: usize) -> Result<Bodies, NoMemory> {
         let mut fronts = Vec::with_capacity(alloc, products)?;
-        let mut middles = Vec::with_capacity(alloc, products)?;
-        for product in 0..products {
+        for _product in 0..products {
             fronts.push(Front::new())?;
-            middles.push(Middle::of(alloc, product as u64)?)?;
         }
         Ok(Bodies {
             text: Vec::new(alloc),
             fronts,
-            middles,
         })
-    }
-
-    /// Adds the front of a price and a product, and keeps none.
-    fn push_new_front(&mut self, price: u64, product: u64) -> Result<(), NoMemory>
-        ensures { OnOk result (Adds (bid_front price product) self.old.text.items self.new.text.items) }
-    {
-        match self.middles.get(product as usize) {
-            Some(middle) if middle.product == product => middle.push_front(&mut self.text, price),
-            _ => push_front(&mut self.text, price, product),
-        }
-    }
-
-    /// Adds the front of a price and a product, and keeps it for the product if there is room for its bytes.
-    #[inline(never)]
-    fn push_other_front(&mut self, price: u64, product: u64) -> Result<(), NoMemory>
-        ensures { OnOk result (Adds (bid_front price product) self.old.text.items self.new.text.items) }
-    {
-        let start = self.text.len();
-        self.push_new_front(price, product)?;
-        if let Some(front) = self.fronts.get_mut(product as usize) {
-            front.keep(price, product, &self.text.as_slice()[start..]);
-        }
-        Ok(())
     }
 
     /// Adds the front of a price and a product.
@@ -204,11 +148,11 @@ impl Bodies {
         if product >= self.fronts.len() as u64 {
             return push_front(&mut self.text, price, product);
         }
-        let front = &self.fronts[product as usize];
+        let front = &mut self.fronts[product as usize];
         if front.is_of(price, product) {
             return front.push(&mut self.text);
         }
-        self.push_other_front(price, product)
+        front.push_other(&mut self.text, price, product)
     }
 
     /// Adds a bid, with a comma behind it.
@@ -226,7 +170,7 @@ impl Bodies {
     pub(crate) fn push_own_bid(&mut self, bid: &Bid) -> Result<(), NoMemory>
         ensures { OnOk result (Adds (bid_text bid.now) self.old.text.items self.new.text.items) }
     {
-        self.push_new_front(bid.price, bid.product)?;
+        push_front(&mut self.text, bid.price, bid.product)?;
         push_quantity(&mut self.text, bid.quantity)?;
         Ok(())
     }

@@ -1,5 +1,4 @@
 -- The texts of bids, each with a comma behind it, and what is kept of them.
---     bid_middle product      what stands between the price and the quantity
 --     bid_front price product      what stands ahead of the quantity
 --     bid_text bid, bids_text bids      a bid with a comma behind it, and so each of some bids
 --     IsFrontOf price product count text      where there are some, so many bytes of a text are the front
@@ -8,13 +7,9 @@ use Rattle.clock_bids.specs.declared.sheet.Bid.{Bid}
 use Rattle.clock_views.specs.BidderPages.{bid_value}
 use Rattle.clock_sim.specs.inside.Arrays.{with_comma, with_commas}
 
--- the product under its label, and the label of the quantity
-abbrev pub bid_middle : ℕ → List ℕ
-bid_middle product = (codes ",\"product\":" ++ decimal product) ++ codes ",\"quantity\":"
-
 -- the price and the product under their labels, and the label of the quantity
 abbrev pub bid_front : ℕ → ℕ → List ℕ
-bid_front price product = (codes "{\"price\":" ++ decimal price) ++ bid_middle product
+bid_front price product = (codes "{\"price\":" ++ decimal price) ++ ((codes ",\"product\":" ++ decimal product) ++ codes ",\"quantity\":")
 
 -- a bid with a comma behind it
 abbrev pub bid_text : Bid → List ℕ
