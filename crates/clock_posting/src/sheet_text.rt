@@ -21,20 +21,20 @@ pub fn sheet_lines(alloc: Global, setup: &Setup, sheet: &RoundSheet) -> Result<T
     requires { length sheet.now.lines ≡ length setup.now.products }
     ensures { IfOk result (λ text. text ≡ sheet_text setup.now.products sheet.now) }
 {
-    let mut text = Text::new(alloc);
-    push_sheet_lines(&mut text, setup, sheet)?;
-    Ok(text)
+    with_sheet_lines(Text::new(alloc), setup, sheet)
 }
 
-/// Adds the lines that tell a round's sheet to a text, as [`sheet_lines`] has them.
-pub fn push_sheet_lines(text: &mut Text, setup: &Setup, sheet: &RoundSheet) -> Result<(), NoMemory>
+/// A text, and behind it the lines that tell a round's sheet, as [`sheet_lines`] has them. The text is taken over, so that
+/// none is left with a part of the lines where there is no memory.
+pub fn with_sheet_lines(mut text: Text, setup: &Setup, sheet: &RoundSheet) -> Result<Text, NoMemory>
     requires { length sheet.now.lines ≡ length setup.now.products }
-    ensures { OnOk result (text.new ≡ text.old ++ sheet_text setup.now.products sheet.now) }
+    ensures { IfOk result (λ lines. lines ≡ text ++ sheet_text setup.now.products sheet.now) }
 {
     text.extend_from_slice(b"round ")?;
     text.push_number(sheet.round)?;
     text.push(b'\n')?;
-    push_lines(text, setup.products.as_slice(), sheet.lines.as_slice())
+    push_lines(&mut text, setup.products.as_slice(), sheet.lines.as_slice())?;
+    Ok(text)
 }
 
 /// Adds the lines of the products.

@@ -6,7 +6,7 @@ ghost use Rattle.clock_sim.specs.ReportText as words;
 use crate::report::Report;
 use crate::report_lines::push_wins;
 use clock_device::{NoMemory, Text};
-use clock_posting::{RoundSheet, push_sheet_lines};
+use clock_posting::{RoundSheet, sheet_lines};
 use clock_terms::Setup;
 use std::alloc::Global;
 
@@ -30,7 +30,7 @@ pub fn audit_text(alloc: Global, report: &Report, digests: &[Digits]) -> Result<
 {
     let sheets = report.sheets.as_slice();
     let mut text = Text::new(alloc);
-    push_audited(&mut text, &report.setup, sheets, digests)?;
+    push_audited(alloc, &mut text, &report.setup, sheets, digests)?;
     let last = &sheets[sheets.len() - 1];
     if last.ended {
         push_wins(
@@ -46,6 +46,7 @@ pub fn audit_text(alloc: Global, report: &Report, digests: &[Digits]) -> Result<
 
 /// Adds the lines of the rounds, each with the digest of its closing behind it.
 fn push_audited(
+    alloc: Global,
     text: &mut Text,
     setup: &Setup,
     sheets: &[RoundSheet],
@@ -57,13 +58,14 @@ fn push_audited(
         (zip sheets.now digests.now)) }
 {
     for (index, sheet) in sheets.iter().enumerate() {
-        push_round(text, setup, sheet, &digests[index])?;
+        push_round(alloc, text, setup, sheet, &digests[index])?;
     }
     Ok(())
 }
 
 /// Adds the lines of a round, with the digest of its closing behind them.
 fn push_round(
+    alloc: Global,
     text: &mut Text,
     setup: &Setup,
     sheet: &RoundSheet,
@@ -72,7 +74,8 @@ fn push_round(
     requires { length sheet.now.lines ≡ length setup.now.products }
     ensures { OnOk result (text.new ≡ text.old ++ words.audited_round setup.now.products (sheet.now, digest.now)) }
 {
-    push_sheet_lines(text, setup, sheet)?;
+    let lines = sheet_lines(alloc, setup, sheet)?;
+    text.extend_from_slice(lines.as_slice())?;
     text.extend_from_slice(b"closed ")?;
     text.push_number(sheet.round)?;
     text.push(b' ')?;

@@ -11,7 +11,7 @@ use crate::final_report::sheet_at;
 use crate::report_lines::push_won_by_all;
 use clock_device::{NoMemory, Text};
 use clock_house::House;
-use clock_posting::push_sheet_lines;
+use clock_posting::with_sheet_lines;
 use std::alloc::Global;
 
 /// How many bytes a line of a product takes, about.
@@ -39,8 +39,8 @@ pub(crate) fn final_text<P>(alloc: Global, house: &House<P>) -> Result<Text, NoM
     ensures { IfOk result (λ text. text ≡ words.report_text (rules.report_of house.now.setup house.now.closed)) }
 {
     house.law_of_house();
-    let mut text = empty_text(alloc, house)?;
-    push_closed_rounds(&mut text, house)?;
+    let empty = empty_text(alloc, house)?;
+    let mut text = with_closed_rounds(empty, house)?;
     let last = sheet_at(house, house.closed_rounds() - 1);
     push_won_by_all(
         alloc,
@@ -52,13 +52,13 @@ pub(crate) fn final_text<P>(alloc: Global, house: &House<P>) -> Result<Text, NoM
     Ok(text)
 }
 
-/// Adds the lines of the closed rounds.
-fn push_closed_rounds<P>(text: &mut Text, house: &House<P>) -> Result<(), NoMemory>
-    ensures { OnOk result (text.new ≡ text.old ++ flat_map (sheet_text house.now.setup.products)
+/// A text, and behind it the lines of the closed rounds.
+fn with_closed_rounds<P>(mut text: Text, house: &House<P>) -> Result<Text, NoMemory>
+    ensures { IfOk result (λ lines. lines ≡ text ++ flat_map (sheet_text house.now.setup.products)
         (map (λ closed. closed.sheet) (reverse house.now.closed))) }
 {
     for round in 0..house.closed_rounds() {
-        push_sheet_lines(text, house.setup(), sheet_at(house, round))?;
+        text = with_sheet_lines(text, house.setup(), sheet_at(house, round))?;
     }
-    Ok(())
+    Ok(text)
 }

@@ -8,7 +8,7 @@ ghost use Rattle.clock_sim.specs.ReportText as words;
 
 use crate::report::Report;
 use clock_device::{NoMemory, Text};
-use clock_posting::{Line, RoundSheet, push_sheet_lines};
+use clock_posting::{Line, RoundSheet, sheet_lines};
 use clock_terms::{Bidder, Grid, Row, Setup};
 use std::alloc::Global;
 
@@ -28,7 +28,7 @@ pub fn report_text(alloc: Global, report: &Report) -> Result<Text, NoMemory>
 {
     let sheets = report.sheets.as_slice();
     let mut text = Text::new(alloc);
-    push_rounds(&mut text, &report.setup, sheets)?;
+    push_rounds(alloc, &mut text, &report.setup, sheets)?;
     let lines = sheets[sheets.len() - 1].lines.as_slice();
     push_won_by_all(alloc, &mut text, &report.setup, lines, &report.grid)?;
     Ok(text)
@@ -52,12 +52,18 @@ pub(crate) fn push_won_by_all(
 }
 
 /// Adds the lines of the rounds.
-fn push_rounds(text: &mut Text, setup: &Setup, sheets: &[RoundSheet]) -> Result<(), NoMemory>
+fn push_rounds(
+    alloc: Global,
+    text: &mut Text,
+    setup: &Setup,
+    sheets: &[RoundSheet],
+) -> Result<(), NoMemory>
     requires { All (λ sheet. length sheet.lines ≡ length setup.now.products) sheets.now }
     ensures { OnOk result (text.new ≡ text.old ++ flat_map (sheet_text setup.now.products) sheets.now) }
 {
     for sheet in sheets {
-        push_sheet_lines(text, setup, sheet)?;
+        let lines = sheet_lines(alloc, setup, sheet)?;
+        text.extend_from_slice(lines.as_slice())?;
     }
     Ok(())
 }

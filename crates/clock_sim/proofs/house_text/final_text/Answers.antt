@@ -36,7 +36,7 @@ returns g c =
     c.as_slice.ensures ∙ ap (λ (sheet : RoundSheet). sheet.lines) (sym is) in
     c.in_ok-push_won_by_all.ensures
     ∙ ap (λ (text : List ℕ). text ++ flat_map (won_text c.as_slice.result.now) (zip c.setup.result.now.bidders c.demands.result.now))
-    (c.in_ok-push_closed_rounds.ensures ∙ ap (λ (text : List ℕ). text ++ rounds) c.in_ok-text.ensures)
+    (c.in_ok-text.ensures ∙ ap (λ (text : List ℕ). text ++ rounds) c.in_ok-empty.ensures)
     ∙ ap (λ (list : List Line). rounds ++ flat_map (won_text list) (zip c.setup.result.now.bidders c.demands.result.now)) lines
     ∙ ap (λ (setup : SetupFields). rounds ++ flat_map (won_text (slice_index_or sheets (length sheets - 1) none).lines)
     (zip setup.bidders c.demands.result.now)) c.setup.ensures

@@ -7,7 +7,7 @@ use Rattle.clock_posting.specs.SheetText.{sheet_text}
 use Rattle.clock_posting.specs.declared.sheet.RoundSheet.{RoundSheet}
 use Rattle.clock_closing.specs.declared.closed_round.ClosedRound.{ClosedRound}
 use Rattle.clock_sim.proofs.RoundLaws.{drop_next}
-use Rattle.clock_sim.proofs.house_text.push_closed_rounds.Goals as goal
+use Rattle.clock_sim.proofs.house_text.with_closed_rounds.Goals as goal
 
 pub loop-round-preserved : goal.loop-round-preserved
 loop-round-preserved g c =
@@ -17,7 +17,7 @@ loop-round-preserved g c =
     let sheet = c.sheet_at.result.now in
     let rest = drop (c.loop-round.round + 1) sheets in
     ap (λ (text : List ℕ). text ++ flat_map f rest)
-    (c.in_ok-push_sheet_lines.ensures ∙ ap (λ (setup : SetupFields). c.loop-round.text ++ sheet_text setup.products sheet) c.setup.ensures)
+    (c.in_ok-text.ensures ∙ ap (λ (setup : SetupFields). c.loop-round.text ++ sheet_text setup.products sheet) c.setup.ensures)
     ∙ append_assoc c.loop-round.text (f sheet) (flat_map f rest)
     ∙ ap (λ (left : List RoundSheet). c.loop-round.text ++ flat_map f left) (sym (drop_next sheets c.loop-round.round sheet c.sheet_at.ensures.is))
     ∙ c.loop-round.invariant
