@@ -4,6 +4,9 @@ ghost use Rattle.clock_terms.specs.HeldDemands.{demand_for, demands_of};
 ghost use Rattle.clock_terms.specs.Limits.{most_products, most_supply};
 ghost use Rattle.clock_terms.specs.inside.Rows.{AreHeld, AreStarts, IsStart, IsStored, StandsAt, WouldStandAt};
 
+use clock_device::NoMemory;
+use std::alloc::Global;
+
 /// How many products a group has. A search for a product begins where those of its group begin.
 pub(crate) const GROUP_SIZE: usize = 16;
 
@@ -190,7 +193,7 @@ fn write_demand(room: &mut [HeldDemand], kept: usize, product: usize, demand: u6
 }
 
 /// Writes the demands of which a block is held, of those for the products from the first on, and tells how many they are.
-pub(crate) fn write_held(room: &mut [HeldDemand], demands: &[u64]) -> usize
+fn write_held(room: &mut [HeldDemand], demands: &[u64]) -> usize
     requires room { length room.old ≡ length demands.now }
     requires few { length demands.now ≤ most_products }
     requires small { All (λ demand. demand ≤ most_supply) demands.now }
@@ -204,6 +207,25 @@ pub(crate) fn write_held(room: &mut [HeldDemand], demands: &[u64]) -> usize
         kept = write_demand(room, kept, product, *demand);
     }
     kept
+}
+
+/// The demands of which a block is held, with room for one for each product.
+pub(crate) fn held_of(alloc: Global, demands: &[u64]) -> Result<Vec<HeldDemand>, NoMemory>
+    requires few { length demands.now ≤ most_products }
+    requires small { All (λ demand. demand ≤ most_supply) demands.now }
+    ensures order { IfOk result (λ held. AreHeld 0 held.items (length demands.now)) }
+    ensures demands { IfOk result (λ held. demands_of (length demands.now) held.items ≡ demands.now) }
+    ensures room { IfOk result (λ held. length demands.now ≤ vec_capacity held) }
+{
+    let none = HeldDemand {
+        product: 0,
+        demand: 0,
+    };
+    let mut room = vec![in alloc; none; demands.len()]?;
+    let kept = write_held(&mut room, demands);
+    let mut held = Vec::with_capacity(alloc, demands.len())?;
+    held.extend_from_slice(&room[..kept])?;
+    Ok(held)
 }
 
 /// Finds for each group where to look for its products.

@@ -4,7 +4,7 @@ ghost use Rattle.clock_terms.specs.Demands.{demand_after};
 ghost use Rattle.clock_terms.specs.Limits.{IsRow, most_products, most_supply};
 
 use crate::held_list::{
-    GROUP_SIZE, HeldDemand, demand_at, find_starts, is_at, place_in_group, store, write_held,
+    GROUP_SIZE, HeldDemand, demand_at, find_starts, held_of, is_at, place_in_group, store,
 };
 use crate::held_products::HeldProducts;
 use crate::kept_row::KeptRow;
@@ -60,15 +60,8 @@ impl Row {
         requires { IsRow setup.now.products demands.now }
         ensures { IfOk result (λ row. row ≡ demands.now) }
     {
-        let count = setup.products.as_slice().len();
-        let none = HeldDemand {
-            product: 0,
-            demand: 0,
-        };
-        let mut room = vec![in alloc; none; count]?;
-        let kept = write_held(&mut room, demands);
-        let mut held = Vec::with_capacity(alloc, count)?;
-        held.extend_from_slice(&room[..kept])?;
+        let count = setup.products.len();
+        let held = held_of(alloc, demands)?;
         let mut starts = vec![in alloc; 0; count / GROUP_SIZE + 1]?;
         find_starts(&mut starts, held.as_slice());
         Ok(Row {
@@ -84,9 +77,23 @@ impl Row {
     {
         let Row {
             count: _,
-            mut held,
-            mut starts,
+            held,
+            starts,
         } = self;
+        Row::like(held, starts, other)
+    }
+
+    /// An equal row.
+    pub fn copy(&self, alloc: Global) -> Result<Row, NoMemory>
+        ensures { IfOk result (λ copy. copy ≡ self.now) }
+    {
+        Row::like(Vec::new(alloc), Vec::new(alloc), self)
+    }
+
+    /// A row that is equal to another, in the memory of these lists as far as that reaches.
+    fn like(mut held: Vec<HeldDemand>, mut starts: Vec<u16>, other: &Row) -> Result<Row, NoMemory>
+        ensures { IfOk result (λ row. row ≡ other.now) }
+    {
         held.clear();
         held.reserve(other.count)?;
         held.extend_from_slice(other.held.as_slice())?;
@@ -96,19 +103,6 @@ impl Row {
             count: other.count,
             held,
             starts,
-        })
-    }
-
-    /// An equal row.
-    pub fn copy(&self, alloc: Global) -> Result<Row, NoMemory>
-        ensures { IfOk result (λ copy. copy ≡ self.now) }
-    {
-        let mut held = Vec::with_capacity(alloc, self.count)?;
-        held.extend_from_slice(self.held.as_slice())?;
-        Ok(Row {
-            count: self.count,
-            held,
-            starts: Vec::from_slice(alloc, self.starts.as_slice())?,
         })
     }
 
