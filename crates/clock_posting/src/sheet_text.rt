@@ -1,6 +1,6 @@
 ghost use Rattle.std.specs.Prelude.{◌≡◌, ◌++◌, codes, decimal, length, IfOk, OnOk};
 ghost use Rattle.clock_device.specs.Decimal.{number_or_dash};
-ghost use Rattle.clock_posting.specs.SheetText.{sheet_text, lines_text, line_text};
+ghost use Rattle.clock_posting.specs.SheetText.{sheet_text, line_text};
 
 use crate::sheet::{Line, RoundSheet};
 use clock_device::{NoMemory, Text};
@@ -30,19 +30,19 @@ pub fn with_sheet_lines(mut text: Text, setup: &Setup, sheet: &RoundSheet) -> Re
     requires { length sheet.now.lines ≡ length setup.now.products }
     ensures { IfOk result (λ lines. lines ≡ text ++ sheet_text setup.now.products sheet.now) }
 {
-    text.extend_from_slice(b"round ")?;
-    text.push_number(sheet.round)?;
-    text.push(b'\n')?;
-    push_lines(&mut text, setup.products.as_slice(), sheet.lines.as_slice())?;
+    push_sheet(&mut text, setup.products.as_slice(), sheet)?;
     Ok(text)
 }
 
-/// Adds the lines of the products.
-fn push_lines(text: &mut Text, products: &[Product], lines: &[Line]) -> Result<(), NoMemory>
-    requires { length lines.now ≡ length products.now }
-    ensures { OnOk result (text.new ≡ text.old ++ lines_text products.now lines.now) }
+/// Adds the line of the round and those of the products.
+fn push_sheet(text: &mut Text, products: &[Product], sheet: &RoundSheet) -> Result<(), NoMemory>
+    requires { length sheet.now.lines ≡ length products.now }
+    ensures { OnOk result (text.new ≡ text.old ++ sheet_text products.now sheet.now) }
 {
-    for (i, line) in lines.iter().enumerate() {
+    text.extend_from_slice(b"round ")?;
+    text.push_number(sheet.round)?;
+    text.push(b'\n')?;
+    for (i, line) in sheet.lines.iter().enumerate() {
         push_line(text, &products[i], line)?;
     }
     Ok(())
