@@ -19,7 +19,7 @@ pub struct OrderKey {
     pub bidder: u32,
     /// The product's number.
     pub product: u32,
-    /// The number of the link in the bidder's chain for the product, from 0.
+    /// The number of the bid in the sheet's chain for the product, from 0.
     pub place: u32,
     // Without it 0/0 would equal every point, and the order would not be total.
     pub ghost denominator: { 1 ≤ point.span },

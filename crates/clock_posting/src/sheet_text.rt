@@ -1,6 +1,6 @@
-ghost use Rattle.std.specs.Prelude.{◌≡◌, ◌++◌, decimal, length, IfOk, OnOk};
+ghost use Rattle.std.specs.Prelude.{◌≡◌, ◌++◌, codes, decimal, length, IfOk, OnOk};
 ghost use Rattle.clock_device.specs.Decimal.{number_or_dash};
-ghost use Rattle.clock_posting.specs.SheetText.{sheet_text, lines_text, line_text};
+ghost use Rattle.clock_posting.specs.SheetText.{sheet_text, line_text};
 
 use crate::sheet::{Line, RoundSheet};
 use clock_device::{NoMemory, Text};
@@ -30,19 +30,19 @@ pub fn with_sheet_lines(mut text: Text, setup: &Setup, sheet: &RoundSheet) -> Re
     requires { length sheet.now.lines ≡ length setup.now.products }
     ensures { IfOk result (λ lines. lines ≡ text ++ sheet_text setup.now.products sheet.now) }
 {
-    text.extend_from_slice(b"round ")?;
-    text.push_number(sheet.round)?;
-    text.push(b'\n')?;
-    push_lines(&mut text, setup.products.as_slice(), sheet.lines.as_slice())?;
+    push_sheet(&mut text, setup.products.as_slice(), sheet)?;
     Ok(text)
 }
 
-/// Adds the lines of the products.
-fn push_lines(text: &mut Text, products: &[Product], lines: &[Line]) -> Result<(), NoMemory>
-    requires { length lines.now ≡ length products.now }
-    ensures { OnOk result (text.new ≡ text.old ++ lines_text products.now lines.now) }
+/// Adds the line of the round and those of the products.
+fn push_sheet(text: &mut Text, products: &[Product], sheet: &RoundSheet) -> Result<(), NoMemory>
+    requires { length sheet.now.lines ≡ length products.now }
+    ensures { OnOk result (text.new ≡ text.old ++ sheet_text products.now sheet.now) }
 {
-    for (i, line) in lines.iter().enumerate() {
+    text.extend_from_slice(b"round ")?;
+    text.push_number(sheet.round)?;
+    text.push(b'\n')?;
+    for (i, line) in sheet.lines.iter().enumerate() {
         push_line(text, &products[i], line)?;
     }
     Ok(())
@@ -50,20 +50,29 @@ fn push_lines(text: &mut Text, products: &[Product], lines: &[Line]) -> Result<(
 
 /// A number and the digits that it is written in.
 #[derive(Clone, Copy)]
-struct Written<'a> {
+struct WrittenNumber<'a> {
     number: u64,
     digits: &'a [u8],
+    ghost right: { digits.now ≡ decimal number },
+}
+
+/// Writes a number's digits into a buffer.
+fn written(number: u64, room: &mut Buffer) -> WrittenNumber<'_>
+    ensures { result.number ≡ number }
+{
+    WrittenNumber {
+        number,
+        digits: room.format(number).as_bytes(),
+    }
 }
 
 /// Adds a number, in digits that are written already where it is one of two others.
 fn push_again(
     text: &mut Text,
     number: u64,
-    first: &Written<'_>,
-    second: &Written<'_>,
+    first: &WrittenNumber<'_>,
+    second: &WrittenNumber<'_>,
 ) -> Result<(), NoMemory>
-    requires first { first.now.digits.now ≡ decimal first.now.number }
-    requires second { second.now.digits.now ≡ decimal second.now.number }
     ensures { OnOk result (text.new ≡ text.old ++ decimal number) }
 {
     if number == second.number {
@@ -79,11 +88,9 @@ fn push_again(
 fn push_next(
     text: &mut Text,
     next: Option<u64>,
-    start: &Written<'_>,
-    clock: &Written<'_>,
+    start: &WrittenNumber<'_>,
+    clock: &WrittenNumber<'_>,
 ) -> Result<(), NoMemory>
-    requires start { start.now.digits.now ≡ decimal start.now.number }
-    requires clock { clock.now.digits.now ≡ decimal clock.now.number }
     ensures { OnOk result (text.new ≡ text.old ++ number_or_dash next) }
 {
     match next {
@@ -92,30 +99,44 @@ fn push_next(
     }
 }
 
+/// Adds a field and the space behind it.
+fn push_field(text: &mut Text, field: &[u8]) -> Result<(), NoMemory>
+    ensures { OnOk result (text.new ≡ text.old ++ field.now ++ codes " ") }
+{
+    text.extend_from_slice(field)?;
+    text.push(b' ')?;
+    Ok(())
+}
+
 /// Adds the line of a product. Its posted price and its next clock price are mostly its start or clock price again.
 fn push_line(text: &mut Text, product: &Product, line: &Line) -> Result<(), NoMemory>
     ensures { OnOk result (text.new ≡ text.old ++ line_text product.now line.now) }
 {
     let (mut start_room, mut clock_room) = (Buffer::new(), Buffer::new());
-    let start = Written {
-        number: line.start.get(),
-        digits: start_room.format(line.start.get()).as_bytes(),
-    };
-    let clock = Written {
-        number: line.clock.get(),
-        digits: clock_room.format(line.clock.get()).as_bytes(),
-    };
-    text.extend_from_slice(product.name.as_slice())?;
-    text.push(b' ')?;
-    text.extend_from_slice(start.digits)?;
-    text.push(b' ')?;
-    text.extend_from_slice(clock.digits)?;
-    text.push(b' ')?;
-    push_again(text, line.posted.get(), &start, &clock)?;
+    let start = written(line.start.get(), &mut start_room);
+    let clock = written(line.clock.get(), &mut clock_room);
+    push_field(text, product.name.as_slice())?;
+    push_field(text, start.digits)?;
+    push_field(text, clock.digits)?;
+    push_end(text, line, &start, &clock)?;
+    Ok(())
+}
+
+/// Adds what stands behind the clock price in the line of a product: posted price, demand and next clock price.
+fn push_end(
+    text: &mut Text,
+    line: &Line,
+    start: &WrittenNumber<'_>,
+    clock: &WrittenNumber<'_>,
+) -> Result<(), NoMemory>
+    ensures { OnOk result (text.new ≡ text.old ++ decimal line.now.posted ++ codes " "
+        ++ number_or_dash line.now.demand ++ codes " " ++ number_or_dash line.now.next ++ codes "\n") }
+{
+    push_again(text, line.posted.get(), start, clock)?;
     text.push(b' ')?;
     text.push_or_dash(line.demand)?;
     text.push(b' ')?;
-    push_next(text, line.next, &start, &clock)?;
+    push_next(text, line.next, start, clock)?;
     text.push(b'\n')?;
     Ok(())
 }

@@ -5,7 +5,7 @@ use Rattle.std.proofs.lemmas.List.{drop_more, drop_all, ext_get_or, length-set, 
 use Rattle.std.proofs.lemmas.List.FromFn.{length-map-range_with_len, get_or-map-range_with_len}
 use Rattle.std.specs.List.{AllWithin}
 use Rattle.clock_terms.specs.Limits.{most_supply}
-use Rattle.clock_terms.specs.declared.row.HeldDemand.{HeldDemand}
+use Rattle.clock_terms.specs.declared.held_list.HeldDemand.{HeldDemand}
 use Rattle.clock_terms.specs.HeldDemands.{demand_for, demands_of, next_of}
 use Rattle.clock_terms.specs.inside.Rows.{AreHeld, IsStored, StandsAt}
 

@@ -4,7 +4,7 @@
 --     next_of count left      where a walk over what is held is
 use Rattle.std.specs.Prelude.{ℕ, ◌==◌, List, [], ◌∷◌, map, if◌then◌else◌}
 use Rattle.std.specs.List.{range_with_len}
-use Rattle.clock_terms.specs.declared.row.HeldDemand.{HeldDemand}
+use Rattle.clock_terms.specs.declared.held_list.HeldDemand.{HeldDemand}
 
 -- what is held of a product, or 0 where it is not among those
 unfoldable pub demand_for : List HeldDemand → ℕ → ℕ

@@ -2,7 +2,7 @@ pub mod Limits
 pub mod Demands
 pub mod Prices
 pub mod Increments
-pub mod Held
+pub mod Walks
 pub mod HeldDemands
 pub mod Eligibility
 pub mod Faults

@@ -1,5 +1,5 @@
 ghost use Rattle.std.specs.Prelude.{◌≡◌, ℕ, ◌+◌, ◌*◌, ◌≤◌, ◌<◌, length, All, IfOk, slice_index};
-ghost use Rattle.clock_terms.specs.Limits.{IsRow, most_bidders, most_supply};
+ghost use Rattle.clock_terms.specs.Limits.{IsRow, most_bidders, most_products, most_supply};
 ghost use Rattle.clock_terms.specs.Demands.{total_of, demand_at, demand_after, row_of, with_demand, no_demands};
 
 use crate::new_demand::NewDemand;
@@ -61,6 +61,40 @@ fn totals_of(alloc: Global, products: usize, rows: &[Row]) -> Result<Amounts, No
     Ok(totals)
 }
 
+/// So many rows, in which nobody demands anything.
+fn zero_rows(alloc: Global, bidders: usize, products: usize) -> Result<Vec<Row>, NoMemory>
+    requires { products ≤ most_products }
+    ensures { IfOk result (λ rows. rows.items ≡ no_demands bidders products) }
+{
+    let mut rows = Vec::new(alloc);
+    for _bidder in 0..bidders {
+        rows.push(Row::zeros(alloc, products)?)?;
+    }
+    Ok(rows)
+}
+
+/// Rows that are equal to others, in the memory of old ones as far as that reaches.
+fn rows_like(alloc: Global, old: Vec<Row>, others: &[Row]) -> Result<Vec<Row>, NoMemory>
+    ensures { IfOk result (λ rows. rows.items ≡ others.now) }
+{
+    let mut old = old.into_iter();
+    let mut rows = Vec::with_capacity(alloc, others.len())?;
+    for row in others {
+        rows.push(row_like(alloc, old.next(), row)?)?;
+    }
+    Ok(rows)
+}
+
+/// A row that is equal to another, in the memory of an old one if there is one.
+fn row_like(alloc: Global, old: Option<Row>, other: &Row) -> Result<Row, NoMemory>
+    ensures { IfOk result (λ row. row ≡ other.now) }
+{
+    match old {
+        Some(old) => old.renewed(other),
+        None => other.copy(alloc),
+    }
+}
+
 impl Grid {
     /// The grid of these rows, which are taken over: one for each bidder of a set-up, and in each a demand for each product,
     /// none above its cap.
@@ -69,7 +103,7 @@ impl Grid {
         requires rows { All (IsRow setup.now.products) rows.items }
         ensures { IfOk result (λ grid. grid ≡ rows.items) }
     {
-        let products = setup.products.as_slice().len();
+        let products = setup.products.len();
         let totals = totals_of(alloc, products, rows.as_slice())?;
         Ok(Grid { rows, totals })
     }
@@ -78,26 +112,24 @@ impl Grid {
     pub fn zero(alloc: Global, setup: &Setup) -> Result<Grid, NoMemory>
         ensures { IfOk result (λ grid. grid ≡ no_demands (length setup.now.bidders) (length setup.now.products)) }
     {
-        let bidders = setup.bidders.as_slice().len();
-        let products = setup.products.as_slice().len();
-        let totals = Amounts::zeros(alloc, products)?;
-        let mut rows = Vec::new(alloc);
-        for _bidder in 0..bidders {
-            rows.push(Row::zeros(alloc, products)?)?;
-        }
-        Ok(Grid { rows, totals })
+        let bidders = setup.bidders.len();
+        let products = setup.products.len();
+        let rows = zero_rows(alloc, bidders, products)?;
+        Ok(Grid {
+            rows,
+            totals: Amounts::zeros(alloc, products)?,
+        })
     }
 
     /// An equal grid.
     pub fn copy(&self, alloc: Global) -> Result<Grid, NoMemory>
         ensures { IfOk result (λ copy. copy ≡ self.now) }
     {
-        let totals = self.totals.copy(alloc)?;
-        let mut rows = Vec::new(alloc);
-        for row in self.rows.iter() {
-            rows.push(row.copy(alloc)?)?;
-        }
-        Ok(Grid { rows, totals })
+        let rows = rows_like(alloc, Vec::new(alloc), self.rows.as_slice())?;
+        Ok(Grid {
+            rows,
+            totals: self.totals.copy(alloc)?,
+        })
     }
 
     /// A grid that is equal to another, in the memory of this one as far as that reaches.
@@ -108,14 +140,7 @@ impl Grid {
             rows: old,
             totals: _,
         } = self;
-        let mut old = old.into_iter();
-        let mut rows = Vec::with_capacity(alloc, other.rows.len())?;
-        for row in other.rows.iter() {
-            rows.push(match old.next() {
-                Some(old) => old.renewed(row)?,
-                None => row.copy(alloc)?,
-            })?;
-        }
+        let rows = rows_like(alloc, old, other.rows.as_slice())?;
         Ok(Grid {
             rows,
             totals: other.totals.copy(alloc)?,

@@ -4,7 +4,7 @@ ghost use Rattle.clock_terms.specs.HeldDemands.{demands_of, next_of};
 ghost use Rattle.clock_terms.specs.inside.Rows.{IsKeptWalk};
 ghost use Rattle.clock_terms.specs.Limits.{most_supply};
 
-use crate::row::HeldDemand;
+use crate::held_list::HeldDemand;
 use std::marker::Model;
 
 /// A product of which a block is held.
@@ -28,7 +28,7 @@ pub struct HeldProducts<'a> {
 
 impl<'a> Model for HeldProducts<'a> {
     ghost use Rattle.std.specs.Prelude.{drop};
-    ghost use Rattle.clock_terms.specs.Held.{Walk};
+    ghost use Rattle.clock_terms.specs.Walks.{Walk};
     ghost use Rattle.clock_terms.specs.HeldDemands.{demands_of, next_of};
     ghost use Rattle.clock_terms.specs.inside.Rows.{IsKeptWalk};
 

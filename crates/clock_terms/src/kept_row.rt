@@ -4,8 +4,8 @@ ghost use Rattle.clock_terms.specs.Limits.{most_products};
 ghost use Rattle.clock_terms.specs.inside.Rows.{AreHeld};
 ghost use Rattle.clock_terms.specs.HeldDemands.{demands_of};
 
+use crate::held_list::{HeldDemand, demand_at, place_of};
 use crate::held_products::HeldProducts;
-use crate::row::{HeldDemand, demand_at, place_of};
 use clock_device::NoMemory;
 use std::alloc::Global;
 use std::marker::Model;

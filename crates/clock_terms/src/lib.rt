@@ -5,6 +5,7 @@
 mod change;
 mod eligibility;
 mod grid;
+mod held_list;
 mod held_products;
 mod increments;
 mod kept_row;

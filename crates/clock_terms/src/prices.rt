@@ -41,12 +41,12 @@ impl OpeningPrices for Prices {
 fn opening_pairs(alloc: Global, products: &[Product]) -> Result<Prices, NoMemory>
     ensures { IfOk result (λ prices. prices ≡ opening_prices products.now) }
 {
-    let mut prices = Prices::new(alloc);
+    let mut prices = Prices::with_capacity(alloc, products.len())?;
     for product in products {
         prices.push(PricePair {
             start: product.opening,
             clock: product.opening,
-        })?;
+        });
     }
-    Ok(prices)
+    Ok(prices.into_items())
 }

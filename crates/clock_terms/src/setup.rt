@@ -117,22 +117,22 @@ impl Bidder {
 pub fn products_copy(alloc: Global, products: &[Product]) -> Result<Products, NoMemory>
     ensures { IfOk result (λ copy. copy ≡ products.now) }
 {
-    let mut copy = Products::new(alloc);
+    let mut copy = Products::with_capacity(alloc, products.len())?;
     for product in products {
-        copy.push(product.copy(alloc)?)?;
+        copy.push(product.copy(alloc)?);
     }
-    Ok(copy)
+    Ok(copy.into_items())
 }
 
 /// Equal bidders.
 fn bidders_copy(alloc: Global, bidders: &[Bidder]) -> Result<Bidders, NoMemory>
     ensures { IfOk result (λ copy. copy ≡ bidders.now) }
 {
-    let mut copy = Bidders::new(alloc);
+    let mut copy = Bidders::with_capacity(alloc, bidders.len())?;
     for bidder in bidders {
-        copy.push(bidder.copy(alloc)?)?;
+        copy.push(bidder.copy(alloc)?);
     }
-    Ok(copy)
+    Ok(copy.into_items())
 }
 
 impl Setup {

@@ -3,12 +3,13 @@
 --     IsStart held product start      before a place stand only products below one
 --     StandsAt held product place, WouldStandAt held product place      where a product stands, and where it would
 --     IsStored held after product demand      of one product there is another demand, and of the others as before
---     AreStarts held starts      for each 16 products a place before which none of them stands
+--     group_size      how many products a group has
+--     AreStarts held starts      for each group of products a place before which none of them stands
 --     IsKeptRow count held starts capacity      what the type of rows keeps
 --     IsKeptWalk count held given      what a walk keeps
 use Rattle.std.specs.Prelude.{◌≡◌, ◌==◌, if◌then◌else◌, ℕ, ◌+◌, ◌*◌, ◌≤◌, ◌<◌, List, [], ◌∷◌, length, slice_index, slice_index_or}
 use Rattle.std.specs.List.{AllWithin}
-use Rattle.clock_terms.specs.declared.row.HeldDemand.{HeldDemand}
+use Rattle.clock_terms.specs.declared.held_list.HeldDemand.{HeldDemand}
 use Rattle.clock_terms.specs.HeldDemands.{demand_for}
 use Rattle.clock_terms.specs.Limits.{most_products, most_supply}
 
@@ -36,17 +37,21 @@ abbrev pub IsStored : List HeldDemand → List HeldDemand → ℕ → ℕ → Ty
 IsStored held after product demand = (other : ℕ)
     → demand_for after other ≡ (if product == other then demand else demand_for held other)
 
--- for each 16 products a place before which none of them stands
-abbrev pub AreStarts : List HeldDemand → List ℕ → Type 0
-AreStarts held starts = (block : ℕ) → block < length starts → IsStart held (block * 16) (slice_index starts block)
+-- products are looked for by groups of so many
+abbrev pub group_size : ℕ
+group_size = 16
 
--- what is held is in order, there is room for each product, and a start for each 16 of them
+-- for each group of products a place before which none of them stands
+abbrev pub AreStarts : List HeldDemand → List ℕ → Type 0
+AreStarts held starts = (group : ℕ) → group < length starts → IsStart held (group * group_size) (slice_index starts group)
+
+-- what is held is in order, there is room for each product, and a start for each group of them
 pub record IsKeptRow (count : ℕ) (held : List HeldDemand) (places : List ℕ) (capacity : ℕ) : Type 0 where
   pub few : count ≤ most_products
   pub order : AreHeld 0 held count
   pub room : count ≤ capacity
-  pub searched : count < 16 * length places
-  pub blocks : length places ≤ most_products
+  pub searched : count < group_size * length places
+  pub groups : length places ≤ most_products
   pub starts : AreStarts held places
 
 -- a walk goes over what is held, in order, and has given so many

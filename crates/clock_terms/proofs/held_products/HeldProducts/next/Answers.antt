@@ -2,7 +2,7 @@ use Rattle.std.proofs.Common.{◌≡◌, ◌<◌, ◌≤◌, ◌+◌, ℕ, List,
 use Rattle.std.proofs.lemmas.Bool.{cases_lt}
 use Rattle.std.proofs.lemmas.List.{get_or_default}
 use Rattle.std.specs.List.{AllWithin}
-use Rattle.clock_terms.specs.declared.row.HeldDemand.{HeldDemand}
+use Rattle.clock_terms.specs.declared.held_list.HeldDemand.{HeldDemand}
 use Rattle.clock_terms.specs.HeldDemands.{demand_for, demands_of, next_of}
 use Rattle.clock_terms.specs.inside.Rows.{IsKeptWalk}
 use Rattle.clock_terms.proofs.HeldLaws.{shown, length-demands, found, rising, held_at, small_at, next_at, next_none, gap}

@@ -1,5 +1,5 @@
 use Rattle.std.proofs.Common.{List, ap, ◌∙◌}
-use Rattle.clock_terms.specs.declared.row.HeldDemand.{HeldDemand}
+use Rattle.clock_terms.specs.declared.held_list.HeldDemand.{HeldDemand}
 use Rattle.clock_terms.specs.HeldDemands.{demand_for}
 use Rattle.clock_terms.proofs.HeldLaws.{kept_demand}
 use Rattle.clock_terms.proofs.kept_row.KeptRow.get.Goals as goal

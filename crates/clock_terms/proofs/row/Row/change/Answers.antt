@@ -9,8 +9,8 @@ index-requires c =
     let row = c.self.inside in
     omega (arith, c.self.invariant.searched, below_count row.count row.held.items c.args.self.now c.args.product c.self.view_is c.requires.product)
 
-pub place_in_block-place-requires-clause-start : goal.place_in_block-place-requires-clause-start
-place_in_block-place-requires-clause-start c =
+pub place_in_group-place-requires-clause-start : goal.place_in_group-place-requires-clause-start
+place_in_group-place-requires-clause-start c =
     let row = c.self.inside in
     start_read row.count row.held.items c.as_slice.result.now row.starts.items (vec_capacity row.held) c.args.self.now c.args.product c.index.result.now
     c.self.invariant c.self.view_is c.requires.product c.as_slice.ensures.value c.index.ensures
@@ -52,8 +52,8 @@ invariant_of-self c =
       few = c.self.invariant.few;
       order = c.store.ensures.order row.count c.self.invariant.order within;
       room = omega (arith, c.self.invariant.room, c.store.ensures.room);
-      searched = omega (arith, c.self.invariant.searched, c.store.ensures.blocks);
-      blocks = omega (arith, c.self.invariant.blocks, c.store.ensures.blocks);
+      searched = omega (arith, c.self.invariant.searched, c.store.ensures.groups);
+      groups = omega (arith, c.self.invariant.groups, c.store.ensures.groups);
       starts = c.store.ensures.starts;
     }
 

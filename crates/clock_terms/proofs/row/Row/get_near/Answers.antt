@@ -1,5 +1,5 @@
 use Rattle.std.proofs.Common.{◌≡◌, ◌+◌, ◌<◌, ◌%◌, ℕ, List, length, get_or, ap, sym, subst, ◌∙◌, arith}
-use Rattle.clock_terms.specs.declared.row.HeldDemand.{HeldDemand}
+use Rattle.clock_terms.specs.declared.held_list.HeldDemand.{HeldDemand}
 use Rattle.clock_terms.specs.HeldDemands.{demands_of}
 use Rattle.clock_terms.specs.inside.Rows.{AreHeld}
 use Rattle.clock_terms.proofs.HeldLaws.{found, kept_demand, rising, small_at}

@@ -1,7 +1,8 @@
 use Rattle.std.proofs.Common.{◌≡◌, ◌+◌, ◌-◌, ◌/◌, ◌++◌, ℕ, zero, suc, List, [], length, take, replicate, refl, ap, ap₂, ◌∙◌, arith}
 use Rattle.std.proofs.lemmas.List.{length-replicate}
-use Rattle.clock_terms.specs.declared.row.HeldDemand.{HeldDemand}
+use Rattle.clock_terms.specs.declared.held_list.HeldDemand.{HeldDemand}
 use Rattle.clock_terms.specs.HeldDemands.{demands_of}
+use Rattle.clock_terms.specs.inside.Rows.{group_size}
 use Rattle.clock_terms.proofs.HeldLaws.{none_held, order_none}
 use Rattle.clock_terms.proofs.StartLaws.{starts_none}
 use Rattle.clock_terms.proofs.row.Row.zeros.Goals as goal
@@ -13,20 +14,20 @@ take_none (suc n) = refl
 
 pub invariant_of-result : goal.invariant_of-result
 invariant_of-result c =
-    let blocks = c.args.products / 16 + 1 in
-    let all : blocks - 0 ≡ blocks = omega arith in
-    let zeros : c.resize.new.self.items ≡ replicate blocks 0 =
+    let groups = c.args.products / group_size + 1 in
+    let all : groups - 0 ≡ groups = omega arith in
+    let zeros : c.resize.new.self.items ≡ replicate groups 0 =
     c.in_ok-resize.ensures.items
-    ∙ ap₂ (λ (list : List ℕ) (n : ℕ). take blocks list ++ replicate (blocks - n) 0) c.new-starts.ensures.items c.new-starts.ensures.len
-    ∙ ap (λ (n : ℕ). take blocks [] ++ replicate n 0) all
-    ∙ ap (λ (list : List ℕ). list ++ replicate blocks 0) (take_none blocks) in
+    ∙ ap₂ (λ (list : List ℕ) (n : ℕ). take groups list ++ replicate (groups - n) 0) c.new-starts.ensures.items c.new-starts.ensures.len
+    ∙ ap (λ (n : ℕ). take groups [] ++ replicate n 0) all
+    ∙ ap (λ (list : List ℕ). list ++ replicate groups 0) (take_none groups) in
     record {
       few = c.requires;
       order = order_none c.in_ok-held.held.items c.args.products c.in_ok-held.ensures.items;
       room = omega (arith, c.in_ok-held.ensures.capacity);
-      searched = omega (arith, ap (λ (list : List ℕ). length list) zeros, length-replicate {A = ℕ} blocks 0);
-      blocks = omega (arith, ap (λ (list : List ℕ). length list) zeros, length-replicate {A = ℕ} blocks 0, c.requires);
-      starts = starts_none c.in_ok-held.held.items c.resize.new.self.items blocks zeros;
+      searched = omega (arith, ap (λ (list : List ℕ). length list) zeros, length-replicate {A = ℕ} groups 0);
+      groups = omega (arith, ap (λ (list : List ℕ). length list) zeros, length-replicate {A = ℕ} groups 0, c.requires);
+      starts = starts_none c.in_ok-held.held.items c.resize.new.self.items groups zeros;
     }
 
 pub returns : goal.returns

@@ -1,10 +1,10 @@
 use Rattle.std.proofs.Common.{◌≡◌, ◌+◌, List, take, sym, subst, ap, ◌∙◌, arith}
 use Rattle.std.proofs.lemmas.List.{take-set, take_more_set}
-use Rattle.clock_terms.specs.declared.row.HeldDemand.{HeldDemand}
+use Rattle.clock_terms.specs.declared.held_list.HeldDemand.{HeldDemand}
 use Rattle.clock_terms.specs.HeldDemands.{demand_for}
 use Rattle.clock_terms.specs.inside.Rows.{AreHeld}
 use Rattle.clock_terms.proofs.HeldLaws.{held_push, held_more, none_behind, push_here, push_other}
-use Rattle.clock_terms.proofs.row.write_demand.Goals as goal
+use Rattle.clock_terms.proofs.held_list.write_demand.Goals as goal
 
 pub returns-then-demand-gt0-clause-order : goal.returns-then-demand-gt0-clause-order
 returns-then-demand-gt0-clause-order c =

@@ -1,6 +1,6 @@
 use Rattle.std.specs.Prelude.{◌<◌}
 use Rattle.std.specs.List.{AllWithin}
-use Rattle.clock_terms.proofs.row.first_from.Given as goal
+use Rattle.clock_terms.proofs.held_list.first_from.Given as goal
 
 -- the products so far are smaller
 abbrev pub invariant-loop-place : goal.invariant-loop-place

@@ -1,5 +1,5 @@
 use Rattle.std.proofs.Common.{◌≡◌, replicate}
-use Rattle.clock_terms.proofs.grid.Grid.zero.Given as goal
+use Rattle.clock_terms.proofs.grid.zero_rows.Given as goal
 
 -- each row so far is one of zeros
 abbrev pub invariant-loop-bidder : goal.invariant-loop-bidder

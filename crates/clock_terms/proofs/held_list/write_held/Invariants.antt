@@ -2,7 +2,7 @@ use Rattle.std.proofs.Common.{◌≡◌, ℕ, ◌<◌, ◌≤◌, length, take}
 use Rattle.std.specs.Prelude.{slice_index}
 use Rattle.clock_terms.specs.HeldDemands.{demand_for}
 use Rattle.clock_terms.specs.inside.Rows.{AreHeld}
-use Rattle.clock_terms.proofs.row.write_held.Given as goal
+use Rattle.clock_terms.proofs.held_list.write_held.Given as goal
 
 -- of the products so far those of which a block is held are there
 abbrev pub invariant-loop-product : goal.invariant-loop-product

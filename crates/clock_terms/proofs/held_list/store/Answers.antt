@@ -1,10 +1,10 @@
 use Rattle.std.proofs.Common.{◌≡◌, ◌<◌, ◌≤◌, ℕ, List, Result, Ok, Err, IfOk, IfErr, length, insert, sym, subst, arith}
 use Rattle.std.proofs.lemmas.List.Edits.{length-insert}
-use Rattle.clock_terms.specs.declared.row.HeldDemand.{HeldDemand}
+use Rattle.clock_terms.specs.declared.held_list.HeldDemand.{HeldDemand}
 use Rattle.clock_terms.specs.inside.Rows.{AreHeld, IsStored, StandsAt, WouldStandAt}
 use Rattle.clock_terms.specs.Limits.{most_supply}
 use Rattle.clock_terms.proofs.HeldLaws.{missing, counted, held_set, held_insert, held_remove, stored_none, stored_set, stored_insert, stored_remove}
-use Rattle.clock_terms.proofs.row.store.Goals as goal
+use Rattle.clock_terms.proofs.held_list.store.Goals as goal
 
 -- as it stands in the goals
 abbrev none : HeldDemand

@@ -1,6 +1,6 @@
 use Rattle.std.proofs.Common.{arith}
 use Rattle.clock_terms.proofs.HeldLaws.{counted}
-use Rattle.clock_terms.proofs.row.find_starts.Goals as goal
+use Rattle.clock_terms.proofs.held_list.find_starts.Goals as goal
 
 pub overflow_cast-start : goal.overflow_cast-start
 overflow_cast-start c =

@@ -2,7 +2,7 @@ use Rattle.std.proofs.Common.{◌≡◌, ◌<◌, ◌∙◌, length, take, refl,
 use Rattle.std.proofs.lemmas.List.{ext_get_or}
 use Rattle.clock_terms.specs.HeldDemands.{demands_of}
 use Rattle.clock_terms.proofs.HeldLaws.{length-demands, order_none, shown}
-use Rattle.clock_terms.proofs.row.write_held.Goals as goal
+use Rattle.clock_terms.proofs.held_list.write_held.Goals as goal
 
 pub loop-product-init : goal.loop-product-init
 loop-product-init c = record {

@@ -1,8 +1,8 @@
 use Rattle.std.proofs.Common.{IfOk, IfErr, sym, subst}
-use Rattle.clock_terms.specs.declared.row.HeldDemand.{HeldDemand}
+use Rattle.clock_terms.specs.declared.held_list.HeldDemand.{HeldDemand}
 use Rattle.clock_terms.specs.inside.Rows.{StandsAt, WouldStandAt}
 use Rattle.clock_terms.proofs.HeldLaws.{found, missing, small_at}
-use Rattle.clock_terms.proofs.row.demand_at.Goals as goal
+use Rattle.clock_terms.proofs.held_list.demand_at.Goals as goal
 
 -- as it stands in the goals
 abbrev none : HeldDemand

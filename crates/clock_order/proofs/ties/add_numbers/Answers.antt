@@ -6,7 +6,7 @@ use Rattle.clock_order.specs.Entries.{tie_of}
 use Rattle.clock_order.specs.Ties.{tie_checks}
 use Rattle.clock_order.proofs.Listed.{is_key}
 use Rattle.clock_order.proofs.TieSteps.{tie_at, listed_more, range_first, repeated_first, ahead_more, none_from_test}
-use Rattle.clock_order.proofs.ties.numbers_of.Goals as goal
+use Rattle.clock_order.proofs.ties.add_numbers.Goals as goal
 
 pub returns-then-not-is_in_range-clause-fault : goal.returns-then-not-is_in_range-clause-fault
 returns-then-not-is_in_range-clause-fault c known =

@@ -1,0 +1,243 @@
+ghost use Rattle.std.specs.Prelude.{◌≡◌, ◌≢◌, ℕ, ◌+◌, ◌-◌, ◌≤◌, ◌<◌, slice_index_or, length, take, All, IfOk, IfErr, slice_index};
+ghost use Rattle.std.specs.Prelude.{insert, remove, vec_capacity, IsTrue};
+ghost use Rattle.clock_terms.specs.HeldDemands.{demand_for, demands_of};
+ghost use Rattle.clock_terms.specs.Limits.{most_products, most_supply};
+ghost use Rattle.clock_terms.specs.inside.Rows.{AreHeld, AreStarts, IsStart, IsStored, StandsAt, WouldStandAt};
+
+use clock_device::NoMemory;
+use std::alloc::Global;
+
+/// How many products a group has. A search for a product begins where those of its group begin.
+pub(crate) const GROUP_SIZE: usize = 16;
+
+/// What a bidder demands of a product of which it holds a block.
+#[derive(Clone, Copy)]
+pub(crate) struct HeldDemand {
+    pub(crate) product: u16,
+    pub(crate) demand: u16,
+}
+
+/// The first of some demands, by their places from one on, for a product that is not below one, or how many there are.
+fn first_from(held: &[HeldDemand], from: usize, product: usize) -> usize
+    requires { IsStart held.now product from }
+    ensures start { IsStart held.now product result }
+    ensures first { (d : HeldDemand) → result < length held.now → product ≤ (slice_index_or held.now result d).product }
+{
+    for place in from..held.len() {
+        if held[place].product as usize >= product {
+            return place;
+        }
+    }
+    held.len()
+}
+
+/// Where the demand for a product stands, or else where it would stand, looked for from a place on.
+pub(crate) fn place_of(held: &[HeldDemand], from: usize, product: usize) -> Result<usize, usize>
+    requires { IsStart held.now product from }
+    ensures stands { IfOk result (λ place. StandsAt held.now product place) }
+    ensures lacks { IfErr result (λ place. WouldStandAt held.now product place) }
+{
+    let place = first_from(held, from, product);
+    if place < held.len() && held[place].product as usize == product {
+        Ok(place)
+    } else {
+        Err(place)
+    }
+}
+
+/// Whether a demand for a product stands at a place.
+#[inline(always)]
+pub(crate) fn is_at(held: &[HeldDemand], place: usize, product: usize) -> bool
+    ensures { IsTrue result → (place < length held.now)
+        × ((d : HeldDemand) → (slice_index_or held.now place d).product ≡ product) }
+{
+    match held.get(place) {
+        Some(one) => one.product as usize == product,
+        None => false,
+    }
+}
+
+/// The same, looked for from the start of the product's group. Where all products of the group are held, it stands as far
+/// behind the start as the product behind the group's first one.
+pub(crate) fn place_in_group(
+    held: &[HeldDemand],
+    start: usize,
+    product: usize,
+) -> Result<usize, usize>
+    requires order { (count : ℕ) × AreHeld 0 held.now count }
+    requires start { IsStart held.now product start }
+    ensures stands { IfOk result (λ place. StandsAt held.now product place) }
+    ensures lacks { IfErr result (λ place. WouldStandAt held.now product place) }
+{
+    let likely = start.wrapping_add(product % GROUP_SIZE);
+    if is_at(held, likely, product) {
+        return Ok(likely);
+    }
+    place_of(held, start, product)
+}
+
+/// The demand for a product whose place was looked for.
+pub(crate) fn demand_at(held: &[HeldDemand], place: Result<usize, usize>, product: usize) -> u64
+    requires held { (count : ℕ) × AreHeld 0 held.now count }
+    requires stands { IfOk place (λ place. StandsAt held.now product place) }
+    requires lacks { IfErr place (λ place. WouldStandAt held.now product place) }
+    ensures is { result ≡ demand_for held.now product }
+    ensures small { result ≤ most_supply }
+{
+    match place {
+        Ok(place) => held[place].demand as u64,
+        Err(_) => 0,
+    }
+}
+
+/// The places from one group on are one further.
+fn raise_starts(starts: &mut Vec<u16>, from: usize)
+    requires { All (λ start. start ≤ most_products) starts.old.items }
+    ensures kept { length starts.new.items ≡ length starts.old.items }
+    ensures below { (group : ℕ) → group < from → slice_index starts.new.items group ≡ slice_index starts.old.items group }
+    ensures raised { (group : ℕ) → from ≤ group → group < length starts.old.items
+        → slice_index starts.new.items group ≡ slice_index starts.old.items group + 1 }
+{
+    for group in from..starts.len() {
+        starts[group] += 1;
+    }
+}
+
+/// The places from one group on are one less far.
+fn lower_starts(starts: &mut Vec<u16>, from: usize)
+    ensures kept { length starts.new.items ≡ length starts.old.items }
+    ensures below { (group : ℕ) → group < from → slice_index starts.new.items group ≡ slice_index starts.old.items group }
+    ensures lowered { (group : ℕ) → from ≤ group → group < length starts.old.items
+        → slice_index starts.new.items group ≡ slice_index starts.old.items group - 1 }
+{
+    for group in from..starts.len() {
+        starts[group] = starts[group].saturating_sub(1);
+    }
+}
+
+/// Puts in a demand at its place.
+fn put_in(held: &mut Vec<HeldDemand>, starts: &mut Vec<u16>, place: usize, one: HeldDemand)
+    requires place { WouldStandAt held.old.items one.product place }
+    requires starts { AreStarts held.old.items starts.old.items }
+    requires few { length held.old.items < most_products }
+    requires room { length held.old.items < vec_capacity held.old }
+    ensures put { held.new.items ≡ insert held.old.items place one }
+    ensures room { vec_capacity held.old ≤ vec_capacity held.new }
+    ensures starts { AreStarts held.new.items starts.new.items }
+    ensures groups { length starts.new.items ≡ length starts.old.items }
+{
+    held.insert(place, one).unwrap();
+    raise_starts(starts, one.product as usize / GROUP_SIZE + 1);
+}
+
+/// Takes out the demand for a product, at its place.
+fn take_out(held: &mut Vec<HeldDemand>, starts: &mut Vec<u16>, place: usize, product: usize)
+    requires place { StandsAt held.old.items product place }
+    requires starts { AreStarts held.old.items starts.old.items }
+    ensures taken { held.new.items ≡ remove held.old.items place }
+    ensures room { vec_capacity held.old ≤ vec_capacity held.new }
+    ensures starts { AreStarts held.new.items starts.new.items }
+    ensures groups { length starts.new.items ≡ length starts.old.items }
+{
+    held.remove(place);
+    lower_starts(starts, product / GROUP_SIZE + 1);
+}
+
+/// Stores a demand whose product was looked for. One of no block is not kept.
+pub(crate) fn store(
+    held: &mut Vec<HeldDemand>,
+    starts: &mut Vec<u16>,
+    place: Result<usize, usize>,
+    one: HeldDemand,
+)
+    requires stands { IfOk place (λ place. StandsAt held.old.items one.product place) }
+    requires lacks { IfErr place (λ place. WouldStandAt held.old.items one.product place) }
+    requires starts { AreStarts held.old.items starts.old.items }
+    requires room { (count : ℕ) × AreHeld 0 held.old.items count × (one.product < count) × (count ≤ most_products)
+        × (count ≤ vec_capacity held.old) }
+    requires small { one.demand ≤ most_supply }
+    ensures order { (count : ℕ) → AreHeld 0 held.old.items count → one.product < count → AreHeld 0 held.new.items count }
+    ensures stored { IsStored held.old.items held.new.items one.product one.demand }
+    ensures room { vec_capacity held.old ≤ vec_capacity held.new }
+    ensures starts { AreStarts held.new.items starts.new.items }
+    ensures groups { length starts.new.items ≡ length starts.old.items }
+{
+    match place {
+        Ok(place) if one.demand > 0 => held[place] = one,
+        Ok(place) => take_out(held, starts, place, one.product as usize),
+        Err(place) if one.demand > 0 => put_in(held, starts, place, one),
+        Err(_) => {}
+    }
+}
+
+/// Writes the demand for a product behind so many for lower ones, and tells how many are kept then: one more where a block is
+/// held. It is written in any case, since a jump past those that are not held is mostly guessed wrong.
+#[inline(always)]
+fn write_demand(room: &mut [HeldDemand], kept: usize, product: usize, demand: u64) -> usize
+    requires within { kept < length room.old }
+    requires order { AreHeld 0 (take kept room.old) product }
+    requires few { product < most_products }
+    requires small { demand ≤ most_supply }
+    ensures length { length room.new ≡ length room.old }
+    ensures count { result ≤ kept + 1 }
+    ensures order { AreHeld 0 (take result room.new) (product + 1) }
+    ensures here { demand_for (take result room.new) product ≡ demand }
+    ensures others { (other : ℕ) → other ≢ product
+        → demand_for (take result room.new) other ≡ demand_for (take kept room.old) other }
+{
+    room[kept] = HeldDemand {
+        product: product as u16,
+        demand: demand as u16,
+    };
+    if demand > 0 { kept + 1 } else { kept }
+}
+
+/// Writes the demands of which a block is held, of those for the products from the first on, and tells how many they are.
+fn write_held(room: &mut [HeldDemand], demands: &[u64]) -> usize
+    requires room { length room.old ≡ length demands.now }
+    requires few { length demands.now ≤ most_products }
+    requires small { All (λ demand. demand ≤ most_supply) demands.now }
+    ensures length { length room.new ≡ length room.old }
+    ensures count { result ≤ length demands.now }
+    ensures order { AreHeld 0 (take result room.new) (length demands.now) }
+    ensures demands { demands_of (length demands.now) (take result room.new) ≡ demands.now }
+{
+    let mut kept = 0;
+    for (product, demand) in demands.iter().enumerate() {
+        kept = write_demand(room, kept, product, *demand);
+    }
+    kept
+}
+
+/// The demands of which a block is held, with room for one for each product.
+pub(crate) fn held_of(alloc: Global, demands: &[u64]) -> Result<Vec<HeldDemand>, NoMemory>
+    requires few { length demands.now ≤ most_products }
+    requires small { All (λ demand. demand ≤ most_supply) demands.now }
+    ensures order { IfOk result (λ held. AreHeld 0 held.items (length demands.now)) }
+    ensures demands { IfOk result (λ held. demands_of (length demands.now) held.items ≡ demands.now) }
+    ensures room { IfOk result (λ held. length demands.now ≤ vec_capacity held) }
+{
+    let none = HeldDemand {
+        product: 0,
+        demand: 0,
+    };
+    let mut room = vec![in alloc; none; demands.len()]?;
+    let kept = write_held(&mut room, demands);
+    let mut held = Vec::with_capacity(alloc, demands.len())?;
+    held.extend_from_slice(&room[..kept])?;
+    Ok(held)
+}
+
+/// Finds for each group where to look for its products.
+pub(crate) fn find_starts(starts: &mut Vec<u16>, held: &[HeldDemand])
+    requires order { (count : ℕ) × AreHeld 0 held.now count × (count ≤ most_products) }
+    requires few { length starts.old.items ≤ most_products }
+    ensures starts { AreStarts held.now starts.new.items }
+    ensures groups { length starts.new.items ≡ length starts.old.items }
+{
+    let mut start = 0;
+    for group in 0..starts.len() {
+        start = first_from(held, start, group * GROUP_SIZE);
+        starts[group] = start as u16;
+    }
+}
