@@ -106,10 +106,10 @@ fn activity_limit(setup: &Setup, round: u64, eligibility: u64) -> u128
     }
 }
 
-/// Judges each bid by the last one before it for the same product. Where the earlier bids are
-/// good, their prices rise and their quantities move one way, so that the last one tells whether
-/// the next price is higher and the next step goes on. Good bids ask for demands that take so many
-/// bidding units.
+/// Judges each bid by the last one before it for the same product; the first bids, whose products
+/// rise, have none. Where the earlier bids are good, their prices rise and their quantities move
+/// one way, so that the last one tells whether the next price is higher and the next step goes on.
+/// Good bids ask for demands that take so many bidding units.
 fn judge(
     alloc: Global,
     setup: &Setup,
