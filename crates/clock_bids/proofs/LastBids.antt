@@ -22,6 +22,15 @@ none_last products product bids empty = elim (cases_lt product products) as (λ 
       (omega (arith, unknown, length-map-range_with_len (λ p. last_of (chain_of p bids)) 0 products)))
 ]
 
+-- a product above those of all bids is such a one
+pub none_below : (products least product : ℕ) (bids : List Bid) → All (λ bid. bid.product < least) bids → least ≤ product →
+    None ≡ get_or (last_bids products bids) product None
+none_below products least product bids below high =
+    none_last products product bids
+    (filter_none (λ (bid : Bid). bid.product == product) bids
+    (All-weaker (λ (bid : Bid). bid.product < least) (λ (bid : Bid). (bid.product == product) ≡ false)
+    (λ bid low. ne_eqb bid.product product (λ e. omega (arith, e, low, high))) bids below))
+
 -- each bid before a place is for a product
 pub known_at : (products : ℕ) (bids : List Bid) (place i : ℕ) → place ≤ length bids → All (λ bid. bid.product < products) (take place bids) → i < place →
     (get_or bids i no_bid).product < products

@@ -1,4 +1,5 @@
-ghost use Rattle.std.specs.Prelude.{◌≡◌, ◌≤◌, ◌+◌, ◌*◌, None, length, OnOk, IfOk, IfErr};
+ghost use Rattle.std.specs.Prelude.{◌≡◌, ◌≤◌, ◌+◌, ◌*◌, None, length, take, OnOk, IfOk, IfErr};
+ghost use Rattle.std.specs.List.Sorted.{IsNonDecreasingBy};
 ghost use Rattle.clock_terms.specs.Limits.{IsRow, most_supply, most_units, public_setup, is_within};
 ghost use Rattle.clock_terms.specs.Faults.{first_fault, IsFirstFault};
 ghost use Rattle.clock_terms.specs.Eligibility as eligibilities;
@@ -6,6 +7,7 @@ ghost use Rattle.clock_bids.specs.Holding as rules;
 ghost use Rattle.clock_bids.specs.Holding.{holding_of};
 ghost use Rattle.clock_bids.specs.inside.Parts.{checks_of_bids};
 ghost use Rattle.clock_bids.specs.Sheet.{IsGoodSheet, asked_demands, most_bids, sheet_fault};
+ghost use Rattle.clock_bids.specs.inside.Judging.{AreJudged};
 ghost use Rattle.clock_bids.specs.inside.Chains.{checks_by_last, quantity_of, step_checks};
 
 use crate::last_bids::{keep_place, last_before};
@@ -104,10 +106,10 @@ fn activity_limit(setup: &Setup, round: u64, eligibility: u64) -> u128
     }
 }
 
-/// Judges each bid by the last one before it for the same product. Where the earlier bids are
-/// good, their prices rise and their quantities move one way, so that the last one tells whether
-/// the next price is higher and the next step goes on. Good bids ask for demands that take so many
-/// bidding units.
+/// Judges each bid by the last one before it for the same product; the first bids, whose products
+/// rise, have none. Where the earlier bids are good, their prices rise and their quantities move
+/// one way, so that the last one tells whether the next price is higher and the next step goes on.
+/// Good bids ask for demands that take so many bidding units.
 fn judge(
     alloc: Global,
     setup: &Setup,
@@ -124,13 +126,15 @@ fn judge(
     ensures fault { IfErr result (IsFirstFault BidFault.NoMemory
         (first_fault (checks_of_bids setup.now.products prices.now demands.now bids.now))) }
 {
+    let risen = judge_rising(setup, prices, demands, bids)?;
     let products = setup.products.as_slice();
     let mut places = Vec::new(alloc);
     let mut near = 0;
-    let mut taken: u64 = 0;
-    for (i, bid) in bids.iter().enumerate() {
+    let mut taken = risen.taken;
+    for i in risen.count..bids.len() {
+        let bid = bids[i];
         let last = last_before(bids, &mut places, products.len(), i, bid.product)?;
-        if let Some(fault) = bid_fault(products, prices, demands, &mut near, last, i as u64, bid) {
+        if let Some(fault) = bid_fault(products, prices, demands, &mut near, last, i as u64, &bid) {
             return Err(fault);
         }
         let product = bid.product as usize;
@@ -138,6 +142,55 @@ fn judge(
         keep_place(&mut places, i, product);
     }
     Ok(taken)
+}
+
+/// How far bids are judged: so many, which ask for demands that take so many bidding units.
+#[derive(Clone, Copy)]
+struct Judged {
+    count: usize,
+    taken: u64,
+}
+
+/// Judges the first bids, as far as each is for a higher product than those before it: none has an earlier one for its
+/// product. These are nearly all bids.
+fn judge_rising(
+    setup: &Setup,
+    prices: &[PricePair],
+    demands: &Row,
+    bids: &[Bid],
+) -> Result<Judged, BidFault>
+    requires prices { length prices.now ≡ length setup.now.products }
+    requires demands { IsRow setup.now.products demands.now }
+    requires few { length bids.now ≤ most_bids }
+    ensures bound { IfOk result (λ risen. risen.count ≤ length bids.now) }
+    ensures judged { IfOk result (λ risen. AreJudged setup.now.products prices.now demands.now bids.now risen.count risen.taken) }
+    ensures rising { IfOk result (λ risen. IsNonDecreasingBy (λ bid. bid.product) (take risen.count bids.now)) }
+    ensures fault { IfErr result (IsFirstFault BidFault.NoMemory
+        (first_fault (checks_of_bids setup.now.products prices.now demands.now bids.now))) }
+{
+    let products = setup.products.as_slice();
+    let mut near = 0;
+    let mut taken: u64 = 0;
+    let mut least: u64 = 0;
+    for (i, bid) in bids.iter().enumerate() {
+        if bid.product < least {
+            return Ok(Judged { count: i, taken });
+        }
+        if let Some(fault) = bid_fault(products, prices, demands, &mut near, None, i as u64, bid) {
+            return Err(fault);
+        }
+        taken = taken_with(
+            taken,
+            products[bid.product as usize].units,
+            None,
+            bid.quantity,
+        );
+        least = bid.product + 1;
+    }
+    Ok(Judged {
+        count: bids.len(),
+        taken,
+    })
 }
 
 /// The bidding units that demands take once a quantity stands in the place of the last bid's.

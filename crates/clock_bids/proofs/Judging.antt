@@ -1,0 +1,67 @@
+-- One bid more is judged by the last one before it for its product.
+use Rattle.std.proofs.Common.{◌≡◌, ℕ, ◌+◌, ◌*◌, ◌<◌, ◌≤◌, List, length, take, refl, ◌∙◌, sym, arith, get_or}
+use Rattle.std.specs.Prelude.{Option, Some, None}
+use Rattle.std.proofs.lemmas.List.{get_or_default}
+use Rattle.clock_terms.specs.declared.setup.Product.{Product}
+use Rattle.clock_terms.specs.declared.prices.PricePair.{PricePair}
+use Rattle.clock_terms.specs.Faults.{first_fault}
+use Rattle.clock_terms.proofs.FaultLaws.{turn_passed, turn_failed}
+use Rattle.clock_bids.specs.declared.sheet.Bid.{Bid}
+use Rattle.clock_bids.specs.declared.sheet.BidFault.{BidFault}
+use Rattle.clock_bids.specs.Sheet.{bid_checks}
+use Rattle.clock_bids.specs.inside.Parts.{checks_of_bids}
+use Rattle.clock_bids.specs.inside.Chains.{last_bids, quantity_of, checks_by_last}
+use Rattle.clock_bids.specs.inside.Judging.{AreJudged}
+use Rattle.clock_bids.proofs.Tables.{no_bid}
+use Rattle.clock_bids.proofs.Good.{no_activity, good_chains-nil, judged_by, good_chains-more, known_here}
+use Rattle.clock_bids.proofs.Activity.{held_least, taken_more, units_read}
+
+-- no bid is judged at first
+pub none_judged : (products : List Product) (prices : List PricePair) (demands : List ℕ) (bids : List Bid) → AreJudged products prices demands bids 0 0
+none_judged products prices demands bids = record {
+  good = good_chains-nil products prices demands;
+  taken_is = sym (no_activity products 0 (length products));
+  small = omega arith;
+  ahead = refl;
+}
+
+module _ (products : List Product) (prices : List PricePair) (demands : List ℕ) (bids : List Bid) (i taken : ℕ)
+    (so_far : AreJudged products prices demands bids i taken) (within : i < length bids) (seen : List Product) (last : Option Bid)
+    (fault : Option BidFault) (same : seen ≡ products)
+    (before : last ≡ get_or (last_bids (length seen) (take i bids)) (get_or bids i no_bid).product None)
+    (judged : fault ≡ first_fault (checks_by_last seen prices demands last i (get_or bids i no_bid))) where
+  abbrev here : Bid
+  here = get_or bids i no_bid
+
+  -- its fault is the first one
+  pub fault_found : (one : BidFault) → fault ≡ Some one → first_fault (checks_of_bids products prices demands bids) ≡ Some one
+  fault_found one found =
+      let is = judged_by products prices demands bids i so_far.good seen last fault same before judged in
+      sym so_far.ahead
+      ∙ turn_failed (λ i bid. bid_checks products prices demands (take i bids) i bid) bids i here one within
+      (get_or_default bids i no_bid here within) (is.fault_is ∙ found)
+
+  -- where it has none, its units are known, and with it the bids up to it are judged
+  module _ (none : fault ≡ None) (one : Product) where
+    pub known : here.product < length products
+    known =
+        let is = judged_by products prices demands bids i so_far.good seen last fault same before judged in
+        known_here products prices demands bids i so_far.good (is.fault_is ∙ none)
+
+    pub units_held : (get_or seen here.product one).units * quantity_of last ≤ taken
+    units_held =
+        let is = judged_by products prices demands bids i so_far.good seen last fault same before judged in
+        held_least products bids i _ taken last known (units_read seen products here.product one same known) is.last_is so_far.taken_is
+
+    pub judged_more : (next : ℕ) → next + (get_or seen here.product one).units * quantity_of last ≡ taken + (get_or seen here.product one).units * here.quantity
+        → next ≤ taken + 1000000000 → AreJudged products prices demands bids (i + 1) next
+    judged_more next exact most =
+        let is = judged_by products prices demands bids i so_far.good seen last fault same before judged in
+        record {
+          good = good_chains-more products prices demands bids i so_far.good (is.fault_is ∙ none) within;
+          taken_is = taken_more products bids i _ taken last known (units_read seen products here.product one same known) is.last_is so_far.taken_is
+              within next exact;
+          small = omega (arith, most, so_far.small);
+          ahead = sym (turn_passed (λ i bid. bid_checks products prices demands (take i bids) i bid) bids i here within
+              (get_or_default bids i no_bid here within) (is.fault_is ∙ none)) ∙ so_far.ahead;
+        }
