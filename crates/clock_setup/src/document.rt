@@ -11,10 +11,10 @@ use crate::entries::SetupEntries;
 use crate::fault::{Place, SetupFault};
 use crate::held_setup::HeldSetup;
 use crate::members::{number_at, read_value};
-use crate::names::{is_distinct, names, tokens};
+use crate::names::{has_distinct_names, has_distinct_tokens};
 use crate::setup_checks::{each_within, is_token};
 use crate::setup_tree::entries_of;
-use clock_device::{NoMemory, Text};
+use clock_device::Text;
 use clock_scan::{ScanStop, scanned_text};
 use clock_terms::{
     LATEST_VERSION, LEAST_LIMIT, LEAST_REQUIREMENT, MOST_BIDDERS, MOST_LIMIT, MOST_PRODUCTS,
@@ -22,23 +22,6 @@ use clock_terms::{
 };
 use serde_json::Value;
 use std::alloc::Global;
-
-/// Whether no two products, and no two bidders, have one name.
-fn has_distinct_names(alloc: Global, entries: &SetupEntries) -> Result<bool, NoMemory>
-    ensures { IfOk result (λ distinct. distinct ≡ document.has_distinct_names entries.now) }
-{
-    let products = names(alloc, entries.products.as_slice())?;
-    let bidders = names(alloc, entries.bidders.as_slice())?;
-    Ok(is_distinct(alloc, products.as_slice())? && is_distinct(alloc, bidders.as_slice())?)
-}
-
-/// Whether no two bidders, and no bidder and the operator, have one token.
-fn has_distinct_tokens(alloc: Global, entries: &SetupEntries) -> Result<bool, NoMemory>
-    ensures { IfOk result (λ distinct. distinct ≡ document.has_distinct_tokens entries.now) }
-{
-    let tokens = tokens(alloc, entries.operator, entries.bidders.as_slice())?;
-    is_distinct(alloc, tokens.as_slice())
-}
 
 /// The first fault of the parts that stand before the products.
 #[tactic(auto, unfolding(crate::specs::inside::SetupDocument::head_checks))]
@@ -63,10 +46,12 @@ fn check_distinct(alloc: Global, entries: &SetupEntries) -> Result<(), SetupFaul
     ensures ok { OnOk result (first_fault (distinct_checks entries.now) ≡ None) }
     ensures err { IfErr result (IsFirstFault SetupFault.NoMemory (first_fault (distinct_checks entries.now))) }
 {
-    if !has_distinct_names(alloc, entries)? {
+    let products = entries.products.as_slice();
+    let bidders = entries.bidders.as_slice();
+    if !has_distinct_names(alloc, products)? || !has_distinct_names(alloc, bidders)? {
         return Err(SetupFault::DuplicateName);
     }
-    if !has_distinct_tokens(alloc, entries)? {
+    if !has_distinct_tokens(alloc, entries.operator, bidders)? {
         return Err(SetupFault::DuplicateToken);
     }
     Ok(())
