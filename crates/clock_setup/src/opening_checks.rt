@@ -70,33 +70,7 @@ fn row_within(
     Ok(Row::of(alloc, setup, demands)?)
 }
 
-/// The bidders' rows of demands, or the first fault that one has. The numbers of a row stand in a list that is lent.
-fn rows_within(
-    alloc: Global,
-    setup: &Setup,
-    demands: &FlatRows,
-    numbers: &mut Vec<u64>,
-) -> Result<Vec<Row>, OpeningFault>
-    requires { IsGrid (length setup.now.bidders) (length setup.now.products) demands.now }
-    ensures same { IfOk result (λ rows. rows.items ≡ demands.now) }
-    ensures rows { IfOk result (λ rows. All (IsRow setup.now.products) rows.items) }
-    ensures ok { OnOk result
-        (first_fault (in_turn (row_checks setup.now.products) 0 (zip setup.now.bidders demands.now)) ≡ None) }
-    ensures err { IfErr result (IsFirstFault OpeningFault.NoMemory
-        (first_fault (in_turn (row_checks setup.now.products) 0 (zip setup.now.bidders demands.now)))) }
-    ensures held { IfErr result (λ fault. fault ≢ OpeningFault.Setup SetupFault.NoMemory) }
-{
-    let bidders = setup.bidders.as_slice();
-    let mut rows = with_room(alloc, bidders.len())?;
-    for (number, bidder) in bidders.iter().enumerate() {
-        demands.read_row(number, numbers)?;
-        let row = row_within(alloc, number as u64, setup, bidder, numbers.as_slice())?;
-        push(&mut rows, row)?;
-    }
-    Ok(rows)
-}
-
-/// The grid of rows of demands, or the first fault that one has.
+/// The grid of the bidders' rows of demands, or the first fault that one has.
 fn grid_of_rows(alloc: Global, setup: &Setup, demands: &FlatRows) -> Result<Grid, OpeningFault>
     requires { IsGrid (length setup.now.bidders) (length setup.now.products) demands.now }
     ensures same { IfOk result (λ grid. grid ≡ demands.now) }
@@ -106,8 +80,15 @@ fn grid_of_rows(alloc: Global, setup: &Setup, demands: &FlatRows) -> Result<Grid
         (first_fault (in_turn (row_checks setup.now.products) 0 (zip setup.now.bidders demands.now)))) }
     ensures held { IfErr result (λ fault. fault ≢ OpeningFault.Setup SetupFault.NoMemory) }
 {
-    let mut numbers = with_room(alloc, setup.products.as_slice().len())?;
-    let rows = rows_within(alloc, setup, demands, &mut numbers)?;
+    let bidders = setup.bidders.as_slice();
+    let products = setup.products.as_slice();
+    let mut numbers = with_room(alloc, products.len())?;
+    let mut rows = with_room(alloc, bidders.len())?;
+    for (number, bidder) in bidders.iter().enumerate() {
+        demands.read_row(number, &mut numbers)?;
+        let row = row_within(alloc, number as u64, setup, bidder, numbers.as_slice())?;
+        push(&mut rows, row)?;
+    }
     Ok(Grid::of_rows(alloc, setup, rows)?)
 }
 
