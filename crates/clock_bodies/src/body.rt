@@ -37,10 +37,9 @@ pub(crate) fn read_body<'v, B: Body<'v>>(
         Err(ScanStop::NoMemory) => Err(BodyFault::NoMemory),
         Err(ScanStop::Unusual) => {
             let value = read_value(alloc, bytes)?.ok_or(BodyFault::NotJson)?;
-            match B::of_value(alloc, &value)? {
-                Some(body) => Ok(body),
-                None => Err(BodyFault::Shape),
-            }
+            let body = B::of_value(alloc, &value);
+            drop(value);
+            body?.ok_or(BodyFault::Shape)
         }
     }
 }
