@@ -97,7 +97,9 @@ fn compared(
     ensures err { IfErr result (IsRefusal OpeningFault.NoMemory (opening_with setup demands increment)) }
     ensures held { IfErr result (λ fault. fault ≢ OpeningFault.Setup SetupFault.NoMemory) }
 {
-    match grid_within(alloc, &setup, demands, increment) {
+    let grid = grid_within(alloc, &setup, &demands, increment);
+    drop(demands);
+    match grid {
         Ok(grid) => Ok(Opening {
             setup,
             grid,

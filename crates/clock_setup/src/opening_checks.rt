@@ -96,21 +96,21 @@ fn grid_of_rows(alloc: Global, setup: &Setup, demands: &FlatRows) -> Result<Grid
 pub(crate) fn grid_within(
     alloc: Global,
     setup: &Setup,
-    demands: FlatRows,
+    demands: &FlatRows,
     increment: u64,
 ) -> Result<Grid, OpeningFault>
-    ensures same { IfOk result (λ grid. grid ≡ demands) }
+    ensures same { IfOk result (λ grid. grid ≡ demands.now) }
     ensures grid { IfOk result (λ grid. IsGrid (length setup.now.bidders) (length setup.now.products) grid) }
     ensures increment { IfOk result (λ _. IsWithin least_increment most_increment increment) }
-    ensures ok { IfOk result (λ _. first_fault (opening_checks setup.now demands increment) ≡ None) }
+    ensures ok { IfOk result (λ _. first_fault (opening_checks setup.now demands.now increment) ≡ None) }
     ensures err { IfErr result (IsFirstFault OpeningFault.NoMemory
-        (first_fault (opening_checks setup.now demands increment))) }
+        (first_fault (opening_checks setup.now demands.now increment))) }
     ensures held { IfErr result (λ fault. fault ≢ OpeningFault.Setup SetupFault.NoMemory) }
 {
-    if !has_counts(setup, &demands) {
+    if !has_counts(setup, demands) {
         return Err(OpeningFault::Shape);
     }
-    let grid = grid_of_rows(alloc, setup, &demands)?;
+    let grid = grid_of_rows(alloc, setup, demands)?;
     if !is_within(LEAST_INCREMENT, MOST_INCREMENT, increment) {
         return Err(OpeningFault::Increment);
     }

@@ -16,14 +16,14 @@ returns-in_err-grid-clause-err c =
     let p = err_from_is_err_and c.from_residual.result c.from_residual.ensures.1 in
     rw (p.1, p.2)
     (λ known. later_fault setup _ _ _ counts
-    (sym (failed (in_turn (row_checks setup.products) 0 (zip setup.bidders c.args.demands)) _ _ (c.in_err-grid.ensures.err known))))
+    (sym (failed (in_turn (row_checks setup.products) 0 (zip setup.bidders c.args.demands.now)) _ _ (c.in_err-grid.ensures.err known))))
 
 pub returns-then-not-is_within-clause-err : goal.returns-then-not-is_within-clause-err
 returns-then-not-is_within-clause-err c =
     let setup = c.args.setup.now in
     let counts = sym c.has_counts.ensures ∙ c.if-not-has_counts.false in
     λ known. later_fault setup _ _ _ counts
-    (sym (passed (in_turn (row_checks setup.products) 0 (zip setup.bidders c.args.demands)) _ c.in_ok-grid.ensures.ok
+    (sym (passed (in_turn (row_checks setup.products) 0 (zip setup.bidders c.args.demands.now)) _ c.in_ok-grid.ensures.ok
     ∙ rw (sym c.is_within.ensures ∙ c.if-not-is_within.true) refl))
 
 pub returns-clause-ok : goal.returns-clause-ok
@@ -31,5 +31,5 @@ returns-clause-ok c =
     let setup = c.args.setup.now in
     let counts = sym c.has_counts.ensures ∙ c.if-not-has_counts.false in
     later_fault setup _ _ _ counts
-    (sym (passed (in_turn (row_checks setup.products) 0 (zip setup.bidders c.args.demands)) _ c.in_ok-grid.ensures.ok
+    (sym (passed (in_turn (row_checks setup.products) 0 (zip setup.bidders c.args.demands.now)) _ c.in_ok-grid.ensures.ok
     ∙ rw (sym c.is_within.ensures ∙ c.if-not-is_within.false) refl))
