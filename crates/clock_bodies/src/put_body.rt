@@ -1,5 +1,4 @@
 ghost use Rattle.std.specs.Prelude.{◌≡◌, ◌≢◌, Ok, Err, IfOk, IfErr};
-ghost use Rattle.serde_json.specs.View.{view};
 ghost use Rattle.clock_bodies.specs.Bodies as bodies;
 
 use crate::body::{Body, read_body};
