@@ -22,18 +22,6 @@ pub(crate) trait Body<'v>: ScannedMembers<'v> {
         ensures { IfOk result (λ body. body ≡ meaning (view value.now)) };
 }
 
-/// The body that a value means.
-fn body_in<'v, B: Body<'v>>(alloc: Global, value: &Value) -> Result<B::Whole, BodyFault>
-    ensures ok { IfOk result (λ body. meant_by B.meaning (Some (view value.now)) ≡ Ok body) }
-    ensures err { IfErr result (λ fault. fault ≢ BodyFault.NoMemory
-        → meant_by B.meaning (Some (view value.now)) ≡ Err fault) }
-{
-    match B::of_value(alloc, value)? {
-        Some(body) => Ok(body),
-        None => Err(BodyFault::Shape),
-    }
-}
-
 /// What bytes mean as a body, or their first fault, where the value that is read as a body means this body.
 pub(crate) fn read_body<'v, B: Body<'v>>(
     alloc: Global,
@@ -49,7 +37,9 @@ pub(crate) fn read_body<'v, B: Body<'v>>(
         Err(ScanStop::NoMemory) => Err(BodyFault::NoMemory),
         Err(ScanStop::Unusual) => {
             let value = read_value(alloc, bytes)?.ok_or(BodyFault::NotJson)?;
-            body_in::<B>(alloc, &value)
+            let body = B::of_value(alloc, &value);
+            drop(value);
+            body?.ok_or(BodyFault::Shape)
         }
     }
 }

@@ -1,5 +1,4 @@
 ghost use Rattle.std.specs.Prelude.{◌≡◌, ◌≢◌, Ok, Err, IfOk, IfErr};
-ghost use Rattle.serde_json.specs.View.{view};
 ghost use Rattle.clock_bodies.specs.Bodies as bodies;
 
 use crate::body::{Body, read_body};
@@ -20,32 +19,29 @@ pub struct PutBody {
     pub bids: Items<Bid>,
 }
 
-/// The bid that a JSON value means: an object of price, product and quantity, whole numbers of at most 64 bits.
+/// A bid is an object of price, product and quantity, whole numbers of at most 64 bits.
 #[tactic(auto, unfolding(crate::specs::Bodies::bid_of))]
-fn bid_of(value: &Value) -> Option<Bid>
-    ensures { result ≡ bodies.bid_of (view value.now) }
-{
-    let price = number_at(value, "price")?;
-    let product = number_at(value, "product")?;
-    let quantity = number_at(value, "quantity")?;
-    if has_members(value, 3) {
-        Some(Bid {
-            product,
-            quantity,
-            price,
-        })
-    } else {
-        None
-    }
-}
-
 impl<'v> ValueReader<'v> for BidReader {
     type Part = Bid;
 
     ghost meaning = { λ _. bodies.bid_of };
 
     fn part_of(&self, _alloc: Global, value: &'v Value) -> Result<Option<Bid>, NoMemory> {
-        Ok(bid_of(value))
+        let (Some(price), Some(product), Some(quantity)) = (
+            number_at(value, "price"),
+            number_at(value, "product"),
+            number_at(value, "quantity"),
+        ) else {
+            return Ok(None);
+        };
+        if !has_members(value, 3) {
+            return Ok(None);
+        }
+        Ok(Some(Bid {
+            product,
+            quantity,
+            price,
+        }))
     }
 }
 

@@ -20,7 +20,7 @@ use Rattle.clock_bodies.proofs.BodyScanLaws.{bid_means, tie_means, number_means,
 use Rattle.clock_replays.specs.declared.script.Script.{Script}
 use Rattle.clock_replays.specs.declared.script.Script.TheVariants.{Literal, Sincere}
 use Rattle.clock_replays.specs.declared.closing.Closing.{Closing}
-use Rattle.clock_replays.specs.ReplayShape.{ReplayParts, sheet_of, literal_of, sincere_of, script_of, closing_from, parts_of}
+use Rattle.clock_replays.specs.ReplayShape.{ReplayParts, sheet_of, script_of, closing_from, parts_of}
 use Rattle.clock_replays.specs.inside.PartData.{sheet_data, script_data, closing_data}
 use Rattle.clock_replays.specs.inside.ReplayData.{replay_data, found_data}
 use Rattle.clock_replays.specs.declared.scanned_replay.ScannedReplay.{ScannedReplay}
@@ -44,7 +44,7 @@ sheet_means None = refl
 sheet_means (Some bids) = ap (option_map Some) (each_means bid_of bid_data bid_means bids)
 
 script_means : (script : Script) → script_of (script_data script) ≡ Some script
-unfolding script_of literal_of sincere_of
+unfolding script_of
 script_means (Literal sheets) = rw (each_means sheet_of sheet_data sheet_means sheets) refl
 script_means (Sincere limits) = rw (each_means row_of numbers row_means limits) refl
 

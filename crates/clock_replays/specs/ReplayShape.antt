@@ -26,29 +26,17 @@ unfoldable pub sheet_of : Data → Option (Option (List Bid))
 sheet_of value =
     if is_some (as_null value) then Some None else option_map Some (option_and_then (each bid_of) (as_array value))
 
--- the rest of {"kind":"literal","sheets":[SHEET,..]}
-unfoldable pub literal_of : Data → Option Script
-literal_of value = do
-  sheets ← option_and_then (each sheet_of) (items_at (codes "sheets") value)
-  if has_members 2 value then Some (Literal sheets) else None
-
--- the rest of {"kind":"sincere","limits":[[N,..],..]}
-unfoldable pub sincere_of : Data → Option Script
-sincere_of value = do
-  limits ← option_and_then (each row_of) (items_at (codes "limits") value)
-  if has_members 2 value then Some (Sincere limits) else None
-
--- what the kind of a script asks for
+-- what the kind of a script asks for: "sheets":[SHEET,..], or "limits":[[N,..],..]
 abbrev pub script_by_kind : List ℕ → Data → Option Script
 script_by_kind kind value =
-    if bytes_eq kind (codes "literal") then literal_of value
-    else (if bytes_eq kind (codes "sincere") then sincere_of value else None)
+    if bytes_eq kind (codes "literal") then option_map Literal (option_and_then (each sheet_of) (items_at (codes "sheets") value))
+    else (if bytes_eq kind (codes "sincere") then option_map Sincere (option_and_then (each row_of) (items_at (codes "limits") value)) else None)
 
--- {"kind":"literal",..} or {"kind":"sincere",..}
+-- {"kind":"literal","sheets":[SHEET,..]} or {"kind":"sincere","limits":[[N,..],..]}
 unfoldable pub script_of : Data → Option Script
 script_of value = do
   kind ← text_at (codes "kind") value
-  script_by_kind kind value
+  if has_members 2 value then script_by_kind kind value else None
 
 -- {"increment":N,"ties":[TIE,..]}, or with "increments":[N,..]; an object of two members has not both
 unfoldable pub closing_from : Data → Option Closing

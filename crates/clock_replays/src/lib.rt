@@ -4,7 +4,6 @@
 mod checks;
 mod closing;
 mod fault;
-mod held_setup;
 mod limit_lists;
 mod limit_rows;
 mod limit_walk;

@@ -52,7 +52,7 @@ impl LimitLists {
     pub fn count(&self) -> usize
         ensures { result ≡ length self.now }
     {
-        self.rows.count as usize
+        self.rows.count
     }
 
     /// The limits, to be looked up product by product.

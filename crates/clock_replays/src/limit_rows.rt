@@ -1,5 +1,5 @@
 //! Limits while they are read, one product after the other: rows of prices, for the products that have some.
-ghost use Rattle.std.specs.Prelude.{◌≡◌, ◌+◌, [], ◌++◌, ◌∷◌, replicate, IfOk, OnOk};
+ghost use Rattle.std.specs.Prelude.{◌≡◌, [], ◌++◌, ◌∷◌, replicate, IfOk, OnOk};
 ghost use Rattle.clock_replays.specs.inside.KeptLimits.{AreKept, kept_limits};
 
 use clock_device::NoMemory;
@@ -9,29 +9,19 @@ use std::alloc::Global;
 /// with its product and with the place where it ends beside it.
 #[derive(Drop)]
 pub(crate) struct LimitRows {
-    pub(crate) count: u32,
+    pub(crate) count: usize,
     pub(crate) products: Vec<u32>,
     pub(crate) ends: Vec<u32>,
     pub(crate) prices: Vec<u64>,
 }
 
-/// A count or a place in a list, in four bytes. One of 2^32 or above has no room.
+/// A product or a place in a list, in four bytes. One of 2^32 or above has no room.
 fn short_of(number: usize) -> Result<u32, NoMemory>
     ensures { IfOk result (λ short. short ≡ number) }
 {
     match u32::try_from(number) {
         Ok(short) => Ok(short),
         Err(_) => Err(NoMemory),
-    }
-}
-
-/// A count and so many more.
-fn count_with(count: u32, more: usize) -> Result<u32, NoMemory>
-    ensures { IfOk result (λ after. after ≡ count + more) }
-{
-    match (count as usize).checked_add(more) {
-        Some(after) => short_of(after),
-        None => Err(NoMemory),
     }
 }
 
@@ -69,12 +59,12 @@ impl LimitRows {
         ensures limits { OnOk result (kept_limits self.new ≡ kept_limits self.old ++ limits.now ∷ []) }
         ensures kept { OnOk result (AreKept self.new) }
     {
-        let after = count_with(self.count, 1)?;
+        let product = short_of(self.count)?;
         self.prices.extend_from_slice(limits)?;
         let end = short_of(self.prices.as_slice().len())?;
         self.ends.push(end)?;
-        self.products.push(self.count)?;
-        self.count = after;
+        self.products.push(product)?;
+        self.count += 1;
         Ok(())
     }
 
@@ -84,7 +74,10 @@ impl LimitRows {
         ensures limits { OnOk result (kept_limits self.new ≡ kept_limits self.old ++ replicate count []) }
         ensures kept { OnOk result (AreKept self.new) }
     {
-        self.count = count_with(self.count, count)?;
+        let Some(after) = self.count.checked_add(count) else {
+            return Err(NoMemory);
+        };
+        self.count = after;
         Ok(())
     }
 

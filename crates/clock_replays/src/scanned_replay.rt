@@ -2,12 +2,11 @@
 ghost use Rattle.clock_replays.specs.inside.ReplayData.{found_replay, found_data};
 
 use crate::closing::Closings;
-use crate::held_setup::HeldSetup;
 use crate::scanned_closings::FoundClosing;
 use crate::scanned_scripts::FoundScript;
 use crate::script::Scripts;
-use clock_scan::{Scan, ScanStop, ScannedMembers, is_key, scanned_parts};
-use clock_setup::next_setup;
+use clock_scan::{PartReader, Scan, ScanStop, ScannedMembers, is_key, scanned_parts};
+use clock_setup::HeldSetup;
 use std::alloc::Global;
 
 /// What was found of a replay so far.
@@ -45,8 +44,7 @@ impl<'v> ScannedMembers<'v> for FoundReplay {
         } else if is_key(key, "closings") {
             self.closings = Some(scanned_parts::<FoundClosing>(alloc, scan, 0)?);
         } else if is_key(key, "setup") {
-            let setup = next_setup(alloc, scan)?;
-            self.held = Some(HeldSetup { setup });
+            self.held = Some(HeldSetup::part(alloc, scan)?);
         } else {
             return Err(ScanStop::Unusual);
         }
@@ -54,9 +52,10 @@ impl<'v> ScannedMembers<'v> for FoundReplay {
     }
 
     fn whole(self) -> Option<ScannedReplay> {
-        let held = self.held?;
-        let scripts = self.scripts?;
-        let closings = self.closings?;
+        let (Some(held), Some(scripts), Some(closings)) = (self.held, self.scripts, self.closings)
+        else {
+            return None;
+        };
         Some(ScannedReplay {
             held,
             scripts,

@@ -1,5 +1,7 @@
-ghost use Rattle.std.specs.Prelude.{◌≡◌, Some, IfOk, option_map};
+ghost use Rattle.std.specs.Prelude.{◌≡◌, Some, IfOk, option_map, option_and_then, codes};
 ghost use Rattle.serde_json.specs.View.{view};
+ghost use Rattle.clock_setup.specs.Members.{each, items_at};
+ghost use Rattle.clock_setup.specs.OpeningShape.{row_of};
 ghost use Rattle.clock_replays.specs.ReplayShape as shape;
 
 use crate::closing::{Closing, Closings};
@@ -37,47 +39,13 @@ impl<'v> ValueReader<'v> for SheetReader {
     }
 }
 
-/// A literal script, by its sheets.
-#[tactic(auto, unfolding(crate::specs::ReplayShape::literal_of))]
-fn literal_of(alloc: Global, value: &Value) -> Result<Option<Script>, NoMemory>
-    ensures { IfOk result (λ script. script ≡ shape.literal_of (view value.now)) }
+/// The limits of a sincere script.
+fn limits_at(alloc: Global, value: &Value) -> Result<Option<LimitLists>, NoMemory>
+    ensures { IfOk result (λ limits. limits ≡ option_and_then (each row_of) (items_at (codes "limits") (view value.now))) }
 {
-    let Some(sheets) = each_at(alloc, value, "sheets", &SheetReader)? else {
-        return Ok(None);
-    };
-    if has_members(value, 2) {
-        Ok(Some(Script::Literal(sheets)))
-    } else {
-        Ok(None)
-    }
-}
-
-/// A sincere script, by its limits.
-#[tactic(auto, unfolding(crate::specs::ReplayShape::sincere_of))]
-fn sincere_of(alloc: Global, value: &Value) -> Result<Option<Script>, NoMemory>
-    ensures { IfOk result (λ script. script ≡ shape.sincere_of (view value.now)) }
-{
-    let Some(lists) = each_at(alloc, value, "limits", &RowReader)? else {
-        return Ok(None);
-    };
-    let limits = LimitLists::from_lists(alloc, lists.as_slice())?;
-    if has_members(value, 2) {
-        Ok(Some(Script::Sincere(limits)))
-    } else {
-        Ok(None)
-    }
-}
-
-/// What a bidder does, by the kind of its script.
-fn script_by_kind(alloc: Global, kind: &str, value: &Value) -> Result<Option<Script>, NoMemory>
-    ensures { IfOk result (λ script. script ≡ shape.script_by_kind kind.now (view value.now)) }
-{
-    if kind == "literal" {
-        literal_of(alloc, value)
-    } else if kind == "sincere" {
-        sincere_of(alloc, value)
-    } else {
-        Ok(None)
+    match each_at(alloc, value, "limits", &RowReader)? {
+        Some(lists) => Ok(Some(LimitLists::from_lists(alloc, lists.as_slice())?)),
+        None => Ok(None),
     }
 }
 
@@ -92,10 +60,20 @@ impl<'v> ValueReader<'v> for ScriptReader {
     ghost meaning = { λ _. shape.script_of };
 
     fn part_of(&self, alloc: Global, value: &'v Value) -> Result<Option<Script>, NoMemory> {
-        match text_at(value, "kind") {
-            Some(kind) => script_by_kind(alloc, kind, value),
-            None => Ok(None),
+        let Some(kind) = text_at(value, "kind") else {
+            return Ok(None);
+        };
+        if !has_members(value, 2) {
+            return Ok(None);
         }
+        if kind == "literal" {
+            let sheets = each_at(alloc, value, "sheets", &SheetReader)?;
+            return Ok(sheets.map(Script::Literal));
+        }
+        if kind == "sincere" {
+            return Ok(limits_at(alloc, value)?.map(Script::Sincere));
+        }
+        Ok(None)
     }
 }
 

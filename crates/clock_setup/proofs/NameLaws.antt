@@ -1,6 +1,6 @@
 -- A set of texts is as long as the list that it was made of exactly if no two texts are equal.
 use Rattle.std.proofs.Common.{◌≡◌, ℕ, ◌+◌, ◌<◌, ◌≤◌, suc, Bool, true, false, not, ◌&&◌, ◌||◌, cond, nat_eq, List, [], ◌∷◌, ◌++◌, length, map, get_or, take}
-use Rattle.std.proofs.Common.{Bor, refl, sym, ap, ap₂, ◌∙◌, arith}
+use Rattle.std.proofs.Common.{Bor, Result, IfOk, refl, sym, ap, ap₂, ◌∙◌, subst, arith}
 use Rattle.std.specs.List.{list_any}
 use Rattle.std.specs.Str.{bytes_eq}
 use Rattle.std.specs.Set.{distinct_count, unique_keys, is_member}
@@ -51,6 +51,13 @@ pub set_length_is : {S : Type 0} (texts : List (Bor (List ℕ))) (seen : HashSet
     → nat_eq (hash_set_len seen) (length texts) ≡ is_distinct (map (λ t. t.now) texts)
 set_length_is texts seen made =
     ap (λ n. nat_eq n (length texts)) (hash_set_len-from_list (on_equiv (λ t. t.now) nat_list_eq_equiv) texts seen made) ∙ count_is texts
+
+-- the test of texts that stand in a slice
+pub distinct_texts : {E : Type 0} (result : Result Bool E) (slice items : List (Bor (List ℕ))) (texts : List (List ℕ)) → slice ≡ items
+    → map (λ t. t.now) items ≡ texts → IfOk result (λ distinct. distinct ≡ is_distinct (map (λ t. t.now) slice))
+    → IfOk result (λ distinct. distinct ≡ is_distinct texts)
+distinct_texts result slice items texts same is known =
+    subst (λ list. IfOk result (λ distinct. distinct ≡ is_distinct list)) (ap (map (λ t. t.now)) same ∙ is) known
 
 -- ---- texts of entries, one by one
 

@@ -1,6 +1,6 @@
 -- Laws of the checks of an opening document.
 use Rattle.std.proofs.Common.{◌≡◌, ℕ, ◌+◌, ◌*◌, ◌<◌, ◌≤◌, All, ◌==◌, Bool, true, false, nat_le, if◌then◌else◌, List, [], ◌∷◌, ◌++◌, length, get_or, drop}
-use Rattle.std.proofs.Common.{zip, Option, Some, None, Result, Ok, Err, IfOk, IfErr, ◌≢◌, refl, sym, ap, ◌∙◌, subst, arith}
+use Rattle.std.proofs.Common.{zip, Option, Some, None, Ok, Err, refl, sym, ap, ◌∙◌, subst, arith}
 use Rattle.std.specs.List.{list_all, AllPass}
 use Rattle.std.proofs.lemmas.Bool.{and_parts, le-leb, lt-leb}
 use Rattle.std.proofs.lemmas.Bool.Decides.{nat_tests}
@@ -11,16 +11,15 @@ use Rattle.std.proofs.lemmas.Slice.Zip.{get_or-zip, length-zip}
 use Rattle.serde_json.specs.Data.{Data}
 use Rattle.clock_terms.specs.declared.setup.Product.{Product}
 use Rattle.clock_terms.specs.declared.setup.Bidder.{Bidder}
-use Rattle.clock_setup.specs.declared.opening.Opening.{Opening}
 use Rattle.clock_setup.specs.declared.opening.OpeningFault.{OpeningFault}
-use Rattle.clock_setup.specs.declared.opening.OpeningFault.TheVariants.{Shape, Demand, Activity, Increment, NoMemory}
+use Rattle.clock_setup.specs.declared.opening.OpeningFault.TheVariants.{Shape, Demand, Activity, Increment}
 use Rattle.clock_terms.specs.Demands.{IsGrid}
 use Rattle.clock_terms.specs.Eligibility.{activity}
-use Rattle.clock_terms.specs.Faults.{IsRefusal, first_fault, in_turn, unless, or_fault}
+use Rattle.clock_terms.specs.Faults.{first_fault, in_turn}
 use Rattle.clock_terms.specs.Limits.{SetupFields, IsProduct, is_within, cap_of, no_product, least_increment, most_increment}
 use Rattle.clock_setup.specs.SetupDocument.{setup_of}
 use Rattle.clock_setup.specs.OpeningShape.{OpeningParts, parts_of}
-use Rattle.clock_setup.specs.OpeningDocument.{has_counts, demand_checks, row_checks, opening_checks, in_opening, opening_of}
+use Rattle.clock_setup.specs.OpeningDocument.{has_counts, demand_checks, row_checks, opening_checks, opening_with, in_opening, opening_of}
 use Rattle.clock_terms.proofs.FaultLaws.{passed, failed, turn_passed, turn_failed, turn_none}
 
 -- a pair of two lists
@@ -151,24 +150,16 @@ grid_of_counts setup demands h =
     (λ row. length row == length setup.products) demands both.1 in
     (same_of_test _ _ both.0, λ k d lt. same_of_test _ _ (each k d lt))
 
--- the opening of a set-up and of the other parts
-abbrev pub whole : SetupFields → OpeningParts → Opening
-whole setup parts = record { setup = setup; grid = parts.demands; increment = parts.increment }
-
 -- a document whose parts and set-up are known is judged by its other checks
-opening_at : (value : Data) (parts : OpeningParts) (setup : SetupFields) → parts_of value ≡ Some parts → setup_of parts.setup ≡ Ok setup
-    → opening_of value ≡ unless (first_fault (opening_checks setup parts)) (whole setup parts)
+pub opening_at : (value : Data) (parts : OpeningParts) (setup : SetupFields) → parts_of value ≡ Some parts → setup_of parts.setup ≡ Ok setup
+    → opening_of value ≡ opening_with setup parts.demands parts.increment
 unfolding opening_of
 opening_at value parts setup read held = rw (read, held) refl
 
-pub opening_judged : (value : Data) (parts : OpeningParts) (setup : SetupFields) (first : Option OpeningFault) → parts_of value ≡ Some parts
-    → setup_of parts.setup ≡ Ok setup → first_fault (opening_checks setup parts) ≡ first → opening_of value ≡ unless first (whole setup parts)
-opening_judged value parts setup first read held is = opening_at value parts setup read held ∙ ap (λ fault. unless fault (whole setup parts)) is
-
 -- a document of another shape
-pub opening_shape : (value : Data) (fault : OpeningFault) → or_fault Shape (parts_of value) ≡ Err fault → opening_of value ≡ Err fault
+pub opening_shape : (value : Data) → parts_of value ≡ None → opening_of value ≡ Err Shape
 unfolding opening_of
-opening_shape value fault h = rw h refl
+opening_shape value none = rw none refl
 
 -- a document whose set-up is refused
 pub opening_setup : (value : Data) (parts : OpeningParts) (fault : OpeningFault) → parts_of value ≡ Some parts
@@ -177,28 +168,15 @@ unfolding opening_of
 opening_setup value parts fault read refused = rw (read, refused) refl
 
 -- rows that do not fit the set-up
-pub counts_fault : (setup : SetupFields) (parts : OpeningParts) → has_counts setup parts.demands ≡ false → first_fault (opening_checks setup parts) ≡ Some Shape
+pub counts_fault : (setup : SetupFields) (demands : List (List ℕ)) (increment : ℕ) → has_counts setup demands ≡ false
+    → first_fault (opening_checks setup demands increment) ≡ Some Shape
 unfolding opening_checks
-counts_fault setup parts counts = rw counts refl
+counts_fault setup demands increment counts = rw counts refl
 
 -- behind counts that fit, the rows and the increment decide
-pub later_fault : (setup : SetupFields) (parts : OpeningParts) (rows : List (List ℕ)) (first : Option OpeningFault) → has_counts setup parts.demands ≡ true
-    → rows ≡ parts.demands
-    → first ≡ first_fault (in_turn (row_checks setup.products) 0 (zip setup.bidders rows)
-    ++ ((Increment, is_within least_increment most_increment parts.increment) ∷ []))
-    → first_fault (opening_checks setup parts) ≡ first
+pub later_fault : (setup : SetupFields) (demands : List (List ℕ)) (increment : ℕ) (first : Option OpeningFault) → has_counts setup demands ≡ true
+    → first ≡ first_fault (in_turn (row_checks setup.products) 0 (zip setup.bidders demands)
+    ++ ((Increment, is_within least_increment most_increment increment) ∷ []))
+    → first_fault (opening_checks setup demands increment) ≡ first
 unfolding opening_checks
-later_fault setup parts rows first counts same is = rw (counts, ← same) (sym is)
-
--- what is known of every document with these parts is known of one of them
-pub parts_ok : (value : Data) (parts : OpeningParts) (result : Result Opening OpeningFault) → parts_of value ≡ Some parts
-    → IfOk result (λ opening. (other : Data) → parts_of other ≡ Some parts → opening_of other ≡ Ok opening)
-    → IfOk result (λ opening. opening_of value ≡ Ok opening)
-parts_ok value parts (Err fault) read known = tt
-parts_ok value parts (Ok opening) read known = known value read
-
-pub parts_err : (value : Data) (parts : OpeningParts) (result : Result Opening OpeningFault) → parts_of value ≡ Some parts
-    → IfErr result (λ fault. fault ≢ NoMemory → (other : Data) → parts_of other ≡ Some parts → opening_of other ≡ Err fault)
-    → IfErr result (IsRefusal NoMemory (opening_of value))
-parts_err value parts (Ok opening) read known = tt
-parts_err value parts (Err fault) read known = λ other. known other value read
+later_fault setup demands increment first counts is = rw counts (sym is)

@@ -5,7 +5,8 @@ use Rattle.std.proofs.lemmas.List.Elements.{All-nil, All-cons}
 use Rattle.serde_json.specs.Data.{Data, Items, no_items, item}
 use Rattle.clock_terms.specs.declared.setup.Product.{Product}
 use Rattle.clock_terms.specs.declared.setup.Bidder.{Bidder}
-use Rattle.clock_terms.specs.Limits.{SetupFields, IsOfFirstVersion, first_granule, first_limit}
+use Rattle.clock_terms.specs.Limits.{SetupFields, IsOfFirstVersion, IsWithin, is_within, latest_version, first_granule, first_limit}
+use Rattle.clock_terms.proofs.WithinLaws.{within_of_test}
 use Rattle.clock_setup.specs.Members.{number_at, text_at, items_at, has_members, each, ◌>>=◌}
 use Rattle.clock_setup.specs.SetupShape.{added_number, key_count, product_of, bidder_of, fields_of}
 
@@ -94,7 +95,7 @@ shape_at value setup (Some version) is h =
     )
 
 -- its version is the number under "version"
-pub version_of : (value : Data) (setup : SetupFields) → fields_of value ≡ Some setup → number_at (codes "version") value ≡ Some setup.version
+version_of : (value : Data) (setup : SetupFields) → fields_of value ≡ Some setup → number_at (codes "version") value ≡ Some setup.version
 version_of value setup h = (shape_at value setup (number_at (codes "version") value) refl h).0
 
 listed : (version : ℕ) (items : Option Items) (products : List Product) → version ≡ 1
@@ -110,3 +111,10 @@ of_first_version value setup h first =
       limit = first_added setup.version setup.limit first_limit (codes "limit") value first shape.1;
       granules = listed setup.version (items_at (codes "products") value) setup.products first shape.2;
     }
+
+-- and is known where that number is
+pub known_version : (value : Data) (setup : SetupFields) (version : ℕ) → fields_of value ≡ Some setup → number_at (codes "version") value ≡ Some version
+    → is_within 1 latest_version version ≡ true → IsWithin 1 latest_version setup.version
+known_version value setup version shape read within =
+    let same : version ≡ setup.version = let both : Some version ≡ Some setup.version = sym read ∙ version_of value setup shape in cc in
+    subst (IsWithin 1 latest_version) same (within_of_test 1 latest_version version within)

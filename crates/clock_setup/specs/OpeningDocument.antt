@@ -1,6 +1,7 @@
 -- What an opening document means: a set-up, the demands of round 1 and an increment, or the fault of the first check
 -- that fails. (Own format and own order.)
---     opening_checks setup parts      what is looked at once the set-up is known, in order
+--     opening_checks setup demands increment      what is looked at once the set-up is known, in order
+--     opening_with setup demands increment      the opening of a set-up, or the fault of the first of these
 --     opening_of value      what a JSON value means as an opening
 --     document_opening bytes      what bytes mean as an opening
 use Rattle.std.specs.Prelude.{ℕ, Bool, ◌&&◌, ◌==◌, List, [], ◌∷◌, ◌++◌, length, zip, nat_le, Result, Ok, Err}
@@ -16,7 +17,7 @@ use Rattle.clock_terms.specs.Limits.{SetupFields, is_within, least_increment, mo
 use Rattle.clock_terms.specs.Eligibility.{activity}
 use Rattle.clock_terms.specs.Faults.{first_fault, in_turn, unless, or_fault, ◌>>=◌}
 use Rattle.clock_setup.specs.SetupDocument.{json, setup_of}
-use Rattle.clock_setup.specs.OpeningShape.{OpeningParts, parts_of}
+use Rattle.clock_setup.specs.OpeningShape.{parts_of}
 
 -- a row for each bidder, and in each row a number for each product
 abbrev pub has_counts : SetupFields → List (List ℕ) → Bool
@@ -35,12 +36,17 @@ row_checks products bidder line =
     ∷ [])
 
 -- the counts of the rows, then the bidders by rising number, then the increment
-unfoldable pub opening_checks : SetupFields → OpeningParts → List (OpeningFault × Bool)
-opening_checks setup parts =
-    (Shape, has_counts setup parts.demands)
-    ∷ (in_turn (row_checks setup.products) 0 (zip setup.bidders parts.demands)
-    ++ ((Increment, is_within least_increment most_increment parts.increment)
+unfoldable pub opening_checks : SetupFields → List (List ℕ) → ℕ → List (OpeningFault × Bool)
+opening_checks setup demands increment =
+    (Shape, has_counts setup demands)
+    ∷ (in_turn (row_checks setup.products) 0 (zip setup.bidders demands)
+    ++ ((Increment, is_within least_increment most_increment increment)
     ∷ []))
+
+-- the opening of a set-up, or its first fault
+abbrev pub opening_with : SetupFields → List (List ℕ) → ℕ → Result Opening OpeningFault
+opening_with setup demands increment =
+    unless (first_fault (opening_checks setup demands increment)) (record { setup = setup; grid = demands; increment = increment })
 
 -- a set-up's fault is one of the document that holds it
 abbrev pub in_opening : Result SetupFields SetupFault → Result SetupFields OpeningFault
@@ -52,7 +58,7 @@ unfoldable pub opening_of : Data → Result Opening OpeningFault
 opening_of value = do
   parts ← or_fault Shape (parts_of value)
   setup ← in_opening (setup_of parts.setup)
-  unless (first_fault (opening_checks setup parts)) (record { setup = setup; grid = parts.demands; increment = parts.increment })
+  opening_with setup parts.demands parts.increment
 
 -- what the bytes of an opening document mean
 unfoldable pub document_opening : List ℕ → Result Opening OpeningFault

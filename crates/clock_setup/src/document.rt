@@ -1,46 +1,27 @@
-ghost use Rattle.std.specs.Prelude.{◌≡◌, ◌<◌, length, codes, None, Some, Ok, IfOk, IfErr, OnOk};
+ghost use Rattle.std.specs.Prelude.{◌≡◌, codes, None, Some, Ok, IfOk, IfErr, OnOk};
 ghost use Rattle.serde_json.specs.View.{view};
-ghost use Rattle.clock_scan.specs.Reading.{Reads};
 ghost use Rattle.clock_terms.specs.Faults.{IsFirstFault, IsRefusal, first_fault};
 ghost use Rattle.clock_terms.specs.Limits.{SetupFields, IsOfFirstVersion, IsSetup, IsWithin, latest_version};
 ghost use Rattle.clock_setup.specs.Members.{number_at};
-ghost use Rattle.clock_setup.specs.SetupData.{setup_data};
 ghost use Rattle.clock_setup.specs.SetupShape.{fields_of};
 ghost use Rattle.clock_setup.specs.SetupDocument as document;
 ghost use Rattle.clock_setup.specs.inside.SetupDocument.{distinct_checks, head_checks};
 
-use crate::entries::{ScannedSetup, SetupEntries};
+use crate::entries::SetupEntries;
 use crate::fault::{Place, SetupFault};
+use crate::held_setup::HeldSetup;
 use crate::members::{number_at, read_value};
-use crate::names::{is_distinct, names, tokens};
+use crate::names::{has_distinct_names, has_distinct_tokens};
 use crate::setup_checks::{each_within, is_token};
-use crate::setup_scan::SetupParts;
-use crate::setup_tree::setup_entries;
-use clock_device::{NoMemory, Text};
-use clock_scan::{PartReader, Scan, ScanStop, scanned_text};
+use crate::setup_tree::entries_of;
+use clock_device::Text;
+use clock_scan::{ScanStop, scanned_text};
 use clock_terms::{
     LATEST_VERSION, LEAST_LIMIT, LEAST_REQUIREMENT, MOST_BIDDERS, MOST_LIMIT, MOST_PRODUCTS,
     MOST_REQUIREMENT, Setup, is_within,
 };
 use serde_json::Value;
 use std::alloc::Global;
-
-/// Whether no two products, and no two bidders, have one name.
-fn has_distinct_names(alloc: Global, entries: &SetupEntries) -> Result<bool, NoMemory>
-    ensures { IfOk result (λ distinct. distinct ≡ document.has_distinct_names entries.now) }
-{
-    let products = names(alloc, entries.products.as_slice())?;
-    let bidders = names(alloc, entries.bidders.as_slice())?;
-    Ok(is_distinct(alloc, products.as_slice())? && is_distinct(alloc, bidders.as_slice())?)
-}
-
-/// Whether no two bidders, and no bidder and the operator, have one token.
-fn has_distinct_tokens(alloc: Global, entries: &SetupEntries) -> Result<bool, NoMemory>
-    ensures { IfOk result (λ distinct. distinct ≡ document.has_distinct_tokens entries.now) }
-{
-    let tokens = tokens(alloc, entries.operator, entries.bidders.as_slice())?;
-    is_distinct(alloc, tokens.as_slice())
-}
 
 /// The first fault of the parts that stand before the products.
 #[tactic(auto, unfolding(crate::specs::inside::SetupDocument::head_checks))]
@@ -65,17 +46,19 @@ fn check_distinct(alloc: Global, entries: &SetupEntries) -> Result<(), SetupFaul
     ensures ok { OnOk result (first_fault (distinct_checks entries.now) ≡ None) }
     ensures err { IfErr result (IsFirstFault SetupFault.NoMemory (first_fault (distinct_checks entries.now))) }
 {
-    if !has_distinct_names(alloc, entries)? {
+    let products = entries.products.as_slice();
+    let bidders = entries.bidders.as_slice();
+    if !has_distinct_names(alloc, products)? || !has_distinct_names(alloc, bidders)? {
         return Err(SetupFault::DuplicateName);
     }
-    if !has_distinct_tokens(alloc, entries)? {
+    if !has_distinct_tokens(alloc, entries.operator, bidders)? {
         return Err(SetupFault::DuplicateToken);
     }
     Ok(())
 }
 
 /// The set-up, where it is within its limits, or the first fault.
-fn within_limits(alloc: Global, entries: &SetupEntries) -> Result<Setup, SetupFault>
+pub(crate) fn within_limits(alloc: Global, entries: &SetupEntries) -> Result<Setup, SetupFault>
     requires version { IsWithin 1 latest_version entries.now.version }
     requires first_version { entries.now.version ≡ 1 → IsOfFirstVersion entries.now }
     ensures same { IfOk result (λ setup. setup ≡ entries.now) }
@@ -100,31 +83,6 @@ fn within_limits(alloc: Global, entries: &SetupEntries) -> Result<Setup, SetupFa
     })
 }
 
-/// The set-up that a document of these entries means, or its first fault.
-pub(crate) fn judged(alloc: Global, scanned: &ScannedSetup) -> Result<Setup, SetupFault>
-    ensures same { IfOk result (λ setup. setup ≡ scanned.now.entries) }
-    ensures ok { IfOk result (λ setup. document.setup_of (setup_data scanned.now.entries) ≡ Ok setup) }
-    ensures err { IfErr result
-        (IsRefusal SetupFault.NoMemory (document.setup_of (setup_data scanned.now.entries))) }
-{
-    within_limits(alloc, &scanned.entries)
-}
-
-/// The set-up that is next in a document, where it is within its limits, none of its texts has an escape, and each of
-/// its numbers is written in digits alone. Anything else is `Unusual`: then a tree of values tells what it means.
-pub fn next_setup(alloc: Global, scan: &mut Scan<'_>) -> Result<Setup, ScanStop>
-    ensures value { IfOk result (λ setup. Reads 3 scan.old (setup_data setup) scan.new) }
-    ensures accepted { IfOk result (λ setup. document.setup_of (setup_data setup) ≡ Ok setup) }
-    ensures shorter { OnOk result (length scan.new < length scan.old) }
-{
-    let scanned = SetupParts::part(alloc, scan)?;
-    match judged(alloc, &scanned) {
-        Ok(setup) => Ok(setup),
-        Err(SetupFault::NoMemory) => Err(ScanStop::NoMemory),
-        Err(_) => Err(ScanStop::Unusual),
-    }
-}
-
 /// The set-up that the bytes of a document mean, or the document's first fault.
 ///
 /// A document is one JSON value (RFC 8259), in any order of keys and with any white space:
@@ -139,8 +97,8 @@ pub fn read_setup(alloc: Global, bytes: &[u8]) -> Result<Setup, SetupFault>
     ensures ok { IfOk result (λ setup. document.document_setup bytes.now ≡ Ok setup) }
     ensures err { IfErr result (IsRefusal SetupFault.NoMemory (document.document_setup bytes.now)) }
 {
-    match scanned_text::<SetupParts>(alloc, bytes) {
-        Ok(scanned) => judged(alloc, &scanned),
+    match scanned_text::<HeldSetup>(alloc, bytes) {
+        Ok(held) => Ok(held.setup),
         Err(ScanStop::Unusual) => {
             let value = read_value(alloc, bytes)?.ok_or(SetupFault::NotJson)?;
             setup_of(alloc, &value)
@@ -166,6 +124,8 @@ pub fn setup_of(alloc: Global, value: &Value) -> Result<Setup, SetupFault>
     if !is_within(1, LATEST_VERSION, version) {
         return Err(SetupFault::Version);
     }
-    let entries = setup_entries(alloc, value)?;
+    let Some(entries) = entries_of(alloc, value)? else {
+        return Err(SetupFault::Shape);
+    };
     within_limits(alloc, &entries)
 }

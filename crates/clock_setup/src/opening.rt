@@ -1,23 +1,21 @@
-ghost use Rattle.std.specs.Prelude.{◌≡◌, ◌≢◌, ◌≤◌, None, Some, length, Ok, Err, All, IfOk, IfErr};
-ghost use Rattle.serde_json.specs.Data.{Data};
+ghost use Rattle.std.specs.Prelude.{◌≡◌, ◌≢◌, length, Ok, IfOk, IfErr};
+ghost use Rattle.serde_json.specs.View.{view};
 ghost use Rattle.clock_terms.specs.Demands.{IsGrid};
-ghost use Rattle.clock_terms.specs.Faults.{IsRefusal, first_fault};
+ghost use Rattle.clock_terms.specs.Faults.{IsRefusal};
 ghost use Rattle.clock_terms.specs.Limits.{IsWithin, least_increment, most_increment};
-ghost use Rattle.clock_setup.specs.inside.OpeningData.{held_data, source_data};
-ghost use Rattle.clock_setup.specs.OpeningDocument.{document_opening, opening_of, in_opening};
-ghost use Rattle.clock_setup.specs.OpeningShape.{parts_of};
+ghost use Rattle.clock_setup.specs.OpeningDocument.{document_opening, opening_of, opening_with, in_opening};
 ghost use Rattle.clock_setup.specs.SetupDocument as document;
 
-use crate::document::{judged, setup_of};
+use crate::document::setup_of;
 use crate::fault::SetupFault;
 use crate::members::read_value;
 use crate::opening_checks::grid_within;
-use crate::opening_entries::{InnerSetup, OpeningInput};
 use crate::opening_scan::OpeningFound;
-use crate::opening_tree::source_parts;
+use crate::opening_tree::opening_entries;
 use clock_device::NoMemory;
 use clock_scan::{FlatRows, ScanStop, scanned_text};
 use clock_terms::{Grid, Setup};
+use serde_json::Value;
 use std::alloc::Global;
 use thiserror::Error;
 
@@ -72,70 +70,60 @@ impl From<NoMemory> for OpeningFault {
     }
 }
 
-/// The set-up that is held, or its first fault.
-fn judged_setup(alloc: Global, held: &InnerSetup<'_>) -> Result<Setup, SetupFault>
-    ensures ok { IfOk result (λ setup. document.setup_of (held_data held.now) ≡ Ok setup) }
-    ensures err { IfErr result (IsRefusal SetupFault.NoMemory (document.setup_of (held_data held.now))) }
-{
-    match held {
-        InnerSetup::Tree(value) => setup_of(alloc, value),
-        InnerSetup::Scanned(setup) => judged(alloc, setup),
-    }
-}
-
-/// The set-up that is held, its faults as those of the document.
-fn held_setup(alloc: Global, held: &InnerSetup<'_>) -> Result<Setup, OpeningFault>
-    ensures ok { IfOk result (λ setup. document.setup_of (held_data held.now) ≡ Ok setup) }
-    ensures err { IfErr result (IsRefusal OpeningFault.NoMemory (in_opening (document.setup_of (held_data held.now)))) }
+/// The set-up under a document's key, its faults as those of the document.
+fn held_setup(alloc: Global, value: &Value) -> Result<Setup, OpeningFault>
+    ensures ok { IfOk result (λ setup. document.setup_of (view value.now) ≡ Ok setup) }
+    ensures err { IfErr result (IsRefusal OpeningFault.NoMemory (in_opening (document.setup_of (view value.now)))) }
     ensures held { IfErr result (λ fault. fault ≢ OpeningFault.Setup SetupFault.NoMemory) }
 {
-    match judged_setup(alloc, held) {
+    match setup_of(alloc, value) {
         Ok(setup) => Ok(setup),
         Err(SetupFault::NoMemory) => Err(OpeningFault::NoMemory),
         Err(fault) => Err(OpeningFault::Setup(fault)),
     }
 }
 
-/// The opening that parts of a document make, or the first fault behind that of its shape.
-fn opening_of_parts(
+/// The opening of a set-up, or the first fault of what is looked at behind it.
+fn compared(
     alloc: Global,
-    held: &InnerSetup<'_>,
+    setup: Setup,
     demands: FlatRows,
     increment: u64,
 ) -> Result<Opening, OpeningFault>
-    ensures ok { IfOk result (λ opening. (value : Data) → parts_of value
-        ≡ Some (record { setup = held_data held.now; demands = demands; increment = increment })
-        → opening_of value ≡ Ok opening) }
+    ensures ok { IfOk result (λ opening. opening_with setup demands increment ≡ Ok opening) }
     ensures grid { IfOk result
         (λ opening. IsGrid (length opening.setup.bidders) (length opening.setup.products) opening.grid) }
     ensures increment { IfOk result (λ opening. IsWithin least_increment most_increment opening.increment) }
-    ensures err { IfErr result (λ fault. fault ≢ OpeningFault.NoMemory → (value : Data)
-        → parts_of value ≡ Some (record { setup = held_data held.now; demands = demands; increment = increment })
-        → opening_of value ≡ Err fault) }
+    ensures err { IfErr result (IsRefusal OpeningFault.NoMemory (opening_with setup demands increment)) }
     ensures held { IfErr result (λ fault. fault ≢ OpeningFault.Setup SetupFault.NoMemory) }
 {
-    let setup = held_setup(alloc, held)?;
-    let grid = grid_within(alloc, &setup, demands, increment)?;
-    Ok(Opening {
-        setup,
-        grid,
-        increment,
-    })
+    let grid = grid_within(alloc, &setup, &demands, increment);
+    drop(demands);
+    match grid {
+        Ok(grid) => Ok(Opening {
+            setup,
+            grid,
+            increment,
+        }),
+        Err(fault) => Err(fault),
+    }
 }
 
 /// The opening that a value of JSON means, or its first fault.
-fn opening_in(alloc: Global, source: OpeningInput<'_>) -> Result<Opening, OpeningFault>
-    ensures ok { IfOk result (λ opening. opening_of (source_data source.entry) ≡ Ok opening) }
+#[tactic(auto, using(crate::proofs::OpeningLaws::opening_shape))]
+fn opening_in(alloc: Global, value: &Value) -> Result<Opening, OpeningFault>
+    ensures ok { IfOk result (λ opening. opening_of (view value.now) ≡ Ok opening) }
     ensures grid { IfOk result
         (λ opening. IsGrid (length opening.setup.bidders) (length opening.setup.products) opening.grid) }
     ensures increment { IfOk result (λ opening. IsWithin least_increment most_increment opening.increment) }
-    ensures err { IfErr result
-        (IsRefusal OpeningFault.NoMemory (opening_of (source_data source.entry))) }
+    ensures err { IfErr result (IsRefusal OpeningFault.NoMemory (opening_of (view value.now))) }
     ensures held { IfErr result (λ fault. fault ≢ OpeningFault.Setup SetupFault.NoMemory) }
 {
-    let parts = source_parts(alloc, source)?;
-    let demands = parts.demands;
-    opening_of_parts(alloc, &parts.setup, demands, parts.increment)
+    let Some(entries) = opening_entries(alloc, value)? else {
+        return Err(OpeningFault::Shape);
+    };
+    let setup = held_setup(alloc, entries.setup)?;
+    compared(alloc, setup, entries.demands, entries.increment)
 }
 
 /// The opening that the bytes of a document mean, or the document's first fault.
@@ -153,11 +141,11 @@ pub fn read_opening(alloc: Global, bytes: &[u8]) -> Result<Opening, OpeningFault
     ensures held { IfErr result (λ fault. fault ≢ OpeningFault.Setup SetupFault.NoMemory) }
 {
     match scanned_text::<OpeningFound>(alloc, bytes) {
-        Ok(entries) => opening_in(alloc, OpeningInput::Entries(entries)),
+        Ok(found) => compared(alloc, found.held.setup, found.demands, found.increment),
+        Err(ScanStop::NoMemory) => Err(OpeningFault::NoMemory),
         Err(ScanStop::Unusual) => {
             let value = read_value(alloc, bytes)?.ok_or(OpeningFault::NotJson)?;
-            opening_in(alloc, OpeningInput::Document(&value))
+            opening_in(alloc, &value)
         }
-        Err(ScanStop::NoMemory) => Err(OpeningFault::NoMemory),
     }
 }

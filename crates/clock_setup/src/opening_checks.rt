@@ -1,8 +1,7 @@
 ghost use Rattle.std.specs.Prelude.{◌≡◌, ◌≢◌, ◌≤◌, None, Some, length, zip, All, IfOk, IfErr, OnOk};
-ghost use Rattle.serde_json.specs.Data.{Data};
 ghost use Rattle.clock_terms.specs.Demands.{IsGrid};
 ghost use Rattle.clock_terms.specs.Eligibility.{activity};
-ghost use Rattle.clock_terms.specs.Faults.{first_fault, in_turn};
+ghost use Rattle.clock_terms.specs.Faults.{IsFirstFault, first_fault, in_turn};
 ghost use Rattle.clock_terms.specs.Limits.{IsProduct, IsRow, IsWithin, is_within, least_increment, most_increment};
 ghost use Rattle.clock_terms.specs.Limits.{most_products};
 ghost use Rattle.clock_setup.specs.OpeningDocument as document;
@@ -60,8 +59,8 @@ fn row_within(
     ensures same { IfOk result (λ row. row ≡ demands.now) }
     ensures row { IfOk result (IsRow setup.now.products) }
     ensures ok { OnOk result (first_fault (row_checks setup.now.products number (bidder.now, demands.now)) ≡ None) }
-    ensures err { IfErr result (λ fault. fault ≢ OpeningFault.NoMemory
-        → first_fault (row_checks setup.now.products number (bidder.now, demands.now)) ≡ Some fault) }
+    ensures err { IfErr result (IsFirstFault OpeningFault.NoMemory
+        (first_fault (row_checks setup.now.products number (bidder.now, demands.now)))) }
     ensures held { IfErr result (λ fault. fault ≢ OpeningFault.Setup SetupFault.NoMemory) }
 {
     let units = units_within(number, setup.products.as_slice(), demands)?;
@@ -71,44 +70,25 @@ fn row_within(
     Ok(Row::of(alloc, setup, demands)?)
 }
 
-/// The bidders' rows of demands, or the first fault that one has. The numbers of a row stand in a list that is lent.
-fn rows_within(
-    alloc: Global,
-    setup: &Setup,
-    demands: &FlatRows,
-    numbers: &mut Vec<u64>,
-) -> Result<Vec<Row>, OpeningFault>
-    requires { IsGrid (length setup.now.bidders) (length setup.now.products) demands.now }
-    ensures same { IfOk result (λ rows. rows.items ≡ demands.now) }
-    ensures rows { IfOk result (λ rows. All (IsRow setup.now.products) rows.items) }
-    ensures ok { OnOk result
-        (first_fault (in_turn (row_checks setup.now.products) 0 (zip setup.now.bidders demands.now)) ≡ None) }
-    ensures err { IfErr result (λ fault. fault ≢ OpeningFault.NoMemory
-        → first_fault (in_turn (row_checks setup.now.products) 0 (zip setup.now.bidders demands.now)) ≡ Some fault) }
-    ensures held { IfErr result (λ fault. fault ≢ OpeningFault.Setup SetupFault.NoMemory) }
-{
-    let bidders = setup.bidders.as_slice();
-    let mut rows = with_room(alloc, bidders.len())?;
-    for (number, bidder) in bidders.iter().enumerate() {
-        demands.read_row(number, numbers)?;
-        let row = row_within(alloc, number as u64, setup, bidder, numbers.as_slice())?;
-        push(&mut rows, row)?;
-    }
-    Ok(rows)
-}
-
-/// The grid of rows of demands, or the first fault that one has.
+/// The grid of the bidders' rows of demands, or the first fault that one has.
 fn grid_of_rows(alloc: Global, setup: &Setup, demands: &FlatRows) -> Result<Grid, OpeningFault>
     requires { IsGrid (length setup.now.bidders) (length setup.now.products) demands.now }
     ensures same { IfOk result (λ grid. grid ≡ demands.now) }
     ensures ok { IfOk result (λ _.
         first_fault (in_turn (row_checks setup.now.products) 0 (zip setup.now.bidders demands.now)) ≡ None) }
-    ensures err { IfErr result (λ fault. fault ≢ OpeningFault.NoMemory
-        → first_fault (in_turn (row_checks setup.now.products) 0 (zip setup.now.bidders demands.now)) ≡ Some fault) }
+    ensures err { IfErr result (IsFirstFault OpeningFault.NoMemory
+        (first_fault (in_turn (row_checks setup.now.products) 0 (zip setup.now.bidders demands.now)))) }
     ensures held { IfErr result (λ fault. fault ≢ OpeningFault.Setup SetupFault.NoMemory) }
 {
-    let mut numbers = with_room(alloc, setup.products.as_slice().len())?;
-    let rows = rows_within(alloc, setup, demands, &mut numbers)?;
+    let bidders = setup.bidders.as_slice();
+    let products = setup.products.as_slice();
+    let mut numbers = with_room(alloc, products.len())?;
+    let mut rows = with_room(alloc, bidders.len())?;
+    for (number, bidder) in bidders.iter().enumerate() {
+        demands.read_row(number, &mut numbers)?;
+        let row = row_within(alloc, number as u64, setup, bidder, numbers.as_slice())?;
+        push(&mut rows, row)?;
+    }
     Ok(Grid::of_rows(alloc, setup, rows)?)
 }
 
@@ -116,24 +96,21 @@ fn grid_of_rows(alloc: Global, setup: &Setup, demands: &FlatRows) -> Result<Grid
 pub(crate) fn grid_within(
     alloc: Global,
     setup: &Setup,
-    demands: FlatRows,
+    demands: &FlatRows,
     increment: u64,
 ) -> Result<Grid, OpeningFault>
-    ensures same { IfOk result (λ grid. grid ≡ demands) }
+    ensures same { IfOk result (λ grid. grid ≡ demands.now) }
     ensures grid { IfOk result (λ grid. IsGrid (length setup.now.bidders) (length setup.now.products) grid) }
     ensures increment { IfOk result (λ _. IsWithin least_increment most_increment increment) }
-    ensures ok { IfOk result (λ _. (held : Data)
-        → first_fault (opening_checks setup.now
-        (record { setup = held; demands = demands; increment = increment })) ≡ None) }
-    ensures err { IfErr result (λ fault. fault ≢ OpeningFault.NoMemory → (held : Data)
-        → first_fault (opening_checks setup.now
-        (record { setup = held; demands = demands; increment = increment })) ≡ Some fault) }
+    ensures ok { IfOk result (λ _. first_fault (opening_checks setup.now demands.now increment) ≡ None) }
+    ensures err { IfErr result (IsFirstFault OpeningFault.NoMemory
+        (first_fault (opening_checks setup.now demands.now increment))) }
     ensures held { IfErr result (λ fault. fault ≢ OpeningFault.Setup SetupFault.NoMemory) }
 {
-    if !has_counts(setup, &demands) {
+    if !has_counts(setup, demands) {
         return Err(OpeningFault::Shape);
     }
-    let grid = grid_of_rows(alloc, setup, &demands)?;
+    let grid = grid_of_rows(alloc, setup, demands)?;
     if !is_within(LEAST_INCREMENT, MOST_INCREMENT, increment) {
         return Err(OpeningFault::Increment);
     }

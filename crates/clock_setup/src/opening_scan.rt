@@ -1,30 +1,36 @@
 //! An opening document read without a tree, where no text has an escape and each number is written in digits alone.
-ghost use Rattle.clock_setup.specs.inside.OpeningData.{entries_data, found_opening};
+ghost use Rattle.clock_setup.specs.inside.OpeningData.{scanned_data, found_opening};
 
-use crate::entries::ScannedSetup;
-use crate::opening_entries::{InnerSetup, OpeningEntries};
-use crate::setup_scan::SetupParts;
+use crate::held_setup::HeldSetup;
 use clock_scan::{FlatRows, PartReader, Scan, ScanStop, ScannedMembers, is_key};
 use std::alloc::Global;
 
 /// What was found of an opening.
 #[derive(Default, Drop)]
-pub(crate) struct OpeningFound<'v> {
+pub(crate) struct OpeningFound {
     demands: Option<FlatRows>,
+    held: Option<HeldSetup>,
     increment: Option<u64>,
-    setup: Option<ScannedSetup<'v>>,
 }
 
-impl<'v> ScannedMembers<'v> for OpeningFound<'v> {
-    type Whole = OpeningEntries<'v>;
+/// The parts of an opening document, with no count compared.
+#[derive(Drop)]
+pub(crate) struct ScannedOpening {
+    pub held: HeldSetup,
+    pub demands: FlatRows,
+    pub increment: u64,
+}
+
+impl<'v> ScannedMembers<'v> for OpeningFound {
+    type Whole = ScannedOpening;
 
     ghost levels = { 3 };
 
     ghost fields = { found_opening };
 
-    ghost shown = { entries_data };
+    ghost shown = { scanned_data };
 
-    fn nothing() -> OpeningFound<'v> {
+    fn nothing() -> OpeningFound {
         OpeningFound::default()
     }
 
@@ -32,7 +38,7 @@ impl<'v> ScannedMembers<'v> for OpeningFound<'v> {
         if is_key(key, "demands") {
             self.demands = Some(scan.flat_rows(alloc)?);
         } else if is_key(key, "setup") {
-            self.setup = Some(SetupParts::part(alloc, scan)?);
+            self.held = Some(HeldSetup::part(alloc, scan)?);
         } else if is_key(key, "increment") {
             self.increment = Some(scan.number()?);
         } else {
@@ -41,16 +47,13 @@ impl<'v> ScannedMembers<'v> for OpeningFound<'v> {
         Ok(())
     }
 
-    fn whole(self) -> Option<OpeningEntries<'v>> {
-        let (Some(demands), Some(increment), Some(setup)) = (
-            self.demands,
-            self.increment,
-            self.setup,
-        ) else {
+    fn whole(self) -> Option<ScannedOpening> {
+        let (Some(held), Some(demands), Some(increment)) = (self.held, self.demands, self.increment)
+        else {
             return None;
         };
-        Some(OpeningEntries {
-            setup: InnerSetup::Scanned(setup),
+        Some(ScannedOpening {
+            held,
             demands,
             increment,
         })

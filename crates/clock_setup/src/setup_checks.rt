@@ -71,6 +71,13 @@ pub(crate) trait LimitedEntry {
     /// The same, as what is read of an entry.
     ghost shown: { Self → Self.Whole };
 
+    /// The bytes of its name.
+    ghost text: { Self → List ℕ };
+
+    /// Its name.
+    fn name(&self) -> &str
+        ensures { result.now ≡ text self.now };
+
     /// The entry of a place within its limits, or its first fault.
     fn within(&self, alloc: Global, i: u64) -> Result<Self::Whole, SetupFault>
         ensures same { IfOk result (λ whole. whole ≡ shown self.now) }
@@ -85,6 +92,12 @@ impl<'v> LimitedEntry for ProductEntry<'v> {
     ghost checks = { product_checks };
 
     ghost shown = { λ entry. entry };
+
+    ghost text = { λ product. product.name };
+
+    fn name(&self) -> &str {
+        self.name
+    }
 
     fn within(&self, alloc: Global, i: u64) -> Result<Product, SetupFault> {
         if !is_name(self.name) {
@@ -123,6 +136,12 @@ impl<'v> LimitedEntry for BidderEntry<'v> {
     ghost checks = { bidder_checks };
 
     ghost shown = { λ entry. entry };
+
+    ghost text = { λ bidder. bidder.name };
+
+    fn name(&self) -> &str {
+        self.name
+    }
 
     fn within(&self, alloc: Global, i: u64) -> Result<Bidder, SetupFault> {
         if !is_name(self.name) {

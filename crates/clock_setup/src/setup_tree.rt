@@ -1,14 +1,10 @@
-ghost use Rattle.std.specs.Prelude.{◌≡◌, ◌≤◌, codes, Some, option_map, IfOk, IfErr};
-ghost use Rattle.serde_json.specs.View.{view, items_view};
-ghost use Rattle.clock_terms.specs.Faults.{IsRefusal, or_fault};
-ghost use Rattle.clock_terms.specs.Limits.{IsOfFirstVersion};
+ghost use Rattle.std.specs.Prelude.{◌≡◌, ◌≤◌, IfOk};
+ghost use Rattle.serde_json.specs.View.{view};
 ghost use Rattle.clock_setup.specs.Members as members;
-ghost use Rattle.clock_setup.specs.Members.{each};
 ghost use Rattle.clock_setup.specs.SetupShape as shape;
 ghost use Rattle.clock_setup.specs.SetupShape.{product_of, bidder_of, fields_of};
 
 use crate::entries::{BidderEntry, ProductEntry, SetupEntries};
-use crate::fault::SetupFault;
 use crate::members::{ValueReader, each_at, has_members, number_at, text_at};
 use clock_device::NoMemory;
 use clock_terms::{FIRST_GRANULE, FIRST_LIMIT};
@@ -38,64 +34,13 @@ fn has_keys(value: &Value, version: u64, in_first: usize) -> bool
     }
 }
 
-/// A product of the right shape.
-#[tactic(auto, unfolding(crate::specs::SetupShape::product_of))]
-fn product_entry(value: &Value, version: u64) -> Option<ProductEntry<'_>>
-    ensures { result ≡ product_of version (view value.now) }
-{
-    let (Some(name), Some(units), Some(supply), Some(cap), Some(opening), Some(granule)) = (
-        text_at(value, "name"),
-        number_at(value, "units"),
-        number_at(value, "supply"),
-        number_at(value, "cap"),
-        number_at(value, "opening"),
-        added_number(value, version, FIRST_GRANULE, "granule"),
-    ) else {
-        return None;
-    };
-    if has_keys(value, version, 5) {
-        Some(ProductEntry {
-            name,
-            units,
-            supply,
-            cap,
-            opening,
-            granule,
-        })
-    } else {
-        None
-    }
-}
-
-/// A bidder of the right shape.
-#[tactic(auto, unfolding(crate::specs::SetupShape::bidder_of))]
-fn bidder_entry(value: &Value) -> Option<BidderEntry<'_>>
-    ensures { result ≡ bidder_of (view value.now) }
-{
-    let (Some(name), Some(token), Some(eligibility)) = (
-        text_at(value, "name"),
-        text_at(value, "token"),
-        number_at(value, "eligibility"),
-    ) else {
-        return None;
-    };
-    if has_members(value, 3) {
-        Some(BidderEntry {
-            name,
-            token,
-            eligibility,
-        })
-    } else {
-        None
-    }
-}
-
 /// Products are read with the keys of a version.
 #[derive(Drop)]
 struct ProductReader {
     version: u64,
 }
 
+#[tactic(auto, unfolding(crate::specs::SetupShape::product_of))]
 impl<'v> ValueReader<'v> for ProductReader {
     type Part = ProductEntry<'v>;
 
@@ -106,7 +51,27 @@ impl<'v> ValueReader<'v> for ProductReader {
         _alloc: Global,
         value: &'v Value,
     ) -> Result<Option<ProductEntry<'v>>, NoMemory> {
-        Ok(product_entry(value, self.version))
+        let (Some(name), Some(units), Some(supply), Some(cap), Some(opening), Some(granule)) = (
+            text_at(value, "name"),
+            number_at(value, "units"),
+            number_at(value, "supply"),
+            number_at(value, "cap"),
+            number_at(value, "opening"),
+            added_number(value, self.version, FIRST_GRANULE, "granule"),
+        ) else {
+            return Ok(None);
+        };
+        if !has_keys(value, self.version, 5) {
+            return Ok(None);
+        }
+        Ok(Some(ProductEntry {
+            name,
+            units,
+            supply,
+            cap,
+            opening,
+            granule,
+        }))
     }
 }
 
@@ -114,6 +79,7 @@ impl<'v> ValueReader<'v> for ProductReader {
 #[derive(Drop)]
 struct BidderReader;
 
+#[tactic(auto, unfolding(crate::specs::SetupShape::bidder_of))]
 impl<'v> ValueReader<'v> for BidderReader {
     type Part = BidderEntry<'v>;
 
@@ -124,25 +90,37 @@ impl<'v> ValueReader<'v> for BidderReader {
         _alloc: Global,
         value: &'v Value,
     ) -> Result<Option<BidderEntry<'v>>, NoMemory> {
-        Ok(bidder_entry(value))
+        let (Some(name), Some(token), Some(eligibility)) = (
+            text_at(value, "name"),
+            text_at(value, "token"),
+            number_at(value, "eligibility"),
+        ) else {
+            return Ok(None);
+        };
+        if !has_members(value, 3) {
+            return Ok(None);
+        }
+        Ok(Some(BidderEntry {
+            name,
+            token,
+            eligibility,
+        }))
     }
 }
 
 /// A set-up document of the right shape, or none.
 #[tactic(auto, unfolding(crate::specs::SetupShape::fields_of))]
-fn entries_of(alloc: Global, value: &Value) -> Result<Option<SetupEntries<'_>>, NoMemory>
+pub(crate) fn entries_of(alloc: Global, value: &Value) -> Result<Option<SetupEntries<'_>>, NoMemory>
     ensures { IfOk result (λ entries. entries ≡ fields_of (view value.now)) }
 {
     let Some(version) = number_at(value, "version") else {
         return Ok(None);
     };
-    let Some(limit) = added_number(value, version, FIRST_LIMIT, "limit") else {
-        return Ok(None);
-    };
-    let Some(requirement) = number_at(value, "requirement") else {
-        return Ok(None);
-    };
-    let Some(operator) = text_at(value, "operator") else {
+    let (Some(limit), Some(requirement), Some(operator)) = (
+        added_number(value, version, FIRST_LIMIT, "limit"),
+        number_at(value, "requirement"),
+        text_at(value, "operator"),
+    ) else {
         return Ok(None);
     };
     let Some(products) = each_at(alloc, value, "products", &ProductReader { version })? else {
@@ -162,19 +140,4 @@ fn entries_of(alloc: Global, value: &Value) -> Result<Option<SetupEntries<'_>>, 
         products,
         bidders,
     }))
-}
-
-/// A set-up document of the right shape.
-pub(crate) fn setup_entries(alloc: Global, value: &Value) -> Result<SetupEntries<'_>, SetupFault>
-    ensures ok { IfOk result (λ entries. fields_of (view value.now) ≡ Some entries) }
-    ensures first_version { IfOk result (λ entries. entries.version ≡ 1 → IsOfFirstVersion entries) }
-    ensures version { IfOk result
-        (λ entries. members.number_at (codes "version") (view value.now) ≡ Some entries.version) }
-    ensures err { IfErr result
-        (IsRefusal SetupFault.NoMemory (or_fault SetupFault.Shape (fields_of (view value.now)))) }
-{
-    match entries_of(alloc, value)? {
-        Some(entries) => Ok(entries),
-        None => Err(SetupFault::Shape),
-    }
 }

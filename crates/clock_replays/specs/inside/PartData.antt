@@ -10,8 +10,6 @@ use Rattle.clock_bodies.specs.inside.QuickBodies.{bids_data, ties_data}
 use Rattle.clock_replays.specs.declared.script.Script.{Script}
 use Rattle.clock_replays.specs.declared.script.Script.TheVariants.{Literal, Sincere}
 use Rattle.clock_replays.specs.declared.closing.Closing.{Closing}
-use Rattle.clock_replays.specs.declared.scanned_scripts.Kind.{Kind}
-use Rattle.clock_replays.specs.declared.scanned_scripts.Kind.TheVariants as kinds
 use Rattle.clock_replays.specs.declared.scanned_scripts.FoundScript.{FoundScript}
 use Rattle.clock_replays.specs.declared.scanned_closings.FoundClosing.{FoundClosing}
 
@@ -24,27 +22,22 @@ sheet_data (Some bids) = bids_data bids
 abbrev pub sheets_data : List (Option (List Bid)) → Data
 sheets_data sheets = array (items_of (map sheet_data sheets))
 
--- the word for a kind of script
-abbrev pub kind_text : Kind → List ℕ
-kind_text kinds.Literal = codes "literal"
-kind_text kinds.Sincere = codes "sincere"
-
--- a script's keys, each with what was found
-abbrev pub script_fields : FoundScript → Fields
-script_fields found =
-    (codes "kind", option_map (λ kind. string (kind_text kind)) found.kind)
-    ∷ (codes "limits", option_map rows found.limits)
-    ∷ (codes "sheets", option_map sheets_data found.sheets)
+-- a script's keys, each with a value or none
+abbrev pub script_fields : Option (List ℕ) → Option (List (List ℕ)) → Option (List (Option (List Bid))) → Fields
+script_fields kind limits sheets =
+    (codes "kind", option_map string kind)
+    ∷ (codes "limits", option_map rows limits)
+    ∷ (codes "sheets", option_map sheets_data sheets)
     ∷ []
 
--- what is found of a whole script
-abbrev pub found_script : Script → FoundScript
-found_script (Literal sheets) = record { kind = Some kinds.Literal; limits = None; sheets = Some sheets }
-found_script (Sincere limits) = record { kind = Some kinds.Sincere; limits = Some limits; sheets = None }
+-- a script's keys, each with what was found
+abbrev pub found_script : FoundScript → Fields
+found_script found = script_fields (option_map (λ kind. kind.now) found.kind) found.limits found.sheets
 
 -- a script as a value
 abbrev pub script_data : Script → Data
-script_data script = object (members_of (script_fields (found_script script)))
+script_data (Literal sheets) = object (members_of (script_fields (Some (codes "literal")) None (Some sheets)))
+script_data (Sincere limits) = object (members_of (script_fields (Some (codes "sincere")) (Some limits) None))
 
 -- a closing's keys, each with what was found
 abbrev pub closing_fields : FoundClosing → Fields

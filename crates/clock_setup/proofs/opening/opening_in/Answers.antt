@@ -1,17 +1,25 @@
+use Rattle.std.proofs.Common.{◌≡◌, Ok, IfOk, IfErr, sym, subst}
 use Rattle.std.proofs.lemmas.Result.{err_from_is_err_and}
-use Rattle.clock_setup.specs.inside.OpeningData.{parts_data, source_data}
-use Rattle.clock_setup.proofs.OpeningLaws.{opening_shape, parts_ok, parts_err}
+use Rattle.serde_json.specs.View.{view}
+use Rattle.clock_terms.specs.Faults.{IsRefusal}
+use Rattle.clock_setup.specs.declared.opening.OpeningFault.TheVariants.{NoMemory}
+use Rattle.clock_setup.proofs.OpeningLaws.{opening_setup, opening_at}
 use Rattle.clock_setup.proofs.opening.opening_in.Goals as goal
 
-pub returns-in_err-parts-clause-err : goal.returns-in_err-parts-clause-err
-returns-in_err-parts-clause-err c =
-    let p = err_from_is_err_and c.from_residual.result c.from_residual.ensures.1 in
-    rw (p.1, p.2) (λ known. opening_shape (source_data c.args.source) _ (c.in_err-parts.ensures.err known))
+pub returns-in_err-setup-clause-err : goal.returns-in_err-setup-clause-err
+returns-in_err-setup-clause-err c =
+    let p = err_from_is_err_and c.from_residual-in_err-setup.result c.from_residual-in_err-setup.ensures.1 in
+    let read = sym (rw c.in-Some.is at c.in_ok-entries.ensures) in
+    rw (p.1, p.2) (λ known. opening_setup (view c.args.value.now) _ _ read (c.in_err-setup.ensures.err known))
 
 pub returns-clause-ok : goal.returns-clause-ok
 returns-clause-ok c =
-    parts_ok (source_data c.args.source) (parts_data c.in_ok-parts.parts) c.opening_of_parts.result c.in_ok-parts.ensures.ok c.opening_of_parts.ensures.ok
+    let read = sym (rw c.in-Some.is at c.in_ok-entries.ensures) in
+    subst (λ answer. IfOk c.compared.result (λ opening. answer ≡ Ok opening))
+    (sym (opening_at (view c.args.value.now) _ c.in_ok-setup.setup read c.in_ok-setup.ensures.ok)) c.compared.ensures.ok
 
 pub returns-clause-err : goal.returns-clause-err
 returns-clause-err c =
-    parts_err (source_data c.args.source) (parts_data c.in_ok-parts.parts) c.opening_of_parts.result c.in_ok-parts.ensures.ok c.opening_of_parts.ensures.err
+    let read = sym (rw c.in-Some.is at c.in_ok-entries.ensures) in
+    subst (λ answer. IfErr c.compared.result (IsRefusal NoMemory answer))
+    (sym (opening_at (view c.args.value.now) _ c.in_ok-setup.setup read c.in_ok-setup.ensures.ok)) c.compared.ensures.err

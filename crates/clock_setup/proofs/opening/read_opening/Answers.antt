@@ -1,9 +1,15 @@
-use Rattle.clock_setup.specs.inside.OpeningData.{entries_data}
-use Rattle.clock_setup.proofs.ScannedOpeningLaws.{read_ok, read_err}
+use Rattle.std.proofs.Common.{◌≡◌, Ok, IfOk, IfErr, sym, subst}
+use Rattle.clock_terms.specs.Faults.{IsRefusal}
+use Rattle.clock_setup.specs.declared.opening.OpeningFault.TheVariants.{NoMemory}
+use Rattle.clock_setup.proofs.ScannedOpeningLaws.{opening_read}
 use Rattle.clock_setup.proofs.opening.read_opening.Goals as goal
 
 pub returns-in-Ok-clause-ok : goal.returns-in-Ok-clause-ok
-returns-in-Ok-clause-ok c = read_ok c.args.bytes.now (entries_data c.in-Ok.entries) c.opening_in.result c.in-Ok.ensures.text c.in-Ok.ensures.value c.opening_in.ensures.ok
+returns-in-Ok-clause-ok c =
+    subst (λ answer. IfOk c.compared.result (λ opening. answer ≡ Ok opening))
+    (sym (opening_read c.args.bytes.now c.in-Ok.found c.in-Ok.ensures.text c.in-Ok.ensures.value)) c.compared.ensures.ok
 
 pub returns-in-Ok-clause-err : goal.returns-in-Ok-clause-err
-returns-in-Ok-clause-err c = read_err c.args.bytes.now (entries_data c.in-Ok.entries) c.opening_in.result c.in-Ok.ensures.text c.in-Ok.ensures.value c.opening_in.ensures.err
+returns-in-Ok-clause-err c =
+    subst (λ answer. IfErr c.compared.result (IsRefusal NoMemory answer))
+    (sym (opening_read c.args.bytes.now c.in-Ok.found c.in-Ok.ensures.text c.in-Ok.ensures.value)) c.compared.ensures.err

@@ -1,5 +1,5 @@
-use Rattle.std.proofs.Common.{◌≡◌, ◌<◌, ◌++◌, ◌∷◌, [], List, ℕ, All, length, take, get_or, zip, sym, ap, ◌∙◌, subst, arith}
-use Rattle.std.proofs.lemmas.List.{take_more}
+use Rattle.std.proofs.Common.{◌≡◌, ◌<◌, ◌≤◌, ◌++◌, ◌∷◌, [], List, ℕ, All, length, take, get_or, zip, sym, ap, ◌∙◌, subst, arith}
+use Rattle.std.proofs.lemmas.List.{take_more, take_all}
 use Rattle.std.proofs.lemmas.List.Elements.{All-append, All-cons, All-nil}
 use Rattle.std.proofs.lemmas.Result.{err_from_is_err_and}
 use Rattle.std.proofs.lemmas.Slice.Zip.{length-zip}
@@ -7,7 +7,11 @@ use Rattle.clock_terms.specs.Limits.{IsRow}
 use Rattle.clock_setup.specs.OpeningDocument.{row_checks}
 use Rattle.clock_terms.proofs.FaultLaws.{turn_passed, turn_failed, turn_none}
 use Rattle.clock_setup.proofs.OpeningLaws.{row_line}
-use Rattle.clock_setup.proofs.opening_checks.rows_within.Goals as goal
+use Rattle.clock_setup.proofs.opening_checks.grid_of_rows.Goals as goal
+
+-- behind the last bidder all rows are there
+rows_all : (rows demands : List (List ℕ)) (number : ℕ) → length demands ≤ number → rows ≡ take number demands → rows ≡ demands
+rows_all rows demands number past same = same ∙ take_all number demands past
 
 pub returns-in_err-row-clause-err : goal.returns-in_err-row-clause-err
 returns-in_err-row-clause-err c =
@@ -49,6 +53,22 @@ loop-number-preserved c =
           (All-append (IsRow setup.products) c.loop-number.rows.items (row ∷ []) c.loop-number.invariant.rows
           (All-cons (IsRow setup.products) row [] c.in_ok-row.ensures.row (All-nil (IsRow setup.products))));
     }
+
+pub of_rows-requires-clause-bidders : goal.of_rows-requires-clause-bidders
+of_rows-requires-clause-bidders c =
+    let setup = c.args.setup.now in
+    let bidders : c.as_slice-bidders.result.now ≡ setup.bidders = c.as_slice-bidders.ensures ∙ ap (λ s. s.bidders) c.setup.view_is in
+    let all = rows_all c.loop-number.rows.items c.args.demands.now c.loop-number.number (omega (arith, c.requires.0, ap length bidders, c.loop-number-test.false))
+    c.loop-number.invariant.same in
+    ap length all ∙ c.requires.0
+
+pub returns-clause-same : goal.returns-clause-same
+returns-clause-same c =
+    let setup = c.args.setup.now in
+    let bidders : c.as_slice-bidders.result.now ≡ setup.bidders = c.as_slice-bidders.ensures ∙ ap (λ s. s.bidders) c.setup.view_is in
+    c.in_ok-of_rows.ensures
+    ∙ rows_all c.loop-number.rows.items c.args.demands.now c.loop-number.number (omega (arith, c.requires.0, ap length bidders, c.loop-number-test.false))
+    c.loop-number.invariant.same
 
 pub returns-clause-ok : goal.returns-clause-ok
 returns-clause-ok c =

@@ -1,0 +1,15 @@
+use Rattle.clock_setup.proofs.NameLaws.{text_pushed, texts_end, distinct_texts}
+use Rattle.clock_setup.proofs.names.has_distinct_names.Goals as goal
+
+pub loop-entry-preserved : goal.loop-entry-preserved
+loop-entry-preserved g c =
+    let at = c.loop-entry in
+    text_pushed g.E.LimitedEntry.text at.names.items c.args.entries.now at.entry-index c.push.new.self.items c.name.result c.entry-item.result
+    c.in_ok-push.ensures.items c.loop-entry-test.true c.entry-item.is c.name.ensures at.invariant
+
+pub returns : goal.returns
+returns g c =
+    let at = c.loop-entry in
+    distinct_texts c.is_distinct.result _ _ _ c.as_slice.ensures.value
+    (texts_end g.E.LimitedEntry.text at.names.items c.args.entries.now at.entry-index c.loop-entry-test.false at.invariant)
+    c.is_distinct.ensures

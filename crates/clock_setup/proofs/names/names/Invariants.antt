@@ -1,6 +1,0 @@
-use Rattle.std.proofs.Common.{◌≡◌, map, take}
-use Rattle.clock_setup.proofs.names.names.Given as goal
-
--- the names so far
-abbrev pub invariant-loop-entry : goal.invariant-loop-entry
-invariant-loop-entry g l = map (λ name. name.now) l.names.items ≡ map g.E.Named.text (take l.entry-index l.entries)
