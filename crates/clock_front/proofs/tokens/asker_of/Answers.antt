@@ -1,9 +1,8 @@
-use Rattle.std.proofs.Common.{◌≡◌, Option, length, ap, subst, sym, ◌∙◌}
+use Rattle.std.proofs.Common.{Option, length, ap, subst, sym, ◌∙◌}
 use Rattle.std.specs.Prelude.{unwrap_or}
-use Rattle.clock_terms.specs.Limits.{SetupFields}
-use Rattle.clock_front.specs.Askers.{asker, holder}
+use Rattle.clock_front.specs.Askers.{holder}
 use Rattle.clock_front.specs.inside.Askers.{IsKnown}
-use Rattle.clock_front.specs.inside.HeldTokens.{asker_by, found, tokens_of, IsTableOf}
+use Rattle.clock_front.specs.inside.HeldTokens.{asker_by, found, tokens_of}
 use Rattle.clock_http.specs.Shown.{shown_bytes}
 use Rattle.clock_front.specs.declared.tokens.Asker.{Asker}
 use Rattle.clock_front.specs.declared.tokens.Asker.TheVariants.{Nobody}
