@@ -9,15 +9,12 @@ use Rattle.clock_front.specs.declared.hub_fault.HubFault.{HubFault}
 use Rattle.clock_front.specs.declared.fed.Fed.{Fed}
 use Rattle.clock_front.specs.declared.fed.Fed.TheVariants.{More, Reply}
 use Rattle.clock_front.specs.Hubs.{ConnectionFields, HubFields, IsConnected, IsTaken, IsAnswered, IsFed, KeepsOthers, text_of}
-use Rattle.clock_front.specs.inside.Hubs.{AllNeedMore}
+use Rattle.clock_front.specs.inside.Hubs.{hub_of, AllNeedMore}
 
 -- what is some has a text
 pub some_text : (o : Option (List ℕ)) → is_some o ≡ true → (text : List ℕ) × (o ≡ Some text)
 some_text None is = absurd (true≢false (sym is))
 some_text (Some text) is = (text, refl)
-
-abbrev pub hub_of : HouseFields → ConnectionFields → HubFields
-hub_of house connections = record { house = house; connections = connections }
 
 -- the piece was taken first, and then the request answered
 pub fed_and_answered : (house : HouseFields) (old taken : ConnectionFields) (new : HubFields) (conn : Conn) (text : List ℕ) (reply : Answer)

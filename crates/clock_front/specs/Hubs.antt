@@ -13,6 +13,7 @@ use Rattle.clock_front.specs.Fronts.{AnswersText, IsStruckOut}
 use Rattle.clock_front.specs.Private.{IsPrivateReply}
 use Rattle.clock_http.specs.Replies.{Answer}
 use Rattle.clock_front.specs.declared.connections.Conn.{Conn}
+use Rattle.clock_front.specs.declared.connections.Partial.{Partial}
 use Rattle.clock_front.specs.declared.hub_fault.HubFault.{HubFault}
 use Rattle.clock_front.specs.declared.hub_fault.HubFault.TheVariants.{Full, NoMemory, Unknown}
 use Rattle.clock_front.specs.declared.fed.Fed.{Fed}
@@ -20,14 +21,9 @@ use Rattle.clock_front.specs.declared.fed.Fed.TheVariants.{More, Reply}
 use Rattle.clock_http.specs.Framing.{needs_more}
 use Rattle.clock_front.specs.Pieces.{most_connections}
 
--- a connection that stands: its serial number, and the bytes that have come over it
-pub record OpenConnection : Type 0 where
-  pub serial : ℕ
-  pub text : List ℕ
-
--- the connections in their slots, and the serial number of the next
+-- the connections in their slots, each with the bytes that have come over it, and the serial number of the next
 pub record ConnectionFields : Type 0 where
-  pub slots : List (Option OpenConnection)
+  pub slots : List (Option Partial)
   pub next : ℕ
 
 -- the house of the front, and the connections
@@ -36,11 +32,11 @@ pub record HubFields : Type 0 where
   pub connections : ConnectionFields
 
 -- the text in a slot, if it is that of the connection of this serial number
-abbrev pub text_with : ℕ → Option OpenConnection → Option (List ℕ)
+abbrev pub text_with : ℕ → Option Partial → Option (List ℕ)
 text_with serial None = None
 text_with serial (Some standing) = if standing.serial == serial then Some standing.text else None
 
-abbrev pub slot_of : ConnectionFields → ℕ → Option OpenConnection
+abbrev pub slot_of : ConnectionFields → ℕ → Option Partial
 slot_of connections slot = slice_index_or connections.slots slot None
 
 -- the bytes that have come over a connection that stands

@@ -8,7 +8,6 @@ pub mod Private
 pub mod HeldTokens
 pub mod NumberedHubs
 pub mod ShownAsked
-pub mod TokenTable
 pub mod KeptPage
 pub mod Isolation
 pub mod Roomless

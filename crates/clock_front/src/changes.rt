@@ -1,9 +1,8 @@
 //! Replies to requests that change the auction. A reply is built before its change is made.
 
-ghost use Rattle.std.specs.Prelude.{◌≡◌, ◌≢◌, ◌<◌, None, length, IfOk, OnOk, OnErr};
+ghost use Rattle.std.specs.Prelude.{◌≡◌, ◌<◌, length, IfOk, OnOk, OnErr};
 ghost use Rattle.clock_house.specs.House.{put_fault_in, closing_in, IsFollowedBy, StandsStill};
 ghost use Rattle.clock_house.specs.Command as command;
-ghost use Rattle.clock_views.specs.Refusals.{shown_put, shown_close};
 ghost use Rattle.clock_bodies.specs.Bodies.{put_body};
 ghost use Rattle.clock_bodies.specs.CloseBodies.{close_body, in_version};
 ghost use Rattle.clock_front.specs.Outcomes as told;
@@ -40,17 +39,6 @@ fn accepted(alloc: Global, round: u64, bids: u64) -> Result<Reply, NoMemory>
     Ok(written(Code::Done, None, text))
 }
 
-/// Why a sheet is not put in force.
-fn put_refusal(alloc: Global, fault: PutFault) -> Result<Reply, NoMemory>
-    ensures reply { IfOk result (λ reply. reply ≡ answer_of (told.refused (shown_put fault))) }
-    ensures known { OnOk result (fault ≢ PutFault.NoMemory) }
-{
-    match fault {
-        PutFault::NoMemory => Err(NoMemory),
-        _ => refused(alloc, Refusal::from(fault)),
-    }
-}
-
 /// Puts a sheet in force, or tells its first fault.
 fn put_sheet<P: Processor>(
     alloc: Global,
@@ -72,7 +60,8 @@ fn put_sheet<P: Processor>(
             house.commit_put(prepared);
             Ok(reply)
         }
-        Err(fault) => put_refusal(alloc, fault),
+        Err(PutFault::NoMemory) => Err(NoMemory),
+        Err(fault) => refused(alloc, Refusal::from(fault)),
     }
 }
 
@@ -106,17 +95,6 @@ fn closed(alloc: Global, round: u64, ended: bool) -> Result<Reply, NoMemory>
     Ok(written(Code::Done, None, text))
 }
 
-/// Why a round is not closed.
-fn close_refusal(alloc: Global, fault: CloseFault) -> Result<Reply, NoMemory>
-    ensures reply { IfOk result (λ reply. reply ≡ answer_of (told.refused (shown_close fault))) }
-    ensures known { OnOk result (fault ≢ CloseFault.NoMemory) }
-{
-    match fault {
-        CloseFault::NoMemory => Err(NoMemory),
-        _ => refused(alloc, Refusal::from(fault)),
-    }
-}
-
 /// Closes the round, or tells the first fault.
 fn close_round<P: Processor>(
     alloc: Global,
@@ -141,7 +119,8 @@ fn close_round<P: Processor>(
                 Err(refused)
             }
         },
-        Err(fault) => close_refusal(alloc, fault),
+        Err(CloseFault::NoMemory) => Err(NoMemory),
+        Err(fault) => refused(alloc, Refusal::from(fault)),
     }
 }
 

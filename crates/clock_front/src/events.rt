@@ -1,6 +1,5 @@
-ghost use Rattle.std.specs.Prelude.{◌≡◌, [], IfOk, OnOk};
+ghost use Rattle.std.specs.Prelude.{[], IfOk};
 ghost use Rattle.clock_front.specs.Headline.{IsEventRun};
-ghost use Rattle.clock_front.specs.inside.EventRuns.{kept};
 ghost use Rattle.clock_front.specs.Fronts.{StandsForTexts};
 ghost use Rattle.clock_front.specs.inside.NumberedHubs.{Stands};
 
@@ -37,16 +36,6 @@ pub struct EventReply {
 /// Replies in the order in which their requests were complete.
 pub type EventReplies = Items<EventReply>;
 
-/// Keeps a reply, if there is one.
-fn keep(replies: &mut EventReplies, told: Option<EventReply>) -> Result<(), NoMemory>
-    ensures { OnOk result (replies.new ≡ kept replies.old told) }
-{
-    match told {
-        Some(one) => replies.push(one),
-        None => Ok(()),
-    }
-}
-
 /// Takes events in turn by a hub over which nothing has come.
 fn take_each<P: Processor>(
     alloc: Global,
@@ -60,8 +49,9 @@ fn take_each<P: Processor>(
     hub.front().house().law_of_house();
     let mut replies = EventReplies::new(alloc);
     for event in events {
-        let told = hub.take_event(event)?;
-        keep(&mut replies, told)?;
+        if let Some(reply) = hub.take_event(event)? {
+            replies.push(reply)?;
+        }
     }
     hub.front().house().law_of_house();
     Ok(replies)

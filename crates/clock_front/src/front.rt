@@ -5,16 +5,15 @@ ghost use Rattle.clock_front.specs.Askers.{asker as asker_with};
 ghost use Rattle.clock_front.specs.inside.Askers.{IsKnown};
 ghost use Rattle.clock_http.specs.Framing.{framing as framing_of, incomplete, needs_more, refusal as refusal_of};
 ghost use Rattle.clock_front.specs.Fronts.{AnswersText, IsCutShort, IsDoneBy, IsStruckOut, StandsForTexts};
-ghost use Rattle.clock_front.specs.Outcomes.{answer_of, outcome, command_of, not_allowed as told_not_allowed, refused};
+ghost use Rattle.clock_front.specs.Outcomes.{answer_of, outcome, command_of, refused};
 ghost use Rattle.clock_front.specs.Rooms.{IsPrivateWant, IsWantOf, WantsRoom, refusal_room};
 ghost use Rattle.clock_front.specs.declared.unanswered.Unanswered.TheVariants as unanswered;
 ghost use Rattle.clock_front.specs.Private.{IsPrivateReply};
 ghost use Rattle.clock_front.specs.inside.Private.{IsToldAsker};
-ghost use Rattle.clock_front.specs.Requests.{ask_by_route, request_of};
-ghost use Rattle.clock_http.specs.Routes.{page_of};
-ghost use Rattle.clock_http.specs.Shown.{IsFramed, Knows, shown_framing, shown_head};
+ghost use Rattle.clock_front.specs.Requests.{request_of};
+ghost use Rattle.clock_http.specs.Shown.{IsFramed, Knows, shown_framing};
 ghost use Rattle.clock_front.specs.inside.ShownAsked.{shown_asked};
-ghost use Rattle.clock_front.specs.inside.TokenTable.{IsTableOf};
+ghost use Rattle.clock_front.specs.inside.HeldTokens.{IsTableOf};
 ghost use Rattle.clock_front.specs.inside.KeptPage.{IsProductsPage};
 
 use crate::asked::{Asked, asked_of};
@@ -22,7 +21,7 @@ use crate::changes::{close, put};
 use crate::fixed_replies::{fixed_reply, no_memory_reply};
 use crate::pages::refusal;
 use crate::telling::{bidder_of, operator_of, tell};
-use crate::tokens::{Asker, Tokens};
+use crate::tokens::{Asker, Tokens, asker_of, tokens_of};
 use crate::unanswered::Unanswered;
 use clock_device::{NoMemory, Text};
 use clock_house::House;
@@ -49,14 +48,14 @@ pub struct Front<P> {
 
 impl<P> Model for Front<P> {
     ghost use Rattle.clock_house.specs.House.{HouseFields};
-    ghost use Rattle.clock_front.specs.inside.TokenTable.{IsTableOf};
+    ghost use Rattle.clock_front.specs.inside.HeldTokens.{IsTableOf};
     ghost use Rattle.clock_front.specs.inside.KeptPage.{IsProductsPage};
 
     ghost Value = { HouseFields };
 
     ghost view = { λ f. f.house };
 
-    ghost invariant = { λ f. IsTableOf f.house.setup f.tokens × IsProductsPage f.house.setup f.products };
+    ghost invariant = { λ f. IsTableOf f.house.setup f.tokens.entries × IsProductsPage f.house.setup f.products };
 }
 
 /// The refusal of a request that changes nothing.
@@ -69,10 +68,10 @@ fn turn_away(alloc: Global, why: Refusal) -> Result<Reply, Unanswered>
 
 /// Whose the tokens of a set-up are, the routes of all pages, and the page of products, which never changes.
 fn tables(alloc: Global, setup: &Setup) -> Result<(Tokens, Routes, Text), NoMemory>
-    ensures tokens { IfOk result (λ all. IsTableOf setup.now all.0) }
+    ensures tokens { IfOk result (λ all. IsTableOf setup.now all.0.entries) }
     ensures page { IfOk result (λ all. IsProductsPage setup.now all.2) }
 {
-    let tokens = Tokens::new(alloc, setup)?;
+    let tokens = tokens_of(alloc, setup)?;
     let routes = Routes::new(alloc)?;
     let products = products_page(alloc, setup)?;
     Ok((tokens, routes, products))
@@ -150,7 +149,7 @@ impl<P: Processor> Front<P> {
             Framing::NeedMore => turn_away(self.alloc, Refusal::alone(Code::CutShort)),
             Framing::Refused(code) => Ok(fixed_reply(code)),
             Framing::Whole { head, body } => {
-                let asker = self.tokens.asker(head.token);
+                let asker = asker_of(&self.tokens, head.token);
                 let what = asked_of(&self.routes, &head, body);
                 self.answer_asked(asker, what)
             }

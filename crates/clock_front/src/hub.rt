@@ -3,6 +3,7 @@ ghost use Rattle.clock_front.specs.Fronts.{IsCutShort};
 ghost use Rattle.clock_http.specs.Framing.{needs_more};
 ghost use Rattle.clock_front.specs.Hubs.{text_of, IsConnected, IsConnectFault, IsFed, IsFeedFault, IsAnswered, IsFinishFault};
 ghost use Rattle.clock_front.specs.declared.fed.Fed.TheVariants as fed;
+ghost use Rattle.clock_front.specs.inside.Hubs.{hub_of};
 
 use crate::connections::{Conn, Connections};
 use crate::fed::Fed;
@@ -40,13 +41,12 @@ impl<P> Model for Hub<P> {
 fn complete<P: Processor>(front: &mut Front<P>, connections: &mut Connections, conn: Conn) -> Reply
     requires { IsSome (text_of connections.old conn) }
     ensures answered { (text : List ℕ) → text_of connections.old conn ≡ Some text
-        → IsAnswered (record { house = front.old; connections = connections.old })
-        (record { house = front.new; connections = connections.new }) conn text result }
+        → IsAnswered (hub_of front.old connections.old) (hub_of front.new connections.new) conn text result }
     ensures cut_short { (text : List ℕ) → text_of connections.old conn ≡ Some text → needs_more text ≡ true
         → IsCutShort result }
 {
-    let partial = connections.remove(conn);
-    partial.answer(front)
+    let request = connections.remove(conn);
+    front.answer_framed(request.framing())
 }
 
 /// Takes a piece of the request of a connection that stands, or nothing of it.
@@ -59,8 +59,7 @@ fn feed_on<P: Processor>(
 ) -> Result<Fed, NoMemory>
     requires { IsSome (text_of connections.old conn) }
     ensures fed { (text : List ℕ) → text_of connections.old conn ≡ Some text
-        → IfOk result (IsFed (record { house = front.old; connections = connections.old })
-        (record { house = front.new; connections = connections.new }) conn (text ++ piece.now)) }
+        → IfOk result (IsFed (hub_of front.old connections.old) (hub_of front.new connections.new) conn (text ++ piece.now)) }
     ensures front { OnErr result (front.new ≡ front.old) }
     ensures connections { OnErr result (connections.new ≡ connections.old) }
 {
@@ -80,8 +79,8 @@ fn complete_with<P: Processor>(
 ) -> Option<Reply>
     requires { IsSome (text_of connections.old conn) }
     ensures fed { (text : List ℕ) → text_of connections.old conn ≡ Some text
-        → IfSome result (λ reply. IsFed (record { house = front.old; connections = connections.old })
-        (record { house = front.new; connections = connections.new }) conn (text ++ piece.now) (fed.Reply reply)) }
+        → IfSome result (λ reply. IsFed (hub_of front.old connections.old) (hub_of front.new connections.new) conn
+        (text ++ piece.now) (fed.Reply reply)) }
     ensures front { IfNone result (front.new ≡ front.old) }
     ensures connections { IfNone result (connections.new ≡ connections.old) }
 {
@@ -101,8 +100,7 @@ fn feed_piece<P: Processor>(
 ) -> Result<Fed, NoMemory>
     requires { IsSome (text_of connections.old conn) }
     ensures fed { (text : List ℕ) → text_of connections.old conn ≡ Some text
-        → IfOk result (IsFed (record { house = front.old; connections = connections.old })
-        (record { house = front.new; connections = connections.new }) conn (text ++ piece.now)) }
+        → IfOk result (IsFed (hub_of front.old connections.old) (hub_of front.new connections.new) conn (text ++ piece.now)) }
     ensures front { OnErr result (front.new ≡ front.old) }
     ensures connections { OnErr result (connections.new ≡ connections.old) }
 {

@@ -1,4 +1,4 @@
-ghost use Rattle.std.specs.Prelude.{◌≡◌, ◌<◌, ◌++◌, ℕ, [], length, Some, None, OnOk, IfOk};
+ghost use Rattle.std.specs.Prelude.{◌≡◌, ◌<◌, [], length, Some, None, OnOk, IfOk};
 ghost use Rattle.clock_front.specs.Pieces.{Numbered, completed, after};
 ghost use Rattle.clock_front.specs.inside.NumberedHubs.{Stands, HasCompleted, conn_at};
 ghost use Rattle.clock_front.specs.declared.events.Event.TheVariants as events;

@@ -1,9 +1,8 @@
 -- What a house that stands for a list of commands keeps.
-use Rattle.std.proofs.Common.{◌≡◌, ℕ, zero, suc, ◌-◌, ◌≤◌, List, [], ◌∷◌, false, length, refl, ap, sym, subst, ◌∙◌, arith, All}
-use Rattle.std.specs.Prelude.{Option, Some, None, reverse, slice_get}
+use Rattle.std.proofs.Common.{◌≡◌, ℕ, zero, suc, List, [], ◌∷◌, false, length, ap, sym, subst, ◌∙◌, All}
+use Rattle.std.specs.Prelude.{Option, Some, reverse}
 use Rattle.std.proofs.lemmas.Option.{none-some, slice_get_within, get_or_from_slice_get}
 use Rattle.std.proofs.lemmas.List.Elements.{All-nil, All-cons, All-head, All-tail, All-append}
-use Rattle.std.proofs.lemmas.List.{reverse-reverse}
 use Rattle.std.proofs.lemmas.List.FromFn.{length-map-range_with_len}
 use Rattle.clock_terms.specs.Limits.{IsSetup, public_setup}
 use Rattle.clock_bids.specs.declared.sheet.Bid.{Bid}
@@ -35,15 +34,6 @@ module _ (house : HouseFields) (commands : List Command) (stands : StandsFor com
         sheets = sheets;
       } in round in
       ap (λ (closed : List ClosedRound). at closed house.sheets) stands.closed ∙ ap (at (history house.setup commands).closed) stands.sheets
-
--- what is looked up by number among rounds in order is the round of that number
-pub found_round : (n : ℕ) (items : List ClosedRound) (found : Option ClosedRound) →
-    (n ≡ 0 → found ≡ None) → (1 ≤ n → found ≡ slice_get items (n - 1)) → round_at n (reverse items) ≡ found
-found_round zero items found none some = sym (none refl)
-found_round (suc k) items found none some =
-    ap (λ xs. slice_get xs k) (reverse-reverse items)
-    ∙ ap (λ j. slice_get items j) (omega arith)
-    ∙ sym (some (omega arith))
 
 All-reverse : {A : Type 0} (P : A → Type 0) (xs : List A) → All P xs → All P (reverse xs)
 All-reverse P [] all = All-nil P

@@ -69,7 +69,7 @@ pub fn push_status_page(text: &mut Bounded<u8>, setup: &Setup, round: u64, ended
 {
     push_truth(text, b"{\"ended\":", ended);
     push_number(text, b",\"round\":", round);
-    push_number(text, b",\"version\":", version_of(setup));
+    push_number(text, b",\"version\":", setup.version);
     push_label(text, b"}");
 }
 
@@ -197,7 +197,7 @@ pub fn push_sheet_page(text: &mut Bounded<u8>, setup: &Setup, sheet: &RoundSheet
 {
     push_truth(text, b"{\"ended\":", sheet.ended);
     push_label(text, b",\"products\":");
-    push_lines(text, products_of(setup), sheet.lines.as_slice());
+    push_lines(text, setup.products.as_slice(), sheet.lines.as_slice());
     push_number(text, b",\"round\":", sheet.round);
     push_label(text, b"}");
 }
@@ -240,19 +240,4 @@ fn from_version_2(version: u64, number: u64) -> Option<u64>
     ensures { result ≡ number_from_version_2 version number }
 {
     if version >= 2 { Some(number) } else { None }
-}
-
-/// The version of a set-up.
-fn version_of(setup: &Setup) -> u64
-    ensures { result ≡ setup.now.version }
-{
-    setup.version
-}
-
-/// The products of a set-up.
-fn products_of(setup: &Setup) -> &[Product]
-    ensures products { result.now ≡ setup.now.products }
-    ensures limits { All IsProduct result.now }
-{
-    setup.products.as_slice()
 }

@@ -44,20 +44,11 @@ pub fn push_refusal_page(text: &mut Bounded<u8>, refusal: Refusal)
     requires { REFUSAL_ROOM ≤ text.old.room }
     ensures { Adds (compact_text (refusal_value refusal)) text.old.items text.new.items }
 {
-    push_refusal(text, refusal.code, refusal.place, refusal.round)
-}
-
-/// Adds the page that shows these.
-fn push_refusal(text: &mut Bounded<u8>, code: Code, place: Option<u64>, round: Option<u64>)
-    requires { REFUSAL_ROOM ≤ text.old.room }
-    ensures { Adds (compact_text (refusal_value (record { code = code; place = place; round = round }))) text.old.items
-        text.new.items }
-{
     push_label(text, b"{\"code\":\"");
-    push_label(text, code.text().as_bytes());
+    push_label(text, refusal.code.text().as_bytes());
     push_label(text, b"\"");
-    push_number_if(text, b",\"place\":", place);
-    push_number_if(text, b",\"round\":", round);
-    push_number(text, b",\"status\":", u64::from(code.status()));
+    push_number_if(text, b",\"place\":", refusal.place);
+    push_number_if(text, b",\"round\":", refusal.round);
+    push_number(text, b",\"status\":", u64::from(refusal.code.status()));
     push_label(text, b"}");
 }

@@ -16,7 +16,7 @@ use crate::results::Results;
 use clock_bids::{asked_demands, bids_of};
 use clock_device::NoMemory;
 use clock_posting::post_first;
-use clock_terms::{Amounts, Grid, Increments, Row};
+use clock_terms::{Grid, Increments, Row};
 use std::alloc::Global;
 
 impl OpenRound<'_> {
@@ -50,24 +50,14 @@ impl OpenRound<'_> {
         Ok(Grid::of_rows(alloc, self.setup, rows)?)
     }
 
-    /// The demands that a bidder's sheet in force asks for, as a row.
-    fn asked_row(&self, alloc: Global, bidder: u32) -> Result<Row, NoMemory>
-        requires { bidder < length self.now.setup.bidders }
-        ensures asked { IfOk result (λ row. row ≡ sheets.asked_demands
-            (length self.now.setup.products) (bids_at self.now.before.sheets bidder)) }
-        ensures row { IfOk result (IsRow self.now.setup.products) }
-    {
-        let asked = self.asked(alloc, bidder)?;
-        Row::of(alloc, self.setup, asked.as_slice())
-    }
-
     /// The demands that a bidder's sheet in force asks for. No sheet is the same as an empty one.
-    pub(super) fn asked(&self, alloc: Global, bidder: u32) -> Result<Amounts, NoMemory>
+    pub(super) fn asked_row(&self, alloc: Global, bidder: u32) -> Result<Row, NoMemory>
         requires { bidder < length self.now.setup.bidders }
         ensures asked { IfOk result (λ row. row ≡ sheets.asked_demands
             (length self.now.setup.products) (bids_at self.now.before.sheets bidder)) }
         ensures row { IfOk result (IsRow self.now.setup.products) }
     {
-        asked_demands(alloc, self.setup, bids_of(self.sheet(bidder)))
+        let asked = asked_demands(alloc, self.setup, bids_of(self.sheet(bidder)))?;
+        Row::of(alloc, self.setup, asked.as_slice())
     }
 }

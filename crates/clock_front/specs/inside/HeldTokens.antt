@@ -3,7 +3,8 @@
 --     tokens_of setup      the operator's token and each bidder's, with whose they are
 --     found entries token      whose a token is by the table
 --     asker_by of token      who asks with a token, or with none, where a function tells whose it is
-use Rattle.std.specs.Prelude.{ℕ, List, ◌∷◌, map, Option, Some, None, Vec}
+--     IsTableOf setup entries      the table tells of each token whose it is
+use Rattle.std.specs.Prelude.{◌≡◌, ℕ, List, ◌∷◌, map, Option, Some, None, Vec}
 use Rattle.std.specs.declared.alloc.Global.{Global}
 use Rattle.clock_terms.specs.Limits.{SetupFields}
 use Rattle.clock_front.specs.Askers.{bidder_tokens, holder}
@@ -26,3 +27,7 @@ tokens_of setup = (setup.operator, Operator) ∷ bidder_tokens 0 setup.bidders
 abbrev pub asker_by : (List ℕ → Asker) → Option (List ℕ) → Asker
 asker_by of None = Nobody
 asker_by of (Some token) = of token
+
+-- the table tells of each token whose it is
+abbrev pub IsTableOf : SetupFields → List (Vec ℕ Global × Asker) → Type 0
+IsTableOf setup entries = (token : List ℕ) → found entries token ≡ holder (tokens_of setup) token

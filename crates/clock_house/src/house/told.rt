@@ -1,7 +1,7 @@
 //! What a house tells: no call here takes memory or changes anything.
 
-ghost use Rattle.std.specs.Prelude.{◌≡◌, ◌<◌, ◌≤◌, ◌-◌, ℕ, List, None, false, length, slice_get, slice_index_or};
-ghost use Rattle.std.specs.Prelude.{IfSome, option_map, option_copied};
+ghost use Rattle.std.specs.Prelude.{◌≡◌, ◌<◌, ◌≤◌, ℕ, List, None, false, length, slice_index_or};
+ghost use Rattle.std.specs.Prelude.{IfSome, option_map, option_copied, reverse};
 ghost use Rattle.clock_terms.specs.Limits.{SetupFields, IsSetup, public_setup};
 ghost use Rattle.clock_bids.specs.Holding.{holding_of};
 ghost use Rattle.clock_house.specs.Command.{Command, other};
@@ -164,8 +164,7 @@ fn slip_at(closed: &ClosedRound, bidder: u32) -> &Slip
 
 /// The round of a number, where the rounds stand in order from round 1.
 fn closed_at(rounds: &[ClosedRound], round: u64) -> Option<&ClosedRound>
-    ensures none { round ≡ 0 → option_copied result ≡ None }
-    ensures found { 1 ≤ round → option_copied result ≡ slice_get rounds.now (round - 1) }
+    ensures { option_copied result ≡ round_at round (reverse rounds.now) }
 {
     if round == 0 {
         return None;

@@ -1,4 +1,4 @@
-use Rattle.std.proofs.Common.{Bool, ap, sym, ◌∙◌}
+use Rattle.std.proofs.Common.{Bool, ap, sym, ◌∙◌, rules}
 use Rattle.clock_house.specs.House.{closing_in}
 use Rattle.clock_views.specs.OperatorPages.{closed_value}
 use Rattle.clock_front.specs.Outcomes.{answer_of, done}
@@ -24,6 +24,6 @@ returns-in-Ok-closed-clause-followed g c =
 pub returns-in-Err-clause-reply : goal.returns-in-Err-clause-reply
 returns-in-Err-clause-reply g c =
     let closing = c.args.closing.now in
-    refusal_told c.close_refusal.result c.in-Err.fault closing.round (closing_in c.args.house.now closing.round closing.increments closing.ties)
-    c.close_refusal.ensures.reply c.close_refusal.ensures.known
+    refusal_told c.refused.result c.in-Err.fault closing.round (closing_in c.args.house.now closing.round closing.increments closing.ties)
+    (rw c.from.ensures at c.refused.ensures) (search rules)
     (λ known. sym (ap (closing_in c.args.house.now closing.round closing.increments) c.as_slice.ensures) ∙ c.in-Err.ensures.answer known)

@@ -8,5 +8,5 @@ returns-in_ok-reply-in-Ok-clause-private g c =
 
 pub returns-in-Err-clause-private : goal.returns-in-Err-clause-private
 returns-in-Err-clause-private g c =
-    refused_by_view c.put_refusal.result c.args.house.now c.args.bidder c.args.sheet c.in-Err.fault c.in-Err.ensures.seen
-    c.put_refusal.ensures.reply c.put_refusal.ensures.known
+    refused_by_view c.refused.result c.args.house.now c.args.bidder c.args.sheet c.in-Err.fault c.in-Err.ensures.seen
+    (rw c.from.ensures at c.refused.ensures) (search rules)

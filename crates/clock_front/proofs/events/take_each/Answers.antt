@@ -1,11 +1,13 @@
-use Rattle.std.proofs.Common.{List, ◌+◌, refl, sym, ◌∙◌, ap, subst, arith}
+use Rattle.std.proofs.Common.{◌≡◌, List, ◌+◌, refl, sym, ◌∙◌, ap, subst, arith}
 use Rattle.clock_terms.specs.Limits.{SetupFields, IsSetup}
 use Rattle.clock_house.specs.History.{history}
 use Rattle.clock_house.specs.House.{HouseFields}
 use Rattle.clock_house.specs.Laws.{IsSound}
 use Rattle.clock_front.specs.declared.events.EventReply.{EventReply}
+use Rattle.clock_front.specs.inside.EventRuns.{kept}
 use Rattle.clock_front.proofs.EventLaws.{IsOnItsWay, begins, goes_on, ends}
 use Rattle.clock_front.proofs.events.take_each.Goals as goal
+use Rattle.clock_front.proofs.events.take_each.Goals.{in-Some+in_ok-push, in_default}
 
 pub loop-event-init : goal.loop-event-init
 loop-event-init g c =
@@ -20,13 +22,17 @@ loop-event-preserved g c =
     let limits : IsSetup setup = subst IsSetup (ap (λ (house : HouseFields). house.setup) (c.house.ensures ∙ c.front.ensures)) c.law_of_house.ensures.limits in
     let hub = c.loop-event.hub in
     let next = c.take_event.new.self in
-    let told = c.in_ok-told.ensures in
+    let told = c.in_ok-reply.ensures in
     let way = goes_on setup limits c.args.events.now c.loop-event.event-index c.loop-event.replies hub.hub.connections
     next.hub.connections hub.conns next.conns hub.hub.house next.hub.house
-    c.event-item.result c.in_ok-told.told before c.loop-event-test.true c.event-item.is (told.stands before.numbered before.stands)
+    c.event-item.result c.in_ok-reply.field-0 before c.loop-event-test.true c.event-item.is (told.stands before.numbered before.stands)
     (told.told before.numbered before.stands) in
-    subst (λ (replies : List EventReply). IsOnItsWay setup c.args.events.now
-    (c.loop-event.event-index + 1) replies next.hub.connections next.conns next.hub.house) (sym c.in_ok-keep.ensures) way
+    let replies : c.match-branch-2.replies ≡ kept c.loop-event.replies c.in_ok-reply.field-0 = elim c.match-branch-2.branch [
+      | in-Some+in_ok-push w ↦ w.replies-is ∙ w.in_ok-push.ensures.ok ∙ ap (kept c.loop-event.replies) (sym w.in-Some.is)
+      | in_default w ↦ w.replies-is ∙ ap (kept c.loop-event.replies) (sym w.in_default.is)
+    ] in
+    subst (λ (all : List EventReply). IsOnItsWay setup c.args.events.now
+    (c.loop-event.event-index + 1) all next.hub.connections next.conns next.hub.house) (sym replies) way
 
 pub returns : goal.returns
 returns g c =

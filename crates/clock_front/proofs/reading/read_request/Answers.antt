@@ -1,7 +1,6 @@
 use Rattle.std.proofs.Common.{◌≡◌, [], List, ℕ, sym, subst, ap, ◌∙◌, arith}
 use Rattle.std.proofs.lemmas.Result.{err_from_is_err_and}
 use Rattle.clock_device.specs.Streams.{HasRead}
-use Rattle.clock_device.specs.Told.{Reading}
 use Rattle.clock_http.specs.Framing.{needs_more}
 use Rattle.clock_front.proofs.ArrivalLaws.{arrived, no_room_at_first, nothing_needs_more, nothing_read, stopped}
 use Rattle.clock_front.proofs.reading.read_request.Goals as goal

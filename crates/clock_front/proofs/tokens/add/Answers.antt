@@ -6,7 +6,7 @@ use Rattle.clock_front.proofs.tokens.add.Goals as goal
 
 pub returns : goal.returns
 returns c =
-    let before = c.args.holders.now.entries in
+    let before = c.args.tokens.now.entries in
     λ other. ap (λ (entries : Entries). found entries other) c.in_ok-insert.ensures.entries
     ∙ found-insert before _ c.args.asker other
     ∙ ap (λ (bytes : List ℕ). cond (same_bytes other bytes) c.args.asker (found before other)) c.in_ok-from_slice.ensures.items

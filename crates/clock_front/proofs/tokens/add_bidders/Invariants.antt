@@ -7,7 +7,7 @@ use Rattle.clock_front.proofs.tokens.add_bidders.Given as goal
 abbrev pub invariant-loop-number : goal.invariant-loop-number
 invariant-loop-number l = record {
   within : l.number ≤ length l.bidders;
-  held : (token : List ℕ) → found l.holders.entries token ≡ holder (bidder_tokens l.number (drop l.number l.bidders)) token;
+  held : (token : List ℕ) → found l.tokens.entries token ≡ holder (bidder_tokens l.number (drop l.number l.bidders)) token;
 }
 
 abbrev pub decreases-loop-number : goal.decreases-loop-number

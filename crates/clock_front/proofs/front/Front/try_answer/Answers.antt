@@ -11,7 +11,7 @@ use Rattle.clock_front.specs.Askers.{asker}
 use Rattle.clock_front.specs.Outcomes.{answer_of, outcome, command_of, refused}
 use Rattle.clock_front.specs.Requests.{Ask, request_of}
 use Rattle.clock_front.specs.Rooms.{WantsRoom}
-use Rattle.clock_front.specs.inside.TokenTable.{IsTableOf}
+use Rattle.clock_front.specs.inside.HeldTokens.{IsTableOf}
 use Rattle.clock_front.proofs.OutcomeLaws.{away_other}
 use Rattle.clock_front.proofs.PrivateLaws.{private_reply, if_private, if_private_want, want_as}
 use Rattle.clock_front.proofs.FrontLaws.{refused_fixed, told_as, if_done, ask_by, of_text}
@@ -57,17 +57,17 @@ returns-in-Refused-clause-followed g c = λ text is.
 pub returns-in-Whole-clause-reply : goal.returns-in-Whole-clause-reply
 returns-in-Whole-clause-reply g c = λ text is.
     let house = c.args.self.now in
-    let table = subst (λ (h : HouseFields). IsTableOf h.setup c.self.inside.tokens) c.self.view_is c.self.invariant.0 in
+    let table = subst (λ (h : HouseFields). IsTableOf h.setup c.self.inside.tokens.entries) c.self.view_is c.self.invariant.0 in
     of_text house.setup text (λ who ask. IfOk c.answer_asked.result (λ reply. reply ≡ answer_of (outcome house who ask))) _ _
-    (shown_head c.in-Whole.head) c.in-Whole.body.now (c.asker-asker.ensures.shown house.setup table) c.asked_of-what.ensures
+    (shown_head c.in-Whole.head) c.in-Whole.body.now (c.asker_of-asker.ensures.shown house.setup table) c.asked_of-what.ensures
     (ap shown_framing (sym c.in-Whole.is) ∙ is) c.answer_asked.ensures.reply
 
 pub returns-in-Whole-clause-followed : goal.returns-in-Whole-clause-followed
 returns-in-Whole-clause-followed g c = λ text is.
     let house = c.args.self.now in
-    let table = subst (λ (h : HouseFields). IsTableOf h.setup c.self.inside.tokens) c.self.view_is c.self.invariant.0 in
+    let table = subst (λ (h : HouseFields). IsTableOf h.setup c.self.inside.tokens.entries) c.self.view_is c.self.invariant.0 in
     of_text house.setup text (λ who ask. OnOk c.answer_asked.result (IsFollowedBy (command_of house.setup who ask) house c.answer_asked.new.self)) _ _
-    (shown_head c.in-Whole.head) c.in-Whole.body.now (c.asker-asker.ensures.shown house.setup table) c.asked_of-what.ensures
+    (shown_head c.in-Whole.head) c.in-Whole.body.now (c.asker_of-asker.ensures.shown house.setup table) c.asked_of-what.ensures
     (ap shown_framing (sym c.in-Whole.is) ∙ is) c.answer_asked.ensures.followed
 
 pub returns-in-NeedMore-clause-private : goal.returns-in-NeedMore-clause-private
@@ -102,9 +102,9 @@ returns-in-NeedMore-clause-wanted_privately g c = λ text is.
 pub returns-in-Whole-clause-wanted : goal.returns-in-Whole-clause-wanted
 returns-in-Whole-clause-wanted g c = λ text is.
     let house = c.args.self.now in
-    let table = subst (λ (h : HouseFields). IsTableOf h.setup c.self.inside.tokens) c.self.view_is c.self.invariant.0 in
+    let table = subst (λ (h : HouseFields). IsTableOf h.setup c.self.inside.tokens.entries) c.self.view_is c.self.invariant.0 in
     of_text house.setup text (λ who ask. IfErr c.answer_asked.result (WantsRoom who ask (outcome house who ask))) _ _
-    (shown_head c.in-Whole.head) c.in-Whole.body.now (c.asker-asker.ensures.shown house.setup table) c.asked_of-what.ensures
+    (shown_head c.in-Whole.head) c.in-Whole.body.now (c.asker_of-asker.ensures.shown house.setup table) c.asked_of-what.ensures
     (ap shown_framing (sym c.in-Whole.is) ∙ is) c.answer_asked.ensures.wanted
 
 pub returns-in-Whole-clause-wanted_privately : goal.returns-in-Whole-clause-wanted_privately

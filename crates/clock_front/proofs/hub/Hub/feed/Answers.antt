@@ -1,6 +1,7 @@
 use Rattle.std.proofs.Common.{◌++◌, IsSome, rules}
 use Rattle.clock_front.specs.Hubs.{text_of}
-use Rattle.clock_front.proofs.ConnectionLaws.{some_text, hub_of, fed_keeps}
+use Rattle.clock_front.specs.inside.Hubs.{hub_of}
+use Rattle.clock_front.proofs.ConnectionLaws.{some_text, fed_keeps}
 use Rattle.clock_front.proofs.hub.Hub.feed.Goals as goal
 
 pub invariant_of-self-then-piece-lt2 : goal.invariant_of-self-then-piece-lt2

@@ -1,46 +1,26 @@
 use Rattle.std.proofs.Common.{ap, sym, ◌∙◌, arith}
-use Rattle.std.specs.Prelude.{Some, None, option_map}
+use Rattle.std.specs.Prelude.{Some, option_map}
 use Rattle.clock_house.specs.History.{slip_of}
-use Rattle.clock_house.proofs.Kept.{stands_numbered, found_round, numbered_whole}
+use Rattle.clock_house.proofs.Kept.{stands_numbered, numbered_whole}
 use Rattle.clock_house.proofs.Seen.{slip_seen}
 use Rattle.clock_house.proofs.house.House.slip.Goals as goal
 
 pub slip_at-requires : goal.slip_at-requires
 slip_at-requires g c =
     let all = stands_numbered _ c.self.invariant.commands c.self.invariant.stands in
-    let some = rw c.as_slice.ensures.value at c.in-Some.ensures.found in
-    let found = found_round c.args.round c.self.inside.rounds.items (Some c.in-Some.closed.now) c.in-Some.ensures.none some in
-    let whole = numbered_whole _ _ c.args.round _ c.in-Some.closed.now all found in
+    let found = rw c.as_slice.ensures.value at c.in-Some.ensures in
+    let whole = numbered_whole _ _ c.args.round _ c.in-Some.closed.now all (sym found) in
     let known = rw (← c.self.view_is) at c.requires in
     omega (arith, whole.0, known)
 
 pub returns-in-Some-clause-found : goal.returns-in-Some-clause-found
-returns-in-Some-clause-found g c =
-    let some = rw c.as_slice.ensures.value at c.in-Some.ensures.found in
-    rw (← c.self.view_is)
-    (ap Some c.slip_at.ensures ∙ ap (option_map (slip_of c.args.bidder))
-    (sym (found_round c.args.round c.self.inside.rounds.items (Some c.in-Some.closed.now) c.in-Some.ensures.none some)))
+returns-in-Some-clause-found g c = rw (← c.self.view_is) (ap Some c.slip_at.ensures ∙ ap (option_map (slip_of c.args.bidder)) (rw c.as_slice.ensures.value at c.in-Some.ensures))
 
 pub returns-in-None-clause-found : goal.returns-in-None-clause-found
-returns-in-None-clause-found g c =
-    let some = rw c.as_slice.ensures.value at c.in-None.ensures.found in
-    rw (← c.self.view_is)
-    (ap (option_map (slip_of c.args.bidder)) (sym (found_round c.args.round c.self.inside.rounds.items None c.in-None.ensures.none some)))
+returns-in-None-clause-found g c = rw (← c.self.view_is) (ap (option_map (slip_of c.args.bidder)) (rw c.as_slice.ensures.value at c.in-None.ensures))
 
 pub returns-in-Some-clause-seen : goal.returns-in-Some-clause-seen
-returns-in-Some-clause-seen g c =
-    let some = rw c.as_slice.ensures.value at c.in-Some.ensures.found in
-    rw (← c.self.view_is)
-    (λ commands stands.
-    ap Some c.slip_at.ensures
-    ∙ ap (option_map (slip_of c.args.bidder))
-    (sym (found_round c.args.round c.self.inside.rounds.items (Some c.in-Some.closed.now) c.in-Some.ensures.none some))
-    ∙ slip_seen _ c.args.bidder commands stands c.args.round)
+returns-in-Some-clause-seen g c = λ commands stands. returns-in-Some-clause-found g c ∙ slip_seen _ c.args.bidder commands stands c.args.round
 
 pub returns-in-None-clause-seen : goal.returns-in-None-clause-seen
-returns-in-None-clause-seen g c =
-    let some = rw c.as_slice.ensures.value at c.in-None.ensures.found in
-    rw (← c.self.view_is)
-    (λ commands stands.
-    ap (option_map (slip_of c.args.bidder)) (sym (found_round c.args.round c.self.inside.rounds.items None c.in-None.ensures.none some))
-    ∙ slip_seen _ c.args.bidder commands stands c.args.round)
+returns-in-None-clause-seen g c = λ commands stands. returns-in-None-clause-found g c ∙ slip_seen _ c.args.bidder commands stands c.args.round
