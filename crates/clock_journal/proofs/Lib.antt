@@ -2,7 +2,7 @@ pub mod Records
 pub mod Fronts
 pub mod Writes
 pub mod Moments
-pub mod Recovery
+pub mod TakenOver
 pub mod Chains
 pub mod Whole
 pub mod Cuts

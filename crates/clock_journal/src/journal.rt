@@ -1,14 +1,15 @@
-ghost use Rattle.std.specs.Prelude.{◌≡◌, ◌++◌, ◌||◌, [], ◌∷◌, ◌≤◌, List, ℕ, OnOk, IfOk, Some, false, is_err, length};
+ghost use Rattle.std.specs.Prelude.{◌≡◌, ◌++◌, ◌||◌, [], ◌∷◌, List, ℕ, OnOk, IfOk, Some, false, is_err, length};
 ghost use Rattle.clock_device.specs.Streams.{WritesText};
 ghost use Rattle.clock_journal.specs.Disks.{MayBeLeft};
-ghost use Rattle.clock_journal.specs.Format.{Fits, mark, link, record_of, most_text};
+ghost use Rattle.clock_journal.specs.Format.{Fits, link, record_of};
 ghost use Rattle.clock_journal.specs.Crash.{LeavesTexts};
 ghost use Rattle.clock_journal.specs.Kept.{HasTexts, Keeps};
 ghost use Rattle.clock_journal.specs.Recovering.{IsPlaced};
 
 use crate::durable::Durable;
-use crate::headings::head_of;
+use crate::heading::head_of;
 use crate::link::{Link, link_of};
+use crate::record::front_of;
 use crate::recovered::Recovered;
 use clock_device::Failed;
 use std::marker::Model;
@@ -34,20 +35,6 @@ impl<D: Durable> Model for Journal<D> {
       has_failed = D.has_failed j.disk;
       chain = j.chain;
     } };
-}
-
-/// What stands before a text in its record.
-#[tactic(auto, unfolding(crate::specs::Format::mark))]
-fn front_of(count: usize, digest: &Link) -> [u8; 40]
-    requires { count ≤ most_text }
-    ensures { result ≡ mark count ++ digest.now }
-{
-    let told = (count as u32).to_be_bytes();
-    let mut front = [0; 40];
-    front[..4].copy_from_slice(&told);
-    front[4..8].copy_from_slice(&told);
-    front[8..].copy_from_slice(digest);
-    front
 }
 
 /// Adds the one and then the other, or a front of both where it fails.
