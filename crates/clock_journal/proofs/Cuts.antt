@@ -15,6 +15,7 @@ use Rattle.clock_journal.specs.declared.recovered.Recovered.{Recovered}
 use Rattle.clock_journal.proofs.Records.{next_none, next_short, next_cut}
 use Rattle.clock_journal.proofs.Fronts.{reads_once, reads_records, ends_stop}
 use Rattle.clock_journal.proofs.Moments.{length-head}
+use Rattle.clock_journal.proofs.Tested.{less_where, lt_false, eq_where, eq_false}
 
 abbrev sieve : Bool → Bool → Bool → Bool → Bool → Bool → List ℕ → Next
 sieve empty few marked cut right last text =
@@ -38,18 +39,6 @@ sieved_ended false true false true last text e = cc
 sieved_ended false true false false true text e = cc
 sieved_ended false true false false false text e = cc
 sieved_ended false false cut right last text e = cc
-
-eq_false : (a b : ℕ) → b < a → (a == b) ≡ false
-eq_false a b l = grind arith
-
-lt_false : (a b : ℕ) → b ≤ a → nat_lt a b ≡ false
-lt_false a b l = grind arith
-
-less_where : (a b : ℕ) → nat_lt a b ≡ true → a < b
-less_where a b e = grind arith
-
-eq_where : (a b : ℕ) → (a == b) ≡ true → a ≡ b
-eq_where a b e = grind arith
 
 at_most : (a b : ℕ) → (nat_lt a b ≡ true) ⊎ ((a == b) ≡ true) → a ≤ b
 at_most a b (inl e) = let l = less_where a b e in omega (arith, l)

@@ -1,6 +1,6 @@
+pub mod Tested
 pub mod Records
 pub mod Fronts
-pub mod Writes
 pub mod Moments
 pub mod TakenOver
 pub mod Chains

@@ -1,13 +1,13 @@
 -- What a record reads as, whole or cut.
-use Rattle.std.proofs.Common.{◌≡◌, ◌+◌, ◌-◌, ◌^◌, ◌<◌, ◌≤◌, inl, inr, ℕ, Bool, true, false, List, ◌++◌, length, take, drop, refl, ap, sym, ◌∙◌, subst, arith, length-append, bytes_eq, nat_le, nat_lt, ◌&&◌, ◌==◌}
+use Rattle.std.proofs.Common.{◌≡◌, ◌+◌, ◌-◌, ◌^◌, ◌<◌, ◌≤◌, inl, inr, ℕ, Bool, true, List, ◌++◌, length, take, drop, refl, ap, sym, ◌∙◌, subst, arith, length-append, bytes_eq, nat_le, ◌&&◌}
 use Rattle.std.proofs.lemmas.List.{take_at, drop_at, length-take-le, drop-drop, append_assoc}
 use Rattle.std.proofs.Math.Seq.{take-append-add}
 use Rattle.std.proofs.lemmas.Bool.{cases_lt}
-use Rattle.std.proofs.lemmas.Slice.Eq.{bytes_eq-Decides}
 use Rattle.std.proofs.lemmas.Nat.{from_be_bytes-to_be_bytes_4}
 use Rattle.sha2.proofs.Facts256.{length-sha256}
 use Rattle.clock_journal.specs.Format.{before_text, mark_length, link, mark, record_of, most_text, Fits}
 use Rattle.clock_journal.specs.Reading.{ended, torn, whole, marked_length, is_marked, checked_text, next, Ends}
+use Rattle.clock_journal.proofs.Tested.{bytes_eq_same, lt_true, lt_false, le_true, eq_false}
 
 pub length-link : (chain text : List ℕ) → length (link chain text) ≡ 32
 unfolding link
@@ -31,18 +31,6 @@ twice : (count : ℕ) (more : List ℕ) → take 4 (mark count ++ more) ≡ take
 unfolding mark
 twice count more = refl
 
-bytes_eq_same : (xs ys : List ℕ) → xs ≡ ys → bytes_eq xs ys ≡ true
-bytes_eq_same xs ys same = grind (arith, bytes_eq-Decides xs ys)
-
-le_true : (a b : ℕ) → a ≤ b → nat_le a b ≡ true
-le_true a b l = grind arith
-
-lt_true : (a b : ℕ) → a < b → nat_lt a b ≡ true
-lt_true a b l = grind arith
-
-lt_false : (a b : ℕ) → b ≤ a → nat_lt a b ≡ false
-lt_false a b l = grind arith
-
 all_three : (a b c : Bool) → a ≡ true → b ≡ true → c ≡ true → (a && (b && c)) ≡ true
 all_three a b c p q r = rw (p, q, r) refl
 
@@ -59,9 +47,6 @@ is_marked_mark count more least most =
 pub next_none : (chain bytes : List ℕ) → length bytes ≡ 0 → next chain bytes ≡ ended
 unfolding next
 next_none chain bytes none = rw none refl
-
-eq_false : (a b : ℕ) → b < a → (a == b) ≡ false
-eq_false a b l = grind arith
 
 pub next_short : (chain bytes : List ℕ) → 0 < length bytes → length bytes < mark_length → next chain bytes ≡ torn
 unfolding next

@@ -2,7 +2,6 @@
 use Rattle.std.proofs.Common.{◌≡◌, ◌≤◌, ◌<◌, ◌+◌, ◌++◌, inl, ℕ, Bool, true, false, List, Result, Ok, Err, length, get_or, take, drop, bytes_eq, nat_lt, refl, sym, ap, ◌∙◌, subst, arith, length-append, length-drop}
 use Rattle.std.specs.Prelude.{if◌then◌else◌, MatchResult}
 use Rattle.std.proofs.lemmas.List.{length-take, append_assoc, take-append-drop, take_at, drop_at, get_or-drop}
-use Rattle.std.proofs.lemmas.Slice.Eq.{bytes_eq-Decides}
 use Rattle.clock_journal.specs.Format.{head_length, head, kind, records, last_link}
 use Rattle.clock_journal.specs.Reading.{Reads, Ends, onto, next, damaged, whole}
 use Rattle.clock_journal.specs.Headings.{Heading, begun, headed, of_another, unknown, heading}
@@ -16,12 +15,7 @@ use Rattle.clock_journal.specs.declared.fault.JournalFault.TheVariants.{Unknown,
 use Rattle.clock_journal.proofs.Whole.{read_back}
 use Rattle.clock_journal.proofs.Fronts.{reads_once, ends_stop, damage_stops, ends_undamaged}
 use Rattle.clock_journal.proofs.Moments.{length-head}
-
-bytes_eq_same : (xs ys : List ℕ) → xs ≡ ys → bytes_eq xs ys ≡ true
-bytes_eq_same xs ys same = grind (arith, bytes_eq-Decides xs ys)
-
-lt_false : (a b : ℕ) → b ≤ a → nat_lt a b ≡ false
-lt_false a b l = grind arith
+use Rattle.clock_journal.proofs.Tested.{same_where, bytes_eq_same, less_where, not_less, lt_false}
 
 headed_is : (digest left : List ℕ) → take head_length left ≡ head digest → head_length ≤ length left → heading digest left ≡ headed (drop head_length left)
 unfolding heading
@@ -87,12 +81,6 @@ record Found (digest bytes rest : List ℕ) : Type 0 where
   same : take head_length bytes ≡ head digest
   rest_is : rest ≡ drop head_length bytes
 
-not_less : (a b : ℕ) → nat_lt a b ≡ false → b ≤ a
-not_less a b e = grind arith
-
-same_where : (xs ys : List ℕ) → bytes_eq xs ys ≡ true → xs ≡ ys
-same_where xs ys e = grind (arith, bytes_eq-Decides xs ys)
-
 sieved : (few front right other : Bool) (behind rest : List ℕ)
     → (if few then (if front then begun else unknown) else (if right then headed behind else (if other then of_another else unknown))) ≡ headed rest
     → (few ≡ false) × (right ≡ true) × (behind ≡ rest)
@@ -153,9 +141,6 @@ sieved_begun true false right other behind e = cc
 sieved_begun false front true other behind e = cc
 sieved_begun false front false true behind e = cc
 sieved_begun false front false false behind e = cc
-
-less_where : (a b : ℕ) → nat_lt a b ≡ true → a < b
-less_where a b e = grind arith
 
 -- less than a head is a front of it
 pub begun_is : (digest bytes : List ℕ) → heading digest bytes ≡ begun → (length bytes < head_length) × (bytes ≡ take (length bytes) (head digest))
