@@ -1,7 +1,7 @@
 use Rattle.std.proofs.Common.{◌≡◌, ◌≤◌, ◌+◌, ◌-◌, List, [], ◌∷◌, ◌++◌, ℕ, length, drop, refl, sym, ap, ◌∙◌, subst, arith, length-drop, rules}
 use Rattle.std.proofs.lemmas.List.{take_rest}
 use Rattle.clock_journal.specs.Format.{before_text, link, last_link}
-use Rattle.clock_journal.specs.Reading.{Reads, next, whole, onto}
+use Rattle.clock_journal.specs.Reading.{Reads, Next, next, damaged, whole, onto}
 use Rattle.clock_journal.specs.inside.Replays.{IsOnWay}
 use Rattle.clock_journal.specs.Recovering.{IsFoundAt, IsRefusedAt}
 use Rattle.clock_journal.proofs.Moments.{last_link-push}
@@ -38,9 +38,9 @@ loop-chain-preserved g c = (
   c.in-Ok.ensures.rules ∙ c.loop-chain.invariant.1,
 )
 
-found_at : (old new : List (List ℕ) → Type 0) (first bytes chain rest text : List ℕ) (size : ℕ) → IsOnWay old new first bytes chain rest → length bytes ≤ size
-    → next chain rest ≡ whole text → IsFoundAt first bytes size (size - length rest) (whole text)
-found_at old new first bytes chain rest text size way within is = record {
+found_at : (old new : List (List ℕ) → Type 0) (first bytes chain rest : List ℕ) (size : ℕ) (found : Next) → IsOnWay old new first bytes chain rest
+    → length bytes ≤ size → next chain rest ≡ found → IsFoundAt first bytes size (size - length rest) found
+found_at old new first bytes chain rest size found way within is = record {
   texts = way.texts;
   rest = rest;
   reads = way.reads;
@@ -54,7 +54,7 @@ refused_at : (refuses now : List (List ℕ) → List ℕ → Type 0) (old new : 
 unfolding found_at
 refused_at refuses now old new first bytes chain rest text size way within is same refused = record {
   text = text;
-  found = found_at old new first bytes chain rest text size way within is;
+  found = found_at old new first bytes chain rest size (whole text) way within is;
   refused = λ past was. subst (λ (by : List (List ℕ) → List ℕ → Type 0). by (onto way.texts past) text) same (refused (onto way.texts past) (way.stands past was));
 }
 
@@ -63,11 +63,26 @@ returns-in-Err-Refused g c = record {
   replayed = (
     c.in-Whole.text.now,
     found_at (g.M.Machine.stands_for c.args.machine.now) (g.M.Machine.stands_for c.loop-chain.machine) c.args.first.now c.args.bytes.now
-        c.loop-chain.chain c.loop-chain.rest.now c.in-Whole.text.now c.args.size c.loop-chain.invariant.0 c.requires (sym c.in-Whole.ensures.next),
+        c.loop-chain.chain c.loop-chain.rest.now c.args.size (whole c.in-Whole.text.now) c.loop-chain.invariant.0 c.requires (sym c.in-Whole.ensures.next),
   );
   refused = refused_at (g.M.Machine.refuses (g.M.Machine.rules c.args.machine.now)) (g.M.Machine.refuses (g.M.Machine.rules c.loop-chain.machine))
       (g.M.Machine.stands_for c.args.machine.now) (g.M.Machine.stands_for c.loop-chain.machine) c.args.first.now c.args.bytes.now
       c.loop-chain.chain c.loop-chain.rest.now c.in-Whole.text.now c.args.size c.loop-chain.invariant.0 c.requires (sym c.in-Whole.ensures.next)
       (ap g.M.Machine.refuses c.loop-chain.invariant.1) (λ texts. c.take.ensures.refused texts (search rules));
+  rules = c.take.ensures.rules ∙ c.loop-chain.invariant.1;
+}
+
+pub returns-in-Damaged : goal.returns-in-Damaged
+returns-in-Damaged g c = record {
+  replayed = found_at (g.M.Machine.stands_for c.args.machine.now) (g.M.Machine.stands_for c.loop-chain.machine) c.args.first.now c.args.bytes.now
+      c.loop-chain.chain c.loop-chain.rest.now c.args.size damaged c.loop-chain.invariant.0 c.requires (sym c.in-Damaged.ensures.next);
+  refused = tt;
+  rules = c.loop-chain.invariant.1;
+}
+
+pub returns-in-Err-NoMemory : goal.returns-in-Err-NoMemory
+returns-in-Err-NoMemory g c = record {
+  replayed = tt;
+  refused = tt;
   rules = c.take.ensures.rules ∙ c.loop-chain.invariant.1;
 }
