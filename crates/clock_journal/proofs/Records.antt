@@ -37,9 +37,9 @@ all_three a b c p q r = rw (p, q, r) refl
 pub is_marked_mark : (count : ℕ) (more : List ℕ) → 1 ≤ count → count ≤ most_text → is_marked (mark count ++ more) ≡ true
 unfolding is_marked
 is_marked_mark count more least most =
-    let told_is = marked_length-mark count more (omega arith) in
-    let is_least : nat_le 1 (marked_length (mark count ++ more)) ≡ true = rw told_is (le_true 1 count least) in
-    let is_most : nat_le (marked_length (mark count ++ more)) most_text ≡ true = rw told_is (le_true count most_text most) in
+    let length_is = marked_length-mark count more (omega arith) in
+    let is_least : nat_le 1 (marked_length (mark count ++ more)) ≡ true = rw length_is (le_true 1 count least) in
+    let is_most : nat_le (marked_length (mark count ++ more)) most_text ≡ true = rw length_is (le_true count most_text most) in
     all_three _ _ _ (bytes_eq_same _ _ (twice count more)) is_least is_most
 
 -- ---- the four ways that next goes
@@ -99,14 +99,14 @@ marked_record chain text more fits =
 -- a record reads as its text, whatever follows
 pub next_record : (chain text more : List ℕ) → Fits text → next chain (record_of chain text ++ more) ≡ whole text
 next_record chain text more fits =
-    let told_is = marked_length-record chain text more fits in
+    let length_is = marked_length-record chain text more fits in
     let all = length-append (record_of chain text) more in
     let size = length-record chain text in
     let judged_is = judged_right chain (record_of chain text ++ more) text
     (digest_part (length text) (link chain text) text more (length-link chain text))
     (ap (take (length text)) (text_part (length text) (link chain text) text more (length-link chain text)) ∙ take_at text more (length text) refl) in
     next_judged chain (record_of chain text ++ more) (omega arith) (marked_record chain text more fits) (omega arith)
-    ∙ (ap (checked_text chain (record_of chain text ++ more)) told_is ∙ judged_is)
+    ∙ (ap (checked_text chain (record_of chain text ++ more)) length_is ∙ judged_is)
 
 -- ---- a record that is cut
 
@@ -120,7 +120,7 @@ cut_behind_mark chain text n fits short =
     let inner = link chain text ++ text in
     let front = front_of_mark (length text) n inner in
     let size = length-take-le (mark_length + n) (record_of chain text) (omega (arith, length-record chain text)) in
-    let told_is : marked_length (take (mark_length + n) (record_of chain text)) ≡ length text =
+    let length_is : marked_length (take (mark_length + n) (record_of chain text)) ≡ length text =
     ap marked_length front ∙ marked_length-mark (length text) (take n inner) (omega (arith, fits.most)) in
     let marked : is_marked (take (mark_length + n) (record_of chain text)) ≡ true =
     ap is_marked front ∙ is_marked_mark (length text) (take n inner) fits.least fits.most in

@@ -3,7 +3,7 @@ ghost use Rattle.clock_device.specs.Streams.{WritesText};
 ghost use Rattle.clock_journal.specs.Disks.{MayBeLeft};
 ghost use Rattle.clock_journal.specs.Format.{Fits, link, record_of};
 ghost use Rattle.clock_journal.specs.Crash.{LeavesTexts};
-ghost use Rattle.clock_journal.specs.Kept.{HasTexts, Keeps};
+ghost use Rattle.clock_journal.specs.Kept.{HasTexts};
 ghost use Rattle.clock_journal.specs.Recovering.{IsPlaced};
 
 use crate::durable::Durable;
