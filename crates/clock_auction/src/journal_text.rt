@@ -2,14 +2,8 @@
 use crate::digests::digits_of;
 use clock_commands::Fault;
 use clock_device::{NoMemory, Text};
-use clock_journal::{Link, Machine, Untaken, link_of, recover};
+use clock_journal::{BEFORE_TEXT, HEAD_LENGTH, Link, Machine, Untaken, link_of, recover};
 use std::alloc::Global;
-
-/// How many bytes a head has.
-const HEAD: u64 = 56;
-
-/// How many bytes of a record stand before its text.
-const FRONT: u64 = 40;
 
 /// The text of a listing so far, and where the next record stands.
 #[derive(Drop)]
@@ -51,7 +45,8 @@ impl Listing {
         self.text.push(b'\n')?;
         self.text.extend_from_slice(text)?;
         self.text.push(b'\n')?;
-        self.place = self.place.saturating_add(FRONT).saturating_add(size);
+        let length = size.saturating_add(BEFORE_TEXT as u64);
+        self.place = self.place.saturating_add(length);
         Ok(())
     }
 
@@ -82,7 +77,7 @@ pub fn listing_of(alloc: Global, first: Link, bytes: &[u8]) -> Result<Listing, F
         text: setup_line(alloc, &first)?,
         chain: first,
         texts: 0,
-        place: HEAD,
+        place: HEAD_LENGTH as u64,
     };
     match recover(&mut listing, &first, bytes) {
         Ok(_) => Ok(listing),

@@ -5,9 +5,9 @@ use Rattle.std.specs.Int.{w32, from_be_bytes}
 use Rattle.std.proofs.lemmas.List.{append_assoc, take_all, take-append-drop, take-take, drop-take, length-take-le, length-take, take_at, drop_at}
 use Rattle.std.proofs.Math.Seq.{take-append-add}
 use Rattle.std.proofs.lemmas.Bool.{cases_lt}
-use Rattle.clock_journal.specs.Format.{head, link, records, last_link, most_text}
+use Rattle.clock_journal.specs.Format.{before_text, mark_length, head, link, records, last_link, most_text}
 use Rattle.clock_journal.specs.Kept.{file_of}
-use Rattle.clock_journal.specs.Reading.{Next, ended, torn, damaged, whole, told, is_marked, next, Reads, Ends}
+use Rattle.clock_journal.specs.Reading.{Next, ended, torn, damaged, whole, marked_length, is_marked, next, Reads, Ends}
 use Rattle.clock_journal.specs.Crash.{ReadsSome, LeavesTexts}
 use Rattle.clock_journal.specs.Recovering.{IsHeaded}
 use Rattle.clock_journal.specs.Laws.{CutLeaves}
@@ -15,6 +15,7 @@ use Rattle.clock_journal.specs.declared.recovered.Recovered.{Recovered}
 use Rattle.clock_journal.proofs.Records.{next_none, next_short, next_cut}
 use Rattle.clock_journal.proofs.Fronts.{reads_once, reads_records, ends_stop}
 use Rattle.clock_journal.proofs.Moments.{length-head}
+use Rattle.clock_journal.proofs.Tested.{less_where, lt_false, eq_where, eq_false}
 
 abbrev sieve : Bool → Bool → Bool → Bool → Bool → Bool → List ℕ → Next
 sieve empty few marked cut right last text =
@@ -39,54 +40,42 @@ sieved_ended false true false false true text e = cc
 sieved_ended false true false false false text e = cc
 sieved_ended false false cut right last text e = cc
 
-eq_false : (a b : ℕ) → b < a → (a == b) ≡ false
-eq_false a b l = grind arith
-
-lt_false : (a b : ℕ) → b ≤ a → nat_lt a b ≡ false
-lt_false a b l = grind arith
-
-less_where : (a b : ℕ) → nat_lt a b ≡ true → a < b
-less_where a b e = grind arith
-
-eq_where : (a b : ℕ) → (a == b) ≡ true → a ≡ b
-eq_where a b e = grind arith
-
 at_most : (a b : ℕ) → (nat_lt a b ≡ true) ⊎ ((a == b) ≡ true) → a ≤ b
 at_most a b (inl e) = let l = less_where a b e in omega (arith, l)
 at_most a b (inr e) = let same = eq_where a b e in omega (arith, same)
 
 -- what is torn behind its lengths is no longer than they tell
-torn_short : (chain bytes : List ℕ) → next chain bytes ≡ torn → 8 ≤ length bytes → (is_marked bytes ≡ true) × (length bytes ≤ 40 + told bytes)
+torn_short : (chain bytes : List ℕ) → next chain bytes ≡ torn → mark_length ≤ length bytes → (is_marked bytes ≡ true) × (length bytes ≤ before_text + marked_length bytes)
 unfolding next
 torn_short chain bytes is long =
-    let few = lt_false (length bytes) 8 long in
-    let parts = sieved_torn (length bytes == 0) (is_marked bytes) (nat_lt (length bytes) (40 + told bytes))
-    (bytes_eq (take 32 (drop 8 bytes)) (link chain (take (told bytes) (drop 40 bytes)))) (length bytes == 40 + told bytes) (take (told bytes) (drop 40 bytes))
-    (subst (λ (few_is : Bool). sieve (length bytes == 0) few_is (is_marked bytes) (nat_lt (length bytes) (40 + told bytes))
-    (bytes_eq (take 32 (drop 8 bytes)) (link chain (take (told bytes) (drop 40 bytes)))) (length bytes == 40 + told bytes) (take (told bytes) (drop 40 bytes)) ≡ torn) few is) in
-    (parts.0, at_most (length bytes) (40 + told bytes) parts.1)
+    let few = lt_false (length bytes) mark_length long in
+    let parts = sieved_torn (length bytes == 0) (is_marked bytes) (nat_lt (length bytes) (before_text + marked_length bytes))
+    (bytes_eq (take 32 (drop mark_length bytes)) (link chain (take (marked_length bytes) (drop before_text bytes)))) (length bytes == before_text + marked_length bytes) (take (marked_length bytes) (drop before_text bytes))
+    (subst (λ (few_is : Bool). sieve (length bytes == 0) few_is (is_marked bytes) (nat_lt (length bytes) (before_text + marked_length bytes))
+    (bytes_eq (take 32 (drop mark_length bytes)) (link chain (take (marked_length bytes) (drop before_text bytes)))) (length bytes == before_text + marked_length bytes) (take (marked_length bytes) (drop before_text bytes)) ≡ torn) few is) in
+    (parts.0, at_most (length bytes) (before_text + marked_length bytes) parts.1)
 
 some_left : (chain bytes : List ℕ) → next chain bytes ≡ ended → 0 < length bytes → ⊥
 unfolding next
 some_left chain bytes is some =
-    sieved_ended (nat_lt (length bytes) 8) (is_marked bytes) (nat_lt (length bytes) (40 + told bytes))
-    (bytes_eq (take 32 (drop 8 bytes)) (link chain (take (told bytes) (drop 40 bytes)))) (length bytes == 40 + told bytes) (take (told bytes) (drop 40 bytes))
-    (subst (λ (empty : Bool). sieve empty (nat_lt (length bytes) 8) (is_marked bytes) (nat_lt (length bytes) (40 + told bytes))
-    (bytes_eq (take 32 (drop 8 bytes)) (link chain (take (told bytes) (drop 40 bytes)))) (length bytes == 40 + told bytes) (take (told bytes) (drop 40 bytes)) ≡ ended)
+    sieved_ended (nat_lt (length bytes) mark_length) (is_marked bytes) (nat_lt (length bytes) (before_text + marked_length bytes))
+    (bytes_eq (take 32 (drop mark_length bytes)) (link chain (take (marked_length bytes) (drop before_text bytes)))) (length bytes == before_text + marked_length bytes) (take (marked_length bytes) (drop before_text bytes))
+    (subst (λ (empty : Bool). sieve empty (nat_lt (length bytes) mark_length) (is_marked bytes) (nat_lt (length bytes) (before_text + marked_length bytes))
+    (bytes_eq (take 32 (drop mark_length bytes)) (link chain (take (marked_length bytes) (drop before_text bytes)))) (length bytes == before_text + marked_length bytes) (take (marked_length bytes) (drop before_text bytes)) ≡ ended)
     (eq_false (length bytes) 0 some) is)
 
-told_same : (one other : List ℕ) → take 4 one ≡ take 4 other → told one ≡ told other
-unfolding told
-told_same one other same = ap (from_be_bytes w32) same
+marked_length-same : (one other : List ℕ) → take 4 one ≡ take 4 other → marked_length one ≡ marked_length other
+unfolding marked_length
+marked_length-same one other same = ap (from_be_bytes w32) same
 
-marked_same : (one other : List ℕ) → take 4 one ≡ take 4 other → take 4 (drop 4 one) ≡ take 4 (drop 4 other) → told one ≡ told other → is_marked one ≡ is_marked other
+marked_same : (one other : List ℕ) → take 4 one ≡ take 4 other → take 4 (drop 4 one) ≡ take 4 (drop 4 other) → marked_length one ≡ marked_length other → is_marked one ≡ is_marked other
 unfolding is_marked
 marked_same one other first second count =
-    ap (λ (b : List ℕ). bytes_eq b (take 4 (drop 4 one)) && (nat_le 1 (told one) && nat_le (told one) most_text)) first
-    ∙ (ap (λ (b : List ℕ). bytes_eq (take 4 other) b && (nat_le 1 (told one) && nat_le (told one) most_text)) second
+    ap (λ (b : List ℕ). bytes_eq b (take 4 (drop 4 one)) && (nat_le 1 (marked_length one) && nat_le (marked_length one) most_text)) first
+    ∙ (ap (λ (b : List ℕ). bytes_eq (take 4 other) b && (nat_le 1 (marked_length one) && nat_le (marked_length one) most_text)) second
     ∙ ap (λ (n : ℕ). bytes_eq (take 4 other) (take 4 (drop 4 other)) && (nat_le 1 n && nat_le n most_text)) count)
 
-front_behind_lengths : (chain rest : List ℕ) (n : ℕ) → next chain rest ≡ torn → n < length rest → 8 ≤ n → next chain (take n rest) ≡ torn
+front_behind_lengths : (chain rest : List ℕ) (n : ℕ) → next chain rest ≡ torn → n < length rest → mark_length ≤ n → next chain (take n rest) ≡ torn
 front_behind_lengths chain rest n is less many =
     let parts = torn_short chain rest is (omega (arith, less, many)) in
     let size = length-take-le n rest (omega (arith, less)) in
@@ -94,7 +83,7 @@ front_behind_lengths chain rest n is less many =
     let e : n ≡ 4 + (n - 4) = omega (arith, many) in
     let second : take 4 (drop 4 (take n rest)) ≡ take 4 (drop 4 rest) =
     ap (λ (k : ℕ). take 4 (drop 4 (take k rest))) e ∙ (ap (take 4) (drop-take 4 (n - 4) rest) ∙ take-take 4 (n - 4) (drop 4 rest) (omega (arith, many))) in
-    let count = told_same (take n rest) rest first in
+    let count = marked_length-same (take n rest) rest first in
     next_cut chain (take n rest) (omega (arith, size, many)) (marked_same (take n rest) rest first second count ∙ parts.0)
     (let most = parts.1 in omega (arith, size, less, count, most))
 
@@ -103,7 +92,7 @@ front_of_torn : (chain rest : List ℕ) (n : ℕ) → next chain rest ≡ torn �
 front_of_torn chain rest n is less =
     let size = length-take-le n rest (omega (arith, less)) in
     elim (cases_lt 0 n) [
-      | inl some ↦ elim (cases_lt n 8) [
+      | inl some ↦ elim (cases_lt n mark_length) [
         | inl few ↦ inr (next_short chain (take n rest) (omega (arith, size, some)) (omega (arith, size, few)))
         | inr many ↦ inr (front_behind_lengths chain rest n is less many)
       ]
@@ -135,10 +124,9 @@ leaves_front digest bytes texts read least recovered left count leaves headed en
     ∙ take-append-add (file_of digest read) (drop recovered.end bytes) (count - recovered.end))) in
     let parts : left ≡ head digest ++ (records digest read ++ take (count - recovered.end) (drop recovered.end bytes)) =
     front ∙ append_assoc (head digest) (records digest read) (take (count - recovered.end) (drop recovered.end bytes)) in
-    let size = length-head digest in
-    let behind : drop (24 + length digest) bytes ≡ records digest read ++ drop recovered.end bytes =
-    ap (drop (24 + length digest)) (all ∙ append_assoc (head digest) (records digest read) (drop recovered.end bytes))
-    ∙ drop_at (head digest) (records digest read ++ drop recovered.end bytes) (24 + length digest) size in
+    let behind : drop (length (head digest)) bytes ≡ records digest read ++ drop recovered.end bytes =
+    ap (drop (length (head digest))) (all ∙ append_assoc (head digest) (records digest read) (drop recovered.end bytes))
+    ∙ drop_at (head digest) (records digest read ++ drop recovered.end bytes) (length (head digest)) refl in
     let some = leaves.reads in
     let same = reads_once digest (records digest read ++ drop recovered.end bytes) (take some.count texts) read some.rest (drop recovered.end bytes)
     (subst (λ (b : List ℕ). Reads digest b (take some.count texts) some.rest) behind some.reads) (ends_stop _ _ some.ends)
@@ -154,10 +142,10 @@ leaves_front digest bytes texts read least recovered left count leaves headed en
           (front_of_ends (last_link digest read) (drop recovered.end bytes) (count - recovered.end) headed.ends);
     } in
     record {
-      headed = ap (take (24 + length digest)) parts
-          ∙ take_at (head digest) (records digest read ++ take (count - recovered.end) (drop recovered.end bytes)) (24 + length digest) size;
+      headed = ap (take (length (head digest))) parts
+          ∙ take_at (head digest) (records digest read ++ take (count - recovered.end) (drop recovered.end bytes)) (length (head digest)) refl;
       reads = subst (λ (b : List ℕ). ReadsSome digest b texts least)
-          (sym (ap (drop (24 + length digest)) parts ∙ drop_at (head digest) (records digest read ++ take (count - recovered.end) (drop recovered.end bytes)) (24 + length digest) size))
+          (sym (ap (drop (length (head digest))) parts ∙ drop_at (head digest) (records digest read ++ take (count - recovered.end) (drop recovered.end bytes)) (length (head digest)) refl))
           some_front;
     }
 
@@ -170,7 +158,7 @@ cut_leaves digest bytes texts read least recovered left long leaves (inl headed)
     leaves_front digest bytes texts read least recovered left may.0 leaves headed (far_enough recovered.end may.0 (length bytes) headed.within may.1) may.2
 cut_leaves digest bytes texts read least recovered left long leaves (inr begun) may =
     let size = ap length leaves.headed in
-    let before = length-head digest in
-    let part = length-take (24 + length digest) bytes in
+    let before = length-head digest long in
+    let part = length-take (length (head digest)) bytes in
     let short = begun.short in
-    absurd (omega (arith, long, size, before, part, short))
+    absurd (omega (arith, size, before, part, short))

@@ -1,8 +1,8 @@
+pub mod Tested
 pub mod Records
 pub mod Fronts
-pub mod Writes
 pub mod Moments
-pub mod Recovery
+pub mod TakenOver
 pub mod Chains
 pub mod Whole
 pub mod Cuts

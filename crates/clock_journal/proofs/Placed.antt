@@ -12,9 +12,9 @@ pub placed_empty : (digest bytes : List ℕ) (texts : List (List ℕ)) (recovere
 placed_empty digest bytes texts recovered long nowhere (inl headed) =
     let same = ap length headed.file in
     let size = length-append (head digest) (records digest texts) in
-    let before = length-head digest in
+    let before = length-head digest long in
     let none : length (take recovered.end bytes) ≡ 0 = ap (λ (n : ℕ). length (take n bytes)) nowhere in
-    absurd (omega (arith, long, same, size, before, none))
+    absurd (omega (arith, same, size, before, none))
 placed_empty digest bytes texts recovered long nowhere (inr begun) = begun.none
 
 pub cut_is : (old mid new : Option (List ℕ)) (bytes : List ℕ) (place : ℕ) → mid ≡ old → old ≡ Some bytes → IsCut mid new place → new ≡ Some (take place bytes)

@@ -1,47 +1,35 @@
 -- What a record reads as, whole or cut.
-use Rattle.std.proofs.Common.{◌≡◌, ◌+◌, ◌-◌, ◌^◌, ◌<◌, ◌≤◌, inl, inr, ℕ, Bool, true, false, List, ◌++◌, length, take, drop, refl, ap, sym, ◌∙◌, subst, arith, length-append, bytes_eq, nat_le, nat_lt, ◌&&◌, ◌==◌}
+use Rattle.std.proofs.Common.{◌≡◌, ◌+◌, ◌-◌, ◌^◌, ◌<◌, ◌≤◌, inl, inr, ℕ, Bool, true, List, ◌++◌, length, take, drop, refl, ap, sym, ◌∙◌, subst, arith, length-append, bytes_eq, nat_le, ◌&&◌}
 use Rattle.std.proofs.lemmas.List.{take_at, drop_at, length-take-le, drop-drop, append_assoc}
 use Rattle.std.proofs.Math.Seq.{take-append-add}
 use Rattle.std.proofs.lemmas.Bool.{cases_lt}
-use Rattle.std.proofs.lemmas.Slice.Eq.{bytes_eq-Decides}
 use Rattle.std.proofs.lemmas.Nat.{from_be_bytes-to_be_bytes_4}
 use Rattle.sha2.proofs.Facts256.{length-sha256}
-use Rattle.clock_journal.specs.Format.{link, mark, record_of, most_text, Fits}
-use Rattle.clock_journal.specs.Reading.{ended, torn, whole, told, is_marked, judged, next, Ends}
+use Rattle.clock_journal.specs.Format.{before_text, mark_length, link, mark, record_of, most_text, Fits}
+use Rattle.clock_journal.specs.Reading.{ended, torn, whole, marked_length, is_marked, checked_text, next, Ends}
+use Rattle.clock_journal.proofs.Tested.{bytes_eq_same, lt_true, lt_false, le_true, eq_false}
 
 pub length-link : (chain text : List ℕ) → length (link chain text) ≡ 32
 unfolding link
 length-link chain text = length-sha256 (chain ++ text)
 
-pub length-mark : (count : ℕ) → length (mark count) ≡ 8
+pub length-mark : (count : ℕ) → length (mark count) ≡ mark_length
 unfolding mark
 length-mark count = refl
 
-pub length-record : (chain text : List ℕ) → length (record_of chain text) ≡ 40 + length text
+pub length-record : (chain text : List ℕ) → length (record_of chain text) ≡ before_text + length text
 length-record chain text =
     omega (arith, length-append (mark (length text)) (link chain text ++ text), length-append (link chain text) text, length-mark (length text), length-link chain text)
 
 -- the length stands in the first eight bytes
-pub told_mark : (count : ℕ) (more : List ℕ) → count < 2 ^ 32 → told (mark count ++ more) ≡ count
-unfolding told mark
-told_mark count more small = from_be_bytes-to_be_bytes_4 count small
+pub marked_length-mark : (count : ℕ) (more : List ℕ) → count < 2 ^ 32 → marked_length (mark count ++ more) ≡ count
+unfolding marked_length mark
+marked_length-mark count more small = from_be_bytes-to_be_bytes_4 count small
 
--- it is told twice
+-- it is marked_length twice
 twice : (count : ℕ) (more : List ℕ) → take 4 (mark count ++ more) ≡ take 4 (drop 4 (mark count ++ more))
 unfolding mark
 twice count more = refl
-
-bytes_eq_same : (xs ys : List ℕ) → xs ≡ ys → bytes_eq xs ys ≡ true
-bytes_eq_same xs ys same = grind (arith, bytes_eq-Decides xs ys)
-
-le_true : (a b : ℕ) → a ≤ b → nat_le a b ≡ true
-le_true a b l = grind arith
-
-lt_true : (a b : ℕ) → a < b → nat_lt a b ≡ true
-lt_true a b l = grind arith
-
-lt_false : (a b : ℕ) → b ≤ a → nat_lt a b ≡ false
-lt_false a b l = grind arith
 
 all_three : (a b c : Bool) → a ≡ true → b ≡ true → c ≡ true → (a && (b && c)) ≡ true
 all_three a b c p q r = rw (p, q, r) refl
@@ -49,9 +37,9 @@ all_three a b c p q r = rw (p, q, r) refl
 pub is_marked_mark : (count : ℕ) (more : List ℕ) → 1 ≤ count → count ≤ most_text → is_marked (mark count ++ more) ≡ true
 unfolding is_marked
 is_marked_mark count more least most =
-    let told_is = told_mark count more (omega arith) in
-    let is_least : nat_le 1 (told (mark count ++ more)) ≡ true = rw told_is (le_true 1 count least) in
-    let is_most : nat_le (told (mark count ++ more)) most_text ≡ true = rw told_is (le_true count most_text most) in
+    let length_is = marked_length-mark count more (omega arith) in
+    let is_least : nat_le 1 (marked_length (mark count ++ more)) ≡ true = rw length_is (le_true 1 count least) in
+    let is_most : nat_le (marked_length (mark count ++ more)) most_text ≡ true = rw length_is (le_true count most_text most) in
     all_three _ _ _ (bytes_eq_same _ _ (twice count more)) is_least is_most
 
 -- ---- the four ways that next goes
@@ -60,51 +48,48 @@ pub next_none : (chain bytes : List ℕ) → length bytes ≡ 0 → next chain b
 unfolding next
 next_none chain bytes none = rw none refl
 
-eq_false : (a b : ℕ) → b < a → (a == b) ≡ false
-eq_false a b l = grind arith
-
-pub next_short : (chain bytes : List ℕ) → 0 < length bytes → length bytes < 8 → next chain bytes ≡ torn
+pub next_short : (chain bytes : List ℕ) → 0 < length bytes → length bytes < mark_length → next chain bytes ≡ torn
 unfolding next
 next_short chain bytes some short = rw (eq_false _ _ some, lt_true _ _ short) refl
 
-pub next_cut : (chain bytes : List ℕ) → 8 ≤ length bytes → is_marked bytes ≡ true → length bytes < 40 + told bytes → next chain bytes ≡ torn
+pub next_cut : (chain bytes : List ℕ) → mark_length ≤ length bytes → is_marked bytes ≡ true → length bytes < before_text + marked_length bytes → next chain bytes ≡ torn
 unfolding next
-next_cut chain bytes some marked short = rw (eq_false (length bytes) 0 (omega arith), lt_false (length bytes) 8 some, marked, lt_true _ _ short) refl
+next_cut chain bytes some marked short = rw (eq_false (length bytes) 0 (omega arith), lt_false (length bytes) mark_length some, marked, lt_true _ _ short) refl
 
-next_judged : (chain bytes : List ℕ) → 8 ≤ length bytes → is_marked bytes ≡ true → 40 + told bytes ≤ length bytes
-    → next chain bytes ≡ judged chain bytes (told bytes)
+next_judged : (chain bytes : List ℕ) → mark_length ≤ length bytes → is_marked bytes ≡ true → before_text + marked_length bytes ≤ length bytes
+    → next chain bytes ≡ checked_text chain bytes (marked_length bytes)
 unfolding next
-next_judged chain bytes some marked enough = rw (eq_false (length bytes) 0 (omega arith), lt_false (length bytes) 8 some, marked, lt_false _ _ enough) refl
+next_judged chain bytes some marked enough = rw (eq_false (length bytes) 0 (omega arith), lt_false (length bytes) mark_length some, marked, lt_false _ _ enough) refl
 
 -- ---- a whole record
 
 -- the parts of a record
-pub behind_mark : (count : ℕ) (inner more : List ℕ) → drop 8 ((mark count ++ inner) ++ more) ≡ inner ++ more
+pub behind_mark : (count : ℕ) (inner more : List ℕ) → drop mark_length ((mark count ++ inner) ++ more) ≡ inner ++ more
 behind_mark count inner more =
-    ap (drop 8) (append_assoc (mark count) inner more) ∙ drop_at (mark count) (inner ++ more) 8 (length-mark count)
+    ap (drop mark_length) (append_assoc (mark count) inner more) ∙ drop_at (mark count) (inner ++ more) mark_length (length-mark count)
 
-digest_part : (count : ℕ) (digest text more : List ℕ) → length digest ≡ 32 → take 32 (drop 8 ((mark count ++ (digest ++ text)) ++ more)) ≡ digest
+digest_part : (count : ℕ) (digest text more : List ℕ) → length digest ≡ 32 → take 32 (drop mark_length ((mark count ++ (digest ++ text)) ++ more)) ≡ digest
 digest_part count digest text more size =
     ap (take 32) (behind_mark count (digest ++ text) more) ∙ (ap (take 32) (append_assoc digest text more) ∙ take_at digest (text ++ more) 32 size)
 
-text_part : (count : ℕ) (digest text more : List ℕ) → length digest ≡ 32 → drop 40 ((mark count ++ (digest ++ text)) ++ more) ≡ text ++ more
+text_part : (count : ℕ) (digest text more : List ℕ) → length digest ≡ 32 → drop before_text ((mark count ++ (digest ++ text)) ++ more) ≡ text ++ more
 text_part count digest text more size =
-    sym (drop-drop 32 8 ((mark count ++ (digest ++ text)) ++ more))
+    sym (drop-drop 32 mark_length ((mark count ++ (digest ++ text)) ++ more))
     ∙ (ap (drop 32) (behind_mark count (digest ++ text) more) ∙ (ap (drop 32) (append_assoc digest text more) ∙ drop_at digest (text ++ more) 32 size))
 
-pub behind_record : (chain text more : List ℕ) → drop (40 + length text) (record_of chain text ++ more) ≡ more
-behind_record chain text more = drop_at (record_of chain text) more (40 + length text) (length-record chain text)
+pub behind_record : (chain text more : List ℕ) → drop (before_text + length text) (record_of chain text ++ more) ≡ more
+behind_record chain text more = drop_at (record_of chain text) more (before_text + length text) (length-record chain text)
 
-judged_right : (chain bytes text : List ℕ) → take 32 (drop 8 bytes) ≡ link chain text → take (length text) (drop 40 bytes) ≡ text
-    → judged chain bytes (length text) ≡ whole text
+judged_right : (chain bytes text : List ℕ) → take 32 (drop mark_length bytes) ≡ link chain text → take (length text) (drop before_text bytes) ≡ text
+    → checked_text chain bytes (length text) ≡ whole text
 judged_right chain bytes text digest same =
-    let right : bytes_eq (take 32 (drop 8 bytes)) (link chain (take (length text) (drop 40 bytes))) ≡ true =
+    let right : bytes_eq (take 32 (drop mark_length bytes)) (link chain (take (length text) (drop before_text bytes))) ≡ true =
     bytes_eq_same _ _ (digest ∙ ap (link chain) (sym same)) in
     rw right (ap whole same)
 
-pub told_record : (chain text more : List ℕ) → Fits text → told (record_of chain text ++ more) ≡ length text
-told_record chain text more fits =
-    ap told (append_assoc (mark (length text)) (link chain text ++ text) more) ∙ told_mark (length text) ((link chain text ++ text) ++ more) (omega (arith, fits.most))
+pub marked_length-record : (chain text more : List ℕ) → Fits text → marked_length (record_of chain text ++ more) ≡ length text
+marked_length-record chain text more fits =
+    ap marked_length (append_assoc (mark (length text)) (link chain text ++ text) more) ∙ marked_length-mark (length text) ((link chain text ++ text) ++ more) (omega (arith, fits.most))
 
 pub marked_record : (chain text more : List ℕ) → Fits text → is_marked (record_of chain text ++ more) ≡ true
 marked_record chain text more fits =
@@ -114,42 +99,42 @@ marked_record chain text more fits =
 -- a record reads as its text, whatever follows
 pub next_record : (chain text more : List ℕ) → Fits text → next chain (record_of chain text ++ more) ≡ whole text
 next_record chain text more fits =
-    let told_is = told_record chain text more fits in
+    let length_is = marked_length-record chain text more fits in
     let all = length-append (record_of chain text) more in
     let size = length-record chain text in
     let judged_is = judged_right chain (record_of chain text ++ more) text
     (digest_part (length text) (link chain text) text more (length-link chain text))
     (ap (take (length text)) (text_part (length text) (link chain text) text more (length-link chain text)) ∙ take_at text more (length text) refl) in
     next_judged chain (record_of chain text ++ more) (omega arith) (marked_record chain text more fits) (omega arith)
-    ∙ (ap (judged chain (record_of chain text ++ more)) told_is ∙ judged_is)
+    ∙ (ap (checked_text chain (record_of chain text ++ more)) length_is ∙ judged_is)
 
 -- ---- a record that is cut
 
-front_of_mark : (count n : ℕ) (inner : List ℕ) → take (8 + n) (mark count ++ inner) ≡ mark count ++ take n inner
+front_of_mark : (count n : ℕ) (inner : List ℕ) → take (mark_length + n) (mark count ++ inner) ≡ mark count ++ take n inner
 front_of_mark count n inner =
     ap (λ (k : ℕ). take (k + n) (mark count ++ inner)) (sym (length-mark count)) ∙ take-append-add (mark count) inner n
 
 -- behind the lengths it is known how much is missing
-cut_behind_mark : (chain text : List ℕ) (n : ℕ) → Fits text → 8 + n < 40 + length text → next chain (take (8 + n) (record_of chain text)) ≡ torn
+cut_behind_mark : (chain text : List ℕ) (n : ℕ) → Fits text → mark_length + n < before_text + length text → next chain (take (mark_length + n) (record_of chain text)) ≡ torn
 cut_behind_mark chain text n fits short =
     let inner = link chain text ++ text in
     let front = front_of_mark (length text) n inner in
-    let size = length-take-le (8 + n) (record_of chain text) (omega (arith, length-record chain text)) in
-    let told_is : told (take (8 + n) (record_of chain text)) ≡ length text =
-    ap told front ∙ told_mark (length text) (take n inner) (omega (arith, fits.most)) in
-    let marked : is_marked (take (8 + n) (record_of chain text)) ≡ true =
+    let size = length-take-le (mark_length + n) (record_of chain text) (omega (arith, length-record chain text)) in
+    let length_is : marked_length (take (mark_length + n) (record_of chain text)) ≡ length text =
+    ap marked_length front ∙ marked_length-mark (length text) (take n inner) (omega (arith, fits.most)) in
+    let marked : is_marked (take (mark_length + n) (record_of chain text)) ≡ true =
     ap is_marked front ∙ is_marked_mark (length text) (take n inner) fits.least fits.most in
-    next_cut chain (take (8 + n) (record_of chain text)) (omega arith) marked (omega arith)
+    next_cut chain (take (mark_length + n) (record_of chain text)) (omega arith) marked (omega arith)
 
 -- a front of a record is torn, or nothing
-pub next_front : (chain text : List ℕ) (n : ℕ) → Fits text → n < 40 + length text → Ends chain (take n (record_of chain text))
+pub next_front : (chain text : List ℕ) (n : ℕ) → Fits text → n < before_text + length text → Ends chain (take n (record_of chain text))
 next_front chain text n fits short =
     let size = length-take-le n (record_of chain text) (omega (arith, length-record chain text)) in
     elim (cases_lt 0 n) [
-      | inl some ↦ elim (cases_lt n 8) [
+      | inl some ↦ elim (cases_lt n mark_length) [
         | inl few ↦ inr (next_short chain (take n (record_of chain text)) (omega arith) (omega arith))
-        | inr many ↦ inr (let e : 8 + (n - 8) ≡ n = omega arith in
-            subst (λ (k : ℕ). next chain (take k (record_of chain text)) ≡ torn) e (cut_behind_mark chain text (n - 8) fits (omega arith)))
+        | inr many ↦ inr (let e : mark_length + (n - mark_length) ≡ n = omega arith in
+            subst (λ (k : ℕ). next chain (take k (record_of chain text)) ≡ torn) e (cut_behind_mark chain text (n - mark_length) fits (omega arith)))
       ]
       | inr none ↦ inl (next_none chain (take n (record_of chain text)) (omega arith))
     ]

@@ -1,7 +1,6 @@
 pub mod Format
 pub mod Reading
 pub mod Crash
-pub mod Shown
 pub mod Disks
 pub mod Kept
 pub mod Headings

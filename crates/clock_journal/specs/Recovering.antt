@@ -8,7 +8,7 @@
 --     IsRefusedAt refuses old first bytes size place      whatever the machine stood for, the text at this place is none for it
 --     IsRefusedRightly refuses old first bytes size fault      a text that is told as refused is refused
 use Rattle.std.specs.Prelude.{◌≡◌, ◌⊎◌, ◌<◌, ◌≤◌, ◌+◌, ℕ, List, [], length, take, drop}
-use Rattle.clock_journal.specs.Format.{head, last_link, AllFit}
+use Rattle.clock_journal.specs.Format.{head, head_length, last_link, AllFit}
 use Rattle.clock_journal.specs.Kept.{file_of}
 use Rattle.clock_journal.specs.Headings.{heading, headed, of_another, unknown}
 use Rattle.clock_journal.specs.Reading.{Reads, Ends, Next, next, damaged, whole, onto}
@@ -42,7 +42,7 @@ pub record IsHeaded (digest bytes : List ℕ) (texts : List (List ℕ)) (recover
 -- the file is less than a head, and is to be begun anew
 pub record IsBegun (digest bytes : List ℕ) (texts : List (List ℕ)) (recovered : Recovered) : Type 0 where
   pub none : texts ≡ []
-  pub short : length bytes < 56
+  pub short : length bytes < head_length
   pub front : bytes ≡ take (length bytes) (head digest)
   pub chain_is : recovered.chain ≡ digest
   pub end_is : recovered.end ≡ 0
@@ -68,9 +68,9 @@ abbrev pub IsRefusal : List ℕ → List ℕ → JournalFault → Type 0
 IsRefusal digest bytes fault.Unknown = heading digest bytes ≡ unknown
 IsRefusal digest bytes fault.Setup = heading digest bytes ≡ of_another
 IsRefusal digest bytes (fault.Damaged place) =
-    (heading digest bytes ≡ headed (drop 56 bytes)) × IsFoundAt digest (drop 56 bytes) (length bytes) place damaged
+    (heading digest bytes ≡ headed (drop head_length bytes)) × IsFoundAt digest (drop head_length bytes) (length bytes) place damaged
 IsRefusal digest bytes (fault.Refused place) =
-    (heading digest bytes ≡ headed (drop 56 bytes)) × ((text : List ℕ) × IsFoundAt digest (drop 56 bytes) (length bytes) place (whole text))
+    (heading digest bytes ≡ headed (drop head_length bytes)) × ((text : List ℕ) × IsFoundAt digest (drop head_length bytes) (length bytes) place (whole text))
 IsRefusal digest bytes fault.NoMemory = Unit {0}
 
 -- all before the place reads as texts, and there stands one that the machine refuses after them, whatever it stood for before

@@ -41,23 +41,19 @@ impl<F: Write + OpenFile> Durable for FileDisk<F> {
     ghost has_failed = { λ disk. disk };
 
     fn append(&mut self, bytes: &[u8]) -> Result<(), Failed> {
-        match self.file.write_all(bytes) {
-            Ok(()) => Ok(()),
-            Err(_) => {
-                self.has_failed = true;
-                Err(Failed)
-            }
+        if self.file.write_all(bytes).is_err() {
+            self.has_failed = true;
+            return Err(Failed);
         }
+        Ok(())
     }
 
     fn sync(&mut self) -> Result<(), Failed> {
-        match self.file.sync_data() {
-            Ok(()) => Ok(()),
-            Err(_) => {
-                self.has_failed = true;
-                Err(Failed)
-            }
+        if self.file.sync_data().is_err() {
+            self.has_failed = true;
+            return Err(Failed);
         }
+        Ok(())
     }
 
     fn cut(&mut self, place: usize) -> Result<(), Failed> {

@@ -1,14 +1,15 @@
-ghost use Rattle.std.specs.Prelude.{◌≡◌, ◌++◌, ◌||◌, [], ◌∷◌, ◌≤◌, List, ℕ, OnOk, IfOk, Some, false, is_err, length};
+ghost use Rattle.std.specs.Prelude.{◌≡◌, ◌++◌, ◌||◌, [], ◌∷◌, List, ℕ, OnOk, IfOk, Some, false, is_err, length};
 ghost use Rattle.clock_device.specs.Streams.{WritesText};
 ghost use Rattle.clock_journal.specs.Disks.{MayBeLeft};
-ghost use Rattle.clock_journal.specs.Format.{Fits, mark, link, record_of, most_text};
+ghost use Rattle.clock_journal.specs.Format.{Fits, link, record_of};
 ghost use Rattle.clock_journal.specs.Crash.{LeavesTexts};
-ghost use Rattle.clock_journal.specs.Kept.{HasTexts, Keeps};
+ghost use Rattle.clock_journal.specs.Kept.{HasTexts};
 ghost use Rattle.clock_journal.specs.Recovering.{IsPlaced};
 
 use crate::durable::Durable;
-use crate::headings::head_of;
+use crate::heading::head_of;
 use crate::link::{Link, link_of};
+use crate::record::front_of;
 use crate::recovered::Recovered;
 use clock_device::Failed;
 use std::marker::Model;
@@ -36,32 +37,6 @@ impl<D: Durable> Model for Journal<D> {
     } };
 }
 
-/// What stands before a text in its record.
-#[tactic(auto, unfolding(crate::specs::Format::mark))]
-fn front_of(count: usize, digest: &Link) -> [u8; 40]
-    requires { count ≤ most_text }
-    ensures { result ≡ mark count ++ digest.now }
-{
-    let told = (count as u32).to_be_bytes();
-    let mut front = [0; 40];
-    front[..4].copy_from_slice(&told);
-    front[4..8].copy_from_slice(&told);
-    front[8..].copy_from_slice(digest);
-    front
-}
-
-/// Adds the one and then the other, or a front of both where it fails.
-fn append_both<D: Durable>(disk: &mut D, one: &[u8], other: &[u8]) -> Result<(), Failed>
-    ensures written { WritesText (D.written disk.old) (D.written disk.new) (one.now ++ other.now) result }
-    ensures synced { D.synced disk.new ≡ D.synced disk.old }
-    ensures failed { D.has_failed disk.new ≡ (D.has_failed disk.old || is_err result) }
-{
-    match disk.append(one) {
-        Ok(()) => disk.append(other),
-        Err(failed) => Err(failed),
-    }
-}
-
 /// Adds the record of a text, or a front of it where it fails.
 fn append_record<D: Durable>(disk: &mut D, chain: &Link, text: &[u8]) -> Result<Link, Failed>
     requires { Fits text.now }
@@ -72,31 +47,9 @@ fn append_record<D: Durable>(disk: &mut D, chain: &Link, text: &[u8]) -> Result<
 {
     let digest = link_of(chain, text);
     let front = front_of(text.len(), &digest);
-    append_both(disk, &front, text)?;
+    disk.append(&front)?;
+    disk.append(text)?;
     Ok(digest)
-}
-
-/// Adds the record of a text, and puts it on the disk.
-fn append_synced<D: Durable>(disk: &mut D, chain: &mut Link, text: &[u8]) -> Result<(), Failed>
-    requires fits { Fits text.now }
-    requires unfailed { D.has_failed disk.old ≡ false }
-    ensures kept { (digest : List ℕ) (texts : List (List ℕ))
-        → Keeps digest texts (D.written disk.old) (D.synced disk.old) chain.old
-        → OnOk result (Keeps digest (texts ++ text.now ∷ []) (D.written disk.new) (D.synced disk.new) chain.new) }
-    ensures any_moment { (digest : List ℕ) (texts : List (List ℕ))
-        → Keeps digest texts (D.written disk.old) (D.synced disk.old) chain.old
-        → (left : List ℕ) → MayBeLeft (D.synced disk.old) (D.written disk.new) left
-        → LeavesTexts digest left (texts ++ text.now ∷ []) (length texts) }
-    ensures link { OnOk result (chain.new ≡ link chain.old text.now) }
-    ensures failed { D.has_failed disk.new ≡ is_err result }
-{
-    match append_record(disk, chain, text) {
-        Ok(digest) => {
-            *chain = digest;
-            disk.sync()
-        }
-        Err(failed) => Err(failed),
-    }
 }
 
 impl<D: Durable> Journal<D> {
@@ -153,7 +106,13 @@ impl<D: Durable> Journal<D> {
         ensures link { OnOk result (self.new.chain ≡ link self.old.chain text.now) }
         ensures failed { self.new.has_failed ≡ is_err result }
     {
-        append_synced(&mut self.disk, &mut self.chain, text)
+        match append_record(&mut self.disk, &self.chain, text) {
+            Ok(digest) => {
+                self.chain = digest;
+                self.disk.sync()
+            }
+            Err(failed) => Err(failed),
+        }
     }
 
     /// The digest of its last text, or of the set-up document: it stands for all texts.

@@ -5,23 +5,19 @@ mod durable;
 mod fault;
 mod file_disk;
 mod heading;
-mod headings;
 mod journal;
 mod laws;
 mod link;
 mod machine;
 mod memory_disk;
-mod next;
-mod reading;
+mod record;
 mod recovered;
-mod recovering;
-mod replaying;
+mod recovery;
 
 pub use durable::Durable;
 pub use fault::JournalFault;
 pub use file_disk::FileDisk;
-pub use heading::Heading;
-pub use headings::{head_of, heading_of};
+pub use heading::HEAD_LENGTH;
 pub use journal::Journal;
 pub use laws::{
     law_chain_binds, law_cut_leaves, law_every_front, law_read_back, law_whatever_follows,
@@ -29,7 +25,6 @@ pub use laws::{
 pub use link::{Link, digest_of, link_of};
 pub use machine::{Machine, Untaken};
 pub use memory_disk::MemoryDisk;
-pub use next::Next;
-pub use reading::{MOST_TEXT, next_record};
+pub use record::{BEFORE_TEXT, MOST_TEXT};
 pub use recovered::Recovered;
-pub use recovering::recover;
+pub use recovery::recover;

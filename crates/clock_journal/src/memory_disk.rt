@@ -72,16 +72,12 @@ impl Durable for MemoryDisk {
             return Err(Failed);
         }
         self.syncs -= 1;
-        match self.bytes.to_vec(self.alloc) {
-            Ok(copy) => {
-                self.synced = copy;
-                Ok(())
-            }
-            Err(_) => {
-                self.has_failed = true;
-                Err(Failed)
-            }
-        }
+        let Ok(copy) = self.bytes.to_vec(self.alloc) else {
+            self.has_failed = true;
+            return Err(Failed);
+        };
+        self.synced = copy;
+        Ok(())
     }
 
     fn cut(&mut self, place: usize) -> Result<(), Failed> {

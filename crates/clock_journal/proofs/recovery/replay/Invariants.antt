@@ -1,6 +1,6 @@
 use Rattle.std.proofs.Common.{◌≡◌, length}
 use Rattle.clock_journal.specs.inside.Replays.{IsOnWay}
-use Rattle.clock_journal.proofs.replaying.replay.Given as goal
+use Rattle.clock_journal.proofs.recovery.replay.Given as goal
 
 -- some texts were taken, and the rest is left
 abbrev pub invariant-loop-chain : goal.invariant-loop-chain

@@ -1,7 +1,8 @@
 use Rattle.std.proofs.Common.{◌≡◌, [], inr, length, drop, refl, sym, rules}
+use Rattle.clock_journal.specs.Format.{head_length}
 use Rattle.clock_journal.specs.Headings.{begun, headed, of_another, unknown}
-use Rattle.clock_journal.proofs.Recovery.{told_of_left, after_stop, of_replay, refused_of, begun_is, rest_within}
-use Rattle.clock_journal.proofs.recovering.recover.Goals as goal
+use Rattle.clock_journal.proofs.TakenOver.{told_of_left, after_stop, of_replay, refused_of, begun_is, rest_within}
+use Rattle.clock_journal.proofs.recovery.recover.Goals as goal
 
 pub returns-in-Begun : goal.returns-in-Begun
 returns-in-Begun g c = record {
@@ -32,7 +33,7 @@ returns-in-Headed g c = record {
   crash = λ texts least leaves.
       let size : length c.args.digest.now ≡ 32 = search rules in
       let e = told_of_left c.args.digest.now c.args.bytes.now texts least (headed c.in-Headed.rest.now) size leaves c.in-Headed.ensures in
-      let same : c.in-Headed.rest.now ≡ drop 56 c.args.bytes.now = cc in
+      let same : c.in-Headed.rest.now ≡ drop head_length c.args.bytes.now = cc in
       after_stop _ _ c.args.digest.now c.args.bytes.now c.in-Headed.rest.now texts least (length c.args.bytes.now) c.replay.result size leaves same c.replay.ensures.replayed;
 }
 
