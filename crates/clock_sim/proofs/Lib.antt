@@ -6,6 +6,7 @@ pub mod RoundLaws
 pub mod StepLaws
 mod SincereExamples
 pub mod PutLaws
+pub mod PutHeads
 pub mod SendLaws
 pub mod GroupLaws
 pub mod TurnLaws

@@ -83,7 +83,7 @@ kept_twice first second third one two = λ all.
 
 -- ---- what was written last
 
-piece_behind : (text whole more : List ℕ) (place : Place) → whole ≡ text ++ more → place.start ≡ length text → place.end ≡ length whole
+pub piece_behind : (text whole more : List ℕ) (place : Place) → whole ≡ text ++ more → place.start ≡ length text → place.end ≡ length whole
     → piece_at whole place ≡ more
 piece_behind text whole more place is start end =
     let count : length whole ≡ length text + length more = ap length is ∙ length-append text more in

@@ -1,9 +1,10 @@
 //! The requests of a group: their connections stand at once, all heads come before the first body.
 
-ghost use Rattle.std.specs.Prelude.{◌≡◌, ◌≤◌, ◌++◌, [], Some, true, false, nat_le, length, drop, IfOk, OnOk, OnErr};
+ghost use Rattle.std.specs.Prelude.{◌≡◌, ◌≤◌, ◌-◌, ◌++◌, [], Some, true, false, nat_le, length, drop, IfOk, OnOk, OnErr};
 ghost use Rattle.clock_http.specs.Framing.{needs_more};
 ghost use Rattle.clock_sim.specs.RequestTexts.{request_text};
-ghost use Rattle.clock_sim.specs.inside.Groups.{AreApart, ClosesNoRound, AreWritten, HasTextsOf, IsPlaceIn, IsWrittenIn, Keeps};
+ghost use Rattle.clock_sim.specs.inside.Groups.{AreApart, AwaitsBody, ClosesNoRound, AreWritten, HasHead, HasTextsOf, IsPlaceIn};
+ghost use Rattle.clock_sim.specs.inside.Groups.{IsWrittenIn, Keeps, is_awaited};
 ghost use Rattle.clock_sim.specs.inside.Groups.{StandFrom, Waits, Writes, after_group, piece_at, requests_in, text_at, with_request};
 ghost use Rattle.clock_sim.specs.inside.Steps.{IsGoing, MakesStep, MakesWay};
 
@@ -12,12 +13,15 @@ use crate::request_texts::push_head;
 use crate::sending::{send, send_body};
 use crate::sim_fault::SimFault;
 use clock_device::NoMemory;
-use clock_front::{Conn, Framing, Hub, HubFault, frame};
+use clock_front::{Conn, Hub, HubFault};
 use clock_processor::Processor;
 use std::alloc::Global;
 
 /// How many requests a group has at most.
 const MOST_WAITING: usize = 64;
+
+/// The most bytes of a body. A longer one is refused at its head.
+const MOST_BODY: usize = 1_048_576;
 
 /// Where a piece stands in a text.
 #[derive(Clone, Copy)]
@@ -60,13 +64,13 @@ fn piece_of<'a>(text: &'a [u8], place: &Place) -> &'a [u8]
     &text[place.start..place.end]
 }
 
-/// Whether a request needs its body. One whose body is too long does not: it is answered at its head.
-fn needs_body(head: &[u8]) -> bool
-    ensures { result ≡ needs_more head.now }
-{
-    match frame(head) {
-        Framing::NeedMore => true,
-        _ => false,
+impl Written {
+    /// Whether the body needs to come. Where it is too long it does not: the request is answered at its head.
+    fn needs_body(&self) -> bool
+        requires { self.now.body.start ≤ self.now.body.end }
+        ensures { result ≡ is_awaited (self.now.body.end - self.now.body.start) }
+    {
+        matches!(self.body.end - self.body.start, 1..=MOST_BODY)
     }
 }
 
@@ -108,8 +112,9 @@ impl Group {
         body: usize,
     ) -> Result<Written, NoMemory>
         requires { body ≤ length self.old.bodies.text.items }
-        ensures { IfOk result (Writes self.old self.new
+        ensures writes { IfOk result (Writes self.old self.new
             (request_text line.now token.now (drop body self.old.bodies.text.items))) }
+        ensures head { IfOk result (HasHead line.now token.now self.new) }
     {
         let end = self.bodies.text.len();
         let head = self.heads.len();
@@ -266,6 +271,7 @@ impl Group {
     ) -> Result<(), SimFault>
         requires group { Waits hub.old.connections self.old }
         requires within { IsWrittenIn self.old written }
+        requires awaits { AwaitsBody self.old written }
         requires closes { ClosesNoRound (text_at self.old written) }
         requires going { IsGoing hub.old.house }
         ensures group { OnOk result (Waits hub.new.connections self.new) }
@@ -274,7 +280,7 @@ impl Group {
             (with_request hub.old.house.setup (requests_in self.old) bidder round (text_at self.old written))
             (after_group hub.old.house.setup (requests_in self.new)) hub.old.house hub.new.house result }
     {
-        if !needs_body(self.head(&written)) {
+        if !written.needs_body() {
             return self.send_alone(hub, bidder, round, written);
         }
         self.join(hub, bidder, round, written)?;

@@ -1,14 +1,15 @@
 //! The requests of scripted bidders and of the operator.
 
-ghost use Rattle.std.specs.Prelude.{◌≡◌, ◌<◌, ◌-◌, false, length, IfOk, OnOk, Some, None, if◌then◌else◌};
+ghost use Rattle.std.specs.Prelude.{◌≡◌, ◌<◌, ◌≤◌, ◌-◌, false, length, drop, codes, IfOk, IfSome, OnOk, Some, None, if◌then◌else◌};
 ghost use Rattle.std.specs.Prelude.{option_copied, option_map, slice_index_or};
+ghost use Rattle.clock_terms.specs.Limits.{IsToken};
 ghost use Rattle.clock_house.specs.History.{bidder_at};
 ghost use Rattle.clock_house.specs.House.{standing_in, holding_in};
 ghost use Rattle.clock_sim.specs.ScriptedRequests as rules;
 ghost use Rattle.clock_replays.specs.Replays.{IsScript, IsLimits};
 ghost use Rattle.clock_sim.specs.Sincere.{sincere_sheet};
-ghost use Rattle.clock_sim.specs.RequestTexts.{put_text, close_text};
-ghost use Rattle.clock_sim.specs.inside.Groups.{Writes, WritesIf};
+ghost use Rattle.clock_sim.specs.RequestTexts.{request_text, put_text, close_text};
+ghost use Rattle.clock_sim.specs.inside.Groups.{AwaitsBody, Writes, WritesIf};
 ghost use Rattle.clock_sim.specs.inside.SincereSheets.{IsSincere, sheet_of as bids_of};
 
 use crate::groups::{Group, Written};
@@ -17,6 +18,7 @@ use crate::sincere::Sincere;
 use clock_bids::Bid;
 use clock_device::NoMemory;
 use clock_house::House;
+use clock_http::law_head_of_grammar;
 use clock_order::Tie;
 use clock_replays::{BidList, Closing, LimitLists, Script};
 use clock_terms::{Increments, Setup};
@@ -24,7 +26,8 @@ use clock_terms::{Increments, Setup};
 /// A bidder's token.
 fn token_of(setup: &Setup, bidder: u32) -> &[u8]
     requires { bidder < length setup.now.bidders }
-    ensures { result.now ≡ (bidder_at setup.now bidder).token }
+    ensures own { result.now ≡ (bidder_at setup.now bidder).token }
+    ensures limits { IsToken result.now }
 {
     setup.bidders.as_slice()[bidder as usize].token.as_slice()
 }
@@ -40,23 +43,41 @@ fn sheet_of(sheets: &[Option<BidList>], round: u64) -> Option<&BidList>
 }
 
 impl Group {
+    /// Writes the head of the request by which the holder of a token puts a sheet, whose body stands behind all others from
+    /// a place on.
+    fn end_put(&mut self, token: &[u8], body: usize) -> Result<Written, NoMemory>
+        requires body { body ≤ length self.old.bodies.text.items }
+        requires token { IsToken token.now }
+        ensures writes { IfOk result (Writes self.old self.new
+            (request_text (codes "PUT /v1/me/bids") token.now (drop body self.old.bodies.text.items))) }
+        ensures awaits { IfOk result (AwaitsBody self.new) }
+    {
+        law_head_of_grammar();
+        self.end_request(b"PUT /v1/me/bids", token, body)
+    }
+
     /// Writes the request by which the holder of a token puts the sheet of a sincere bidder.
     fn put_sincere(&mut self, token: &[u8], sheet: &Sincere<'_>) -> Result<Written, NoMemory>
-        requires { IsSincere sheet.now }
-        ensures { IfOk result (Writes self.old self.new (put_text token.now sheet.now.own.round (bids_of sheet.now))) }
+        requires token { IsToken token.now }
+        requires sheet { IsSincere sheet.now }
+        ensures writes { IfOk result (Writes self.old self.new
+            (put_text token.now sheet.now.own.round (bids_of sheet.now))) }
+        ensures awaits { IfOk result (AwaitsBody self.new) }
     {
         let start = self.begin_request();
         sheet.push(&mut self.bodies)?;
-        self.end_request(b"PUT /v1/me/bids", token, start)
+        self.end_put(token, start)
     }
 
     /// Writes the request by which the holder of a token puts a sheet of these bids.
     fn put_bids(&mut self, token: &[u8], round: u64, bids: &[Bid]) -> Result<Written, NoMemory>
-        ensures { IfOk result (Writes self.old self.new (put_text token.now round bids.now)) }
+        requires token { IsToken token.now }
+        ensures writes { IfOk result (Writes self.old self.new (put_text token.now round bids.now)) }
+        ensures awaits { IfOk result (AwaitsBody self.new) }
     {
         let start = self.begin_request();
         self.bodies.push_sheet(round, bids)?;
-        self.end_request(b"PUT /v1/me/bids", token, start)
+        self.end_put(token, start)
     }
 
     /// Writes the request by which the operator, whose token it is, closes a round.
@@ -84,10 +105,11 @@ impl Group {
         requires known { bidder < length house.now.setup.bidders }
         requires going { (standing_in house.now).ended ≡ false }
         requires limits { IsLimits house.now.setup.products limits.now }
-        ensures { IfOk result (Writes self.old self.new (put_text (bidder_at house.now.setup bidder).token
+        ensures writes { IfOk result (Writes self.old self.new (put_text (bidder_at house.now.setup bidder).token
             (standing_in house.now).round
             (sincere_sheet (standing_in house.now).round (standing_in house.now).prices
             (holding_in house.now bidder).demands limits.now))) }
+        ensures awaits { IfOk result (AwaitsBody self.new) }
     {
         house.law_of_house();
         let setup = house.setup();
@@ -106,8 +128,10 @@ impl Group {
         round: u64,
         sheets: &[Option<BidList>],
     ) -> Result<Option<Written>, NoMemory>
-        ensures { IfOk result (WritesIf self.old self.new
+        requires { IsToken token.now }
+        ensures writes { IfOk result (WritesIf self.old self.new
             (option_map (put_text token.now round) (slice_index_or sheets.now (round - 1) None))) }
+        ensures awaits { IfOk result (λ written. IfSome written (AwaitsBody self.new)) }
     {
         match sheet_of(sheets, round) {
             None => Ok(None),
@@ -129,8 +153,9 @@ impl Group {
         requires known { bidder < length house.now.setup.bidders }
         requires going { (standing_in house.now).ended ≡ false }
         requires script { IsScript house.now.setup.products script.now }
-        ensures { IfOk result (WritesIf self.old self.new
+        ensures writes { IfOk result (WritesIf self.old self.new
             (rules.scripted_put house.now.setup house.now.closed bidder script.now)) }
+        ensures awaits { IfOk result (λ written. IfSome written (AwaitsBody self.new)) }
     {
         match script {
             Script::Sincere(limits) => {

@@ -4,15 +4,18 @@
 --     IsWrittenIn group written, AreWritten group      the two pieces of a request stand in the texts; those of all that wait do
 --     HasTextsOf old group, Keeps old group      the texts are the same; the requests that wait are
 --     Writes old group text written, WritesIf old group text written      a request was written, if there is one
+--     HasHead line token group written      its head is that of a line, with a token
+--     is_awaited count, AwaitsBody group written      a body of so many bytes needs to come; its head needs it just where it does
 --     text_in one, after_group setup group texts      the text of a request, and the requests of a group, answered one after the other
 --     with_request setup group bidder round text texts, with_put setup group bidder script texts      and then one more of a bidder
 --     StandFrom place connections group text      from a place on, each connection stands with these bytes
 --     AreApart group      no two of the connections are one
 --     IsGroup connections group      the requests wait, each over a connection of its own, over which nothing has come yet
 --     Waits connections group      those of a group do
-use Rattle.std.specs.Prelude.{◌≡◌, ◌≤◌, ◌<◌, ◌-◌, ℕ, List, [], ◌∷◌, ◌++◌, true, length, map, take, drop, slice_index_or, Option, Some, None, Result, Ok, All}
+use Rattle.std.specs.Prelude.{◌≡◌, ◌≤◌, ◌<◌, ◌-◌, ◌&&◌, ℕ, Bool, List, [], ◌∷◌, ◌++◌, true, nat_le, length, map, take, drop, slice_index_or, Option, Some, None, Result, Ok, All}
 use Rattle.clock_terms.specs.Limits.{SetupFields}
 use Rattle.clock_terms.specs.Faults.{◌>>=◌}
+use Rattle.clock_http.specs.HeaderLines.{body_limit}
 use Rattle.clock_http.specs.Framing.{needs_more}
 use Rattle.clock_front.specs.Hubs.{ConnectionFields, text_of}
 use Rattle.clock_front.specs.declared.connections.Conn.{Conn}
@@ -22,6 +25,7 @@ use Rattle.clock_sim.specs.declared.groups.Waiting.{Waiting}
 use Rattle.clock_sim.specs.declared.groups.Group.{Group}
 use Rattle.clock_replays.specs.declared.script.Script.{Script}
 use Rattle.clock_sim.specs.declared.sim_fault.SimFault.{SimFault}
+use Rattle.clock_sim.specs.RequestTexts.{request_head}
 use Rattle.clock_sim.specs.Rehearsal.{rounds_after, after_request, after_put}
 
 -- the closed rounds are those before
@@ -87,6 +91,20 @@ pub record Writes (old group : Group) (text : List ℕ) (written : Written) : Ty
 abbrev pub WritesIf : Group → Group → Option (List ℕ) → Option Written → Type 0
 WritesIf old group text None = (text ≡ None) × Keeps old group
 WritesIf old group text (Some written) = (text ≡ Some (text_at group written)) × Writes old group (text_at group written) written
+
+-- its head is that of a line, with a token, before a body of so many bytes as its own
+abbrev pub HasHead : List ℕ → List ℕ → Group → Written → Type 0
+HasHead line token group written =
+    piece_at group.heads.items written.head ≡ request_head line token (written.body.end - written.body.start)
+
+-- behind its head a body of so many bytes needs to come: there is one, and it is not too long
+abbrev pub is_awaited : ℕ → Bool
+is_awaited count = nat_le 1 count && nat_le count body_limit
+
+-- the head of a request needs more just where its body needs to come
+abbrev pub AwaitsBody : Group → Written → Type 0
+AwaitsBody group written =
+    needs_more (piece_at group.heads.items written.head) ≡ is_awaited (written.body.end - written.body.start)
 
 -- the two pieces of a request
 abbrev pub text_in : Request → List ℕ

@@ -1,9 +1,10 @@
 use Rattle.std.proofs.Common.{List, Option, Ok, refl, sym, subst, subst₂, ◌∙◌}
+use Rattle.std.specs.Prelude.{IfSome}
 use Rattle.std.proofs.lemmas.Result.{err_from_is_err_and}
 use Rattle.clock_house.specs.House.{HouseFields}
 use Rattle.clock_sim.specs.declared.groups.Written.{Written}
 use Rattle.clock_sim.specs.ScriptedRequests.{scripted_put}
-use Rattle.clock_sim.specs.inside.Groups.{Request, WritesIf, after_group, requests_in, text_at, with_put, with_request}
+use Rattle.clock_sim.specs.inside.Groups.{AwaitsBody, Request, WritesIf, after_group, requests_in, text_at, with_put, with_request}
 use Rattle.clock_sim.specs.inside.Steps.{MakesWay}
 use Rattle.clock_sim.proofs.PutLaws.{scripted_closes_none}
 use Rattle.clock_sim.proofs.TurnLaws.{no_memory_way, none_put, put_waits}
@@ -21,8 +22,12 @@ pub take_turn-requires-clause-closes : goal.take_turn-requires-clause-closes
 take_turn-requires-clause-closes g c =
     let IsPut : HouseFields → Option Written → Type 0 =
     λ house. WritesIf c.args.group.now c.write_put.new.self (scripted_put house.setup house.closed c.args.bidder c.args.script.now) in
-    let put = subst₂ IsPut (c.house.ensures ∙ c.front.ensures) c.in-Some.is c.in_ok-written.ensures in
+    let put = subst₂ IsPut (c.house.ensures ∙ c.front.ensures) c.in-Some.is c.in_ok-written.ensures.writes in
     scripted_closes_none c.args.hub.now.house.setup c.args.hub.now.house.closed c.args.bidder c.args.script.now _ put.0
+
+pub take_turn-requires-clause-awaits : goal.take_turn-requires-clause-awaits
+take_turn-requires-clause-awaits g c =
+    subst (λ (written : Option Written). IfSome written (AwaitsBody c.write_put.new.self)) c.in-Some.is c.in_ok-written.ensures.awaits
 
 pub returns-in-Some-clause-way : goal.returns-in-Some-clause-way
 returns-in-Some-clause-way g c =
@@ -33,7 +38,7 @@ returns-in-Some-clause-way g c =
     let rest = after_group house.setup (requests_in c.take_turn.new.self) in
     let IsPut : HouseFields → Option Written → Type 0 =
     λ now. WritesIf group mid (scripted_put now.setup now.closed c.args.bidder c.args.script.now) in
-    let put = subst₂ IsPut (c.house.ensures ∙ c.front.ensures) c.in-Some.is c.in_ok-written.ensures in
+    let put = subst₂ IsPut (c.house.ensures ∙ c.front.ensures) c.in-Some.is c.in_ok-written.ensures.writes in
     let IsMade : List Request → Type 0 =
     λ requests. MakesWay (with_request house.setup requests c.args.bidder c.current_round-round.result text) rest house c.take_turn.new.hub.house
     c.take_turn.result in
@@ -48,7 +53,7 @@ returns-in-None-clause-way g c =
     let mid = c.write_put.new.self in
     let IsPut : HouseFields → Option Written → Type 0 =
     λ now. WritesIf group mid (scripted_put now.setup now.closed c.args.bidder c.args.script.now) in
-    let put = subst₂ IsPut (c.house.ensures ∙ c.front.ensures) c.in-None.is c.in_ok-written.ensures in
+    let put = subst₂ IsPut (c.house.ensures ∙ c.front.ensures) c.in-None.is c.in_ok-written.ensures.writes in
     let IsMade : List Request → Type 0 =
     λ requests. MakesWay {T = Unit {0}} (with_put house.setup (requests_in group) c.args.bidder c.args.script.now) (after_group house.setup requests) house house
     (Ok tt) in

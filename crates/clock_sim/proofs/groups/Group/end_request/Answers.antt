@@ -2,12 +2,13 @@ use Rattle.std.proofs.Common.{◌≡◌, ◌-◌, [], refl, sym, ap, arith, appe
 use Rattle.std.proofs.lemmas.List.{length-append}
 use Rattle.clock_sim.specs.RequestTexts.{request_head}
 use Rattle.clock_sim.specs.declared.groups.Group.{Group}
+use Rattle.clock_sim.specs.declared.groups.Place.{Place}
 use Rattle.clock_sim.specs.declared.groups.Written.{Written}
-use Rattle.clock_sim.proofs.WrittenLaws.{longer, written_last}
+use Rattle.clock_sim.proofs.WrittenLaws.{longer, piece_behind, written_last}
 use Rattle.clock_sim.proofs.groups.Group.end_request.Goals as goal
 
-pub returns : goal.returns
-returns c =
+pub returns-clause-writes : goal.returns-clause-writes
+returns-clause-writes c =
     let old = c.args.self.now in
     let new : Group = record { heads = c.push_head.new.text; bodies = old.bodies; waiting = old.waiting } in
     let count = c.len-end.result - c.args.body in
@@ -29,3 +30,12 @@ returns c =
         (omega (arith, c.requires, last), omega (arith, last)),
       );
     }
+
+pub returns-clause-head : goal.returns-clause-head
+returns-clause-head c =
+    let old = c.args.self.now in
+    let count = c.len-end.result - c.args.body in
+    let head : Place = record { start = c.len-head.result; end = c.len.result } in
+    let heads = c.push_head.new.text in
+    piece_behind old.heads.items heads.items (request_head c.args.line.now c.args.token.now count) head c.in_ok-push_head.ensures.is
+    (omega (arith, c.len-head.ensures, old.heads.ok.0)) (omega (arith, c.len.ensures, heads.ok.0))
