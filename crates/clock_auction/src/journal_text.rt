@@ -40,9 +40,7 @@ impl Listing {
             self.text.push_number(number)?;
             self.text.push(b' ')?;
         }
-        self.text
-            .extend_from_slice(digits_of(&self.chain).as_slice())?;
-        self.text.push(b'\n')?;
+        push_digits(&mut self.text, &self.chain)?;
         self.text.extend_from_slice(text)?;
         self.text.push(b'\n')?;
         let length = size.saturating_add(BEFORE_TEXT as u64);
@@ -65,9 +63,14 @@ impl Listing {
 fn setup_line(alloc: Global, first: &Link) -> Result<Text, NoMemory> {
     let mut text = Text::new(alloc);
     text.extend_from_slice(b"setup ")?;
-    text.extend_from_slice(digits_of(first).as_slice())?;
-    text.push(b'\n')?;
+    push_digits(&mut text, first)?;
     Ok(text)
+}
+
+/// Ends a line with a digest.
+fn push_digits(text: &mut Text, digest: &Link) -> Result<(), NoMemory> {
+    text.extend_from_slice(digits_of(digest).as_slice())?;
+    text.push(b'\n')
 }
 
 /// The digest of the set-up document, and for each text of a journal the line `text NUMBER PLACE LENGTH DIGEST`, with

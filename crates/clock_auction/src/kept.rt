@@ -4,7 +4,7 @@ ghost use Rattle.clock_front.specs.Fronts.{StandsForTexts};
 
 use crate::closings::Telling;
 use crate::digests::Hex;
-use crate::serve::{bound, file_bytes, front_in, tell_ready};
+use crate::serve::{file_bytes, front_in, listening};
 use crate::serving::serve_kept_on;
 use clock_commands::Fault;
 use clock_journal::{FileDisk, Journal, Link, Recovered, digest_of};
@@ -56,18 +56,33 @@ where
     requires { StandsForTexts [] auction.old.front }
 {
     let journal = taken_over(rt, auction, digest, path)?;
-    tell_journal(rt, auction.texts, *journal.chain())?;
-    let listener = bound(rt, serving.port)?;
-    tell_ready(rt, serving.port)?;
     let mut telling = Telling::new(rt, journal);
+    let served = tell_and_serve(rt, auction, &mut telling, serving);
+    drop(telling);
+    served
+}
+
+/// Tells what was taken over, listens, and serves connections.
+fn tell_and_serve<R>(
+    rt: &R,
+    auction: &mut Auction<Woken>,
+    telling: &mut Telling<'_, R, FileDisk<File>>,
+    serving: &Serving,
+) -> Result<(), Fault>
+where
+    R: Print + Net<Listener = TcpListener, Stream = TcpStream> + Alloc<A = Global>,
+    requires { telling.old.has_failed ≡ false }
+{
+    tell_journal(rt, auction.texts, telling.chain())?;
+    let listener = listening(rt, serving.port)?;
     let served = serve_kept_on(
         rt.alloc(),
         &mut auction.front,
-        &mut telling,
+        telling,
         &listener,
         serving.connections,
     );
-    drop(telling);
+    drop(listener);
     Ok(served?)
 }
 
@@ -84,17 +99,38 @@ where
     ensures unfailed { IfOk result (λ journal. journal.has_failed ≡ false) }
 {
     let file = opened(rt, path)?;
-    let bytes = bytes_of(rt.alloc(), &file)?;
-    let recovered = take_up(auction, &digest, bytes.as_slice())?;
+    match recovered_in(rt, auction, &digest, &file) {
+        Ok(recovered) => resumed(rt, file, digest, recovered, path),
+        Err(fault) => {
+            drop(file);
+            Err(fault)
+        }
+    }
+}
+
+/// Takes up the auction from the bytes of a file.
+fn recovered_in<R>(
+    rt: &R,
+    auction: &mut Auction<Woken>,
+    digest: &Link,
+    file: &File,
+) -> Result<Recovered, Fault>
+where
+    R: Eprint + Alloc<A = Global>,
+    requires { StandsForTexts [] auction.old.front }
+{
+    let bytes = bytes_of(rt.alloc(), file)?;
+    let taken = take_up(auction, digest, bytes.as_slice());
     let size = bytes.len();
     drop(bytes);
+    let recovered = taken?;
     if recovered.end < size {
         let cut = size - recovered.end;
         let end = recovered.end;
         // it is told for the operator's eyes alone: where that fails the auction goes on
         let _untold = eprintln!(rt; "cut {cut} bytes at {end}");
     }
-    resumed(rt, file, digest, recovered, path)
+    Ok(recovered)
 }
 
 /// The journal that goes on, and whose file a loss of power leaves in its folder.

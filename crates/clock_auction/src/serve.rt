@@ -42,19 +42,26 @@ fn listen<R>(rt: &R, front: &mut Front<Woken>, serving: &Serving) -> Result<(), 
 where
     R: Print + Net<Listener = TcpListener, Stream = TcpStream> + Alloc<A = Global>,
 {
-    let listener = bound(rt, serving.port)?;
-    tell_ready(rt, serving.port)?;
-    Ok(serve_on(rt.alloc(), front, &listener, serving.connections)?)
+    let listener = listening(rt, serving.port)?;
+    let served = serve_on(rt.alloc(), front, &listener, serving.connections);
+    drop(listener);
+    Ok(served?)
 }
 
-/// The port of this machine, listened on.
-pub fn bound<R>(rt: &R, port: u16) -> Result<TcpListener, Fault>
+/// The port of this machine, listened on, which is told on standard output.
+pub fn listening<R>(rt: &R, port: u16) -> Result<TcpListener, Fault>
 where
-    R: Net<Listener = TcpListener, Stream = TcpStream>,
+    R: Print + Net<Listener = TcpListener, Stream = TcpStream>,
 {
-    match TcpListener::bind(rt, (Ipv4Addr::LOCALHOST, port)) {
-        Ok(listener) => Ok(listener),
-        Err(_) => Err(Fault::Bind),
+    let Ok(listener) = TcpListener::bind(rt, (Ipv4Addr::LOCALHOST, port)) else {
+        return Err(Fault::Bind);
+    };
+    match println!(rt; "ready {port}") {
+        Ok(()) => Ok(listener),
+        Err(_) => {
+            drop(listener);
+            Err(Fault::Output)
+        }
     }
 }
 
@@ -64,13 +71,5 @@ pub fn file_bytes<R: Files + Alloc<A = Global>>(rt: &R, path: &str) -> Result<Te
         Ok(file) => read_all(rt.alloc(), &mut FromReader::new(file)),
         Err(error) if error.kind() == io::ErrorKind::OutOfMemory => Err(Fault::Memory),
         Err(_) => Err(Fault::File),
-    }
-}
-
-/// Tells on standard output that connections are taken.
-pub fn tell_ready<R: Print>(rt: &R, port: u16) -> Result<(), Fault> {
-    match println!(rt; "ready {port}") {
-        Ok(()) => Ok(()),
-        Err(_) => Err(Fault::Output),
     }
 }

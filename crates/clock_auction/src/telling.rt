@@ -1,11 +1,17 @@
 //! `journal` and `audit`: what two files tell, printed.
-use crate::audit::{audit_of, recounted};
-use crate::journal_text::listing_of;
+ghost use Rattle.std.specs.Prelude.{[], IfOk};
+ghost use Rattle.clock_front.specs.Fronts.{StandsForTexts};
+ghost use Rattle.clock_auction.specs.Audits.{IsSomeRecount};
+
+use crate::audit::{Recount, audit_of, recounted};
+use crate::journal_text::{Listing, listing_of};
 use crate::kept::{bytes_of, is_plain, tell_journal};
 use crate::serve::{file_bytes, front_in};
 use clock_commands::Fault;
-use clock_device::{Sink, write_all};
+use clock_device::{Sink, Text, write_all};
+use clock_front::Front;
 use clock_journal::{Link, digest_of};
+use clock_queue::Woken;
 use clock_words::Files as Named;
 use std::alloc::Global;
 use std::fs::File;
@@ -19,13 +25,23 @@ where
     let document = file_bytes(rt, named.setup)?;
     let first = digest_of(document.as_slice());
     drop(document);
-    let bytes = journal_bytes(rt, named.journal)?;
-    let listing = listing_of(rt.alloc(), first, bytes.as_slice())?;
+    let listing = listed(rt, first, named.journal)?;
     let end = listing.end();
     let told = written(out, listing.text());
     drop(listing);
     told?;
     tell_journal(rt, end.0, end.1)
+}
+
+/// What a journal holds, for the set-up document of a digest.
+fn listed<R>(rt: &R, first: Link, path: &str) -> Result<Listing, Fault>
+where
+    R: Files<File = File> + Alloc<A = Global>,
+{
+    let bytes = journal_bytes(rt, path)?;
+    let listing = listing_of(rt.alloc(), first, bytes.as_slice());
+    drop(bytes);
+    listing
 }
 
 /// Prints an auction that is recounted from its journal.
@@ -36,13 +52,44 @@ where
     let document = file_bytes(rt, named.setup)?;
     let first = digest_of(document.as_slice());
     let front = front_in(rt.alloc(), document)?;
-    let bytes = journal_bytes(rt, named.journal)?;
-    let recount = recounted(rt.alloc(), front, first, bytes.as_slice())?;
+    let recount = recounted_of(rt, front, first, named.journal)?;
     let end = recount.end();
     let text = audit_of(rt.alloc(), &recount);
     drop(recount);
-    written(out, text?.as_slice())?;
+    tell_text(out, text)?;
     tell_journal(rt, end.0, end.1)
+}
+
+/// An auction that was recounted from the file of its journal.
+fn recounted_of<R>(rt: &R, front: Front<Woken>, first: Link, path: &str) -> Result<Recount, Fault>
+where
+    R: Files<File = File> + Alloc<A = Global>,
+    requires { StandsForTexts [] front }
+    ensures { IfOk result (λ recount. IsSomeRecount recount.front recount.chain recount.digests.items) }
+{
+    match journal_bytes(rt, path) {
+        Ok(bytes) => {
+            let recount = recounted(rt.alloc(), front, first, bytes.as_slice());
+            drop(bytes);
+            recount
+        }
+        Err(fault) => {
+            drop(front);
+            Err(fault)
+        }
+    }
+}
+
+/// Writes a text that was made, where it was.
+fn tell_text(out: &mut impl Sink, made: Result<Text, Fault>) -> Result<(), Fault> {
+    match made {
+        Ok(text) => {
+            let told = written(out, text.as_slice());
+            drop(text);
+            told
+        }
+        Err(fault) => Err(fault),
+    }
 }
 
 /// All bytes of a journal.

@@ -1,3 +1,4 @@
 mod Reading
 mod RunEndings
 mod Limited
+mod Lines

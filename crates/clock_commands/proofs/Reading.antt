@@ -1,5 +1,5 @@
 -- How a read that stops the reading ends it.
-use Rattle.std.proofs.Common.{◌≡◌, ℕ, ◌+◌, ◌≤◌, Bool, false, ◌||◌, List, [], ◌++◌, Option, Err, length, refl, ◌∙◌, inl, arith}
+use Rattle.std.proofs.Common.{◌≡◌, ℕ, ◌+◌, ◌≤◌, Bool, false, ◌||◌, List, [], ◌++◌, Err, length, refl, ◌∙◌, inl, arith}
 use Rattle.std.proofs.lemmas.List.{append-nil, length-append}
 use Rattle.clock_device.specs.Streams.{HasRead}
 use Rattle.clock_device.proofs.Streams.{read_twice}
@@ -33,18 +33,4 @@ module _ (reading : Reading) (mid : SourceTold) (document : List ℕ)
       ((document ++ step.0, took step.0 0 step.1 (rw length-append (omega (arith, long))), step.2), fails ∙ rw unfailed refl)
   stopped fault.Memory fails document_after step =
       (document ++ step.0, (took_at_last step.0 step.1, step.2), fails ∙ rw unfailed refl)
-  stopped (fault.Setup inner) fails document_after step = absurd step
-  stopped (fault.Opening inner) fails document_after step = absurd step
-  stopped (fault.Script inner) fails document_after step = absurd step
-  stopped (fault.Simulation inner) fails document_after step = absurd step
-  stopped (fault.PriceLimit product) fails document_after step = absurd step
-  stopped fault.File fails document_after step = absurd step
-  stopped fault.Journal fails document_after step = absurd step
-  stopped fault.JournalBusy fails document_after step = absurd step
-  stopped fault.JournalUnknown fails document_after step = absurd step
-  stopped fault.JournalSetup fails document_after step = absurd step
-  stopped (fault.JournalDamaged place) fails document_after step = absurd step
-  stopped (fault.JournalRefused place) fails document_after step = absurd step
-  stopped fault.Bind fails document_after step = absurd step
-  stopped fault.Output fails document_after step = absurd step
-  stopped fault.Accept fails document_after step = absurd step
+  stopped other fails document_after step = absurd step

@@ -1,5 +1,5 @@
 -- Each way in which a run can stop is one of the endings.
-use Rattle.std.proofs.Common.{◌≡◌, ℕ, List, [], Bool, Option, Some, Err, refl, arith}
+use Rattle.std.proofs.Common.{◌≡◌, [], Option, Some, Err, refl, arith}
 use Rattle.clock_device.specs.Told.{IsUnread, IsUnused, Reading, SinkTold, SourceTold, Writing}
 use Rattle.clock_device.specs.Writings.{WritesNothing}
 use Rattle.clock_commands.specs.Input.{IsReadingOf}
@@ -26,21 +26,5 @@ unread_for_memory told unused = (
 module _ (asked : Option Job) (job : Job) (asks : asked ≡ Some job) (reading : Reading) (output shown : Writing) where
   pub stopped_run : (cause : Fault) → IsRunOf {U = Unit {0}} job reading output (Err cause) → Shows shown (fault_line cause)
       → ComesTo asked reading output shown 1
-  stopped_run fault.Input run line = (stopped fault.Input, refl, ((job, asks, run), line))
-  stopped_run fault.LongInput run line = (stopped fault.LongInput, refl, ((job, asks, run), line))
-  stopped_run fault.Output run line = (stopped fault.Output, refl, ((job, asks, run), line))
-  stopped_run fault.File run line = (stopped fault.File, refl, ((job, asks, run), line))
-  stopped_run fault.Bind run line = (stopped fault.Bind, refl, ((job, asks, run), line))
-  stopped_run fault.Accept run line = (stopped fault.Accept, refl, ((job, asks, run), line))
   stopped_run fault.Memory run line = (stopped fault.Memory, refl, (run.0, run.1, line))
-  stopped_run (fault.Setup inner) run line = (stopped (fault.Setup inner), refl, ((job, asks, run), line))
-  stopped_run (fault.Opening inner) run line = (stopped (fault.Opening inner), refl, ((job, asks, run), line))
-  stopped_run (fault.Script inner) run line = (stopped (fault.Script inner), refl, ((job, asks, run), line))
-  stopped_run (fault.Simulation inner) run line = (stopped (fault.Simulation inner), refl, ((job, asks, run), line))
-  stopped_run fault.Journal run line = (stopped fault.Journal, refl, ((job, asks, run), line))
-  stopped_run fault.JournalBusy run line = (stopped fault.JournalBusy, refl, ((job, asks, run), line))
-  stopped_run fault.JournalUnknown run line = (stopped fault.JournalUnknown, refl, ((job, asks, run), line))
-  stopped_run fault.JournalSetup run line = (stopped fault.JournalSetup, refl, ((job, asks, run), line))
-  stopped_run (fault.JournalDamaged place) run line = (stopped (fault.JournalDamaged place), refl, ((job, asks, run), line))
-  stopped_run (fault.JournalRefused place) run line = (stopped (fault.JournalRefused place), refl, ((job, asks, run), line))
-  stopped_run (fault.PriceLimit product) run line = (stopped (fault.PriceLimit product), refl, ((job, asks, run), line))
+  stopped_run other run line = (stopped other, refl, ((job, asks, run), line))

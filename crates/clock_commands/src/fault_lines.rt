@@ -1,7 +1,8 @@
-ghost use Rattle.std.specs.Prelude.{◌≡◌, ◌++◌, ◌||◌, codes, decimal, is_err};
+//! The line of a fault.
+ghost use Rattle.std.specs.Prelude.{◌≡◌, ◌++◌, ◌||◌, codes, is_err};
 ghost use Rattle.clock_device.specs.Streams.{WritesText};
 ghost use Rattle.clock_commands.specs.FaultLines.{fault_line, fault_words, opening_words, place_words, script_words, setup_words, simulation_words};
-ghost use Rattle.clock_http.specs.Codes.{text_of};
+ghost use Rattle.clock_commands.specs.inside.Lines.{behind, code_behind, text_of_words};
 
 use crate::fault::Fault;
 use clock_device::{Failed, Sink, write_all, write_number};
@@ -9,153 +10,151 @@ use clock_setup::{OpeningFault, Place, SetupFault};
 use clock_sim::{ScriptFault, SimFault};
 use clock_views::Code;
 
+/// A word, up to two numbers, and the code of a reply, where there is one. Each stands behind a space.
+#[derive(Clone, Copy)]
+struct Words(&'static str, Option<u64>, Option<u64>, Option<Code>);
+
 /// Writes the line of a fault, `fault: WORDS` and a line feed. It takes no memory.
 pub fn write_fault<W: Sink>(sink: &mut W, fault: Fault) -> Result<(), Failed>
     ensures bytes { WritesText (W.told sink.old).taken (W.told sink.new).taken (fault_line fault) result }
     ensures failed { (W.told sink.new).has_failed ≡ ((W.told sink.old).has_failed || is_err result) }
 {
+    let words = words_of(fault);
     write_all(sink, b"fault: ")?;
-    write_words(sink, fault)?;
+    write_words(sink, &words)?;
     write_all(sink, b"\n")
 }
 
-fn write_words<W: Sink>(sink: &mut W, fault: Fault) -> Result<(), Failed>
-    ensures bytes { WritesText (W.told sink.old).taken (W.told sink.new).taken (fault_words fault) result }
+fn write_words<W: Sink>(sink: &mut W, words: &Words) -> Result<(), Failed>
+    ensures bytes { WritesText (W.told sink.old).taken (W.told sink.new).taken (text_of_words words.now) result }
     ensures failed { (W.told sink.new).has_failed ≡ ((W.told sink.old).has_failed || is_err result) }
 {
-    match fault {
-        Fault::File => write_all(sink, b"file"),
-        Fault::Input => write_all(sink, b"input"),
-        Fault::LongInput => write_all(sink, b"long_input"),
-        Fault::Setup(fault) => write_setup_words(sink, fault),
-        Fault::Opening(fault) => write_opening_words(sink, fault),
-        Fault::Script(fault) => write_script_words(sink, fault),
-        Fault::PriceLimit(product) => write_numbered(sink, "price_limit ", product),
-        Fault::Simulation(fault) => write_simulation_words(sink, fault),
-        Fault::Journal => write_all(sink, b"journal"),
-        Fault::JournalBusy => write_all(sink, b"journal_busy"),
-        Fault::JournalUnknown => write_all(sink, b"journal_unknown"),
-        Fault::JournalSetup => write_all(sink, b"journal_setup"),
-        Fault::JournalDamaged(place) => write_numbered(sink, "journal_damaged ", place),
-        Fault::JournalRefused(place) => write_numbered(sink, "journal_refused ", place),
-        Fault::Bind => write_all(sink, b"bind"),
-        Fault::Output => write_all(sink, b"output"),
-        Fault::Accept => write_all(sink, b"accept"),
-        Fault::Memory => write_all(sink, b"memory"),
-    }
+    write_all(sink, words.0.as_bytes())?;
+    write_behind(sink, words.1)?;
+    write_behind(sink, words.2)?;
+    write_code_behind(sink, words.3)
 }
 
-fn write_opening_words<W: Sink>(sink: &mut W, fault: OpeningFault) -> Result<(), Failed>
-    ensures bytes { WritesText (W.told sink.old).taken (W.told sink.new).taken (opening_words fault) result }
+/// Writes a space and a number, where there is one.
+fn write_behind<W: Sink>(sink: &mut W, number: Option<u64>) -> Result<(), Failed>
+    ensures bytes { WritesText (W.told sink.old).taken (W.told sink.new).taken (behind number) result }
     ensures failed { (W.told sink.new).has_failed ≡ ((W.told sink.old).has_failed || is_err result) }
 {
-    match fault {
-        OpeningFault::NotJson => write_all(sink, b"not_json"),
-        OpeningFault::Shape => write_all(sink, b"shape"),
-        OpeningFault::Setup(fault) => write_setup_words(sink, fault),
-        OpeningFault::Demand(bidder, product) => write_pair(sink, "demand ", bidder, product),
-        OpeningFault::Activity(bidder) => write_numbered(sink, "activity ", bidder),
-        OpeningFault::Increment => write_all(sink, b"increment"),
-        OpeningFault::NoMemory => write_all(sink, b"memory"),
-    }
-}
-
-fn write_script_words<W: Sink>(sink: &mut W, fault: ScriptFault) -> Result<(), Failed>
-    ensures bytes { WritesText (W.told sink.old).taken (W.told sink.new).taken (script_words fault) result }
-    ensures failed { (W.told sink.new).has_failed ≡ ((W.told sink.old).has_failed || is_err result) }
-{
-    match fault {
-        ScriptFault::NotJson => write_all(sink, b"not_json"),
-        ScriptFault::Shape => write_all(sink, b"shape"),
-        ScriptFault::Setup(fault) => write_setup_words(sink, fault),
-        ScriptFault::Scripts => write_all(sink, b"scripts"),
-        ScriptFault::Limits(bidder, product) => write_pair(sink, "limits ", bidder, product),
-        ScriptFault::NoMemory => write_all(sink, b"memory"),
-    }
-}
-
-fn write_simulation_words<W: Sink>(sink: &mut W, fault: SimFault) -> Result<(), Failed>
-    ensures bytes { WritesText (W.told sink.old).taken (W.told sink.new).taken (simulation_words fault) result }
-    ensures failed { (W.told sink.new).has_failed ≡ ((W.told sink.old).has_failed || is_err result) }
-{
-    match fault {
-        SimFault::Refused(bidder, round, code) => {
-            write_pair(sink, "refused ", bidder, round)?;
-            write_code(sink, code)
-        }
-        SimFault::Closing(round, code) => {
-            write_numbered(sink, "closing ", round)?;
-            write_code(sink, code)
-        }
-        SimFault::ClosingsSpent => write_all(sink, b"closings_spent"),
-        SimFault::NoMemory => write_all(sink, b"memory"),
-    }
-}
-
-fn write_setup_words<W: Sink>(sink: &mut W, fault: SetupFault) -> Result<(), Failed>
-    ensures bytes { WritesText (W.told sink.old).taken (W.told sink.new).taken (setup_words fault) result }
-    ensures failed { (W.told sink.new).has_failed ≡ ((W.told sink.old).has_failed || is_err result) }
-{
-    match fault {
-        SetupFault::NotJson => write_all(sink, b"setup_not_json"),
-        SetupFault::Shape => write_all(sink, b"setup_shape"),
-        SetupFault::Version => write_all(sink, b"setup_version"),
-        SetupFault::Range(place) => {
-            write_all(sink, b"setup_range ")?;
-            write_place(sink, place)
-        }
-        SetupFault::DuplicateName => write_all(sink, b"setup_duplicate_name"),
-        SetupFault::DuplicateToken => write_all(sink, b"setup_duplicate_token"),
-        SetupFault::NoMemory => write_all(sink, b"memory"),
-    }
-}
-
-fn write_place<W: Sink>(sink: &mut W, place: Place) -> Result<(), Failed>
-    ensures bytes { WritesText (W.told sink.old).taken (W.told sink.new).taken (place_words place) result }
-    ensures failed { (W.told sink.new).has_failed ≡ ((W.told sink.old).has_failed || is_err result) }
-{
-    match place {
-        Place::Requirement => write_all(sink, b"requirement"),
-        Place::Limit => write_all(sink, b"limit"),
-        Place::Operator => write_all(sink, b"operator"),
-        Place::Products => write_all(sink, b"products"),
-        Place::Name(i) => write_numbered(sink, "name ", i),
-        Place::Units(i) => write_numbered(sink, "units ", i),
-        Place::Supply(i) => write_numbered(sink, "supply ", i),
-        Place::Cap(i) => write_numbered(sink, "cap ", i),
-        Place::Opening(i) => write_numbered(sink, "opening ", i),
-        Place::Granule(i) => write_numbered(sink, "granule ", i),
-        Place::Bidders => write_all(sink, b"bidders"),
-        Place::BidderName(i) => write_numbered(sink, "bidder_name ", i),
-        Place::Token(i) => write_numbered(sink, "token ", i),
-        Place::Eligibility(i) => write_numbered(sink, "eligibility ", i),
-    }
-}
-
-/// Writes a word and a number.
-fn write_numbered<W: Sink>(sink: &mut W, word: &str, number: u64) -> Result<(), Failed>
-    ensures bytes { WritesText (W.told sink.old).taken (W.told sink.new).taken (word.now ++ decimal number) result }
-    ensures failed { (W.told sink.new).has_failed ≡ ((W.told sink.old).has_failed || is_err result) }
-{
-    write_all(sink, word.as_bytes())?;
+    let Some(number) = number else {
+        return Ok(());
+    };
+    write_all(sink, b" ")?;
     write_number(sink, number)
 }
 
-/// Writes a word and two numbers.
-fn write_pair<W: Sink>(sink: &mut W, word: &str, first: u64, second: u64) -> Result<(), Failed>
-    ensures bytes { WritesText (W.told sink.old).taken (W.told sink.new).taken (word.now ++ decimal first
-        ++ (codes " " ++ decimal second)) result }
+/// Writes a space and a code, where there is one.
+fn write_code_behind<W: Sink>(sink: &mut W, code: Option<Code>) -> Result<(), Failed>
+    ensures bytes { WritesText (W.told sink.old).taken (W.told sink.new).taken (code_behind code) result }
     ensures failed { (W.told sink.new).has_failed ≡ ((W.told sink.old).has_failed || is_err result) }
 {
-    write_numbered(sink, word, first)?;
-    write_numbered(sink, " ", second)
-}
-
-/// Writes a code after a space.
-fn write_code<W: Sink>(sink: &mut W, code: Code) -> Result<(), Failed>
-    ensures bytes { WritesText (W.told sink.old).taken (W.told sink.new).taken (codes " " ++ text_of code) result }
-    ensures failed { (W.told sink.new).has_failed ≡ ((W.told sink.old).has_failed || is_err result) }
-{
+    let Some(code) = code else {
+        return Ok(());
+    };
     write_all(sink, b" ")?;
     write_all(sink, code.text().as_bytes())
+}
+
+fn words_of(fault: Fault) -> Words
+    ensures { text_of_words result ≡ fault_words fault }
+{
+    match fault {
+        Fault::File => Words("file", None, None, None),
+        Fault::Input => Words("input", None, None, None),
+        Fault::LongInput => Words("long_input", None, None, None),
+        Fault::Setup(fault) => words_of_setup(fault),
+        Fault::Opening(fault) => words_of_opening(fault),
+        Fault::Script(fault) => words_of_script(fault),
+        Fault::PriceLimit(product) => Words("price_limit", Some(product), None, None),
+        Fault::Simulation(fault) => words_of_simulation(fault),
+        Fault::Journal => Words("journal", None, None, None),
+        Fault::JournalBusy => Words("journal_busy", None, None, None),
+        Fault::JournalUnknown => Words("journal_unknown", None, None, None),
+        Fault::JournalSetup => Words("journal_setup", None, None, None),
+        Fault::JournalDamaged(place) => Words("journal_damaged", Some(place), None, None),
+        Fault::JournalRefused(place) => Words("journal_refused", Some(place), None, None),
+        Fault::Bind => Words("bind", None, None, None),
+        Fault::Output => Words("output", None, None, None),
+        Fault::Accept => Words("accept", None, None, None),
+        Fault::Memory => Words("memory", None, None, None),
+    }
+}
+
+fn words_of_opening(fault: OpeningFault) -> Words
+    ensures { text_of_words result ≡ opening_words fault }
+{
+    match fault {
+        OpeningFault::NotJson => Words("not_json", None, None, None),
+        OpeningFault::Shape => Words("shape", None, None, None),
+        OpeningFault::Setup(fault) => words_of_setup(fault),
+        OpeningFault::Demand(bidder, product) => Words("demand", Some(bidder), Some(product), None),
+        OpeningFault::Activity(bidder) => Words("activity", Some(bidder), None, None),
+        OpeningFault::Increment => Words("increment", None, None, None),
+        OpeningFault::NoMemory => Words("memory", None, None, None),
+    }
+}
+
+fn words_of_script(fault: ScriptFault) -> Words
+    ensures { text_of_words result ≡ script_words fault }
+{
+    match fault {
+        ScriptFault::NotJson => Words("not_json", None, None, None),
+        ScriptFault::Shape => Words("shape", None, None, None),
+        ScriptFault::Setup(fault) => words_of_setup(fault),
+        ScriptFault::Scripts => Words("scripts", None, None, None),
+        ScriptFault::Limits(bidder, product) => Words("limits", Some(bidder), Some(product), None),
+        ScriptFault::NoMemory => Words("memory", None, None, None),
+    }
+}
+
+fn words_of_simulation(fault: SimFault) -> Words
+    ensures { text_of_words result ≡ simulation_words fault }
+{
+    match fault {
+        SimFault::Refused(bidder, round, code) => {
+            Words("refused", Some(bidder), Some(round), Some(code))
+        }
+        SimFault::Closing(round, code) => Words("closing", Some(round), None, Some(code)),
+        SimFault::ClosingsSpent => Words("closings_spent", None, None, None),
+        SimFault::NoMemory => Words("memory", None, None, None),
+    }
+}
+
+fn words_of_setup(fault: SetupFault) -> Words
+    ensures { text_of_words result ≡ setup_words fault }
+{
+    match fault {
+        SetupFault::NotJson => Words("setup_not_json", None, None, None),
+        SetupFault::Shape => Words("setup_shape", None, None, None),
+        SetupFault::Version => Words("setup_version", None, None, None),
+        SetupFault::Range(place) => words_of_range(place),
+        SetupFault::DuplicateName => Words("setup_duplicate_name", None, None, None),
+        SetupFault::DuplicateToken => Words("setup_duplicate_token", None, None, None),
+        SetupFault::NoMemory => Words("memory", None, None, None),
+    }
+}
+
+fn words_of_range(place: Place) -> Words
+    ensures { text_of_words result ≡ codes "setup_range " ++ place_words place }
+{
+    match place {
+        Place::Requirement => Words("setup_range requirement", None, None, None),
+        Place::Limit => Words("setup_range limit", None, None, None),
+        Place::Operator => Words("setup_range operator", None, None, None),
+        Place::Products => Words("setup_range products", None, None, None),
+        Place::Name(i) => Words("setup_range name", Some(i), None, None),
+        Place::Units(i) => Words("setup_range units", Some(i), None, None),
+        Place::Supply(i) => Words("setup_range supply", Some(i), None, None),
+        Place::Cap(i) => Words("setup_range cap", Some(i), None, None),
+        Place::Opening(i) => Words("setup_range opening", Some(i), None, None),
+        Place::Granule(i) => Words("setup_range granule", Some(i), None, None),
+        Place::Bidders => Words("setup_range bidders", None, None, None),
+        Place::BidderName(i) => Words("setup_range bidder_name", Some(i), None, None),
+        Place::Token(i) => Words("setup_range token", Some(i), None, None),
+        Place::Eligibility(i) => Words("setup_range eligibility", Some(i), None, None),
+    }
 }

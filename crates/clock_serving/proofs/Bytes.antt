@@ -1,14 +1,11 @@
 -- What is told of bytes.
-use Rattle.std.proofs.Common.{◌≡◌, ◌++◌, ℕ, List, [], ◌∷◌, Option, Some, length, take, inl, inr, refl, sym, ◌∙◌, subst, ap}
+use Rattle.std.proofs.Common.{◌≡◌, ◌++◌, ℕ, List, [], Option, Some, length, take, inl, inr, sym, ◌∙◌, subst}
+use Rattle.std.proofs.Math.Seq.{take-length}
 use Rattle.clock_device.specs.Streams.{HasRead, HasWritten}
 use Rattle.clock_http.specs.Replies.{Answer}
 use Rattle.clock_serving.specs.Serving.{WritesReply}
 use Rattle.clock_serving.specs.Exchanges.{Exchange}
 use Rattle.clock_serving.specs.Laws.{ToldBytes}
-
-take_whole : {A : Type 0} (xs : List A) → take (length xs) xs ≡ xs
-take_whole [] = refl
-take_whole (x ∷ xs) = ap (λ ys. x ∷ ys) (take_whole xs)
 
 read_bytes : (before after : Option (List ℕ)) (text offered left : List ℕ) → HasRead before after text → before ≡ Some offered → after ≡ Some left
     → offered ≡ text ++ left
@@ -24,7 +21,7 @@ taken_bytes : (one : Exchange) (answer : Answer) (taken : List ℕ) → WritesRe
     → one.writing.after.taken ≡ Some taken → (count : ℕ) × (taken ≡ take count answer.bytes)
 taken_bytes one answer taken (inl all) from to = (
   length answer.bytes,
-  written_bytes one.writing.before.taken one.writing.after.taken answer.bytes taken all.bytes from to ∙ sym (take_whole answer.bytes),
+  written_bytes one.writing.before.taken one.writing.after.taken answer.bytes taken all.bytes from to ∙ sym (take-length answer.bytes),
 )
 taken_bytes one answer taken (inr some) from to = (
   some.bytes.0,

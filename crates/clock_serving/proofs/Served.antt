@@ -1,6 +1,6 @@
 -- A run goes on by one connection that is served.
-use Rattle.std.proofs.Common.{◌≡◌, ◌≤◌, ◌⊎◌, inl, inr, ℕ, List, [], ◌∷◌, ◌++◌, Option, Some, length, take, refl, sym, ap, ◌∙◌, subst, arith, length-append, append-nil}
-use Rattle.std.proofs.lemmas.List.{take-append-le}
+use Rattle.std.proofs.Common.{◌≡◌, ◌≤◌, ◌⊎◌, inl, inr, ℕ, List, [], ◌∷◌, ◌++◌, Option, Some, length, refl, sym, ap, ◌∙◌, subst, arith, length-append, append-nil}
+use Rattle.std.proofs.Math.Seq.{take-append_seam}
 use Rattle.clock_terms.specs.Limits.{SetupFields, IsSetup}
 use Rattle.clock_house.specs.House.{HouseFields}
 use Rattle.clock_http.specs.Replies.{Answer}
@@ -19,13 +19,6 @@ use Rattle.clock_serving.specs.inside.Served.{IsServed}
 use Rattle.clock_front.proofs.RunLaws.{right}
 use Rattle.clock_serving.proofs.Walking.{all_behind, walks_on}
 
-take_all : {A : Type 0} (xs : List A) → take (length xs) xs ≡ xs
-take_all [] = refl
-take_all (x ∷ xs) = ap (λ ys. x ∷ ys) (take_all xs)
-
-take_front : {A : Type 0} (xs more : List A) → take (length xs) (xs ++ more) ≡ xs
-take_front xs more = take-append-le (length xs) xs more (omega arith) ∙ take_all xs
-
 -- of a journal to which texts were added a stop has left those that were there, and of the others the first
 pub left_since : (digest : List ℕ) (past more : List (List ℕ)) (journal_old journal_new : JournalState) (left : List ℕ)
     → HasTexts digest past journal_old → HasTexts digest (past ++ more) journal_new → MayBeLeft journal_old.synced journal_new.written left
@@ -36,7 +29,7 @@ left_since digest past more journal_old journal_new left has_old has_new may =
     (subst (λ (bytes : Option (List ℕ)). MayBeLeft journal_old.synced bytes left) has_new.file may) in
     subst (λ (bytes : List ℕ). LeavesTexts digest bytes (past ++ more) (length past)) (sym known.2)
     (every_front digest (past ++ more) (length past) known.0 has_new.fit (omega (arith, length-append past more))
-    (subst (λ (all : List (List ℕ)). length (file_of digest all) ≤ known.0) (sym (take_front past more)) known.1))
+    (subst (λ (all : List (List ℕ)). length (file_of digest all) ≤ known.0) (sym (take-append_seam past more)) known.1))
 
 module _ (one : Exchange) (journal_old journal_new : JournalState) (old new : HouseFields) (setup : SetupFields) (limits : IsSetup setup)
     (same : old.setup ≡ setup) where

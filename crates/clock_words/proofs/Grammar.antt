@@ -1,11 +1,34 @@
 -- What clap promises of a parse, said of the program's own grammar.
-use Rattle.std.proofs.Common.{◌≡◌, ◌≢◌, ◌∷◌, [], ◌<◌, length, map, inl, inr, true, List, Option, None, Bor}
-use Rattle.std.proofs.Common.{refl, sym, arith, ap, subst, ◌∙◌}
-use Rattle.clap.specs.Words.{App, HasKind, Kinds, Row, Text, fault_of, is_simple, is_simple_and_free, kind_of, subcommand_of}
+use Rattle.std.proofs.Common.{◌≡◌, ◌≢◌, ◌∷◌, [], inl, inr, true, false, List, Option, None, refl, subst, ap₂, ◌∙◌}
+use Rattle.std.specs.Prelude.{IfErr, IfOk, Result, Ok, Err}
+use Rattle.clap.specs.Words.{AddsArg, AddsSubcommand, App, FailsBy, HasKind, HasMatchesOf, Kinds, Rule, Text, fault_of, is_simple, is_simple_and_free}
+use Rattle.clap.specs.Words.{kind_of, rule_of, subcommand_of, subcommand_rows_of, with_rule, with_subcommand}
+use Rattle.clap.specs.declared.builder.arg.Arg.{Arg}
+use Rattle.clap.specs.declared.builder.command.Command.{Command}
 use Rattle.clap.specs.declared.error.Error.{Error}
 use Rattle.clap.specs.declared.error.kind.ErrorKind.TheVariants.{OutOfMemory}
+use Rattle.clap.specs.declared.parser.matches.ArgMatches.{ArgMatches}
 use Rattle.clap.proofs.OnLiterals.{clap_on_literals}
-use Rattle.clock_words.specs.Words.{given, grammar, job_meant, job_of, unless_refused}
+use Rattle.clock_words.specs.Words.{grammar, unless_refused}
+use Rattle.clock_words.specs.inside.Commands.{IsCommand}
+
+-- an option was added
+pub with_one : {E : Type 0} (app : App) (rule : Rule) (command : Command) (option : Arg) (result : Result Command E) → option.global ≡ false
+    → IsCommand app command → rule_of option ≡ rule → IfOk result (AddsArg command option) → IfOk result (IsCommand (with_rule app rule))
+with_one app rule command option (Ok made) local is is_rule added = record {
+  shape = added.shape local ∙ ap₂ with_rule is.shape is_rule;
+  local = rw (added.globals, is.local, local) refl;
+}
+with_one app rule command option (Err refused) local is is_rule added = tt
+
+-- a command was added
+pub with_below : {E : Type 0} (app sub : App) (command below : Command) (result : Result Command E) → IsCommand app command → IsCommand sub below
+    → IfOk result (AddsSubcommand command below) → IfOk result (IsCommand (with_subcommand app sub.top))
+with_below app sub command below (Ok made) is is_below added = record {
+  shape = added.shape is_below.local ∙ ap₂ (λ (a b : App). with_subcommand a b.top) is.shape is_below.shape;
+  local = rw (added.globals, is.local, is_below.local) refl;
+}
+with_below app sub command below (Err refused) is is_below added = tt
 
 grammar_free : is_simple_and_free grammar ≡ true
 unfolding clap_on_literals
@@ -15,44 +38,36 @@ grammar_simple : is_simple grammar ≡ true
 unfolding clap_on_literals
 grammar_simple = refl
 
-module _ {A : Type 0} where
-  taken : (kinds : Kinds) (meant : Option A) → kinds ≡ [] → meant ≡ unless_refused kinds meant
-  taken kinds meant e = rw e refl
+is_some_kind : (kinds : Kinds) (error : Error) → HasKind kinds error → kind_of error ≢ OutOfMemory → kinds ≢ []
+is_some_kind [] error (inl memory) other none = other memory
+is_some_kind [] error (inr among) other none = among
+is_some_kind (kind ∷ kinds) error has other none = cc
 
-  refused : (kinds : Kinds) (meant : Option A) (error : Error) → HasKind kinds error → kind_of error ≢ OutOfMemory
-      → unless_refused kinds meant ≡ None
-  refused [] meant error (inl memory) other = absurd (other memory)
-  refused [] meant error (inr among) other = absurd among
-  refused (kind ∷ kinds) meant error h other = refl
+-- how clap ends with these words
+module _ (app : App) (is_grammar : app ≡ grammar) (words : List Text) where
+  pub none_refused : (result : Result ArgMatches Error) → (is_simple_and_free app ≡ true → FailsBy (fault_of app words) result)
+      → IfOk result (λ found. fault_of grammar words ≡ [])
+  none_refused (Ok found) kinds =
+      subst (λ (a : App). is_simple_and_free a ≡ true → fault_of a words ≡ []) is_grammar kinds grammar_free
+  none_refused (Err error) kinds = tt
 
-module _ {A : Type 0} (meaning : Option (Text × List Row) → Option A) (app : App) (is_grammar : app ≡ grammar) (words : List Text) where
-  -- clap took the words, and found this command
-  pub meant_as_taken : (met : Option (Text × List Row)) → (is_simple_and_free app ≡ true → fault_of app words ≡ [])
-      → (is_simple app ≡ true → met ≡ subcommand_of app words)
-      → meaning met ≡ unless_refused (fault_of grammar words) (meaning (subcommand_of grammar words))
-  meant_as_taken met none found =
-      let none_of : fault_of grammar words ≡ [] =
-      subst (λ (a : App). is_simple_and_free a ≡ true → fault_of a words ≡ []) is_grammar none grammar_free in
-      let found_by : met ≡ subcommand_of grammar words =
-      subst (λ (a : App). is_simple a ≡ true → met ≡ subcommand_of a words) is_grammar found grammar_simple in
-      ap meaning found_by ∙ taken (fault_of grammar words) (meaning (subcommand_of grammar words)) none_of
+  pub found_by : (result : Result ArgMatches Error) → IfOk result (HasMatchesOf app words)
+      → IfOk result (λ found. subcommand_rows_of found ≡ subcommand_of grammar words)
+  found_by (Ok found) matches = (subst (λ (a : App). HasMatchesOf a words found) is_grammar matches grammar_simple).1
+  found_by (Err error) matches = tt
 
-  -- clap refused the words
-  pub none_meant : (error : Error) → (is_simple_and_free app ≡ true → HasKind (fault_of app words) error)
-      → kind_of error ≢ OutOfMemory → unless_refused (fault_of grammar words) (meaning (subcommand_of grammar words)) ≡ None
-  none_meant error has other =
-      let has_kind : HasKind (fault_of grammar words) error =
-      subst (λ (a : App). is_simple_and_free a ≡ true → HasKind (fault_of a words) error) is_grammar has grammar_free in
-      refused (fault_of grammar words) (meaning (subcommand_of grammar words)) error has_kind other
+  pub some_refused : (result : Result ArgMatches Error) → (is_simple_and_free app ≡ true → FailsBy (fault_of app words) result)
+      → IfErr result (λ error. kind_of error ≢ OutOfMemory → fault_of grammar words ≢ [])
+  some_refused (Ok found) kinds = tt
+  some_refused (Err error) kinds =
+      let has : HasKind (fault_of grammar words) error =
+      subst (λ (a : App). is_simple_and_free a ≡ true → HasKind (fault_of a words) error) is_grammar kinds grammar_free in
+      is_some_kind (fault_of grammar words) error has
 
--- no word stands for `prices --increment 10`
-pub asked_without : (words shown : List (Bor Text)) → length words ≡ 0 → map (λ word. word.now) shown ≡ given []
-    → job_of (map (λ word. word.now) words) ≡ job_meant (map (λ word. word.now) shown)
-asked_without [] shown none e = ap job_meant (sym e)
-asked_without (word ∷ words) shown none e = absurd (omega arith)
+module _ {A : Type 0} (meant : Option A) where
+  pub meant_where_taken : (kinds : Kinds) → kinds ≡ [] → meant ≡ unless_refused kinds meant
+  meant_where_taken kinds none = rw none refl
 
--- words that are there stand for themselves
-pub asked_with : (words : List (Bor Text)) → 0 < length words
-    → job_of (map (λ word. word.now) words) ≡ job_meant (map (λ word. word.now) words)
-asked_with [] some = absurd (omega arith)
-asked_with (word ∷ words) some = refl
+  pub none_meant : (kinds : Kinds) → kinds ≢ [] → unless_refused kinds meant ≡ None
+  none_meant [] some = absurd (some refl)
+  none_meant (kind ∷ kinds) some = refl

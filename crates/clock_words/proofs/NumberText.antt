@@ -9,11 +9,7 @@ use Rattle.clap.specs.declared.builder.value_parser.ValueParser.TheVariants as p
 use Rattle.clap.proofs.ValueTestLemmas.{accepts-Accepts, Accepts-accepts}
 use Rattle.clap.proofs.WalkLemmas.{both}
 use Rattle.clock_words.specs.Words.{number_from}
-
--- the number, where it is within the limits
-abbrev pub within_limits : ℕ → ℕ → Option ℕ → Option ℕ
-within_limits least most None = None
-within_limits least most (Some n) = cond (nat_le least n && nat_le n most) (Some n) None
+use Rattle.clock_words.specs.inside.Commands.{within_limits}
 
 same_choice : (a b : Bool) (n v : ℕ) → n ≡ v → (a ≡ true → b ≡ true) → (b ≡ true → a ≡ true)
     → cond a (Some n) None ≡ cond b (Some v) None

@@ -20,11 +20,21 @@ use Rattle.clock_words.specs.declared.words.FileTask.{FileTask}
 use Rattle.clock_words.specs.declared.words.FileTask.TheVariants as task
 use Rattle.clock_words.specs.declared.words.Job.TheVariants.{Prices, Opening, Replay}
 
+-- an option of one value that may be left out, as `--journal FILE`
+abbrev pub option_rule : Text → Rule
+option_rule name = record (new_rule name) { long = Some name; value_names = 1 }
+
+-- an option that must be given, as `--setup FILE`
+abbrev pub needed_rule : Text → Rule
+needed_rule name = record (option_rule name) { required = true }
+
+-- the same with a number, which is 1 or more
+abbrev pub number_rule : Text → ℕ → Rule
+number_rule name most = record (needed_rule name) { parser = Some (parser.Unsigned 1 most) }
+
 -- `--increment N`, within its limits, and 10 where it is not given
 abbrev pub increment_option : Rule
-increment_option = record (new_rule (codes "increment")) {
-  long = Some (codes "increment");
-  value_names = 1;
+increment_option = record (option_rule (codes "increment")) {
   parser = Some (parser.Unsigned least_increment most_increment);
   defaults = codes "10" ∷ [];
 }
@@ -41,27 +51,11 @@ most_port = 65535
 abbrev pub most_served : ℕ
 most_served = 1000000
 
--- an option that must be given, as `--setup FILE`
-abbrev pub needed_rule : Text → Rule
-needed_rule name = record (new_rule name) { long = Some name; value_names = 1; required = true }
-
--- the same with a number, which is 1 or more
-abbrev pub number_rule : Text → ℕ → Rule
-number_rule name most = record (needed_rule name) { parser = Some (parser.Unsigned 1 most) }
-
--- an option of a text that may be left out, as `--journal FILE`
-abbrev pub journal_rule : Rule
-journal_rule = record (new_rule (codes "journal")) { long = Some (codes "journal"); value_names = 1 }
-
--- `serve --setup FILE --port N --connections K`
-abbrev pub serve_needing : App
-serve_needing =
-    with_rule (with_rule (with_rule (new_app (codes "serve")) (needed_rule (codes "setup")))
-    (number_rule (codes "port") most_port)) (number_rule (codes "connections") most_served)
-
 -- `serve --setup FILE --port N --connections K [--journal FILE]`
 abbrev pub serve_grammar : App
-serve_grammar = with_rule serve_needing journal_rule
+serve_grammar =
+    with_rule (with_rule (with_rule (with_rule (new_app (codes "serve")) (needed_rule (codes "setup")))
+    (number_rule (codes "port") most_port)) (number_rule (codes "connections") most_served)) (option_rule (codes "journal"))
 
 -- a command of two files, as `audit --setup FILE --journal FILE`
 abbrev pub files_grammar : Text → App
@@ -71,11 +65,15 @@ files_grammar name = with_rule (with_rule (new_app name) (needed_rule (codes "se
 abbrev pub asks_for_a_command : Shape → Shape
 asks_for_a_command shape = record shape { no_binary_name = true; subcommand_required = true; has_version = true }
 
+-- the program without its commands
+abbrev pub program_alone_grammar : App
+program_alone_grammar = on_top asks_for_a_command (new_app (codes "clock_auction"))
+
 -- the commands, one of which must be named
 abbrev pub grammar : App
 grammar =
     with_subcommand (with_subcommand (with_subcommand (with_subcommand (with_subcommand (with_subcommand
-    (on_top asks_for_a_command (new_app (codes "clock_auction"))) prices_grammar.top)
+    program_alone_grammar prices_grammar.top)
     (new_app (codes "opening")).top) (new_app (codes "replay")).top) serve_grammar.top)
     (files_grammar (codes "journal")).top) (files_grammar (codes "audit")).top
 

@@ -1,18 +1,16 @@
 //! The commands and options of the program, as clap is told of them.
-ghost use Rattle.std.specs.Prelude.{◌≡◌, codes, false, IfOk, IfErr};
-ghost use Rattle.clap.specs.Words.{App, app_of, kind_of, new_app, rule_of, with_subcommand};
-ghost use Rattle.clap.specs.Simple.{on_top};
-ghost use Rattle.clap.specs.declared.builder.Command.TheViews.{out-Command};
-ghost use Rattle.clock_words.specs.Words.{asks_for_a_command, grammar, files_grammar, journal_rule, needed_rule};
-ghost use Rattle.clock_words.specs.Words.{number_rule, prices_grammar, serve_grammar, serve_needing};
+ghost use Rattle.std.specs.Prelude.{◌≡◌, codes, false, IfOk};
+ghost use Rattle.clap.specs.Words.{App, Rule, new_app, rule_of, with_rule, with_subcommand};
+ghost use Rattle.clock_words.specs.Words.{files_grammar, grammar, increment_option, needed_rule, number_rule, option_rule};
+ghost use Rattle.clock_words.specs.Words.{prices_grammar, program_alone_grammar, serve_grammar};
+ghost use Rattle.clock_words.specs.inside.Commands.{IsCommand};
 
 use crate::help::{
     AUDIT_HELP, JOURNAL_HELP, OPENING_HELP, PRICES_HELP, PROGRAM_HELP, REPLAY_HELP, SERVE_HELP,
     number_help,
 };
 use clap::builder::ValueParser;
-use clap::error::ErrorKind;
-use clap::{Arg, Command, Error};
+use clap::{Arg, Command};
 use clock_money::{LEAST_INCREMENT, MOST_INCREMENT};
 use std::alloc::{AllocError, Global};
 
@@ -49,22 +47,15 @@ pub fn number_helps(alloc: Global) -> Result<NumberHelps, AllocError> {
     })
 }
 
-/// `prices` and its option.
-fn prices_command<'a>(alloc: Global, helps: &'a NumberHelps) -> Result<Command<'a>, Error>
-    ensures shape { IfOk result (λ command. app_of command ≡ prices_grammar) }
-    ensures local { IfOk result (λ command. (out-Command command).has_globals ≡ false) }
-    ensures err { IfErr result (λ error. kind_of error ≡ ErrorKind.OutOfMemory) }
+/// An option of one value, which may be left out.
+fn option<'a>(alloc: Global, name: &'a str, value: &'a str, help: &'a str) -> Arg<'a>
+    ensures rule { rule_of result ≡ option_rule name.now }
+    ensures local { result.global ≡ false }
 {
-    let increment = Arg::new(alloc, "increment")
-        .long("increment")
-        .value_name("N")
-        .value_parser(ValueParser::Unsigned(LEAST_INCREMENT, MOST_INCREMENT))
-        .default_value("10")
-        .help(helps.increment.as_str());
-    let prices = Command::new(alloc, "prices")
-        .about("Prints each product's opening price and next clock price")
-        .after_help(PRICES_HELP);
-    Ok(prices.arg(increment)?)
+    Arg::new(alloc, name)
+        .long(name)
+        .value_name(value)
+        .help(help)
 }
 
 /// An option of a file, which must be given.
@@ -72,11 +63,86 @@ fn needed_option<'a>(alloc: Global, name: &'a str, help: &'a str) -> Arg<'a>
     ensures rule { rule_of result ≡ needed_rule name.now }
     ensures local { result.global ≡ false }
 {
-    Arg::new(alloc, name)
-        .long(name)
-        .value_name("FILE")
+    option(alloc, name, "FILE", help).required(true)
+}
+
+/// An option of a number from 1 on, which must be given.
+fn number_option<'a>(alloc: Global, name: &'a str, most: u64, help: &'a str) -> Arg<'a>
+    ensures rule { rule_of result ≡ number_rule name.now most }
+    ensures local { result.global ≡ false }
+{
+    option(alloc, name, "N", help)
         .required(true)
-        .help(help)
+        .value_parser(ValueParser::Unsigned(1, most))
+}
+
+/// `--increment N`.
+fn percent_option<'a>(alloc: Global, help: &'a str) -> Arg<'a>
+    ensures rule { rule_of result ≡ increment_option }
+    ensures local { result.global ≡ false }
+{
+    option(alloc, "increment", "N", help)
+        .value_parser(ValueParser::Unsigned(LEAST_INCREMENT, MOST_INCREMENT))
+        .default_value("10")
+}
+
+/// A command without options.
+fn named<'a>(alloc: Global, name: &'a str, about: &'a str, help: &'a str) -> Command<'a>
+    ensures { IsCommand (new_app name.now) result }
+{
+    Command::new(alloc, name).about(about).after_help(help)
+}
+
+/// A command that was made, with one option more.
+fn with_option<'a>(
+    made: Result<Command<'a>, AllocError>,
+    option: Arg<'a>,
+) -> Result<Command<'a>, AllocError>
+    requires { option.global ≡ false }
+    ensures { (app : App) (rule : Rule) → IfOk made.entry (IsCommand app) → rule_of option.entry ≡ rule
+        → IfOk result (IsCommand (with_rule app rule)) }
+{
+    match made {
+        Ok(command) => command.arg(option),
+        Err(refused) => {
+            drop(option);
+            Err(refused)
+        }
+    }
+}
+
+/// A command that was made, with one command more below it.
+fn with_command<'a>(
+    made: Result<Command<'a>, AllocError>,
+    below: Result<Command<'a>, AllocError>,
+) -> Result<Command<'a>, AllocError>
+    ensures { (app sub : App) → IfOk made.entry (IsCommand app) → IfOk below.entry (IsCommand sub)
+        → IfOk result (IsCommand (with_subcommand app sub.top)) }
+{
+    match made {
+        Ok(command) => match below {
+            Ok(below) => command.subcommand(below),
+            Err(refused) => {
+                drop(command);
+                Err(refused)
+            }
+        },
+        Err(refused) => {
+            drop(below);
+            Err(refused)
+        }
+    }
+}
+
+/// `prices` and its option.
+fn prices_command<'a>(alloc: Global, helps: &'a NumberHelps) -> Result<Command<'a>, AllocError>
+    ensures { IfOk result (IsCommand prices_grammar) }
+{
+    let about = "Prints each product's opening price and next clock price";
+    with_option(
+        Ok(named(alloc, "prices", about, PRICES_HELP)),
+        percent_option(alloc, helps.increment.as_str()),
+    )
 }
 
 /// `--setup FILE`.
@@ -87,59 +153,20 @@ fn setup_option<'a>(alloc: Global) -> Arg<'a>
     needed_option(alloc, "setup", "The file of the set-up document")
 }
 
-/// `--journal FILE`, which may be left out.
-fn journal_option<'a>(alloc: Global) -> Arg<'a>
-    ensures rule { rule_of result ≡ journal_rule }
-    ensures local { result.global ≡ false }
-{
-    Arg::new(alloc, "journal")
-        .long("journal")
-        .value_name("FILE")
-        .help("The file in which accepted sheets and closings are kept")
-}
-
-/// An option of a number from 1 on.
-fn number_option<'a>(alloc: Global, name: &'a str, most: u64, help: &'a str) -> Arg<'a>
-    ensures rule { rule_of result ≡ number_rule name.now most }
-    ensures local { result.global ≡ false }
-{
-    Arg::new(alloc, name)
-        .long(name)
-        .value_name("N")
-        .required(true)
-        .value_parser(ValueParser::Unsigned(1, most))
-        .help(help)
-}
-
-/// `serve` and the options that it needs.
-fn serve_needed<'a>(alloc: Global, helps: &'a NumberHelps) -> Result<Command<'a>, Error>
-    ensures shape { IfOk result (λ command. app_of command ≡ serve_needing) }
-    ensures local { IfOk result (λ command. (out-Command command).has_globals ≡ false) }
-    ensures err { IfErr result (λ error. kind_of error ≡ ErrorKind.OutOfMemory) }
-{
-    let port = number_option(alloc, "port", MOST_PORT, helps.port.as_str());
-    let connections = number_option(
-        alloc,
-        "connections",
-        MOST_CONNECTIONS,
-        helps.connections.as_str(),
-    );
-    let serve = Command::new(alloc, "serve")
-        .about("Takes the bids and closings of an auction on a port of 127.0.0.1")
-        .after_help(SERVE_HELP);
-    let with_setup = serve.arg(setup_option(alloc))?;
-    let with_port = with_setup.arg(port)?;
-    Ok(with_port.arg(connections)?)
-}
-
 /// `serve` and its options.
-fn serve_command<'a>(alloc: Global, helps: &'a NumberHelps) -> Result<Command<'a>, Error>
-    ensures shape { IfOk result (λ command. app_of command ≡ serve_grammar) }
-    ensures local { IfOk result (λ command. (out-Command command).has_globals ≡ false) }
-    ensures err { IfErr result (λ error. kind_of error ≡ ErrorKind.OutOfMemory) }
+fn serve_command<'a>(alloc: Global, helps: &'a NumberHelps) -> Result<Command<'a>, AllocError>
+    ensures { IfOk result (IsCommand serve_grammar) }
 {
-    let serve = serve_needed(alloc, helps)?;
-    Ok(serve.arg(journal_option(alloc))?)
+    let about = "Takes the bids and closings of an auction on a port of 127.0.0.1";
+    let serve = named(alloc, "serve", about, SERVE_HELP);
+    let with_setup = with_option(Ok(serve), setup_option(alloc));
+    let port = number_option(alloc, "port", MOST_PORT, helps.port.as_str());
+    let with_port = with_option(with_setup, port);
+    let help = helps.connections.as_str();
+    let connections = number_option(alloc, "connections", MOST_CONNECTIONS, help);
+    let with_connections = with_option(with_port, connections);
+    let kept = "The file in which accepted sheets and closings are kept";
+    with_option(with_connections, option(alloc, "journal", "FILE", kept))
 }
 
 /// A command of a set-up document and a journal.
@@ -148,112 +175,39 @@ fn files_command<'a>(
     name: &'a str,
     about: &'a str,
     help: &'a str,
-) -> Result<Command<'a>, Error>
-    ensures shape { IfOk result (λ command. app_of command ≡ files_grammar name.now) }
-    ensures local { IfOk result (λ command. (out-Command command).has_globals ≡ false) }
-    ensures err { IfErr result (λ error. kind_of error ≡ ErrorKind.OutOfMemory) }
+) -> Result<Command<'a>, AllocError>
+    ensures { IfOk result (IsCommand (files_grammar name.now)) }
 {
-    let command = Command::new(alloc, name).about(about).after_help(help);
-    let with_setup = command.arg(setup_option(alloc))?;
-    let journal = needed_option(
-        alloc,
-        "journal",
-        "The file in which accepted sheets and closings were kept",
-    );
-    Ok(with_setup.arg(journal)?)
+    let with_setup = with_option(Ok(named(alloc, name, about, help)), setup_option(alloc));
+    let kept = "The file in which accepted sheets and closings were kept";
+    with_option(with_setup, needed_option(alloc, "journal", kept))
 }
 
 /// The program without its commands.
-fn program_alone<'a>(alloc: Global) -> Result<Command<'a>, Error>
-    ensures shape { IfOk result (λ command. app_of command
-        ≡ on_top asks_for_a_command (new_app (codes "clock_auction"))) }
-    ensures err { IfErr result (λ error. kind_of error ≡ ErrorKind.OutOfMemory) }
+fn program_alone<'a>(alloc: Global) -> Result<Command<'a>, AllocError>
+    ensures { IfOk result (IsCommand program_alone_grammar) }
 {
-    let named = Command::new(alloc, "clock_auction").bin_name("clock_auction")?;
-    Ok(
-        named
-            .version("0.1.0")
-            .about("The bidding system of an ascending clock auction")
-            .after_help(PROGRAM_HELP)
-            .no_binary_name(true)
-            .subcommand_required(true),
-    )
-}
-
-/// A program with a command that is made, where it is.
-fn with_command<'a>(
-    program: Command<'a>,
-    made: Result<Command<'a>, Error>,
-) -> Result<Command<'a>, Error>
-    ensures shape { (app : App) → IfOk made.entry (λ command. app_of command ≡ app)
-        → IfOk made.entry (λ command. (out-Command command).has_globals ≡ false)
-        → IfOk result (λ command. app_of command ≡ with_subcommand (app_of program.entry) app.top) }
-    ensures err { IfErr made.entry (λ error. kind_of error ≡ ErrorKind.OutOfMemory)
-        → IfErr result (λ error. kind_of error ≡ ErrorKind.OutOfMemory) }
-{
-    match made {
-        Ok(command) => Ok(program.subcommand(command)?),
-        Err(error) => {
-            drop(program);
-            Err(error)
-        }
-    }
-}
-
-/// A program with a command that takes no words.
-fn with_plain<'a>(
-    alloc: Global,
-    program: Command<'a>,
-    name: &'a str,
-    about: &'a str,
-    help: &'a str,
-) -> Result<Command<'a>, Error>
-    ensures shape { IfOk result (λ command. app_of command ≡ with_subcommand (app_of program.entry)
-        (new_app name.now).top) }
-    ensures err { IfErr result (λ error. kind_of error ≡ ErrorKind.OutOfMemory) }
-{
-    let command = Command::new(alloc, name).about(about).after_help(help);
-    Ok(program.subcommand(command)?)
+    let about = "The bidding system of an ascending clock auction";
+    let program = named(alloc, "clock_auction", about, PROGRAM_HELP)
+        .version("0.1.0")
+        .no_binary_name(true)
+        .subcommand_required(true);
+    program.bin_name("clock_auction")
 }
 
 /// The program's commands.
-pub fn program<'a>(alloc: Global, helps: &'a NumberHelps) -> Result<Command<'a>, Error>
-    ensures shape { IfOk result (λ command. app_of command ≡ grammar) }
-    ensures err { IfErr result (λ error. kind_of error ≡ ErrorKind.OutOfMemory) }
+pub fn program<'a>(alloc: Global, helps: &'a NumberHelps) -> Result<Command<'a>, AllocError>
+    ensures { IfOk result (IsCommand grammar) }
 {
-    let priced = with_command(program_alone(alloc)?, prices_command(alloc, helps))?;
-    let opened = with_plain(
-        alloc,
-        priced,
-        "opening",
-        "Prints the sheet of round 1",
-        OPENING_HELP,
-    )?;
-    let replayed = with_plain(
-        alloc,
-        opened,
-        "replay",
-        "Plays an auction of scripted bidders and prints its rounds and what each won",
-        REPLAY_HELP,
-    )?;
-    let served = with_command(replayed, serve_command(alloc, helps))?;
-    let told = with_command(
-        served,
-        files_command(
-            alloc,
-            "journal",
-            "Prints what a journal holds, text by text",
-            JOURNAL_HELP,
-        ),
-    )?;
-    let audited = with_command(
-        told,
-        files_command(
-            alloc,
-            "audit",
-            "Recounts an auction from its journal and prints its rounds and what each bidder won",
-            AUDIT_HELP,
-        ),
-    )?;
-    Ok(audited)
+    let priced = with_command(program_alone(alloc), prices_command(alloc, helps));
+    let about = "Prints the sheet of round 1";
+    let opened = with_command(priced, Ok(named(alloc, "opening", about, OPENING_HELP)));
+    let about = "Plays an auction of scripted bidders and prints its rounds and what each won";
+    let replayed = with_command(opened, Ok(named(alloc, "replay", about, REPLAY_HELP)));
+    let served = with_command(replayed, serve_command(alloc, helps));
+    let about = "Prints what a journal holds, text by text";
+    let told = with_command(served, files_command(alloc, "journal", about, JOURNAL_HELP));
+    let about =
+        "Recounts an auction from its journal and prints its rounds and what each bidder won";
+    with_command(told, files_command(alloc, "audit", about, AUDIT_HELP))
 }

@@ -1,10 +1,10 @@
 //! What the words after the program's name ask for.
-ghost use Rattle.std.specs.Prelude.{◌≡◌, ◌≢◌, ◌&&◌, if◌then◌else◌, nat_le, Some, None, map, option_map, IfSome, IfOk};
-ghost use Rattle.std.specs.Prelude.{IfErr};
+ghost use Rattle.std.specs.Prelude.{◌≡◌, ◌≢◌, None, [], map, option_map, IfSome, IfOk, IfErr};
 ghost use Rattle.clock_terms.specs.Limits.{IsWithin};
-ghost use Rattle.clap.specs.Words.{first_of, found_of, kind_of, rows_of, subcommand_rows_of};
-ghost use Rattle.clock_words.specs.Words.{IsJob, files_from, files_told, job_meant, job_met, job_of, number_of};
+ghost use Rattle.clap.specs.Words.{fault_of, first_of, found_of, kind_of, rows_of, subcommand_of, subcommand_rows_of};
+ghost use Rattle.clock_words.specs.Words.{IsJob, files_from, files_told, given, grammar, job_met, job_of, number_of};
 ghost use Rattle.clock_words.specs.Words.{serving_from, serving_told, task_met, task_of, task_told};
+ghost use Rattle.clock_words.specs.inside.Commands.{within_limits as limited};
 
 use crate::commands::{MOST_CONNECTIONS, MOST_PORT, NumberHelps, number_helps, program};
 use clap::error::ErrorKind;
@@ -60,14 +60,13 @@ pub enum FileTask<'a> {
 static WITHOUT_WORDS: [&str; 3] = ["prices", "--increment", "10"];
 
 /// The number, where it is within the limits.
-fn within_limits(least: u64, most: u64, number: u64) -> Option<u64>
-    ensures value { result ≡ (if nat_le least number && nat_le number most then Some number else None) }
+fn within_limits(least: u64, most: u64, number: Option<u64>) -> Option<u64>
+    ensures value { result ≡ limited least most number }
     ensures limits { IfSome result (IsWithin least most) }
 {
-    if (least..=most).contains(&number) {
-        Some(number)
-    } else {
-        None
+    match number {
+        Some(number) if (least..=most).contains(&number) => Some(number),
+        _ => None,
     }
 }
 
@@ -76,8 +75,7 @@ fn number_in(options: &ArgMatches, name: &str, least: u64, most: u64) -> Option<
     ensures value { result ≡ number_of name.now least most (rows_of (found_of options.now)) }
     ensures limits { IfSome result (IsWithin least most) }
 {
-    let number = options.get_one::<u64>(name)?;
-    within_limits(least, most, number)
+    within_limits(least, most, options.get_one::<u64>(name))
 }
 
 /// The job that the matches name.
@@ -97,16 +95,30 @@ fn job_in(matches: &ArgMatches) -> Option<Job>
     }
 }
 
-/// The job that some words ask for.
-fn job_in_words(alloc: Global, words: &[&str]) -> Result<Option<Job>, Error>
-    ensures ok { IfOk result (λ job. job ≡ job_meant (map (λ word. word.now) words.entry.now)) }
-    ensures limits { IfOk result (λ job. IfSome job IsJob) }
+/// What clap has of the words.
+fn matches_in<'a>(
+    alloc: Global,
+    helps: &'a NumberHelps,
+    words: &'a [&'a str],
+) -> Result<ArgMatches<'a>, Error>
+    ensures taken { IfOk result (λ matches. fault_of grammar (map (λ word. word.now) words.entry.now) ≡ []) }
+    ensures met { IfOk result (λ matches. subcommand_rows_of matches
+        ≡ subcommand_of grammar (map (λ word. word.now) words.entry.now)) }
     ensures err { IfErr result (λ error. kind_of error ≢ ErrorKind.OutOfMemory
-        → job_meant (map (λ word. word.now) words.entry.now) ≡ None) }
+        → fault_of grammar (map (λ word. word.now) words.entry.now) ≢ []) }
 {
-    let helps = number_helps(alloc)?;
-    let matches = program(alloc, &helps)?.try_get_matches_from(words)?;
-    Ok(job_in(&matches))
+    program(alloc, helps)?.try_get_matches_from(words)
+}
+
+/// The words, or those that stand for none.
+fn words_given<'a>(words: &'a [&'a str]) -> &'a [&'a str]
+    ensures { map (λ word. word.now) result.now ≡ given (map (λ word. word.now) words.entry.now) }
+{
+    if words.is_empty() {
+        WITHOUT_WORDS.as_slice()
+    } else {
+        words
+    }
 }
 
 /// The job that the words after the program's name ask for, or `None` or an error where there is
@@ -117,11 +129,9 @@ pub fn job_asked(alloc: Global, words: &[&str]) -> Result<Option<Job>, Error>
     ensures err { IfErr result (λ error. kind_of error ≢ ErrorKind.OutOfMemory
         → job_of (map (λ word. word.now) words.entry.now) ≡ None) }
 {
-    if words.is_empty() {
-        job_in_words(alloc, WITHOUT_WORDS.as_slice())
-    } else {
-        job_in_words(alloc, words)
-    }
+    let helps = number_helps(alloc)?;
+    let matches = matches_in(alloc, &helps, words_given(words))?;
+    Ok(job_in(&matches))
 }
 
 /// The text that an option is given.
@@ -182,6 +192,6 @@ pub fn file_task_asked<'a>(
     ensures err { IfErr result (λ error. kind_of error ≢ ErrorKind.OutOfMemory
         → task_of (map (λ word. word.now) words.entry.now) ≡ None) }
 {
-    let matches = program(alloc, helps)?.try_get_matches_from(words)?;
+    let matches = matches_in(alloc, helps, words)?;
     Ok(task_in(&matches))
 }

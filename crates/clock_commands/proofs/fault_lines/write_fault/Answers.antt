@@ -1,6 +1,6 @@
 use Rattle.std.proofs.Common.{◌++◌, codes}
 use Rattle.clock_commands.specs.FaultLines.{fault_words}
-use Rattle.clock_device.proofs.Streams.{both_written, first_failed, front_beyond, written_twice}
+use Rattle.clock_device.proofs.Streams.{both_written, first_failed}
 use Rattle.clock_commands.proofs.fault_lines.write_fault.Goals as goal
 
 pub returns-in_err-write_all-clause-bytes : goal.returns-in_err-write_all-clause-bytes
@@ -9,13 +9,12 @@ returns-in_err-write_all-clause-bytes g c =
 
 pub returns-in_err-write_words-clause-bytes : goal.returns-in_err-write_words-clause-bytes
 returns-in_err-write_words-clause-bytes g c =
-    let told = g.W.Sink.told in
-    first_failed _ _ _ (codes "fault: " ++ fault_words c.args.fault) (codes "\n") _ c.from_residual-in_err-write_words.ensures.1
-    (front_beyond (told c.args.sink.now).taken (told c.write_all.new.sink).taken (told c.write_words.new.sink).taken (codes "fault: ") (fault_words c.args.fault)
-    c.in_ok-write_all.ensures.bytes c.in_err-write_words.ensures.bytes)
+    both_written _ _ _ (codes "fault: ") (fault_words c.args.fault ++ codes "\n") _ c.in_ok-write_all.ensures.bytes
+    (first_failed _ _ _ (fault_words c.args.fault) (codes "\n") _ c.from_residual-in_err-write_words.ensures.1
+    (rw c.words_of-words.ensures at c.in_err-write_words.ensures.bytes))
 
 pub returns-clause-bytes : goal.returns-clause-bytes
 returns-clause-bytes g c =
-    both_written _ _ _ (codes "fault: " ++ fault_words c.args.fault) (codes "\n") _
-    (written_twice _ _ _ (codes "fault: ") (fault_words c.args.fault) c.in_ok-write_all.ensures.bytes
-    c.in_ok-write_words.ensures.bytes) c.write_all-2.ensures.bytes
+    both_written _ _ _ (codes "fault: ") (fault_words c.args.fault ++ codes "\n") _ c.in_ok-write_all.ensures.bytes
+    (both_written _ _ _ (fault_words c.args.fault) (codes "\n") _ (rw c.words_of-words.ensures at c.in_ok-write_words.ensures.bytes)
+    c.write_all-2.ensures.bytes)

@@ -1,19 +1,24 @@
+use Rattle.clock_device.proofs.Streams.{both_written, first_failed}
+use Rattle.clock_commands.proofs.Lines.{one_by_one}
 use Rattle.clock_commands.proofs.fault_lines.write_words.Goals as goal
 
-pub returns-in-PriceLimit-clause-bytes : goal.returns-in-PriceLimit-clause-bytes
-returns-in-PriceLimit-clause-bytes g c = rw c.in-PriceLimit.is c.write_numbered.ensures.bytes
+pub returns-in_err-write_all-clause-bytes : goal.returns-in_err-write_all-clause-bytes
+returns-in_err-write_all-clause-bytes g c =
+    rw (one_by_one c.args.words.now) (first_failed _ _ _ _ _ _ c.from_residual.ensures.1 (rw c.as_bytes.ensures.value at c.in_err-write_all.ensures.bytes))
 
-pub returns-in-JournalBusy-clause-bytes : goal.returns-in-JournalBusy-clause-bytes
-returns-in-JournalBusy-clause-bytes g c = rw c.in-JournalBusy.is c.write_all-in-JournalBusy.ensures.bytes
+pub returns-in_err-write_behind-clause-bytes : goal.returns-in_err-write_behind-clause-bytes
+returns-in_err-write_behind-clause-bytes g c =
+    rw (one_by_one c.args.words.now) (both_written _ _ _ _ _ _ (rw c.as_bytes.ensures.value at c.in_ok-write_all.ensures.bytes)
+    (first_failed _ _ _ _ _ _ c.from_residual-in_err-write_behind.ensures.1 c.in_err-write_behind.ensures.bytes))
 
-pub returns-in-JournalUnknown-clause-bytes : goal.returns-in-JournalUnknown-clause-bytes
-returns-in-JournalUnknown-clause-bytes g c = rw c.in-JournalUnknown.is c.write_all-in-JournalUnknown.ensures.bytes
+pub returns-in_err-write_behind-2-clause-bytes : goal.returns-in_err-write_behind-2-clause-bytes
+returns-in_err-write_behind-2-clause-bytes g c =
+    rw (one_by_one c.args.words.now) (both_written _ _ _ _ _ _ (rw c.as_bytes.ensures.value at c.in_ok-write_all.ensures.bytes)
+    (both_written _ _ _ _ _ _ c.in_ok-write_behind.ensures.bytes
+    (first_failed _ _ _ _ _ _ c.from_residual-in_err-write_behind-2.ensures.1 c.in_err-write_behind-2.ensures.bytes)))
 
-pub returns-in-JournalSetup-clause-bytes : goal.returns-in-JournalSetup-clause-bytes
-returns-in-JournalSetup-clause-bytes g c = rw c.in-JournalSetup.is c.write_all-in-JournalSetup.ensures.bytes
-
-pub returns-in-JournalDamaged-clause-bytes : goal.returns-in-JournalDamaged-clause-bytes
-returns-in-JournalDamaged-clause-bytes g c = rw c.in-JournalDamaged.is c.write_numbered-in-JournalDamaged.ensures.bytes
-
-pub returns-in-JournalRefused-clause-bytes : goal.returns-in-JournalRefused-clause-bytes
-returns-in-JournalRefused-clause-bytes g c = rw c.in-JournalRefused.is c.write_numbered-in-JournalRefused.ensures.bytes
+pub returns-clause-bytes : goal.returns-clause-bytes
+returns-clause-bytes g c =
+    rw (one_by_one c.args.words.now) (both_written _ _ _ _ _ _ (rw c.as_bytes.ensures.value at c.in_ok-write_all.ensures.bytes)
+    (both_written _ _ _ _ _ _ c.in_ok-write_behind.ensures.bytes
+    (both_written _ _ _ _ _ _ c.in_ok-write_behind-2.ensures.bytes c.write_code_behind.ensures.bytes)))

@@ -1,5 +1,4 @@
 use Rattle.std.proofs.Common.{arith}
-use Rattle.clock_device.specs.Told.{Reading}
 use Rattle.std.proofs.lemmas.Result.{err_from_is_err_and}
 use Rattle.clock_commands.proofs.Reading.{stopped}
 use Rattle.clock_commands.proofs.input.read_all.Goals as goal

@@ -1,30 +1,17 @@
-use Rattle.std.proofs.Common.{◌≡◌, ◌<◌, ◌∙◌, [], length, map, sym, rules}
-use Rattle.std.proofs.lemmas.Bool.{eqb-true}
-use Rattle.std.proofs.lemmas.Result.{IfErr-weaker, IfOk-weaker}
-use Rattle.clock_words.proofs.Grammar.{asked_with, asked_without}
-use Rattle.clock_words.specs.Words.{given}
+use Rattle.std.proofs.Common.{◌∙◌, ap, map}
+use Rattle.std.proofs.lemmas.Result.{err_from_is_err_and}
+use Rattle.clap.specs.Words.{fault_of, kind_of}
+use Rattle.clock_words.proofs.Grammar.{meant_where_taken, none_meant}
+use Rattle.clock_words.specs.Words.{grammar, job_meant, job_met}
 use Rattle.clock_words.proofs.words.job_asked.Goals as goal
 
-pub returns-then-is_empty-clause-ok : goal.returns-then-is_empty-clause-ok
-returns-then-is_empty-clause-ok c =
-    let shown : map (λ word. word.now) c.as_slice.result.now ≡ given [] = search rules in
-    let e = asked_without c.args.words.now c.as_slice.result.now (eqb-true _ _ (sym c.if-is_empty.ensures)) shown in
-    IfOk-weaker c.job_in_words.result _ _ (λ job h. h ∙ sym e) c.job_in_words.ensures.ok
+pub returns-in_err-matches-clause-err : goal.returns-in_err-matches-clause-err
+returns-in_err-matches-clause-err c =
+    let p = err_from_is_err_and c.from_residual-in_err-matches.result c.from_residual-in_err-matches.ensures.1 in
+    rw (p.1, ← c.words_given.ensures) (λ other. none_meant _ _ (c.in_err-matches.ensures.err (λ memory. other (ap kind_of p.2 ∙ memory))))
 
-pub returns-then-is_empty-clause-err : goal.returns-then-is_empty-clause-err
-returns-then-is_empty-clause-err c =
-    let shown : map (λ word. word.now) c.as_slice.result.now ≡ given [] = search rules in
-    let e = asked_without c.args.words.now c.as_slice.result.now (eqb-true _ _ (sym c.if-is_empty.ensures)) shown in
-    IfErr-weaker c.job_in_words.result _ _ (λ error h other. e ∙ h other) c.job_in_words.ensures.err
-
-pub returns-else-is_empty-clause-ok : goal.returns-else-is_empty-clause-ok
-returns-else-is_empty-clause-ok c =
-    let some : 0 < length c.args.words.now = search rules in
-    let e = asked_with c.args.words.now some in
-    IfOk-weaker c.job_in_words-else-is_empty.result _ _ (λ job h. h ∙ sym e) c.job_in_words-else-is_empty.ensures.ok
-
-pub returns-else-is_empty-clause-err : goal.returns-else-is_empty-clause-err
-returns-else-is_empty-clause-err c =
-    let some : 0 < length c.args.words.now = search rules in
-    let e = asked_with c.args.words.now some in
-    IfErr-weaker c.job_in_words-else-is_empty.result _ _ (λ error h other. e ∙ h other) c.job_in_words-else-is_empty.ensures.err
+pub returns-clause-ok : goal.returns-clause-ok
+returns-clause-ok c =
+    c.job_in.ensures.met ∙ ap job_met c.in_ok-matches.ensures.met
+    ∙ meant_where_taken _ (fault_of grammar (map (λ word. word.now) c.words_given.result.now)) c.in_ok-matches.ensures.taken
+    ∙ ap job_meant c.words_given.ensures

@@ -1,0 +1,18 @@
+-- What stands behind a word.
+use Rattle.std.proofs.Common.{◌≡◌, ℕ, List, ◌++◌, Option, Some, None, refl, append_assoc}
+use Rattle.std.proofs.lemmas.List.{append-nil}
+use Rattle.clock_http.specs.declared.code.Code.{Code}
+use Rattle.clock_commands.specs.declared.fault_lines.Words.{Words}
+use Rattle.clock_commands.specs.inside.Lines.{behind, code_behind, text_of_words, with_code, with_number}
+
+number_added : (text : List ℕ) (number : Option ℕ) → with_number text number ≡ text ++ behind number
+number_added text None = rw append-nil refl
+number_added text (Some number) = refl
+
+code_added : (text : List ℕ) (code : Option Code) → with_code text code ≡ text ++ code_behind code
+code_added text None = rw append-nil refl
+code_added text (Some code) = refl
+
+-- the words in the order in which they are written
+pub one_by_one : (words : Words) → text_of_words words ≡ words.0.now ++ (behind words.1 ++ (behind words.2 ++ code_behind words.3))
+one_by_one words = rw (code_added, number_added, number_added) (simp append_assoc)

@@ -1,0 +1,27 @@
+-- What the words of a fault are made of.
+--     behind number, code_behind code      a space and a number, or a code, where there is one
+--     text_of_words words      a word, and what stands behind it
+use Rattle.std.specs.Prelude.{ℕ, List, [], ◌++◌, Option, Some, None, codes, decimal}
+use Rattle.clock_http.specs.Codes.{text_of}
+use Rattle.clock_http.specs.declared.code.Code.{Code}
+use Rattle.clock_commands.specs.declared.fault_lines.Words.{Words}
+
+abbrev pub behind : Option ℕ → List ℕ
+behind None = []
+behind (Some number) = codes " " ++ decimal number
+
+abbrev pub code_behind : Option Code → List ℕ
+code_behind None = []
+code_behind (Some code) = codes " " ++ text_of code
+
+-- a text and what stands behind it, where something does
+abbrev pub with_number : List ℕ → Option ℕ → List ℕ
+with_number text None = text
+with_number text (Some number) = text ++ behind (Some number)
+
+abbrev pub with_code : List ℕ → Option Code → List ℕ
+with_code text None = text
+with_code text (Some code) = text ++ code_behind (Some code)
+
+abbrev pub text_of_words : Words → List ℕ
+text_of_words words = with_code (with_number (with_number words.0.now words.1) words.2) words.3
