@@ -3,11 +3,11 @@ use Rattle.std.proofs.Common.{◌≡◌, ℕ, List, [], ◌∷◌, map, Option, 
 use Rattle.std.proofs.Common.{refl, ap, ◌∙◌}
 use Rattle.json.specs.Token.{Token}
 use Rattle.serde_json.specs.Data.{Data}
-use Rattle.clock_setup.specs.Members.{each, number_from, ◌>>=◌}
+use Rattle.clock_json.specs.Tree.{each, number_from, ◌>>=◌}
 use Rattle.clock_terms.specs.declared.increments.Increments.{Increments}
 use Rattle.clock_terms.specs.declared.increments.Increments.TheVariants.{Single, PerProduct}
-use Rattle.clock_scan.specs.Reading.{whole, numbers, items_of, Reads}
-use Rattle.clock_scan.proofs.Steps.{items_start, items_next, items_end}
+use Rattle.clock_json.specs.Reading.{whole, numbers, items_of, Reads}
+use Rattle.clock_json.proofs.Steps.{items_start, items_next, items_end}
 use Rattle.clock_bids.specs.declared.sheet.Bid.{Bid}
 use Rattle.clock_order.specs.declared.ties.Tie.{Tie}
 use Rattle.clock_bodies.specs.declared.put_body.PutBody.{PutBody}

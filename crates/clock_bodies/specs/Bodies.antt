@@ -6,8 +6,7 @@
 use Rattle.std.specs.Prelude.{ℕ, List, Option, Some, None, option_and_then, Result, Err, if◌then◌else◌, codes}
 use Rattle.serde_json.specs.Data.{Data}
 use Rattle.clock_terms.specs.Faults.{or_fault}
-use Rattle.clock_setup.specs.Members.{number_at, items_at, has_members, each, ◌>>=◌}
-use Rattle.clock_setup.specs.SetupDocument.{json}
+use Rattle.clock_json.specs.Tree.{number_at, items_at, has_members, each, json, ◌>>=◌}
 use Rattle.clock_bids.specs.declared.sheet.Bid.{Bid}
 use Rattle.clock_bodies.specs.declared.put_body.PutBody.{PutBody}
 use Rattle.clock_bodies.specs.declared.body_fault.BodyFault.{BodyFault}

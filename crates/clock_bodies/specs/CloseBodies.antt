@@ -7,8 +7,7 @@ use Rattle.serde_json.specs.Data.{Data, Items, no_items, item}
 use Rattle.serde_json.specs.Find.{as_array}
 use Rattle.clock_terms.specs.declared.increments.Increments.{Increments}
 use Rattle.clock_terms.specs.declared.increments.Increments.TheVariants.{Single, PerProduct}
-use Rattle.clock_setup.specs.Members.{number_from, number_at, items_at, has_members, each, ◌>>=◌}
-use Rattle.clock_setup.specs.SetupDocument.{json}
+use Rattle.clock_json.specs.Tree.{number_from, number_at, items_at, has_members, each, json, ◌>>=◌}
 use Rattle.clock_order.specs.declared.ties.Tie.{Tie}
 use Rattle.clock_bodies.specs.declared.close_body.CloseBody.{CloseBody}
 use Rattle.clock_bodies.specs.declared.body_fault.BodyFault.{BodyFault}

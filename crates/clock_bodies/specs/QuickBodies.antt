@@ -4,7 +4,7 @@
 --     single_of, listed_of      the increment for all products, or those of each, where there are such
 use Rattle.std.specs.Prelude.{ℕ, List, [], ◌∷◌, Option, Some, None, option_map, codes}
 use Rattle.serde_json.specs.Data.{Data, object}
-use Rattle.clock_scan.specs.Reading.{whole, numbers, Fields, members_of}
+use Rattle.clock_json.specs.Reading.{whole, numbers, Fields, members_of}
 use Rattle.clock_bids.specs.declared.sheet.Bid.{Bid}
 use Rattle.clock_order.specs.declared.ties.Tie.{Tie}
 use Rattle.clock_terms.specs.declared.increments.Increments.{Increments}

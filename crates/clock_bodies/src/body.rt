@@ -2,13 +2,13 @@
 ghost use Rattle.std.specs.Prelude.{◌≡◌, ◌≢◌, ◌≤◌, Option, Some, Ok, Err, IfOk, IfErr};
 ghost use Rattle.serde_json.specs.Data.{Data};
 ghost use Rattle.serde_json.specs.View.{view};
-ghost use Rattle.clock_setup.specs.SetupDocument.{json};
+ghost use Rattle.clock_json.specs.Tree.{json};
 ghost use Rattle.clock_bodies.specs.Bodies.{meant_by};
 
 use crate::body_fault::BodyFault;
 use clock_device::NoMemory;
-use clock_scan::{ScanStop, ScannedMembers, scanned_text};
-use clock_setup::members::read_value;
+use clock_json::{ScanStop, ScannedMembers, scanned_text};
+use clock_json::tree::read_value;
 use serde_json::Value;
 use std::alloc::Global;
 

@@ -7,7 +7,7 @@ use crate::body_fault::BodyFault;
 use crate::close_scan::{FoundClose, TieReader};
 use clock_device::{Items, NoMemory};
 use clock_order::Tie;
-use clock_setup::members::{ValueReader, each_at, has_members, items_at, number_at, numbers_of};
+use clock_json::tree::{ValueReader, each_at, has_members, items_at, number_at, numbers_of};
 use clock_terms::Increments;
 use serde_json::Value;
 use std::alloc::Global;

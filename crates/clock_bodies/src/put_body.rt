@@ -6,7 +6,7 @@ use crate::body_fault::BodyFault;
 use crate::put_scan::{BidReader, FoundPut};
 use clock_bids::Bid;
 use clock_device::{Items, NoMemory};
-use clock_setup::members::{ValueReader, each_at, has_members, number_at};
+use clock_json::tree::{ValueReader, each_at, has_members, number_at};
 use serde_json::Value;
 use std::alloc::Global;
 

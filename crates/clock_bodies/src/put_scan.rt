@@ -1,13 +1,13 @@
 //! The body of a sheet read byte by byte, where it has the shape that is asked for.
 ghost use Rattle.std.specs.Prelude.{◌≡◌, ◌++◌, ◌<◌, List, length, map, IfOk, OnOk};
-ghost use Rattle.clock_scan.specs.Reading.{Reads, ReadsAll};
+ghost use Rattle.clock_json.specs.Reading.{Reads, ReadsAll};
 ghost use Rattle.clock_bodies.specs.QuickBodies.{bid_fields, bid_data};
 ghost use Rattle.clock_bodies.specs.inside.QuickBodies.{bids_data, put_fields, put_data};
 
 use crate::put_body::PutBody;
 use clock_bids::Bid;
 use clock_device::Items;
-use clock_scan::{PartReader, Scan, ScanStop, ScannedMembers, is_key, push, with_room};
+use clock_json::{PartReader, Scan, ScanStop, ScannedMembers, is_key, push, with_room};
 use std::alloc::Global;
 
 /// How many bytes a bid and its comma take at least.

@@ -3,12 +3,11 @@ use Rattle.std.proofs.Common.{◌≡◌, ℕ, List, Option, Some, None, option_m
 use Rattle.std.specs.Str.{IsUtf8}
 use Rattle.serde_json.specs.Data.{Data}
 use Rattle.serde_json.specs.Read.{read}
-use Rattle.clock_scan.specs.Reading.{whole, numbers}
+use Rattle.clock_json.specs.Reading.{whole, numbers}
 use Rattle.clock_terms.specs.Faults.{first_fault, unless}
 use Rattle.clock_setup.specs.SetupData.{setup_data}
-use Rattle.clock_setup.specs.Members.{number_from}
-use Rattle.clock_setup.specs.OpeningShape.{row_of}
-use Rattle.clock_setup.proofs.JsonLaws.{json_value}
+use Rattle.clock_json.specs.Tree.{number_from, row_of}
+use Rattle.clock_json.proofs.JsonLaws.{json_value}
 use Rattle.clock_terms.specs.declared.increments.Increments.{Increments}
 use Rattle.clock_terms.specs.declared.increments.Increments.TheVariants.{Single, PerProduct}
 use Rattle.clock_bids.specs.declared.sheet.Bid.{Bid}

@@ -6,8 +6,7 @@ use Rattle.std.specs.Prelude.{ℕ, List, Option, Some, None, option_and_then, op
 use Rattle.std.specs.Str.{bytes_eq}
 use Rattle.serde_json.specs.Data.{Data}
 use Rattle.serde_json.specs.Find.{get, as_null, as_array}
-use Rattle.clock_setup.specs.Members.{text_at, items_at, has_members, each, ◌>>=◌}
-use Rattle.clock_setup.specs.OpeningShape.{row_of}
+use Rattle.clock_json.specs.Tree.{text_at, items_at, has_members, each, row_of, ◌>>=◌}
 use Rattle.clock_bids.specs.declared.sheet.Bid.{Bid}
 use Rattle.clock_bodies.specs.Bodies.{bid_of}
 use Rattle.clock_bodies.specs.CloseBodies.{tie_of, increments_of}

@@ -1,12 +1,12 @@
 //! The limits of a sincere bidder, which are mostly none.
 ghost use Rattle.std.specs.Prelude.{◌≡◌, ◌<◌, length, IfOk, OnOk};
-ghost use Rattle.clock_scan.specs.Reading.{rows, Reads};
+ghost use Rattle.clock_json.specs.Reading.{rows, Reads};
 ghost use Rattle.clock_replays.specs.inside.KeptLimits.{AreKept, kept_limits};
 
 use crate::limit_rows::LimitRows;
 use crate::limit_walk::LimitWalk;
 use clock_device::NoMemory;
-use clock_scan::{Scan, ScanStop};
+use clock_json::{Scan, ScanStop};
 use clock_terms::Amounts;
 use std::alloc::Global;
 use std::marker::Model;

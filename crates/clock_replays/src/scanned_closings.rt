@@ -3,7 +3,7 @@ ghost use Rattle.clock_replays.specs.inside.PartData.{closing_fields, closing_da
 
 use crate::closing::{Closing, TieList};
 use clock_bodies::{TieReader, one_form};
-use clock_scan::{Scan, ScanStop, ScannedMembers, is_key, scanned_parts};
+use clock_json::{Scan, ScanStop, ScannedMembers, is_key, scanned_parts};
 use clock_terms::{Amounts, Increments};
 use std::alloc::Global;
 

@@ -5,7 +5,7 @@ use crate::closing::Closings;
 use crate::scanned_closings::FoundClosing;
 use crate::scanned_scripts::FoundScript;
 use crate::script::Scripts;
-use clock_scan::{PartReader, Scan, ScanStop, ScannedMembers, is_key, scanned_parts};
+use clock_json::{PartReader, Scan, ScanStop, ScannedMembers, is_key, scanned_parts};
 use clock_setup::HeldSetup;
 use std::alloc::Global;
 

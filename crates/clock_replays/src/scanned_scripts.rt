@@ -4,7 +4,7 @@ ghost use Rattle.clock_replays.specs.inside.PartData.{sheet_data, found_script, 
 use crate::limit_lists::{LimitLists, limit_lists};
 use crate::script::{BidList, Script, SheetList};
 use clock_bodies::BidReader;
-use clock_scan::{PartReader, Scan, ScanStop, ScannedMembers, is_key, scanned_parts};
+use clock_json::{PartReader, Scan, ScanStop, ScannedMembers, is_key, scanned_parts};
 use std::alloc::Global;
 
 /// A sheet is read as a list of bids, or as `null` where there is none.

@@ -1,7 +1,6 @@
 ghost use Rattle.std.specs.Prelude.{◌≡◌, Some, IfOk, option_map, option_and_then, codes};
 ghost use Rattle.serde_json.specs.View.{view};
-ghost use Rattle.clock_setup.specs.Members.{each, items_at};
-ghost use Rattle.clock_setup.specs.OpeningShape.{row_of};
+ghost use Rattle.clock_json.specs.Tree.{each, items_at, row_of};
 ghost use Rattle.clock_replays.specs.ReplayShape as shape;
 
 use crate::closing::{Closing, Closings};
@@ -10,7 +9,7 @@ use crate::scanned_scripts::SheetReader;
 use crate::script::{BidList, Script, Scripts};
 use clock_bodies::{BidReader, TieReader, increments_of};
 use clock_device::NoMemory;
-use clock_setup::members::{RowReader, ValueReader, each_at, each_of, has_members, text_at};
+use clock_json::tree::{RowReader, ValueReader, each_at, each_of, has_members, text_at};
 use serde_json::Value;
 use std::alloc::Global;
 

@@ -20,7 +20,7 @@ use Rattle.clock_terms.specs.Limits.{IsBidder, IsSetup, IsOfFirstVersion, longes
 use Rattle.clock_terms.specs.Limits.{most_products, most_bidders, most_units, most_supply, most_granule}
 use Rattle.clock_terms.specs.Limits.{most_eligibility, least_requirement, most_requirement, least_limit, most_limit}
 use Rattle.clock_terms.proofs.WithinLaws.{both_true, within_of_test, test_of_within}
-use Rattle.clock_setup.specs.Members.{number_at}
+use Rattle.clock_json.specs.Tree.{number_at}
 use Rattle.clock_setup.specs.SetupShape.{fields_of}
 use Rattle.clock_terms.proofs.FaultLaws.{passed, failed, both_pass}
 use Rattle.clock_terms.specs.Faults.{first_fault, in_turn}

@@ -5,13 +5,13 @@ use Rattle.std.specs.Prelude.{⊤, if◌then◌else◌}
 use Rattle.std.proofs.lemmas.Bool.{eqb-true}
 use Rattle.std.proofs.lemmas.List.Elements.{All-nil, All-head, All-tail}
 use Rattle.serde_json.specs.Data.{Data, object}
-use Rattle.clock_scan.specs.Reading.{items_of, members_of}
+use Rattle.clock_json.specs.Reading.{items_of, members_of}
 use Rattle.clock_terms.specs.declared.setup.Product.{Product}
 use Rattle.clock_terms.specs.declared.setup.Bidder.{Bidder}
 use Rattle.clock_terms.specs.Limits.{SetupFields, IsWithin, IsOfFirstVersion, latest_version, first_granule}
 use Rattle.clock_terms.specs.Faults.{first_fault, unless}
 use Rattle.clock_terms.proofs.WithinLaws.{test_of_within}
-use Rattle.clock_setup.specs.Members.{each, number_at, ◌>>=◌}
+use Rattle.clock_json.specs.Tree.{each, number_at, ◌>>=◌}
 use Rattle.clock_setup.specs.SetupShape.{product_of, bidder_of, fields_of}
 use Rattle.clock_setup.specs.SetupDocument.{setup_checks, setup_of}
 use Rattle.clock_setup.specs.SetupData.{added, product_data, products_data, bidder_data, bidders_data, setup_fields, setup_data}

@@ -4,14 +4,14 @@ use Rattle.std.specs.Prelude.{⊤}
 use Rattle.std.specs.Str.{IsUtf8}
 use Rattle.serde_json.specs.Data.{Data}
 use Rattle.serde_json.specs.Read.{read}
-use Rattle.clock_scan.specs.Reading.{whole, numbers, items_of}
+use Rattle.clock_json.specs.Reading.{whole, numbers, items_of}
 use Rattle.clock_setup.specs.declared.opening_scan.ScannedOpening.{ScannedOpening}
 use Rattle.clock_setup.specs.SetupData.{setup_data}
-use Rattle.clock_setup.specs.Members.{number_from, each}
-use Rattle.clock_setup.specs.OpeningShape.{row_of, parts_of}
+use Rattle.clock_json.specs.Tree.{number_from, each, row_of}
+use Rattle.clock_setup.specs.OpeningShape.{parts_of}
 use Rattle.clock_setup.specs.OpeningDocument.{opening_with, document_opening}
 use Rattle.clock_setup.specs.inside.OpeningData.{opening_data, scanned_data}
-use Rattle.clock_setup.proofs.JsonLaws.{json_value}
+use Rattle.clock_json.proofs.JsonLaws.{json_value}
 use Rattle.clock_setup.proofs.OpeningLaws.{opening_at}
 use Rattle.clock_setup.proofs.ScanLaws.{each_of}
 

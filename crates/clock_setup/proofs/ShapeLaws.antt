@@ -7,7 +7,7 @@ use Rattle.clock_terms.specs.declared.setup.Product.{Product}
 use Rattle.clock_terms.specs.declared.setup.Bidder.{Bidder}
 use Rattle.clock_terms.specs.Limits.{SetupFields, IsOfFirstVersion, IsWithin, is_within, latest_version, first_granule, first_limit}
 use Rattle.clock_terms.proofs.WithinLaws.{within_of_test}
-use Rattle.clock_setup.specs.Members.{number_at, text_at, items_at, has_members, each, ◌>>=◌}
+use Rattle.clock_json.specs.Tree.{number_at, text_at, items_at, has_members, each, ◌>>=◌}
 use Rattle.clock_setup.specs.SetupShape.{added_number, key_count, product_of, bidder_of, fields_of}
 
 if_some : {A : Type 0} (b : Bool) (x y : A) → (if b then Some x else None) ≡ Some y → x ≡ y

@@ -16,7 +16,8 @@ use Rattle.clock_setup.specs.declared.opening.OpeningFault.TheVariants.{NotJson,
 use Rattle.clock_terms.specs.Limits.{SetupFields, is_within, least_increment, most_increment}
 use Rattle.clock_terms.specs.Eligibility.{activity}
 use Rattle.clock_terms.specs.Faults.{first_fault, in_turn, unless, or_fault, ◌>>=◌}
-use Rattle.clock_setup.specs.SetupDocument.{json, setup_of}
+use Rattle.clock_json.specs.Tree.{json}
+use Rattle.clock_setup.specs.SetupDocument.{setup_of}
 use Rattle.clock_setup.specs.OpeningShape.{parts_of}
 
 -- a row for each bidder, and in each row a number for each product

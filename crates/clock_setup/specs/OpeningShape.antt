@@ -1,20 +1,15 @@
 -- The shape of an opening document: exactly these keys, each with a value of its kind. (Own format.)
---     row_of value      one bidder's demands
 --     parts_of value      the whole document, with its set-up not yet read and no count compared
 use Rattle.std.specs.Prelude.{ℕ, List, Option, Some, None, option_and_then, if◌then◌else◌, codes}
 use Rattle.serde_json.specs.Data.{Data}
-use Rattle.serde_json.specs.Find.{get, as_array}
-use Rattle.clock_setup.specs.Members.{number_from, number_at, items_at, has_members, each, ◌>>=◌}
+use Rattle.serde_json.specs.Find.{get}
+use Rattle.clock_json.specs.Tree.{number_at, items_at, has_members, row_of, each, ◌>>=◌}
 
 -- what an opening document has: any value for the set-up, rows of demands, and the increment in percent
 pub record OpeningParts : Type 0 where
   pub setup : Data
   pub demands : List (List ℕ)
   pub increment : ℕ
-
--- [N,..]
-unfoldable pub row_of : Data → Option (List ℕ)
-row_of value = option_and_then (each number_from) (as_array value)
 
 -- {"demands":[ROW,..],"increment":N,"setup":VALUE}
 unfoldable pub parts_of : Data → Option OpeningParts

@@ -4,7 +4,7 @@
 --     product_fields, bidder_fields, setup_fields      the keys of an object that is being read, with what was found
 use Rattle.std.specs.Prelude.{ℕ, List, [], ◌∷◌, ◌==◌, map, Option, Some, None, option_map, if◌then◌else◌, codes}
 use Rattle.serde_json.specs.Data.{Data, string, array, object}
-use Rattle.clock_scan.specs.Reading.{whole, items_of, Fields, members_of}
+use Rattle.clock_json.specs.Reading.{whole, items_of, Fields, members_of}
 use Rattle.clock_terms.specs.declared.setup.Product.{Product}
 use Rattle.clock_terms.specs.declared.setup.Bidder.{Bidder}
 use Rattle.clock_terms.specs.Limits.{SetupFields}

@@ -3,9 +3,7 @@
 --     setup_of value      what a JSON value means as a set-up
 --     document_setup bytes      what bytes mean as a set-up
 use Rattle.std.specs.Prelude.{ℕ, Bool, ◌&&◌, List, [], ◌∷◌, ◌++◌, map, length, nat_le, if◌then◌else◌, Option, None, Result, Ok, Err, codes}
-use Rattle.std.specs.Str.{is_utf8}
 use Rattle.serde_json.specs.Data.{Data}
-use Rattle.serde_json.specs.Read.{read}
 use Rattle.clock_money.specs.Price.{highest_price}
 use Rattle.clock_terms.specs.declared.setup.Product.{Product}
 use Rattle.clock_terms.specs.declared.setup.Bidder.{Bidder}
@@ -16,7 +14,7 @@ use Rattle.clock_setup.specs.declared.fault.SetupFault.TheVariants.{NotJson, Sha
 use Rattle.clock_terms.specs.Limits.{SetupFields, is_within, is_name, is_token, is_distinct}
 use Rattle.clock_terms.specs.Limits.{latest_version, least_requirement, most_requirement, least_limit, most_limit, most_products, most_bidders}
 use Rattle.clock_terms.specs.Limits.{most_units, most_supply, most_granule, most_eligibility}
-use Rattle.clock_setup.specs.Members.{number_at}
+use Rattle.clock_json.specs.Tree.{json, number_at}
 use Rattle.clock_setup.specs.SetupShape.{fields_of}
 use Rattle.clock_terms.specs.Faults.{first_fault, in_turn, unless, or_fault, ◌>>=◌}
 
@@ -70,10 +68,6 @@ setup_of value = do
   known ← if is_within 1 latest_version version then Ok version else Err Version
   setup ← or_fault Shape (fields_of value)
   unless (first_fault (setup_checks setup)) setup
-
--- the JSON value that the bytes are (RFC 8259, as serde_json's reading definition has it)
-unfoldable pub json : List ℕ → Option Data
-json bytes = if is_utf8 bytes then read bytes else None
 
 -- what the bytes of a set-up document mean
 unfoldable pub document_setup : List ℕ → Result SetupFields SetupFault

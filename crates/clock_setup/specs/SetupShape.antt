@@ -4,7 +4,7 @@
 --     fields_of value      the whole document, with no limit tested yet
 use Rattle.std.specs.Prelude.{ℕ, ◌+◌, ◌==◌, List, Option, Some, None, option_and_then, if◌then◌else◌, codes}
 use Rattle.serde_json.specs.Data.{Data}
-use Rattle.clock_setup.specs.Members.{number_at, text_at, items_at, has_members, each, ◌>>=◌}
+use Rattle.clock_json.specs.Tree.{number_at, text_at, items_at, has_members, each, ◌>>=◌}
 use Rattle.clock_terms.specs.declared.setup.Product.{Product}
 use Rattle.clock_terms.specs.declared.setup.Bidder.{Bidder}
 use Rattle.clock_terms.specs.Limits.{SetupFields, first_limit, first_granule}

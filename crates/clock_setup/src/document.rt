@@ -2,7 +2,7 @@ ghost use Rattle.std.specs.Prelude.{◌≡◌, codes, None, Some, Ok, IfOk, IfEr
 ghost use Rattle.serde_json.specs.View.{view};
 ghost use Rattle.clock_terms.specs.Faults.{IsFirstFault, IsRefusal, first_fault};
 ghost use Rattle.clock_terms.specs.Limits.{SetupFields, IsOfFirstVersion, IsSetup, IsWithin, latest_version};
-ghost use Rattle.clock_setup.specs.Members.{number_at};
+ghost use Rattle.clock_json.specs.Tree.{number_at};
 ghost use Rattle.clock_setup.specs.SetupShape.{fields_of};
 ghost use Rattle.clock_setup.specs.SetupDocument as document;
 ghost use Rattle.clock_setup.specs.inside.SetupDocument.{distinct_checks, head_checks};
@@ -10,12 +10,12 @@ ghost use Rattle.clock_setup.specs.inside.SetupDocument.{distinct_checks, head_c
 use crate::entries::SetupEntries;
 use crate::fault::{Place, SetupFault};
 use crate::held_setup::HeldSetup;
-use crate::members::{number_at, read_value};
+use clock_json::tree::{number_at, read_value};
 use crate::names::{has_distinct_names, has_distinct_tokens};
 use crate::setup_checks::{each_within, is_token};
 use crate::setup_tree::entries_of;
 use clock_device::Text;
-use clock_scan::{ScanStop, scanned_text};
+use clock_json::{ScanStop, scanned_text};
 use clock_terms::{
     LATEST_VERSION, LEAST_LIMIT, LEAST_REQUIREMENT, MOST_BIDDERS, MOST_LIMIT, MOST_PRODUCTS,
     MOST_REQUIREMENT, Setup, is_within,
@@ -92,7 +92,7 @@ pub(crate) fn within_limits(alloc: Global, entries: &SetupEntries) -> Result<Set
 /// keys, and its numbers are whole numbers below 2^64. [`SetupFault`] has the faults in the order in which they are
 /// looked at, and [`Place`] the limits. Reading takes time and memory in proportion to the document's length. Nothing
 /// is kept of a document that is refused.
-#[tactic(auto, using(crate::proofs::JsonLaws::json_value), unfolding(crate::specs::SetupDocument::document_setup))]
+#[tactic(auto, using(clock_json::proofs::JsonLaws::json_value), unfolding(crate::specs::SetupDocument::document_setup))]
 pub fn read_setup(alloc: Global, bytes: &[u8]) -> Result<Setup, SetupFault>
     ensures ok { IfOk result (λ setup. document.document_setup bytes.now ≡ Ok setup) }
     ensures err { IfErr result (IsRefusal SetupFault.NoMemory (document.document_setup bytes.now)) }

@@ -5,7 +5,7 @@ ghost use Rattle.clock_setup.specs.SetupDocument.{setup_of};
 use crate::document::within_limits;
 use crate::fault::SetupFault;
 use crate::setup_scan::SetupParts;
-use clock_scan::{PartReader, Scan, ScanStop};
+use clock_json::{PartReader, Scan, ScanStop};
 use clock_terms::Setup;
 use std::alloc::Global;
 

@@ -8,12 +8,12 @@ ghost use Rattle.clock_setup.specs.SetupDocument as document;
 
 use crate::document::setup_of;
 use crate::fault::SetupFault;
-use crate::members::read_value;
+use clock_json::tree::read_value;
 use crate::opening_checks::grid_within;
 use crate::opening_scan::OpeningFound;
 use crate::opening_tree::opening_entries;
 use clock_device::NoMemory;
-use clock_scan::{FlatRows, ScanStop, scanned_text};
+use clock_json::{FlatRows, ScanStop, scanned_text};
 use clock_terms::{Grid, Setup};
 use serde_json::Value;
 use std::alloc::Global;

@@ -2,7 +2,7 @@
 ghost use Rattle.clock_setup.specs.inside.OpeningData.{scanned_data, found_opening};
 
 use crate::held_setup::HeldSetup;
-use clock_scan::{FlatRows, PartReader, Scan, ScanStop, ScannedMembers, is_key};
+use clock_json::{FlatRows, PartReader, Scan, ScanStop, ScannedMembers, is_key};
 use std::alloc::Global;
 
 /// What was found of an opening.

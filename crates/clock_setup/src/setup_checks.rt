@@ -10,7 +10,7 @@ use crate::entries::{BidderEntry, ProductEntry};
 use crate::fault::{Place, SetupFault};
 use clock_device::{Items, Text};
 use clock_money::{MOST_GRANULE, Price};
-use clock_scan::{push, with_room};
+use clock_json::{push, with_room};
 use clock_terms::{
     Bidder, LONGEST_NAME, LONGEST_TOKEN, MOST_ELIGIBILITY, MOST_SUPPLY, MOST_UNITS, Product,
     SHORTEST_TOKEN, is_within,

@@ -1,6 +1,6 @@
 //! A set-up read without a tree, where no text has an escape and each number is written in digits alone.
 ghost use Rattle.std.specs.Prelude.{◌≡◌, ◌⊎◌, ◌<◌, length, IfSome, IfOk, OnOk};
-ghost use Rattle.clock_scan.specs.Reading.{Reads};
+ghost use Rattle.clock_json.specs.Reading.{Reads};
 ghost use Rattle.clock_terms.specs.Limits.{IsWithin, latest_version, first_granule, first_limit};
 ghost use Rattle.clock_setup.specs.SetupData.{added, product_data, products_data, bidder_data, setup_data};
 ghost use Rattle.clock_setup.specs.inside.FoundEntries.{found_product, found_bidder};
@@ -10,7 +10,7 @@ use crate::entries::{
     BidderEntry, ProductEntry, ScannedSetup, SetupEntries, VersionedProduct, VersionedProducts,
 };
 use clock_device::Items;
-use clock_scan::{PartReader, Scan, ScanStop, ScannedMembers, is_key, scanned_parts};
+use clock_json::{PartReader, Scan, ScanStop, ScannedMembers, is_key, scanned_parts};
 use clock_terms::{FIRST_GRANULE, FIRST_LIMIT};
 use std::alloc::Global;
 

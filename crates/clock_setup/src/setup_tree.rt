@@ -1,11 +1,11 @@
 ghost use Rattle.std.specs.Prelude.{◌≡◌, ◌≤◌, IfOk};
 ghost use Rattle.serde_json.specs.View.{view};
-ghost use Rattle.clock_setup.specs.Members as members;
+ghost use Rattle.clock_json.specs.Tree as members;
 ghost use Rattle.clock_setup.specs.SetupShape as shape;
 ghost use Rattle.clock_setup.specs.SetupShape.{product_of, bidder_of, fields_of};
 
 use crate::entries::{BidderEntry, ProductEntry, SetupEntries};
-use crate::members::{ValueReader, each_at, has_members, number_at, text_at};
+use clock_json::tree::{ValueReader, each_at, has_members, number_at, text_at};
 use clock_device::NoMemory;
 use clock_terms::{FIRST_GRANULE, FIRST_LIMIT};
 use serde_json::Value;

@@ -1,5 +1,5 @@
 use crate::comparing::assert_is;
-use clock_scan::{Scan, ScanStop, is_blank};
+use clock_json::{Scan, ScanStop, is_blank};
 use std::alloc::Global;
 use std::test::Fail;
 

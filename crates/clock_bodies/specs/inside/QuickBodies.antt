@@ -1,7 +1,7 @@
 -- The values of JSON that bodies are, as the quick readers find them.
 use Rattle.std.specs.Prelude.{ℕ, List, [], ◌∷◌, map, Option, Some, option_map, codes}
 use Rattle.serde_json.specs.Data.{Data, object, array}
-use Rattle.clock_scan.specs.Reading.{whole, numbers, items_of, Fields, members_of}
+use Rattle.clock_json.specs.Reading.{whole, numbers, items_of, Fields, members_of}
 use Rattle.clock_bids.specs.declared.sheet.Bid.{Bid}
 use Rattle.clock_order.specs.declared.ties.Tie.{Tie}
 use Rattle.clock_bodies.specs.declared.put_body.PutBody.{PutBody}

@@ -3,7 +3,7 @@
 --     sheet_data, script_data, closing_data      a whole one, as a value
 use Rattle.std.specs.Prelude.{ℕ, List, [], ◌∷◌, map, Option, Some, None, option_map, codes}
 use Rattle.serde_json.specs.Data.{Data, null, string, object, array}
-use Rattle.clock_scan.specs.Reading.{whole, numbers, rows, items_of, Fields, members_of}
+use Rattle.clock_json.specs.Reading.{whole, numbers, rows, items_of, Fields, members_of}
 use Rattle.clock_bids.specs.declared.sheet.Bid.{Bid}
 use Rattle.clock_bodies.specs.QuickBodies.{single_of, listed_of}
 use Rattle.clock_bodies.specs.inside.QuickBodies.{bids_data, ties_data}

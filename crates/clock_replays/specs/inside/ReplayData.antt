@@ -1,7 +1,7 @@
 -- The values of JSON that whole replay documents are, as the quick reader finds them.
 use Rattle.std.specs.Prelude.{List, [], ◌∷◌, map, Option, Some, option_map, codes}
 use Rattle.serde_json.specs.Data.{Data, object, array}
-use Rattle.clock_scan.specs.Reading.{items_of, Fields, members_of}
+use Rattle.clock_json.specs.Reading.{items_of, Fields, members_of}
 use Rattle.clock_setup.specs.SetupData.{setup_data}
 use Rattle.clock_replays.specs.declared.script.Script.{Script}
 use Rattle.clock_replays.specs.declared.closing.Closing.{Closing}

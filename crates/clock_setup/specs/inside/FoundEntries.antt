@@ -1,7 +1,7 @@
 -- What was found so far of a product and of a bidder that are being read.
 --     found_product, found_bidder      the keys of an object, each with its value where one was found
 use Rattle.std.specs.Prelude.{option_map}
-use Rattle.clock_scan.specs.Reading.{Fields}
+use Rattle.clock_json.specs.Reading.{Fields}
 use Rattle.clock_setup.specs.declared.setup_scan.ProductParts.{ProductParts}
 use Rattle.clock_setup.specs.declared.setup_scan.BidderParts.{BidderParts}
 use Rattle.clock_setup.specs.SetupData.{product_fields, bidder_fields}

@@ -1,6 +1,6 @@
 -- What was found of a set-up that is being read.
 use Rattle.std.specs.Prelude.{option_map}
-use Rattle.clock_scan.specs.Reading.{Fields}
+use Rattle.clock_json.specs.Reading.{Fields}
 use Rattle.clock_setup.specs.declared.setup_scan.SetupParts.{SetupParts}
 use Rattle.clock_setup.specs.SetupData.{products_data, bidders_data, setup_fields}
 

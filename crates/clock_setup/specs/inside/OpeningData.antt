@@ -4,7 +4,7 @@
 --     found_opening, scanned_data      what was found of an opening that is being read, and the value of a whole one
 use Rattle.std.specs.Prelude.{ℕ, List, [], ◌∷◌, Option, Some, option_map, codes}
 use Rattle.serde_json.specs.Data.{Data, object}
-use Rattle.clock_scan.specs.Reading.{whole, rows, Fields, members_of}
+use Rattle.clock_json.specs.Reading.{whole, rows, Fields, members_of}
 use Rattle.clock_setup.specs.declared.opening_scan.OpeningFound.{OpeningFound}
 use Rattle.clock_setup.specs.declared.opening_scan.ScannedOpening.{ScannedOpening}
 use Rattle.clock_setup.specs.SetupData.{setup_data}

@@ -1,8 +1,8 @@
 use Rattle.std.proofs.Common.{◌≡◌, ◌∷◌, ◌++◌, [], length, map, sym, ap, subst, ◌∙◌, arith}
 use Rattle.json.specs.Token.{Token}
-use Rattle.clock_scan.specs.Reading.{Reads}
-use Rattle.clock_scan.specs.inside.Reading.{HasItems}
-use Rattle.clock_scan.proofs.Steps.{all_shorter, items_start, items_end, items_push_next, items_push_all}
+use Rattle.clock_json.specs.Reading.{Reads}
+use Rattle.clock_json.specs.inside.Reading.{HasItems}
+use Rattle.clock_json.proofs.Steps.{all_shorter, items_start, items_end, items_push_next, items_push_all}
 use Rattle.clock_bodies.specs.QuickBodies.{bid_data}
 use Rattle.clock_bodies.specs.inside.QuickBodies.{bids_data}
 use Rattle.clock_bodies.proofs.put_scan.bids.Goals as goal

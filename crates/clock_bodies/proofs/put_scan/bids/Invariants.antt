@@ -1,6 +1,6 @@
 use Rattle.std.proofs.Common.{◌≡◌, ◌∷◌, List, length, map, ◌≤◌}
 use Rattle.json.specs.Token.{Token}
-use Rattle.clock_scan.specs.inside.Reading.{HasItems}
+use Rattle.clock_json.specs.inside.Reading.{HasItems}
 use Rattle.clock_bodies.specs.QuickBodies.{bid_data}
 use Rattle.clock_bodies.proofs.put_scan.bids.Given as goal
 

@@ -1,7 +1,7 @@
 use Rattle.std.proofs.Common.{◌∷◌, ◌++◌, [], refl, sym, ap, ◌∙◌}
 use Rattle.std.proofs.lemmas.List.{append-nil, append_assoc}
-use Rattle.clock_scan.specs.Reading.{ReadsAll}
-use Rattle.clock_scan.proofs.Steps.{all_push_next}
+use Rattle.clock_json.specs.Reading.{ReadsAll}
+use Rattle.clock_json.proofs.Steps.{all_push_next}
 use Rattle.clock_bids.specs.declared.sheet.Bid.{Bid}
 use Rattle.clock_bodies.specs.QuickBodies.{bid_data}
 use Rattle.clock_bodies.proofs.put_scan.compact_bids.Goals as goal

@@ -1,5 +1,5 @@
 use Rattle.std.proofs.Common.{◌≡◌, ◌++◌, List, length, map}
-use Rattle.clock_scan.specs.Reading.{ReadsAll}
+use Rattle.clock_json.specs.Reading.{ReadsAll}
 use Rattle.clock_bids.specs.declared.sheet.Bid.{Bid}
 use Rattle.clock_bodies.specs.QuickBodies.{bid_data}
 use Rattle.clock_bodies.proofs.put_scan.compact_bids.Given as goal

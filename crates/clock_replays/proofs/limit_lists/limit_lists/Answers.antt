@@ -1,7 +1,7 @@
 use Rattle.std.proofs.Common.{◌≡◌, ◌∷◌, ◌++◌, [], List, ℕ, length, map, replicate, sym, ap, subst, ◌∙◌, arith}
-use Rattle.clock_scan.specs.Reading.{Token, numbers, rows, Reads}
-use Rattle.clock_scan.specs.inside.Reading.{HasItems}
-use Rattle.clock_scan.proofs.Steps.{all_shorter, items_start, items_end, items_push_next, items_push_same}
+use Rattle.clock_json.specs.Reading.{Token, numbers, rows, Reads}
+use Rattle.clock_json.specs.inside.Reading.{HasItems}
+use Rattle.clock_json.proofs.Steps.{all_shorter, items_start, items_end, items_push_next, items_push_same}
 use Rattle.clock_replays.specs.inside.KeptLimits.{kept_limits}
 use Rattle.clock_replays.proofs.limit_lists.limit_lists.Goals as goal
 

@@ -1,6 +1,6 @@
 use Rattle.std.proofs.Common.{length, map, ◌≤◌}
-use Rattle.clock_scan.specs.Reading.{numbers}
-use Rattle.clock_scan.specs.inside.Reading.{HasItems}
+use Rattle.clock_json.specs.Reading.{numbers}
+use Rattle.clock_json.specs.inside.Reading.{HasItems}
 use Rattle.clock_replays.specs.inside.KeptLimits.{AreKept, kept_limits}
 use Rattle.clock_replays.proofs.limit_lists.limit_lists.Given as goal
 

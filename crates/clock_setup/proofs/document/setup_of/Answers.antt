@@ -1,6 +1,6 @@
 use Rattle.std.proofs.Common.{◌≡◌, Some, codes, sym, ◌∙◌, rules}
 use Rattle.serde_json.specs.View.{view}
-use Rattle.clock_setup.specs.Members.{number_at}
+use Rattle.clock_json.specs.Tree.{number_at}
 use Rattle.clock_setup.proofs.LimitLaws.{accepted}
 use Rattle.clock_setup.proofs.ShapeLaws.{known_version, of_first_version}
 use Rattle.clock_setup.proofs.document.setup_of.Goals as goal

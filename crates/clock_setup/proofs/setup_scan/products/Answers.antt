@@ -1,8 +1,8 @@
 use Rattle.std.proofs.Common.{◌≡◌, ◌∷◌, ◌⊎◌, length, map, All, sym, ap, ◌∙◌, subst, arith}
 use Rattle.std.proofs.lemmas.List.Elements.{All-nil, All-push}
-use Rattle.clock_scan.specs.Reading.{Token, Reads}
-use Rattle.clock_scan.specs.inside.Reading.{HasItems}
-use Rattle.clock_scan.proofs.Steps.{items_start, items_end, items_push_next}
+use Rattle.clock_json.specs.Reading.{Token, Reads}
+use Rattle.clock_json.specs.inside.Reading.{HasItems}
+use Rattle.clock_json.proofs.Steps.{items_start, items_end, items_push_next}
 use Rattle.clock_terms.specs.declared.setup.Product.{Product}
 use Rattle.clock_terms.specs.Limits.{first_granule}
 use Rattle.clock_setup.specs.SetupData.{product_data}

@@ -1,5 +1,5 @@
 use Rattle.std.proofs.Common.{◌≡◌, length, map, All, [], ◌≤◌}
-use Rattle.clock_scan.specs.inside.Reading.{HasItems}
+use Rattle.clock_json.specs.inside.Reading.{HasItems}
 use Rattle.clock_terms.specs.Limits.{first_granule}
 use Rattle.clock_setup.specs.SetupData.{product_data}
 use Rattle.clock_setup.proofs.setup_scan.products.Given as goal

@@ -1,8 +1,8 @@
 use Rattle.std.proofs.Common.{◌≡◌, subst}
 use Rattle.std.specs.Bool.{MatchBool}
 use Rattle.serde_json.specs.Data.{null}
-use Rattle.clock_scan.specs.Reading.{Reads}
-use Rattle.clock_scan.proofs.Steps.{reads_shorter}
+use Rattle.clock_json.specs.Reading.{Reads}
+use Rattle.clock_json.proofs.Steps.{reads_shorter}
 use Rattle.clock_replays.proofs.scanned_scripts.SheetReaderPartReader.part.Goals as goal
 
 pub returns-then-null-clause-shorter : goal.returns-then-null-clause-shorter

@@ -1,0 +1,172 @@
+-- Laws of bids that are written without white space.
+use Rattle.std.proofs.Common.{◌≡◌, ℕ, ◌+◌, ◌<◌, ◌≤◌, ◌^◌, true, List, ◌∷◌, ◌++◌, length, take, drop, get_or, decimal, codes, [], replicate, zero, suc, ◌*◌, refl, sym, ap, ap₂, ◌∙◌, arith}
+use Rattle.std.proofs.Math.Nat.{pow-suc, pow-le-pow_right}
+use Rattle.std.proofs.lemmas.List.{take-append-drop, drop-drop}
+use Rattle.json.specs.Token.{Token, key, begin_object, end_object, begin_array, end_array, number, string}
+use Rattle.json.specs.Text.{content}
+use Rattle.json.specs.Word.{ends_word}
+use Rattle.json.specs.Lex as lexer
+use Rattle.json.specs.Lex.{Lexeme, Place, may_begin, token, comma, colon, lex, between, punctuate}
+use Rattle.serde_json.specs.Data.{no_members, put}
+use Rattle.clock_json.specs.Reading.{whole, numbers, Reads}
+use Rattle.clock_json.specs.inside.Reading.{HasMembers}
+use Rattle.clock_json.specs.Compact.{compact_bid}
+use Rattle.clock_json.specs.declared.compact.CompactBid.{CompactBid}
+use Rattle.clock_json.proofs.LexLaws.{at_byte, begun}
+use Rattle.clock_json.proofs.Steps.{number_reads, items_start, items_end, members_start, members_next, members_end}
+
+-- eight known bytes, and those behind them
+eight_then : (bytes word : List ℕ) (at : ℕ) → take 8 (drop at bytes) ≡ word → drop at bytes ≡ word ++ drop (at + 8) bytes
+eight_then bytes word at is = sym (take-append-drop 8 (drop at bytes)) ∙ ap₂ (λ front rest. front ++ rest) is (drop-drop 8 at bytes)
+
+-- one known byte, and those behind it
+pub one_then : (bytes : List ℕ) (at next x : ℕ) → at < length bytes → get_or bytes at 0 ≡ x → next ≡ at + 1 → drop at bytes ≡ x ∷ drop next bytes
+one_then bytes at next x lt is there = at_byte bytes at x lt is ∙ ap (λ n. x ∷ drop n bytes) (sym there)
+
+module _ (bytes : List ℕ) (at : ℕ) where
+  pub price_at : at + 9 ≤ length bytes → take 8 (drop at bytes) ≡ codes "{\"price\"" → get_or bytes (at + 8) 0 ≡ 58
+      → lex between (drop at bytes) ≡ token begin_object ∷ token (string (codes "price")) ∷ colon ∷ lex between (drop (at + 9) bytes)
+  unfolding lex content
+  price_at room is mark =
+      ap (lex between)
+      (eight_then bytes _ at is ∙ ap (λ rest. codes "{\"price\"" ++ rest) (one_then bytes (at + 8) (at + 9) 58 (omega (arith, room)) mark (omega arith)))
+
+  -- a first part of eight known bytes, and eight that begin behind it
+  eights_then : (part : ℕ) (first second : List ℕ) → take 8 (drop at bytes) ≡ first → take 8 (drop (at + part) bytes) ≡ second
+      → drop at bytes ≡ take part (first ++ drop (at + 8) bytes) ++ (second ++ drop (at + part + 8) bytes)
+  eights_then part first second is more =
+      sym (take-append-drop part (drop at bytes))
+      ∙ ap₂ (λ front rest. front ++ rest) (ap (take part) (eight_then bytes first at is)) (drop-drop part at bytes ∙ eight_then bytes second (at + part) more)
+
+  pub product_bytes : take 8 (drop at bytes) ≡ codes ",\"produc" → take 8 (drop (at + 3) bytes) ≡ codes "roduct\":"
+      → drop at bytes ≡ codes ",\"product\":" ++ drop (at + 11) bytes
+  product_bytes is more =
+      eights_then 3 _ _ is more ∙ ap (λ n. codes ",\"product\":" ++ drop n bytes) (let same : at + 3 + 8 ≡ at + 11 = omega arith in same)
+
+  pub quantity_bytes : take 8 (drop at bytes) ≡ codes ",\"quanti" → take 8 (drop (at + 4) bytes) ≡ codes "antity\":"
+      → drop at bytes ≡ codes ",\"quantity\":" ++ drop (at + 12) bytes
+  quantity_bytes is more =
+      eights_then 4 _ _ is more ∙ ap (λ n. codes ",\"quantity\":" ++ drop n bytes) (let same : at + 4 + 8 ≡ at + 12 = omega arith in same)
+
+  pub end_bytes : at + 2 ≤ length bytes → get_or bytes at 0 ≡ 125 → get_or bytes (at + 1) 0 ≡ 44 → drop at bytes ≡ 125 ∷ 44 ∷ drop (at + 2) bytes
+  end_bytes room brace mark =
+      one_then bytes at (at + 1) 125 (omega (arith, room)) brace (omega arith)
+      ∙ ap (λ rest. 125 ∷ rest) (one_then bytes (at + 1) (at + 2) 44 (omega (arith, room)) mark (omega arith))
+
+-- bytes that begin with the second key
+pub product_follows : (bytes rest : List ℕ) → bytes ≡ codes ",\"product\":" ++ rest
+    → (ends_word bytes ≡ true) × (lex between bytes ≡ comma ∷ token (string (codes "product")) ∷ colon ∷ lex between rest)
+unfolding lex content
+product_follows bytes rest is = (ap ends_word is, ap (lex between) is)
+
+-- bytes that begin with the third key
+pub quantity_follows : (bytes rest : List ℕ) → bytes ≡ codes ",\"quantity\":" ++ rest
+    → (ends_word bytes ≡ true) × (lex between bytes ≡ comma ∷ token (string (codes "quantity")) ∷ colon ∷ lex between rest)
+unfolding lex content
+quantity_follows bytes rest is = (ap ends_word is, ap (lex between) is)
+
+-- bytes that begin with the end of a bid
+pub end_follows : (bytes rest : List ℕ) → bytes ≡ 125 ∷ 44 ∷ rest → (ends_word bytes ≡ true) × (lex between bytes ≡ token end_object ∷ comma ∷ lex between rest)
+unfolding lex
+end_follows bytes rest is = (ap ends_word is, ap (lex between) is)
+
+-- one digit more of a number of at most sixteen
+pub digit_more : (value count digit : ℕ) → value < 10 ^ count → count < 19 → digit ≤ 9
+    → (value * 10 + digit < 10 ^ (count + 1)) × (value * 10 + digit < 10000000000000000000)
+digit_more value count digit small few one =
+    let next : 10 ^ suc count ≡ 10 ^ count * 10 = pow-suc 10 count in
+    let same : 10 ^ (count + 1) ≡ 10 ^ suc count = ap (λ n. 10 ^ n) (omega arith) in
+    let below : count ≤ 18 = omega (arith, few) in
+    let most : 10 ^ count ≤ 1000000000000000000 = pow-le-pow_right {n = 10} (omega arith) {i = count} {j = 18} below in
+    (omega (arith, next, same, small, one), omega (arith, most, small, one))
+
+-- the lexemes of a bid and its comma
+abbrev pub lexemes_of : CompactBid → List Lexeme → List Lexeme
+lexemes_of bid rest =
+    token begin_object ∷ token (string (codes "price")) ∷ colon ∷ token (number (decimal bid.price))
+    ∷ comma ∷ token (string (codes "product")) ∷ colon ∷ token (number (decimal bid.product))
+    ∷ comma ∷ token (string (codes "quantity")) ∷ colon ∷ token (number (decimal bid.quantity))
+    ∷ token end_object ∷ comma ∷ rest
+
+-- the tokens of a bid
+abbrev pub tokens_of : CompactBid → List Token → List Token
+tokens_of bid rest =
+    begin_object ∷ key (codes "price") ∷ number (decimal bid.price) ∷ key (codes "product") ∷ number (decimal bid.product)
+    ∷ key (codes "quantity") ∷ number (decimal bid.quantity) ∷ end_object ∷ rest
+
+-- where a value may begin, the lexemes are the tokens
+pub punctuated : (p : Place) (bid : CompactBid) (ls rest : List Lexeme) → may_begin p ≡ true → ls ≡ lexemes_of bid rest
+    → punctuate p ls ≡ tokens_of bid (punctuate lexer.after_comma rest)
+unfolding punctuate
+punctuated p bid ls rest h is = begun p ls _ h (ap (punctuate lexer.fresh) is) (ap (punctuate lexer.after_comma) is)
+
+-- the tokens are read as the bid
+pub bid_reads : (bid : CompactBid) (old new : List Token) → (bid.price < 2 ^ 64) × (bid.product < 2 ^ 64) × (bid.quantity < 2 ^ 64)
+    → old ≡ tokens_of bid new → Reads 1 old (compact_bid bid) new
+bid_reads bid old new small is =
+    let last = end_object ∷ new in
+    let third = number (decimal bid.quantity) ∷ last in
+    let third_key = key (codes "quantity") ∷ third in
+    let second = number (decimal bid.product) ∷ third_key in
+    let second_key = key (codes "product") ∷ second in
+    let first = number (decimal bid.price) ∷ second_key in
+    let start = key (codes "price") ∷ first in
+    let found_1 = put (codes "price") (whole bid.price) no_members in
+    let found_2 = put (codes "product") (whole bid.product) found_1 in
+    let found_3 = put (codes "quantity") (whole bid.quantity) found_2 in
+    let has_1 : HasMembers 0 start found_1 second_key =
+    members_next 0 start start first second_key no_members (codes "price") (whole bid.price) (members_start 0 start) refl
+    (number_reads bid.price first second_key small.0 refl) in
+    let has_2 : HasMembers 0 start found_2 third_key =
+    members_next 0 start second_key second third_key found_1 (codes "product") (whole bid.product) has_1 refl
+    (number_reads bid.product second third_key small.1 refl) in
+    let has_3 : HasMembers 0 start found_3 last =
+    members_next 0 start third_key third last found_2 (codes "quantity") (whole bid.quantity) has_2 refl
+    (number_reads bid.quantity third last small.2 refl) in
+    members_end 0 old start last new found_3 is has_3 refl
+
+-- a number and the comma behind it
+pub number_and_comma : (p : Place) (ls rest : List Lexeme) (s : List ℕ) → may_begin p ≡ true → ls ≡ token (number s) ∷ comma ∷ rest
+    → punctuate p ls ≡ number s ∷ punctuate lexer.after_comma rest
+unfolding punctuate
+number_and_comma p ls rest s h is = begun p ls _ h (ap (punctuate lexer.fresh) is) (ap (punctuate lexer.after_comma) is)
+
+-- a comma
+pub comma_first : (rest : List ℕ) → lex between (44 ∷ rest) ≡ comma ∷ lex between rest
+unfolding lex
+comma_first rest = refl
+
+-- bytes that begin with a comma
+pub comma_stands : (bytes rest : List ℕ) → bytes ≡ 44 ∷ rest → (ends_word bytes ≡ true) × (lex between bytes ≡ comma ∷ lex between rest)
+unfolding lex
+comma_stands bytes rest is = (ap ends_word is, ap (lex between) is)
+
+-- a number and its comma, behind a comma, are read
+pub separated_reads : (ls rest : List Lexeme) (n : ℕ) → n < 2 ^ 64 → ls ≡ token (number (decimal n)) ∷ comma ∷ rest
+    → Reads 0 (punctuate lexer.after_comma ls) (whole n) (punctuate lexer.after_comma rest)
+separated_reads ls rest n small is = number_reads n _ _ small (number_and_comma lexer.after_comma ls rest (decimal n) refl is)
+
+-- bytes that are an empty list and its comma
+pub empty_at : (bytes : List ℕ) (at : ℕ) → at + 3 ≤ length bytes → get_or bytes at 0 ≡ 91 → get_or bytes (at + 1) 0 ≡ 93 → get_or bytes (at + 2) 0 ≡ 44
+    → lex between (drop at bytes) ≡ token begin_array ∷ token end_array ∷ comma ∷ lex between (drop (at + 3) bytes)
+unfolding lex
+empty_at bytes at room opens closes mark =
+    ap (lex between)
+    (one_then bytes at (at + 1) 91 (omega (arith, room)) opens (omega arith)
+    ∙ ap (λ rest. 91 ∷ rest) (one_then bytes (at + 1) (at + 2) 93 (omega (arith, room)) closes (omega arith)
+    ∙ ap (λ rest. 93 ∷ rest) (one_then bytes (at + 2) (at + 3) 44 (omega (arith, room)) mark (omega arith))))
+
+-- an empty list and its comma, behind a comma, are read
+pub empty_reads : (ls rest : List Lexeme) → ls ≡ token begin_array ∷ token end_array ∷ comma ∷ rest
+    → Reads 1 (punctuate lexer.after_comma ls) (numbers []) (punctuate lexer.after_comma rest)
+unfolding punctuate
+empty_reads ls rest is =
+    let new = punctuate lexer.after_comma rest in
+    items_end 0 _ (Token.end_array ∷ new) (Token.end_array ∷ new) new [] (ap (punctuate lexer.after_comma) is) (items_start 0 _) refl
+
+-- one more that is the same
+pub replicate_push : {A : Type 0} (n : ℕ) (x : A) → replicate (n + 1) x ≡ replicate n x ++ x ∷ []
+replicate_push zero x = refl
+replicate_push (suc n) x =
+    let next : suc n + 1 ≡ suc (n + 1) = omega arith in
+    ap (λ k. replicate k x) next ∙ ap (λ xs. x ∷ xs) (replicate_push n x)

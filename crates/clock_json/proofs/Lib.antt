@@ -1,0 +1,11 @@
+mod LexLaws
+mod Turns
+mod FieldLaws
+pub mod Steps
+mod RowSteps
+mod CompactLaws
+mod DigitLaws
+mod PieceLaws
+mod PlainLaws
+pub mod JsonLaws
+pub mod TreeLaws

@@ -1,0 +1,21 @@
+use Rattle.std.proofs.Common.{[], drop, map, refl, sym, append-nil, subst}
+use Rattle.clock_json.specs.Left.{left}
+use Rattle.clock_json.specs.Reading.{whole, ReadsAll}
+use Rattle.clock_json.proofs.scan.Scan.further_numbers.Goals as goal
+
+pub returns-then-not-is_after_comma : goal.returns-then-not-is_after_comma
+unfolding ReadsAll
+returns-then-not-is_after_comma c = ([], sym (append-nil c.args.list.now.items), refl)
+
+pub returns : goal.returns
+returns c =
+    let s = c.self.inside in
+    let read = c.in_ok-end.ensures in
+    let behind = c.is_after_comma.ensures c.if-not-is_after_comma.false in
+    let values = map whole read.0 in
+    let end = c.in_ok-end.end in (
+      read.0,
+      read.1,
+      subst (λ ts. ReadsAll 0 ts values (left s.place (drop end s.bytes.now))) c.self.view_is
+          (subst (λ place. ReadsAll 0 (left place (drop s.at s.bytes.now)) values (left place (drop end s.bytes.now))) (sym behind) read.2),
+    )

@@ -1,0 +1,19 @@
+use Rattle.std.proofs.Common.{◌≡◌, ◌∷◌, true, sym, ap, ◌∙◌, decimal}
+use Rattle.json.specs.Token.{number}
+use Rattle.json.specs.Lex.{may_begin}
+use Rattle.clock_json.specs.Left.{place_of}
+use Rattle.clock_json.specs.Reading.{whole}
+use Rattle.clock_json.proofs.LexLaws.{number_begins}
+use Rattle.clock_json.proofs.Steps.{number_reads, reads_shorter}
+use Rattle.clock_json.proofs.scan.Scan.number.Goals as goal
+
+pub returns-clause-value : goal.returns-clause-value
+returns-clause-value c =
+    let s = c.self.inside in
+    let may : may_begin (place_of s.place) ≡ true = sym c.may_begin.ensures ∙ c.if-not-may_begin.false in
+    number_reads c.in-Some.n c.args.self.now _ c.in-Some.ensures.small
+    (sym c.self.view_is ∙ number_begins (place_of s.place) _ _ _ may (sym c.after_space-at.ensures ∙ c.in-Some.ensures.value)
+    ∙ ap (λ ts. number (decimal c.in-Some.n) ∷ ts) (sym c.after_value-place.ensures))
+
+pub returns-clause-shorter : goal.returns-clause-shorter
+returns-clause-shorter c = reads_shorter 0 c.args.self.now (whole c.in-Some.n) _ (returns-clause-value c)

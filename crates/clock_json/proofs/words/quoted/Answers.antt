@@ -1,0 +1,27 @@
+use Rattle.std.proofs.Common.{◌≡◌, ◌+◌, ◌∷◌, ◌++◌, take, drop, sym, ap, ◌∙◌, arith}
+use Rattle.std.specs.List.{prefix_len}
+use Rattle.std.proofs.lemmas.List.{take-append-drop, drop-drop}
+use Rattle.std.proofs.lemmas.List.Folds.{length-prefix_len}
+use Rattle.json.specs.Run.{is_plain}
+use Rattle.json.specs.Token.{string}
+use Rattle.json.specs.Lex.{lex, between, token}
+use Rattle.clock_json.proofs.LexLaws.{quoted_at, taken}
+use Rattle.clock_json.proofs.PlainLaws.{plain_front}
+use Rattle.clock_json.proofs.words.quoted.Goals as goal
+
+pub returns : goal.returns
+returns c =
+    let bytes = c.args.bytes.now in
+    let at = c.args.at in
+    let end = c.plain_end-end.result in
+    let rest = drop (at + 1) bytes in
+    let n = prefix_len is_plain rest in
+    let s = take n rest in
+    let is : rest ≡ s ++ drop end bytes =
+    sym (take-append-drop n rest) ∙ ap (λ r. s ++ r) (drop-drop n (at + 1) bytes ∙ ap (λ k. drop k bytes) (sym c.plain_end-end.ensures)) in
+    let opens = c.if-byte_at-ne34.false in
+    let closes = c.if-byte_at-ne34-2.false in
+    quoted_at bytes s at end (c.byte_at.ensures.within (omega (arith, opens))) (sym c.byte_at.ensures.value ∙ opens) is (plain_front rest)
+    (c.byte_at-2.ensures.within (omega (arith, closes))) (sym c.byte_at-2.ensures.value ∙ closes)
+    ∙ ap (λ t. token (string t) ∷ lex between (drop (end + 1) bytes))
+    (taken bytes s at end is (omega (arith, length-prefix_len is_plain rest, c.plain_end-end.ensures)))

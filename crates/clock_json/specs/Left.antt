@@ -1,0 +1,17 @@
+-- The tokens that a text has left, by the lexer of JSON (RFC 8259, as serde_json's reading definition has it).
+use Rattle.std.specs.Prelude.{ℕ, List}
+use Rattle.json.specs.Token.{Token}
+use Rattle.json.specs.Lex as lexer
+use Rattle.json.specs.Lex.{lex, between, punctuate}
+use Rattle.clock_json.specs.declared.place.Place.{Place}
+use Rattle.clock_json.specs.declared.place.Place.TheVariants.{Fresh, AfterValue, AfterComma}
+
+-- where the lexer stands
+abbrev pub place_of : Place → lexer.Place
+place_of Fresh = lexer.fresh
+place_of AfterValue = lexer.after_value
+place_of AfterComma = lexer.after_comma
+
+-- the tokens of the bytes that are left, at a place
+abbrev pub left : Place → List ℕ → List Token
+left place text = punctuate (place_of place) (lex between text)

@@ -1,0 +1,7 @@
+pub mod Compact
+pub mod Left
+pub mod Members
+pub mod Reading
+pub mod Rows
+pub mod Tree
+pub mod inside

@@ -1,0 +1,61 @@
+-- What a JSON text means, by the tree of values that serde_json reads: the value that bytes are, and its parts. An object has a key once: where a document repeats
+-- one, the reader keeps the last.
+--     json bytes      the value that the bytes are
+--     number_at key value, text_at key value, items_at key value      the member of that kind at a key
+--     has_members count value      the value is an object of so many members
+--     number_from value      a whole number of 64 bits; RFC 8259's other numbers are none
+--     row_of value      a list of whole numbers
+--     each meaning items      what all items mean, where each means something
+use Rattle.std.specs.Prelude.{ℕ, Bool, false, List, [], ◌∷◌, ◌==◌, if◌then◌else◌, Option, Some, None, option_and_then}
+use Rattle.std.specs.Str.{is_utf8}
+use Rattle.serde_json.specs.Data.{Data, Members, Items, no_items, item}
+use Rattle.serde_json.specs.Find.{get, as_number, as_u64, as_str, as_array, as_object}
+use Rattle.serde_json.specs.Events.{members_len}
+use Rattle.serde_json.specs.Read.{read}
+
+-- the JSON value that the bytes are (RFC 8259, as serde_json's reading definition has it)
+unfoldable pub json : List ℕ → Option Data
+json bytes = if is_utf8 bytes then read bytes else None
+
+-- a whole number from 0 to 2^64 - 1
+abbrev pub number_from : Data → Option ℕ
+number_from value = option_and_then as_u64 (as_number value)
+
+-- a whole number under a key
+abbrev pub number_at : List ℕ → Data → Option ℕ
+number_at key value = option_and_then number_from (get key value)
+
+-- a text under a key, by its bytes, escapes undone
+abbrev pub text_at : List ℕ → Data → Option (List ℕ)
+text_at key value = option_and_then as_str (get key value)
+
+-- the items of a list under a key
+abbrev pub items_at : List ℕ → Data → Option Items
+items_at key value = option_and_then as_array (get key value)
+
+-- there are members, and so many
+abbrev pub is_count : ℕ → Option Members → Bool
+is_count count None = false
+is_count count (Some members) = members_len members == count
+
+-- with as many members as there are keys looked up, an object has these keys and no other
+abbrev pub has_members : ℕ → Data → Bool
+has_members count value = is_count count (as_object value)
+
+-- in a do block: go on with a value where there is one
+infixl 10 ◌>>=◌
+abbrev pub ◌>>=◌ : {A B : Type 0} → Option A → (A → Option B) → Option B
+None >>= f = None
+(Some x) >>= f = f x
+
+-- what all items mean, where each means something
+abbrev pub each : {A : Type 0} → (Data → Option A) → Items → Option (List A)
+each meaning no_items = Some []
+each meaning (item value items) = do
+  first ← meaning value
+  rest ← each meaning items
+  Some (first ∷ rest)
+
+-- [N,..]: a list of whole numbers
+unfoldable pub row_of : Data → Option (List ℕ)
+row_of value = option_and_then (each number_from) (as_array value)

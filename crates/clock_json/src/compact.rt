@@ -1,0 +1,155 @@
+//! Bids as most programs write them: without white space, and their keys in one order. Eight bytes are compared at
+//! once.
+ghost use Rattle.std.specs.Prelude.{◌≡◌, true, false, ◌+◌, ◌≤◌, ◌<◌, ◌^◌, ◌∷◌, length, take, drop, codes, decimal};
+ghost use Rattle.std.specs.Prelude.{IsTrue, IfSome};
+ghost use Rattle.std.specs.Int.{w64, to_le_bytes};
+ghost use Rattle.json.specs.Token.{begin_object, end_object, number, string};
+ghost use Rattle.json.specs.Lex.{lex, between, token, comma, colon};
+ghost use Rattle.json.specs.Word.{ends_word};
+ghost use Rattle.clock_json.specs.inside.Digits.{IsNumberUpTo};
+
+use crate::digits::{digits_up_to, uneven_digits_at};
+
+/// Eight bytes as one number.
+#[inline(always)]
+fn number_of(eight: [u8; 8]) -> u64
+    ensures { to_le_bytes w64 result ≡ eight }
+{
+    u64::from_le_bytes(eight)
+}
+
+/// Whether these eight bytes stand there.
+#[inline(always)]
+fn has_eight(bytes: &[u8], at: usize, word: &[u8; 8]) -> bool
+    requires { at + 8 ≤ length bytes.now }
+    ensures { IsTrue result → take 8 (drop at bytes.now) ≡ word.now }
+{
+    let Ok(there) = <[u8; 8]>::try_from(&bytes[at..at + 8]) else {
+        return false;
+    };
+    number_of(there) == number_of(*word)
+}
+
+/// Whether so many bytes stand from a place on.
+#[inline(always)]
+pub(crate) fn has_room(bytes: &[u8], at: usize, count: usize) -> bool
+    ensures { IsTrue result → at + count ≤ length bytes.now }
+{
+    count <= bytes.len() && at <= bytes.len() - count
+}
+
+/// Whether a bid begins there, with its first key.
+#[inline(always)]
+fn begins_bid(bytes: &[u8], at: usize) -> bool
+    requires { at + 9 ≤ length bytes.now }
+    ensures { IsTrue result → lex between (drop at bytes.now)
+        ≡ token begin_object ∷ token (string (codes "price")) ∷ colon ∷ lex between (drop (at + 9) bytes.now) }
+{
+    if !has_eight(bytes, at, b"{\"price\"") {
+        return false;
+    }
+    bytes[at + 8] == b':'
+}
+
+/// Whether the second key stands there, behind its comma.
+#[inline(always)]
+fn has_product(bytes: &[u8], at: usize) -> bool
+    requires { at + 11 ≤ length bytes.now }
+    ensures ends { IsTrue result → ends_word (drop at bytes.now) ≡ true }
+    ensures value { IsTrue result → lex between (drop at bytes.now)
+        ≡ comma ∷ token (string (codes "product")) ∷ colon ∷ lex between (drop (at + 11) bytes.now) }
+{
+    has_eight(bytes, at, b",\"produc") && has_eight(bytes, at + 3, b"roduct\":")
+}
+
+/// Whether the third key stands there, behind its comma.
+#[inline(always)]
+fn has_quantity(bytes: &[u8], at: usize) -> bool
+    requires { at + 12 ≤ length bytes.now }
+    ensures ends { IsTrue result → ends_word (drop at bytes.now) ≡ true }
+    ensures value { IsTrue result → lex between (drop at bytes.now)
+        ≡ comma ∷ token (string (codes "quantity")) ∷ colon ∷ lex between (drop (at + 12) bytes.now) }
+{
+    has_eight(bytes, at, b",\"quanti") && has_eight(bytes, at + 4, b"antity\":")
+}
+
+/// Whether a bid ends there, with a comma behind it.
+#[inline(always)]
+fn ends_bid(bytes: &[u8], at: usize) -> bool
+    requires { at + 2 ≤ length bytes.now }
+    ensures ends { IsTrue result → ends_word (drop at bytes.now) ≡ true }
+    ensures value { IsTrue result
+        → lex between (drop at bytes.now) ≡ token end_object ∷ comma ∷ lex between (drop (at + 2) bytes.now) }
+{
+    if bytes[at] != b'}' {
+        return false;
+    }
+    bytes[at + 1] == b','
+}
+
+/// The quantity of a bid that stands there: mostly a single digit, with the bid's end behind it.
+#[inline(always)]
+fn quantity_at(bytes: &[u8], start: usize) -> Option<(u64, usize)>
+    requires { start + 16 ≤ length bytes.now }
+    ensures { IfSome result (IsNumberUpTo bytes.now start (start + 16)) }
+{
+    let byte = bytes[start];
+    if byte < b'0' || byte > b'9' {
+        return None;
+    }
+    if bytes[start + 1] == b'}' {
+        return Some((byte as u64 - 48, start + 1));
+    }
+    digits_up_to(bytes, start, start + 16)
+}
+
+/// The numbers of a bid that is written so.
+#[derive(Clone, Copy)]
+pub struct CompactBid {
+    /// Under the first key.
+    pub price: u64,
+    /// Under the second.
+    pub product: u64,
+    /// Under the third.
+    pub quantity: u64,
+}
+
+/// How many bytes a bid has at most that is read so, with its comma: three numbers of sixteen digits, and what is
+/// around them.
+const MOST_BYTES: usize = 82;
+
+/// The bid that stands there, with a comma behind it, and where that ends.
+#[inline(always)]
+pub(crate) fn compact_bid_at(bytes: &[u8], start: usize) -> Option<(CompactBid, usize)>
+    ensures small { IfSome result (λ r. (r.0.price < 2 ^ 64) × (r.0.product < 2 ^ 64) × (r.0.quantity < 2 ^ 64)) }
+    ensures value { IfSome result (λ r. lex between (drop start bytes.now)
+        ≡ token begin_object ∷ token (string (codes "price")) ∷ colon ∷ token (number (decimal r.0.price))
+        ∷ comma ∷ token (string (codes "product")) ∷ colon ∷ token (number (decimal r.0.product))
+        ∷ comma ∷ token (string (codes "quantity")) ∷ colon ∷ token (number (decimal r.0.quantity))
+        ∷ token end_object ∷ comma ∷ lex between (drop r.1 bytes.now)) }
+{
+    if !has_room(bytes, start, MOST_BYTES) {
+        return None;
+    }
+    if !begins_bid(bytes, start) {
+        return None;
+    }
+    let (price, behind_price) = uneven_digits_at(bytes, start + 9)?;
+    if !has_product(bytes, behind_price) {
+        return None;
+    }
+    let (product, behind_product) = digits_up_to(bytes, behind_price + 11, behind_price + 27)?;
+    if !has_quantity(bytes, behind_product) {
+        return None;
+    }
+    let (quantity, behind_quantity) = quantity_at(bytes, behind_product + 12)?;
+    if !ends_bid(bytes, behind_quantity) {
+        return None;
+    }
+    let bid = CompactBid {
+        price,
+        product,
+        quantity,
+    };
+    Some((bid, behind_quantity + 2))
+}

@@ -1,0 +1,29 @@
+//! JSON texts (RFC 8259), read in two ways that agree. By bytes, without a tree of values, where they have the shape that
+//! is wanted: what is read is what `serde_json` reads, and where nothing is read, nothing is said of the text. And by
+//! `serde_json`'s tree ([`tree`]), which decides every text.
+#![tactic(auto)]
+
+mod compact;
+mod digits;
+mod lists;
+mod members;
+mod numbers;
+mod parts;
+mod place;
+mod plain;
+mod room;
+mod rows;
+mod scan;
+mod separated;
+mod stop;
+pub mod tree;
+mod words;
+
+pub use compact::CompactBid;
+pub use members::ScannedMembers;
+pub use parts::{PartReader, scanned_parts, scanned_text};
+pub use room::{push, with_room};
+pub use rows::FlatRows;
+pub use scan::Scan;
+pub use stop::ScanStop;
+pub use words::{is_blank, is_key, is_text};

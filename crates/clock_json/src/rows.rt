@@ -1,0 +1,91 @@
+//! Rows of numbers, all in one list.
+ghost use Rattle.std.specs.Prelude.{◌≡◌, ◌==◌, ◌<◌, ◌≤◌, ◌+◌, [], length, take, slice_index, slice_index_or, IfOk};
+ghost use Rattle.std.specs.Prelude.{OnOk};
+ghost use Rattle.std.specs.List.{list_all};
+ghost use Rattle.clock_json.specs.inside.Rows.{numbers_in};
+
+use crate::numbers::Numbers;
+use clock_device::{Items, NoMemory};
+use std::alloc::Global;
+use std::marker::Model;
+
+/// Rows of numbers. Contracts see the list of rows, and nothing of how it is kept: all numbers stand in one list, row
+/// by row, with the length of each row beside it.
+#[derive(Drop)]
+pub struct FlatRows {
+    pub(crate) lengths: Vec<usize>,
+    pub(crate) numbers: Numbers,
+}
+
+impl Model for FlatRows {
+    ghost use Rattle.std.specs.Prelude.{◌≡◌, List, ℕ, length};
+    ghost use Rattle.clock_json.specs.Rows.{cut};
+    ghost use Rattle.clock_json.specs.inside.Rows.{numbers_in};
+
+    ghost Value = { List (List ℕ) };
+
+    ghost view = { λ a. cut a.lengths.items a.numbers };
+
+    ghost invariant = { λ a. numbers_in a.lengths.items ≡ length a.numbers };
+}
+
+/// Whether each length is that width.
+fn are_all(width: usize, lengths: &[usize]) -> bool
+    ensures { result ≡ list_all (λ length. length == width) lengths.now }
+{
+    lengths.iter().all(|length| *length == width)
+}
+
+/// Where the row of a place begins and ends, among so many numbers: behind those of the rows before it.
+fn span_of(lengths: &[usize], place: usize, whole: usize) -> (usize, usize)
+    requires place { place < length lengths.now }
+    requires whole { numbers_in lengths.now ≡ whole }
+    ensures start { result.0 ≡ numbers_in (take place lengths.now) }
+    ensures end { result.1 ≡ result.0 + slice_index lengths.now place }
+    ensures within { result.1 ≤ whole }
+{
+    let mut start = 0usize;
+    for before in 0..place {
+        start += lengths[before];
+    }
+    (start, start + lengths[place])
+}
+
+impl FlatRows {
+    /// The numbers of some lists as rows.
+    pub fn from_lists(alloc: Global, lists: &[Items<u64>]) -> Result<FlatRows, NoMemory>
+        ensures { IfOk result (λ rows. rows ≡ lists.now) }
+    {
+        let mut numbers = Numbers::new(alloc);
+        let mut lengths = Vec::new(alloc);
+        for list in lists {
+            let row = list.as_slice();
+            numbers.extend_from_slice(row)?;
+            lengths.push(row.len())?;
+        }
+        Ok(FlatRows { lengths, numbers })
+    }
+
+    /// How many rows there are.
+    pub fn count(&self) -> usize
+        ensures { result ≡ length self.now }
+    {
+        self.lengths.as_slice().len()
+    }
+
+    /// Whether each row has so many numbers.
+    pub fn has_lengths(&self, width: usize) -> bool
+        ensures { result ≡ list_all (λ row. length row == width) self.now }
+    {
+        are_all(width, self.lengths.as_slice())
+    }
+
+    /// Puts the numbers of a row in the place of what a list held. The place is one of the rows'.
+    pub fn read_row(&self, place: usize, row: &mut Vec<u64>) -> Result<(), NoMemory>
+        requires { place < length self.now }
+        ensures { OnOk result (row.new.items ≡ slice_index_or self.now place []) }
+    {
+        let (start, end) = span_of(self.lengths.as_slice(), place, self.numbers.len());
+        self.numbers.read(start, end, row)
+    }
+}

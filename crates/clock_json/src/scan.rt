@@ -1,0 +1,260 @@
+//! A text read mark by mark.
+ghost use Rattle.std.specs.Prelude.{◌≡◌, ◌∷◌, ◌++◌, [], ℕ, List, ◌<◌, length, map, replicate, IsTrue, IfSome, IfNone};
+ghost use Rattle.std.specs.Prelude.{IfOk, OnOk};
+ghost use Rattle.std.specs.Bool.{MatchBool};
+ghost use Rattle.json.specs.Token.{Token, begin_array, begin_object, end_array, end_object, key as key_token};
+ghost use Rattle.json.specs.Lex.{after_value, fresh, may_begin, may_close, tokens};
+ghost use Rattle.serde_json.specs.Data.{null, string};
+ghost use Rattle.clock_json.specs.Compact.{compact_bid};
+ghost use Rattle.clock_json.specs.Left.{left};
+ghost use Rattle.clock_json.specs.Reading.{whole, numbers, Reads, ReadsAll};
+ghost use Rattle.clock_json.specs.inside.Marks.{IsMark};
+
+use crate::compact::{CompactBid, compact_bid_at};
+use crate::place::Place;
+use crate::separated::{after_empties, numbers_at};
+use crate::stop::ScanStop;
+use crate::words::{after_space, after_value, byte_at, ends_text, null_at, number_at, quoted};
+use std::marker::Model;
+
+/// A text that is being read. Contracts see the tokens that are still to come. A call that reads nothing may leave it
+/// anywhere, except that where nothing closes it stays as it is.
+#[derive(Drop)]
+pub struct Scan<'a> {
+    bytes: &'a [u8],
+    at: usize,
+    place: Place,
+}
+
+impl<'a> Model for Scan<'a> {
+    ghost use Rattle.std.specs.Prelude.{List, drop};
+    ghost use Rattle.json.specs.Token.{Token, tokens_code};
+    ghost use Rattle.clock_json.specs.Left.{left};
+
+    ghost Value = { List Token };
+
+    ghost coded = { tokens_code };
+
+    ghost view = { λ s. left s.place (drop s.at s.bytes.now) };
+}
+
+impl<'a> Scan<'a> {
+    /// The text from its first byte on.
+    pub fn new(bytes: &'a [u8]) -> Scan<'a>
+        ensures { result ≡ tokens bytes.now }
+    {
+        Scan {
+            bytes,
+            at: 0,
+            place: Place::Fresh,
+        }
+    }
+
+    /// How many bytes of the text are left.
+    pub fn bytes_left(&self) -> usize {
+        self.bytes.len().saturating_sub(self.at)
+    }
+
+    /// Passes a mark that opens.
+    #[inline(always)]
+    fn opens(&mut self, mark: u8) -> bool
+        requires { 0 < mark }
+        ensures { (t : Token) → IsMark may_begin mark t fresh → IsTrue result → self.old ≡ t ∷ self.new }
+    {
+        let at = after_space(self.bytes, self.at);
+        if !self.place.may_begin() || byte_at(self.bytes, at) != mark {
+            return false;
+        }
+        self.at = at + 1;
+        self.place = Place::Fresh;
+        true
+    }
+
+    /// Passes a mark that closes.
+    #[inline(always)]
+    fn closes(&mut self, mark: u8) -> bool
+        requires { 0 < mark }
+        ensures { (t : Token) → IsMark may_close mark t after_value
+            → MatchBool result (self.old ≡ t ∷ self.new) (self.new ≡ self.old) }
+    {
+        if !self.place.may_close() {
+            return false;
+        }
+        let at = after_space(self.bytes, self.at);
+        if byte_at(self.bytes, at) != mark {
+            return false;
+        }
+        let (place, at) = after_value(self.bytes, at + 1);
+        self.at = at;
+        self.place = place;
+        true
+    }
+
+    /// Passes a brace that opens.
+    #[inline(always)]
+    pub fn opens_object(&mut self) -> bool
+        ensures { IsTrue result → self.old ≡ begin_object ∷ self.new }
+    {
+        self.opens(b'{')
+    }
+
+    /// Passes a bracket that opens.
+    #[inline(always)]
+    pub fn opens_array(&mut self) -> bool
+        ensures { IsTrue result → self.old ≡ begin_array ∷ self.new }
+    {
+        self.opens(b'[')
+    }
+
+    /// Passes a brace that closes.
+    #[inline(always)]
+    pub fn closes_object(&mut self) -> bool
+        ensures { MatchBool result (self.old ≡ end_object ∷ self.new) (self.new ≡ self.old) }
+    {
+        self.closes(b'}')
+    }
+
+    /// Passes a bracket that closes.
+    #[inline(always)]
+    pub fn closes_array(&mut self) -> bool
+        ensures { MatchBool result (self.old ≡ end_array ∷ self.new) (self.new ≡ self.old) }
+    {
+        self.closes(b']')
+    }
+
+    /// Reads a key with no escape in it, and its colon.
+    #[inline(always)]
+    pub fn key(&mut self) -> Result<&'a [u8], ScanStop>
+        ensures { IfOk result (λ key. self.old ≡ key_token key.now ∷ self.new) }
+    {
+        let at = after_space(self.bytes, self.at);
+        if !self.place.may_begin() {
+            return Err(ScanStop::Unusual);
+        }
+        let Some((key, at)) = quoted(self.bytes, at) else {
+            return Err(ScanStop::Unusual);
+        };
+        let at = after_space(self.bytes, at);
+        if byte_at(self.bytes, at) != b':' {
+            return Err(ScanStop::Unusual);
+        }
+        self.at = at + 1;
+        self.place = Place::Fresh;
+        Ok(key)
+    }
+
+    /// Reads a number below 10^19 that is written in digits alone.
+    #[inline(always)]
+    pub fn number(&mut self) -> Result<u64, ScanStop>
+        ensures value { IfOk result (λ n. Reads 0 self.old (whole n) self.new) }
+        ensures shorter { OnOk result (length self.new < length self.old) }
+    {
+        let at = after_space(self.bytes, self.at);
+        if !self.place.may_begin() {
+            return Err(ScanStop::Unusual);
+        }
+        let Some((n, at)) = number_at(self.bytes, at) else {
+            return Err(ScanStop::Unusual);
+        };
+        let (place, at) = after_value(self.bytes, at);
+        self.at = at;
+        self.place = place;
+        Ok(n)
+    }
+
+    /// Reads a bid that is written without white space, its keys in the order of their bytes, where a comma follows it.
+    #[inline(always)]
+    pub fn compact_bid(&mut self) -> Option<CompactBid>
+        ensures value { IfSome result (λ bid. Reads 1 self.old (compact_bid bid) self.new) }
+        ensures shorter { IfSome result (λ _. length self.new < length self.old) }
+        ensures same { IfNone result (self.new ≡ self.old) }
+    {
+        if !self.place.may_begin() {
+            return None;
+        }
+        let (bid, at) = compact_bid_at(self.bytes, self.at)?;
+        self.at = at;
+        self.place = Place::AfterComma;
+        Some(bid)
+    }
+
+    /// Reads the numbers that are next, where each has a comma right behind it, behind those of a list.
+    #[inline(always)]
+    pub(crate) fn further_numbers(&mut self, list: &mut Vec<u64>) -> Result<(), ScanStop>
+        ensures { OnOk result ((row : List ℕ) × (list.new.items ≡ list.old.items ++ row)
+            × ReadsAll 0 self.old (map whole row) self.new) }
+    {
+        if !self.place.is_after_comma() {
+            return Ok(());
+        }
+        let end = numbers_at(self.bytes, self.at, list)?;
+        self.at = end;
+        Ok(())
+    }
+
+    /// Passes the empty lists that are next, where each has a comma right behind it and one comma is before them, and
+    /// tells how many they are.
+    #[inline(always)]
+    pub fn empty_arrays(&mut self) -> usize
+        ensures { ReadsAll 1 self.old (replicate result (numbers [])) self.new }
+    {
+        if !self.place.is_after_comma() {
+            return 0;
+        }
+        let (count, at) = after_empties(self.bytes, self.at);
+        self.at = at;
+        count
+    }
+
+    /// Passes the word `null`.
+    #[inline(always)]
+    pub fn null(&mut self) -> bool
+        ensures { MatchBool result (Reads 0 self.old null self.new) (self.new ≡ self.old) }
+    {
+        let at = after_space(self.bytes, self.at);
+        if !self.place.may_begin() {
+            return false;
+        }
+        let Some(at) = null_at(self.bytes, at) else {
+            return false;
+        };
+        let (place, at) = after_value(self.bytes, at);
+        self.at = at;
+        self.place = place;
+        true
+    }
+
+    /// Reads a text with no escape in it.
+    #[inline(always)]
+    pub fn text(&mut self) -> Result<&'a str, ScanStop>
+        ensures value { IfOk result (λ text. Reads 0 self.old (string text.now) self.new) }
+        ensures shorter { OnOk result (length self.new < length self.old) }
+    {
+        let at = after_space(self.bytes, self.at);
+        if !self.place.may_begin() {
+            return Err(ScanStop::Unusual);
+        }
+        let Some((bytes, at)) = quoted(self.bytes, at) else {
+            return Err(ScanStop::Unusual);
+        };
+        let Ok(text) = str::from_utf8(bytes) else {
+            return Err(ScanStop::Unusual);
+        };
+        let next = after_space(self.bytes, at);
+        if !ends_text(byte_at(self.bytes, next)) {
+            return Err(ScanStop::Unusual);
+        }
+        let (place, at) = after_value(self.bytes, at);
+        self.at = at;
+        self.place = place;
+        Ok(text)
+    }
+
+    /// Whether nothing follows.
+    #[inline(always)]
+    pub fn ends(&self) -> bool
+        ensures { IsTrue result → self.now ≡ [] }
+    {
+        !self.place.may_begin() && after_space(self.bytes, self.at) >= self.bytes.len()
+    }
+}

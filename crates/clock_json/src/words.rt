@@ -1,0 +1,169 @@
+//! Bytes of a text as lexemes: white space, commas, quoted words and numbers.
+ghost use Rattle.std.specs.Prelude.{◌≡◌, ℕ, List, ◌∷◌, [], ◌<◌, ◌^◌, ◌||◌, true, false, None, IsTrue, drop, length};
+ghost use Rattle.std.specs.Prelude.{get_or, decimal, IfSome};
+ghost use Rattle.std.specs.Str.{IsUtf8};
+ghost use Rattle.json.specs.Token.{null, number, string};
+ghost use Rattle.json.specs.Lex.{lex, between, token, class, begins_colon, after_value as past_value, punctuate};
+ghost use Rattle.json.specs.Word.{is_operator, is_space as is_blank_byte};
+ghost use Rattle.json.specs.Align.{is_blank as is_blank_class};
+ghost use Rattle.serde_json.specs.Read.{read};
+ghost use Rattle.clock_json.specs.Left.{left};
+
+use crate::digits::digits_up_to;
+use crate::place::Place;
+use crate::plain::plain_end;
+
+/// The byte there, or 0 past the end.
+#[inline(always)]
+pub(crate) fn byte_at(bytes: &[u8], at: usize) -> u8
+    ensures value { result ≡ get_or bytes.now at 0 }
+    ensures within { 0 < result → at < length bytes.now }
+{
+    if at < bytes.len() { bytes[at] } else { 0 }
+}
+
+#[inline(always)]
+fn is_space(byte: u8) -> bool
+    ensures { result ≡ is_blank_class (class byte) }
+{
+    if byte == b' ' {
+        return true;
+    }
+    (byte == b'\t') | (byte == b'\n') | (byte == b'\r')
+}
+
+/// Where the white space ends that is there.
+#[inline(always)]
+pub(crate) fn after_space(bytes: &[u8], start: usize) -> usize
+    ensures { lex between (drop result bytes.now) ≡ lex between (drop start bytes.now) }
+{
+    let mut at = start;
+    'space: while at < bytes.len() {
+        if !is_space(bytes[at]) {
+            break;
+        }
+        at += 1;
+    }
+    at
+}
+
+/// Whether a text has nothing but white space. It is then no JSON. Behind a first byte that is white space each one is
+/// looked at, since a loop that may end early is slow.
+pub fn is_blank(bytes: &[u8]) -> bool
+    ensures { IsTrue result → read bytes.now ≡ None }
+{
+    if !bytes.is_empty() && !is_space(bytes[0]) {
+        return false;
+    }
+    let mut has_other = false;
+    for byte in bytes {
+        has_other |= !is_space(*byte);
+    }
+    !has_other
+}
+
+/// Whether the bytes of a text can be those of JSON: they are UTF-8, and not all white space.
+pub fn is_text(bytes: &[u8]) -> bool
+    ensures { IsTrue result → IsUtf8 bytes.now }
+{
+    !is_blank(bytes) && simdutf8::basic::from_utf8(bytes).is_ok()
+}
+
+/// Whether a key is a word.
+#[inline(always)]
+pub fn is_key(key: &[u8], word: &str) -> bool
+    ensures { IsTrue result → key.now ≡ word.now }
+{
+    key == word.as_bytes()
+}
+
+/// Passes the comma that may follow a value.
+#[inline(always)]
+pub(crate) fn after_value(bytes: &[u8], start: usize) -> (Place, usize)
+    ensures { left result.0 (drop result.1 bytes.now)
+        ≡ punctuate past_value (lex between (drop start bytes.now)) }
+{
+    let at = after_space(bytes, start);
+    if byte_at(bytes, at) == b',' {
+        (Place::AfterComma, at + 1)
+    } else {
+        (Place::AfterValue, at)
+    }
+}
+
+/// The bytes that are quoted there, with no escape among them, and where they end.
+#[inline(always)]
+pub(crate) fn quoted(bytes: &[u8], at: usize) -> Option<(&[u8], usize)>
+    ensures { IfSome result (λ r. lex between (drop at bytes.now)
+        ≡ token (string r.0.now) ∷ lex between (drop r.1 bytes.now)) }
+{
+    if byte_at(bytes, at) != b'"' {
+        return None;
+    }
+    let start = at + 1;
+    let end = plain_end(bytes, start);
+    if byte_at(bytes, end) != b'"' {
+        return None;
+    }
+    Some((&bytes[start..end], end + 1))
+}
+
+/// Whether a byte behind a quoted text leaves it a text, and makes no key of it.
+#[inline(always)]
+pub(crate) fn ends_text(byte: u8) -> bool
+    ensures mark { IsTrue result → (rest : List ℕ) → begins_colon (lex between (byte ∷ rest)) ≡ false }
+    ensures something { IsTrue result → 0 < byte }
+{
+    if byte == b',' {
+        return true;
+    }
+    if byte == b'}' {
+        return true;
+    }
+    if byte == b']' {
+        return true;
+    }
+    false
+}
+
+/// Whether a byte ends a word or a number before it.
+#[inline(always)]
+fn ends_word(byte: u8) -> bool
+    ensures { result ≡ true → (is_operator byte || is_blank_byte byte) ≡ true }
+{
+    matches!(byte, b',' | b'}' | b']' | b' ' | b'\n' | b'\r' | b'\t')
+}
+
+/// The number there in its digits, with no zero before them, below 10^19, and where it ends. It stands apart: within a
+/// caller LLVM keeps the number in memory while its digits are read.
+#[inline(never)]
+pub(crate) fn number_at(bytes: &[u8], at: usize) -> Option<(u64, usize)>
+    ensures small { IfSome result (λ r. r.0 < 2 ^ 64) }
+    ensures value { IfSome result (λ r. lex between (drop at bytes.now)
+        ≡ token (number (decimal r.0)) ∷ lex between (drop r.1 bytes.now)) }
+{
+    if at >= bytes.len() {
+        return None;
+    }
+    let left = (bytes.len() - at).min(19);
+    let (n, end) = digits_up_to(bytes, at, at + left)?;
+    if end == bytes.len() || !ends_word(bytes[end]) {
+        return None;
+    }
+    Some((n, end))
+}
+
+/// Where the word `null` ends that stands there.
+#[inline(always)]
+pub(crate) fn null_at(bytes: &[u8], at: usize) -> Option<usize>
+    ensures { IfSome result (λ end. lex between (drop at bytes.now) ≡ token null ∷ lex between (drop end bytes.now)) }
+{
+    if bytes.len() < 5 || at > bytes.len() - 5 {
+        return None;
+    }
+    let end = at + 4;
+    if !is_key(&bytes[at..end], "null") || !ends_word(bytes[end]) {
+        return None;
+    }
+    Some(end)
+}

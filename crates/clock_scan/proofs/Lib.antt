@@ -1,9 +1,0 @@
-mod LexLaws
-mod Turns
-mod FieldLaws
-pub mod Steps
-mod RowSteps
-mod CompactLaws
-mod DigitLaws
-mod PieceLaws
-mod PlainLaws

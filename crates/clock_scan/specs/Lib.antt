@@ -1,6 +1,0 @@
-pub mod Compact
-pub mod Left
-pub mod Members
-pub mod Reading
-pub mod Rows
-pub mod inside

@@ -1,5 +1,0 @@
-use Rattle.clock_setup.proofs.MemberLaws.{counted}
-use Rattle.clock_setup.proofs.members.has_members.Goals as goal
-
-pub returns-in-Some : goal.returns-in-Some
-returns-in-Some c = counted _ _ _ _ c.len.ensures.len c.in-Some.ensures
