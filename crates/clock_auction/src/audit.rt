@@ -9,10 +9,10 @@ use crate::digests::digits_of;
 use clock_commands::Fault;
 use clock_device::{NoMemory, Text};
 use clock_front::Front;
+use clock_http::Code;
 use clock_journal::{Link, Machine, Untaken, link_of, recover};
 use clock_queue::Woken;
 use clock_sim::{Digits, audit_text, report_so_far};
-use clock_views::Code;
 use std::alloc::Global;
 
 /// An auction that takes the texts of a journal, and remembers the digest of each closing.

@@ -7,8 +7,8 @@ ghost use Rattle.clock_bodies.specs.Bodies.{meant_by};
 
 use crate::body_fault::BodyFault;
 use clock_device::NoMemory;
-use clock_json::{ScanStop, ScannedMembers, scanned_text};
 use clock_json::tree::read_value;
+use clock_json::{ScanStop, ScannedMembers, scanned_text};
 use serde_json::Value;
 use std::alloc::Global;
 

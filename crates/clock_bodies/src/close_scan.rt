@@ -5,8 +5,8 @@ ghost use Rattle.clock_bodies.specs.inside.QuickBodies.{close_fields, close_data
 
 use crate::close_body::CloseBody;
 use clock_device::Items;
-use clock_order::Tie;
 use clock_json::{PartReader, Scan, ScanStop, ScannedMembers, is_key, scanned_parts};
+use clock_order::Tie;
 use clock_terms::Increments;
 use std::alloc::Global;
 

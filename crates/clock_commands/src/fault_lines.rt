@@ -6,9 +6,9 @@ ghost use Rattle.clock_commands.specs.inside.Lines.{behind, code_behind, text_of
 
 use crate::fault::Fault;
 use clock_device::{Failed, Sink, write_all, write_number};
+use clock_http::Code;
 use clock_setup::{OpeningFault, Place, SetupFault};
 use clock_sim::{ScriptFault, SimFault};
-use clock_views::Code;
 
 /// A word, up to two numbers, and the code of a reply, where there is one. Each stands behind a space.
 #[derive(Clone, Copy)]

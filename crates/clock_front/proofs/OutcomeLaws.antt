@@ -10,8 +10,8 @@ use Rattle.clock_views.specs.Refusals.{Shown}
 use Rattle.clock_http.specs.Replies.{Answer}
 use Rattle.clock_front.specs.declared.tokens.Asker.{Asker}
 use Rattle.clock_front.specs.declared.tokens.Asker.TheVariants.{Nobody, Operator, Bidder}
-use Rattle.clock_front.specs.declared.asked.Reading.{Reading}
-use Rattle.clock_front.specs.declared.asked.Reading.TheVariants as reading
+use Rattle.clock_front.specs.declared.asked.PageAsked.{PageAsked}
+use Rattle.clock_front.specs.declared.asked.PageAsked.TheVariants as reading
 use Rattle.clock_front.specs.Requests as asked
 use Rattle.clock_front.specs.inside.ShownAsked.{shown_reading}
 use Rattle.clock_front.specs.Outcomes.{Outcome, answer_of, done, refused, page_or_no_round, command_of}
@@ -28,7 +28,7 @@ turned answer away outcome is told = told ∙ sym (ap answer_of is)
 
 -- ---- requests that are no commands
 
-pub reading_other : (setup : SetupFields) (asker : Asker) (what : Reading) → command_of setup asker (shown_reading what) ≡ other
+pub reading_other : (setup : SetupFields) (asker : Asker) (what : PageAsked) → command_of setup asker (shown_reading what) ≡ other
 reading_other setup Nobody what = refl
 reading_other setup Operator reading.NoPage = refl
 reading_other setup Operator (reading.NoMethod page) = refl

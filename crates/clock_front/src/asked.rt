@@ -10,7 +10,7 @@ use clock_http::{Head, Page, Routes, last_segment};
 
 /// What is asked to be told. It changes nothing.
 #[derive(Clone, Copy, Debug)]
-pub(crate) enum Reading<'a> {
+pub(crate) enum PageAsked<'a> {
     /// The path names no page.
     NoPage,
     /// The page is not for the method.
@@ -27,7 +27,7 @@ pub(crate) enum Reading<'a> {
 /// What is asked for: to be told, or a change by a body that is not read yet.
 #[derive(Clone, Copy, Debug)]
 pub(crate) enum Asked<'a> {
-    Read(Reading<'a>),
+    Read(PageAsked<'a>),
     Put(&'a [u8]),
     Close(&'a [u8]),
 }
@@ -37,20 +37,20 @@ fn asked_of_page<'a>(page: Page, head: &Head<'a>, body: &'a [u8]) -> Asked<'a>
     ensures { shown_asked result ≡ spec.ask_of_page page (shown_head head.now) body.now }
 {
     match page {
-        Page::Status => Asked::Read(Reading::Status),
-        Page::Products => Asked::Read(Reading::Products),
-        Page::Sheet => Asked::Read(Reading::Sheet(last_segment(head.path))),
-        Page::Account => Asked::Read(Reading::Account),
+        Page::Status => Asked::Read(PageAsked::Status),
+        Page::Products => Asked::Read(PageAsked::Products),
+        Page::Sheet => Asked::Read(PageAsked::Sheet(last_segment(head.path))),
+        Page::Account => Asked::Read(PageAsked::Account),
         Page::Bids => {
             if head.is_put() {
                 Asked::Put(body)
             } else {
-                Asked::Read(Reading::Bids)
+                Asked::Read(PageAsked::Bids)
             }
         }
-        Page::Slip => Asked::Read(Reading::Slip(last_segment(head.path))),
+        Page::Slip => Asked::Read(PageAsked::Slip(last_segment(head.path))),
         Page::Close => Asked::Close(body),
-        Page::Results => Asked::Read(Reading::Results),
+        Page::Results => Asked::Read(PageAsked::Results),
     }
 }
 
@@ -59,10 +59,10 @@ pub(crate) fn asked_of<'a>(routes: &Routes, head: &Head<'a>, body: &'a [u8]) -> 
     ensures { shown_asked result ≡ spec.ask_by_route (page_of head.now.path.now) (shown_head head.now) body.now }
 {
     let Some(page) = routes.page_of(head.path) else {
-        return Asked::Read(Reading::NoPage);
+        return Asked::Read(PageAsked::NoPage);
     };
     if !page.has_method(head.method) {
-        return Asked::Read(Reading::NoMethod(page));
+        return Asked::Read(PageAsked::NoMethod(page));
     }
     asked_of_page(page, head, body)
 }

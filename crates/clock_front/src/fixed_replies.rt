@@ -6,8 +6,7 @@ ghost use Rattle.clock_front.specs.FixedReplies.{no_memory};
 ghost use Rattle.clock_front.specs.inside.FixedReplies.{refusal_of};
 ghost use Rattle.clock_front.specs.inside.FixedReplies.{is_fixed};
 
-use clock_http::Reply;
-use clock_views::Code;
+use clock_http::{Code, Reply};
 
 const LONG_HEAD: &[u8] = b"HTTP/1.1 431 Request Header Fields Too Large\r\nconnection: close\r\n\
     content-length: 33\r\ncontent-type: application/json\r\n\r\n{\"code\":\"long_head\",\"status\":431}";

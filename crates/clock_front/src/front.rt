@@ -17,7 +17,7 @@ ghost use Rattle.clock_front.specs.inside.HeldTokens.{IsTableOf};
 ghost use Rattle.clock_front.specs.inside.KeptPage.{IsProductsPage};
 
 use crate::asked::{Asked, asked_of};
-use crate::changes::{close, put};
+use crate::commands::{close, put};
 use crate::fixed_replies::{fixed_reply, no_memory_reply};
 use crate::pages::refusal;
 use crate::telling::{bidder_of, operator_of, tell};
@@ -25,10 +25,10 @@ use crate::tokens::{Asker, Tokens, asker_of, tokens_of};
 use crate::unanswered::Unanswered;
 use clock_device::{NoMemory, Text};
 use clock_house::House;
-use clock_http::{Framing, Progress, Reply, Routes, frame};
+use clock_http::{Code, Framing, Progress, Reply, Routes, frame};
 use clock_processor::Processor;
 use clock_terms::Setup;
-use clock_views::{Code, Refusal, products_page};
+use clock_views::{Refusal, products_page};
 use std::alloc::Global;
 use std::marker::Model;
 

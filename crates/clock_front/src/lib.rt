@@ -7,8 +7,9 @@
 //! [`serve_stream`] reads one request out of a source, as far as it is needed, and writes its reply to a sink.
 #![tactic(auto)]
 
+mod arrival;
 mod asked;
-mod changes;
+mod commands;
 mod connections;
 mod events;
 mod fed;
@@ -18,7 +19,6 @@ mod hub;
 mod hub_fault;
 mod numbered;
 mod pages;
-mod reading;
 mod runs;
 mod stream;
 mod stream_fault;
@@ -26,6 +26,7 @@ mod telling;
 mod tokens;
 mod unanswered;
 
+pub use arrival::{Unread, read_request};
 pub use clock_bodies::{BodyFault, CloseBody, PutBody, read_close, read_put};
 pub use clock_http::{Arriving, EndedHead, Framing, Head, Page, Progress, Reply, frame};
 pub use connections::Conn;
@@ -35,7 +36,6 @@ pub use fixed_replies::no_memory_reply;
 pub use front::Front;
 pub use hub::Hub;
 pub use hub_fault::HubFault;
-pub use reading::{Unread, read_request};
 pub use runs::{Replies, run};
 pub use stream::serve_stream;
 pub use stream_fault::StreamFault;

@@ -14,9 +14,9 @@ ghost use Rattle.clock_front.specs.Requests as asked;
 
 use clock_device::Bounded;
 use clock_house::House;
-use clock_http::{NoRoom, Page, Reply, plain_number, text_with_room};
+use clock_http::{Code, NoRoom, Page, Reply, plain_number, text_with_room};
 use clock_views::{
-    Code, REFUSAL_ROOM, Refusal, account_room, bids_room, push_account_page, push_bids_page,
+    REFUSAL_ROOM, Refusal, account_room, bids_room, push_account_page, push_bids_page,
     push_refusal_page, push_results_page, push_sheet_page, push_slip_page, push_status_page,
     results_room, sheet_room, slip_room, status_room,
 };

@@ -4,14 +4,13 @@ ghost use Rattle.clock_front.specs.Arrivals.{most_request_reads};
 ghost use Rattle.clock_front.specs.Fronts.{StandsForTexts};
 ghost use Rattle.clock_front.specs.Streamed.{HasServed, IsAnswerTo, IsServed, IsLeftUnread};
 
+use crate::arrival::{Unread, read_request};
 use crate::fixed_replies::no_memory_reply;
 use crate::front::Front;
-use crate::reading::{Unread, read_request};
 use crate::stream_fault::StreamFault;
 use clock_device::{Sink, Source, write_all};
-use clock_http::Reply;
+use clock_http::{Code, Reply};
 use clock_processor::Processor;
-use clock_views::Code;
 use std::alloc::Global;
 
 /// The reply to the request that a source brings, and none where no request could be read.

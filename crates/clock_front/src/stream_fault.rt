@@ -1,4 +1,4 @@
-use clock_views::Code;
+use clock_http::Code;
 use thiserror::Error;
 
 /// Why a stream was not served.

@@ -7,12 +7,12 @@ ghost use Rattle.clock_front.specs.Rooms.{reply_room};
 ghost use Rattle.clock_front.specs.inside.ShownAsked.{shown_reading};
 ghost use Rattle.clock_front.specs.inside.KeptPage.{IsProductsPage};
 
-use crate::asked::Reading;
+use crate::asked::PageAsked;
 use crate::pages::{account, bids, not_allowed, products, refusal, results, sheet, slip, status};
 use crate::tokens::Asker;
 use clock_house::House;
-use clock_http::{NoRoom, Reply};
-use clock_views::{Code, Refusal};
+use clock_http::{Code, NoRoom, Reply};
+use clock_views::Refusal;
 use std::alloc::Global;
 
 /// The bidder that asks, or why pages of bidders are not for this asker.
@@ -47,7 +47,7 @@ pub(crate) fn tell<P>(
     house: &House<P>,
     page: &[u8],
     asker: Asker,
-    what: Reading<'_>,
+    what: PageAsked<'_>,
 ) -> Result<Reply, NoRoom>
     requires page { IsProductsPage house.now.setup page.now }
     requires known { IsKnown (length house.now.setup.bidders) asker }
@@ -56,24 +56,24 @@ pub(crate) fn tell<P>(
         (outcome house.now asker (shown_reading what.entry))) }
 {
     match what {
-        Reading::NoPage => refusal(alloc, Refusal::alone(Code::NoPage)),
-        Reading::NoMethod(page) => not_allowed(alloc, page),
-        Reading::Status => status(alloc, house),
-        Reading::Products => products(alloc, page),
-        Reading::Sheet(segment) => sheet(alloc, house, segment),
-        Reading::Account => match bidder_of(asker) {
+        PageAsked::NoPage => refusal(alloc, Refusal::alone(Code::NoPage)),
+        PageAsked::NoMethod(page) => not_allowed(alloc, page),
+        PageAsked::Status => status(alloc, house),
+        PageAsked::Products => products(alloc, page),
+        PageAsked::Sheet(segment) => sheet(alloc, house, segment),
+        PageAsked::Account => match bidder_of(asker) {
             Ok(bidder) => account(alloc, house, bidder),
             Err(away) => refusal(alloc, away),
         },
-        Reading::Bids => match bidder_of(asker) {
+        PageAsked::Bids => match bidder_of(asker) {
             Ok(bidder) => bids(alloc, house, bidder),
             Err(away) => refusal(alloc, away),
         },
-        Reading::Slip(segment) => match bidder_of(asker) {
+        PageAsked::Slip(segment) => match bidder_of(asker) {
             Ok(bidder) => slip(alloc, house, bidder, segment),
             Err(away) => refusal(alloc, away),
         },
-        Reading::Results => match operator_of(asker) {
+        PageAsked::Results => match operator_of(asker) {
             Ok(()) => results(alloc, house),
             Err(away) => refusal(alloc, away),
         },

@@ -10,9 +10,9 @@ ghost use Rattle.clock_keeping.specs.Keeping.{IsInStep, IsKept, is_get as is_get
 
 use clock_device::Failed;
 use clock_front::{Framing, Front, Progress, Reply};
+use clock_http::Code;
 use clock_journal::{Durable, Journal, MOST_TEXT};
 use clock_processor::Processor;
-use clock_views::Code;
 
 /// Whether a text of which this is known asks by GET.
 fn is_get(text: &[u8], progress: Progress) -> bool

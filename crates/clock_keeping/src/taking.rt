@@ -5,9 +5,9 @@ ghost use Rattle.clock_journal.specs.Recovering.{IsRefusal, IsRefusedRightly, Is
 ghost use Rattle.clock_keeping.specs.Keeping.{HasTakenUp, IsRefused, IsTakenUp};
 
 use clock_front::Front;
+use clock_http::Code;
 use clock_journal::{JournalFault, Link, Machine, Recovered, Untaken, recover};
 use clock_processor::Processor;
-use clock_views::Code;
 
 /// An auction that takes the texts of a journal, and counts them.
 #[derive(Drop)]

@@ -22,7 +22,7 @@ use Rattle.clock_replays.specs.declared.closing.Closing.{Closing}
 use Rattle.clock_replays.specs.ReplayShape.{ReplayParts, sheet_of, script_of, closing_from, parts_of}
 use Rattle.clock_replays.specs.inside.PartData.{sheet_data, script_data, closing_data}
 use Rattle.clock_replays.specs.inside.ReplayData.{replay_data, found_data}
-use Rattle.clock_replays.specs.declared.scanned_replay.ScannedReplay.{ScannedReplay}
+use Rattle.clock_replays.specs.declared.replay_scan.ScannedReplay.{ScannedReplay}
 use Rattle.clock_replays.specs.Replays.{ReplayFields}
 use Rattle.clock_replays.specs.ReplayChecks.{replay_checks}
 use Rattle.clock_replays.specs.ReplayDocument.{document_replay}

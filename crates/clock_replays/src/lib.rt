@@ -3,17 +3,17 @@
 
 mod checks;
 mod closing;
+mod closing_scan;
 mod fault;
 mod limit_lists;
 mod limit_rows;
 mod limit_walk;
 mod read;
 mod replay;
-mod scanned_closings;
-mod scanned_replay;
-mod scanned_scripts;
+mod replay_scan;
+mod replay_tree;
 mod script;
-mod shape;
+mod script_scan;
 
 pub use closing::{Closing, Closings, TieList};
 pub use fault::ScriptFault;

@@ -10,11 +10,11 @@ ghost use Rattle.clock_setup.specs.inside.SetupDocument.{distinct_checks, head_c
 use crate::entries::SetupEntries;
 use crate::fault::{Place, SetupFault};
 use crate::held_setup::HeldSetup;
-use clock_json::tree::{number_at, read_value};
 use crate::names::{has_distinct_names, has_distinct_tokens};
 use crate::setup_checks::{each_within, is_token};
 use crate::setup_tree::entries_of;
 use clock_device::Text;
+use clock_json::tree::{number_at, read_value};
 use clock_json::{ScanStop, scanned_text};
 use clock_terms::{
     LATEST_VERSION, LEAST_LIMIT, LEAST_REQUIREMENT, MOST_BIDDERS, MOST_LIMIT, MOST_PRODUCTS,

@@ -4,7 +4,7 @@ ghost use Rattle.clock_setup.specs.SetupDocument.{setup_of};
 
 use crate::document::within_limits;
 use crate::fault::SetupFault;
-use crate::setup_scan::SetupParts;
+use crate::setup_scan::FoundSetup;
 use clock_json::{PartReader, Scan, ScanStop};
 use clock_terms::Setup;
 use std::alloc::Global;
@@ -27,7 +27,7 @@ impl<'v> PartReader<'v> for HeldSetup {
     ghost shown = { λ held. setup_data held.setup };
 
     fn part(alloc: Global, scan: &mut Scan<'v>) -> Result<HeldSetup, ScanStop> {
-        let scanned = SetupParts::part(alloc, scan)?;
+        let scanned = FoundSetup::part(alloc, scan)?;
         match within_limits(alloc, &scanned.entries) {
             Ok(setup) => Ok(HeldSetup { setup }),
             Err(SetupFault::NoMemory) => Err(ScanStop::NoMemory),

@@ -8,11 +8,11 @@ ghost use Rattle.clock_setup.specs.SetupDocument as document;
 
 use crate::document::setup_of;
 use crate::fault::SetupFault;
-use clock_json::tree::read_value;
 use crate::opening_checks::grid_within;
-use crate::opening_scan::OpeningFound;
+use crate::opening_scan::FoundOpening;
 use crate::opening_tree::opening_entries;
 use clock_device::NoMemory;
+use clock_json::tree::read_value;
 use clock_json::{FlatRows, ScanStop, scanned_text};
 use clock_terms::{Grid, Setup};
 use serde_json::Value;
@@ -140,7 +140,7 @@ pub fn read_opening(alloc: Global, bytes: &[u8]) -> Result<Opening, OpeningFault
         (IsRefusal OpeningFault.NoMemory (document_opening bytes.now)) }
     ensures held { IfErr result (λ fault. fault ≢ OpeningFault.Setup SetupFault.NoMemory) }
 {
-    match scanned_text::<OpeningFound>(alloc, bytes) {
+    match scanned_text::<FoundOpening>(alloc, bytes) {
         Ok(found) => compared(alloc, found.held.setup, found.demands, found.increment),
         Err(ScanStop::NoMemory) => Err(OpeningFault::NoMemory),
         Err(ScanStop::Unusual) => {

@@ -9,8 +9,8 @@ ghost use Rattle.clock_setup.specs.OpeningDocument.{demand_checks, row_checks, o
 
 use crate::fault::SetupFault;
 use crate::opening::OpeningFault;
-use clock_money::{LEAST_INCREMENT, MOST_INCREMENT};
 use clock_json::{FlatRows, push, with_room};
+use clock_money::{LEAST_INCREMENT, MOST_INCREMENT};
 use clock_terms::{Bidder, Grid, Product, Row, Setup, is_within};
 use std::alloc::Global;
 

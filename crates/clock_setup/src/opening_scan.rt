@@ -7,7 +7,7 @@ use std::alloc::Global;
 
 /// What was found of an opening.
 #[derive(Default, Drop)]
-pub(crate) struct OpeningFound {
+pub(crate) struct FoundOpening {
     demands: Option<FlatRows>,
     held: Option<HeldSetup>,
     increment: Option<u64>,
@@ -21,7 +21,7 @@ pub(crate) struct ScannedOpening {
     pub increment: u64,
 }
 
-impl<'v> ScannedMembers<'v> for OpeningFound {
+impl<'v> ScannedMembers<'v> for FoundOpening {
     type Whole = ScannedOpening;
 
     ghost levels = { 3 };
@@ -30,8 +30,8 @@ impl<'v> ScannedMembers<'v> for OpeningFound {
 
     ghost shown = { scanned_data };
 
-    fn nothing() -> OpeningFound {
-        OpeningFound::default()
+    fn nothing() -> FoundOpening {
+        FoundOpening::default()
     }
 
     fn read(&mut self, alloc: Global, key: &[u8], scan: &mut Scan<'v>) -> Result<(), ScanStop> {

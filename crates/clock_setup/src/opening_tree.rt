@@ -2,9 +2,9 @@ ghost use Rattle.std.specs.Prelude.{◌≡◌, option_map, IfOk};
 ghost use Rattle.serde_json.specs.View.{view};
 ghost use Rattle.clock_setup.specs.OpeningShape as shape;
 
-use clock_json::tree::{RowReader, each_at, has_members, number_at};
 use clock_device::NoMemory;
 use clock_json::FlatRows;
+use clock_json::tree::{RowReader, each_at, has_members, number_at};
 use serde_json::Value;
 use std::alloc::Global;
 

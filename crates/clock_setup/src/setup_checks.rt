@@ -9,8 +9,8 @@ ghost use Rattle.clock_setup.specs.inside.SetupDocument.{counted_checks};
 use crate::entries::{BidderEntry, ProductEntry};
 use crate::fault::{Place, SetupFault};
 use clock_device::{Items, Text};
-use clock_money::{MOST_GRANULE, Price};
 use clock_json::{push, with_room};
+use clock_money::{MOST_GRANULE, Price};
 use clock_terms::{
     Bidder, LONGEST_NAME, LONGEST_TOKEN, MOST_ELIGIBILITY, MOST_SUPPLY, MOST_UNITS, Product,
     SHORTEST_TOKEN, is_within,

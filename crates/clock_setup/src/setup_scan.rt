@@ -16,7 +16,7 @@ use std::alloc::Global;
 
 /// What was found of a product.
 #[derive(Clone, Copy, Default)]
-struct ProductParts<'v> {
+struct FoundProduct<'v> {
     cap: Option<u64>,
     granule: Option<u64>,
     name: Option<&'v str>,
@@ -37,7 +37,7 @@ fn version_with(granule: Option<u64>) -> (u64, u64)
     }
 }
 
-impl<'v> ScannedMembers<'v> for ProductParts<'v> {
+impl<'v> ScannedMembers<'v> for FoundProduct<'v> {
     type Whole = VersionedProduct<'v>;
 
     ghost levels = { 0 };
@@ -46,8 +46,8 @@ impl<'v> ScannedMembers<'v> for ProductParts<'v> {
 
     ghost shown = { λ product. product_data product.version product.entry };
 
-    fn nothing() -> ProductParts<'v> {
-        ProductParts::default()
+    fn nothing() -> FoundProduct<'v> {
+        FoundProduct::default()
     }
 
     fn read(&mut self, _alloc: Global, key: &[u8], scan: &mut Scan<'v>) -> Result<(), ScanStop> {
@@ -120,7 +120,7 @@ fn products<'v>(alloc: Global, scan: &mut Scan<'v>) -> Result<VersionedProducts<
     let mut version = 0;
     let mut entries = Items::new(alloc);
     'items: while !scan.closes_array() {
-        let next = ProductParts::part(alloc, scan)?;
+        let next = FoundProduct::part(alloc, scan)?;
         let Some(common) = common_version(version, next.version) else {
             return Err(ScanStop::Unusual);
         };
@@ -132,13 +132,13 @@ fn products<'v>(alloc: Global, scan: &mut Scan<'v>) -> Result<VersionedProducts<
 
 /// What was found of a bidder.
 #[derive(Clone, Copy, Default)]
-struct BidderParts<'v> {
+struct FoundBidder<'v> {
     eligibility: Option<u64>,
     name: Option<&'v str>,
     token: Option<&'v str>,
 }
 
-impl<'v> ScannedMembers<'v> for BidderParts<'v> {
+impl<'v> ScannedMembers<'v> for FoundBidder<'v> {
     type Whole = BidderEntry<'v>;
 
     ghost levels = { 0 };
@@ -147,8 +147,8 @@ impl<'v> ScannedMembers<'v> for BidderParts<'v> {
 
     ghost shown = { bidder_data };
 
-    fn nothing() -> BidderParts<'v> {
-        BidderParts::default()
+    fn nothing() -> FoundBidder<'v> {
+        FoundBidder::default()
     }
 
     fn read(&mut self, _alloc: Global, key: &[u8], scan: &mut Scan<'v>) -> Result<(), ScanStop> {
@@ -179,7 +179,7 @@ impl<'v> ScannedMembers<'v> for BidderParts<'v> {
 
 /// What was found of a set-up.
 #[derive(Default, Drop)]
-pub(crate) struct SetupParts<'v> {
+pub(crate) struct FoundSetup<'v> {
     bidders: Option<Items<BidderEntry<'v>>>,
     limit: Option<u64>,
     operator: Option<&'v str>,
@@ -201,7 +201,7 @@ fn limit_of(version: u64, limit: Option<u64>) -> Option<u64>
     }
 }
 
-impl<'v> ScannedMembers<'v> for SetupParts<'v> {
+impl<'v> ScannedMembers<'v> for FoundSetup<'v> {
     type Whole = ScannedSetup<'v>;
 
     ghost levels = { 2 };
@@ -210,15 +210,15 @@ impl<'v> ScannedMembers<'v> for SetupParts<'v> {
 
     ghost shown = { λ setup. setup_data setup.entries };
 
-    fn nothing() -> SetupParts<'v> {
-        SetupParts::default()
+    fn nothing() -> FoundSetup<'v> {
+        FoundSetup::default()
     }
 
     fn read(&mut self, alloc: Global, key: &[u8], scan: &mut Scan<'v>) -> Result<(), ScanStop> {
         if is_key(key, "products") {
             self.products = Some(products(alloc, scan)?);
         } else if is_key(key, "bidders") {
-            self.bidders = Some(scanned_parts::<BidderParts>(alloc, scan, 0)?);
+            self.bidders = Some(scanned_parts::<FoundBidder>(alloc, scan, 0)?);
         } else if is_key(key, "operator") {
             self.operator = Some(scan.text()?);
         } else if is_key(key, "version") {

@@ -5,8 +5,8 @@ ghost use Rattle.clock_setup.specs.SetupShape as shape;
 ghost use Rattle.clock_setup.specs.SetupShape.{product_of, bidder_of, fields_of};
 
 use crate::entries::{BidderEntry, ProductEntry, SetupEntries};
-use clock_json::tree::{ValueReader, each_at, has_members, number_at, text_at};
 use clock_device::NoMemory;
+use clock_json::tree::{ValueReader, each_at, has_members, number_at, text_at};
 use clock_terms::{FIRST_GRANULE, FIRST_LIMIT};
 use serde_json::Value;
 use std::alloc::Global;

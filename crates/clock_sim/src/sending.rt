@@ -7,9 +7,8 @@ ghost use Rattle.clock_sim.specs.inside.Steps.{IsTold, MakesStep};
 
 use crate::sim_fault::SimFault;
 use clock_front::{Conn, Fed, Hub, HubFault, Reply};
-use clock_http::{law_decided_once, law_one_head};
+use clock_http::{Code, law_decided_once, law_one_head};
 use clock_processor::Processor;
-use clock_views::Code;
 
 /// The fault of a request that was refused: that of a bidder, or of the operator.
 fn refused_by(sender: Option<u64>, round: u64, code: Code) -> SimFault

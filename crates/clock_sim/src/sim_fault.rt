@@ -1,6 +1,6 @@
 use clock_device::NoMemory;
 use clock_front::HubFault;
-use clock_views::Code;
+use clock_http::Code;
 use std::alloc::AllocFailed;
 use thiserror::Error;
 

@@ -3,12 +3,12 @@
 use super::documents::{document, joined};
 use crate::comparing::assert_is;
 use clock_device::{NoMemory, Text};
+use clock_http::Code;
 use clock_processor::Plain;
 use clock_setup::fixtures::ONE_PRODUCT;
 use clock_sim::{
     Replay, Report, SimFault, read_replay, replay_text, report_text, simulate, simulate_with,
 };
-use clock_views::Code;
 use std::alloc::Global;
 use std::process::Abort;
 use std::test::Fail;

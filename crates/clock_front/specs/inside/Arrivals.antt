@@ -3,8 +3,8 @@
 use Rattle.std.specs.Prelude.{◌≡◌, ◌++◌, ℕ, List, [], Option, Bool, true, false, Result, Ok, Err}
 use Rattle.clock_device.specs.Streams.{HasRead}
 use Rattle.clock_http.specs.Framing.{needs_more}
-use Rattle.clock_front.specs.declared.reading.Unread.{Unread}
-use Rattle.clock_front.specs.declared.reading.Unread.TheVariants as unread
+use Rattle.clock_front.specs.declared.arrival.Unread.{Unread}
+use Rattle.clock_front.specs.declared.arrival.Unread.TheVariants as unread
 use Rattle.clock_front.specs.Arrivals.{IsLast}
 
 -- whether a read was the last, by what it brought

@@ -4,12 +4,12 @@ use Rattle.clock_bodies.specs.CloseBodies.{close_body}
 use Rattle.clock_http.specs.declared.code.Code.TheVariants.{NoPage}
 use Rattle.clock_front.specs.Requests.{Ask}
 use Rattle.clock_front.specs.Requests as asked
-use Rattle.clock_front.specs.declared.asked.Reading.{Reading}
-use Rattle.clock_front.specs.declared.asked.Reading.TheVariants as reading
+use Rattle.clock_front.specs.declared.asked.PageAsked.{PageAsked}
+use Rattle.clock_front.specs.declared.asked.PageAsked.TheVariants as reading
 use Rattle.clock_front.specs.declared.asked.Asked.{Asked}
 use Rattle.clock_front.specs.declared.asked.Asked.TheVariants as change
 
-abbrev pub shown_reading : Reading → Ask
+abbrev pub shown_reading : PageAsked → Ask
 shown_reading reading.NoPage = asked.turned_away NoPage
 shown_reading (reading.NoMethod page) = asked.no_method page
 shown_reading reading.Status = asked.status

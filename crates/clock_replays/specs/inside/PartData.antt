@@ -10,8 +10,8 @@ use Rattle.clock_bodies.specs.inside.QuickBodies.{bids_data, ties_data}
 use Rattle.clock_replays.specs.declared.script.Script.{Script}
 use Rattle.clock_replays.specs.declared.script.Script.TheVariants.{Literal, Sincere}
 use Rattle.clock_replays.specs.declared.closing.Closing.{Closing}
-use Rattle.clock_replays.specs.declared.scanned_scripts.FoundScript.{FoundScript}
-use Rattle.clock_replays.specs.declared.scanned_closings.FoundClosing.{FoundClosing}
+use Rattle.clock_replays.specs.declared.script_scan.FoundScript.{FoundScript}
+use Rattle.clock_replays.specs.declared.closing_scan.FoundClosing.{FoundClosing}
 
 -- a sheet of a literal script as a value
 abbrev pub sheet_data : Option (List Bid) → Data

@@ -5,8 +5,8 @@ use Rattle.clock_json.specs.Reading.{items_of, Fields, members_of}
 use Rattle.clock_setup.specs.SetupData.{setup_data}
 use Rattle.clock_replays.specs.declared.script.Script.{Script}
 use Rattle.clock_replays.specs.declared.closing.Closing.{Closing}
-use Rattle.clock_replays.specs.declared.scanned_replay.FoundReplay.{FoundReplay}
-use Rattle.clock_replays.specs.declared.scanned_replay.ScannedReplay.{ScannedReplay}
+use Rattle.clock_replays.specs.declared.replay_scan.FoundReplay.{FoundReplay}
+use Rattle.clock_replays.specs.declared.replay_scan.ScannedReplay.{ScannedReplay}
 use Rattle.clock_replays.specs.inside.PartData.{script_data, closing_data}
 
 -- a replay's keys, each with its value where one was found

@@ -2,14 +2,14 @@
 --     found_product, found_bidder      the keys of an object, each with its value where one was found
 use Rattle.std.specs.Prelude.{option_map}
 use Rattle.clock_json.specs.Reading.{Fields}
-use Rattle.clock_setup.specs.declared.setup_scan.ProductParts.{ProductParts}
-use Rattle.clock_setup.specs.declared.setup_scan.BidderParts.{BidderParts}
+use Rattle.clock_setup.specs.declared.setup_scan.FoundProduct.{FoundProduct}
+use Rattle.clock_setup.specs.declared.setup_scan.FoundBidder.{FoundBidder}
 use Rattle.clock_setup.specs.SetupData.{product_fields, bidder_fields}
 
 -- the keys of a product
-abbrev pub found_product : ProductParts → Fields
+abbrev pub found_product : FoundProduct → Fields
 found_product parts = product_fields parts.cap parts.granule (option_map (λ text. text.now) parts.name) parts.opening parts.supply parts.units
 
 -- the keys of a bidder
-abbrev pub found_bidder : BidderParts → Fields
+abbrev pub found_bidder : FoundBidder → Fields
 found_bidder parts = bidder_fields parts.eligibility (option_map (λ text. text.now) parts.name) (option_map (λ text. text.now) parts.token)

@@ -5,7 +5,7 @@
 use Rattle.std.specs.Prelude.{ℕ, List, [], ◌∷◌, Option, Some, option_map, codes}
 use Rattle.serde_json.specs.Data.{Data, object}
 use Rattle.clock_json.specs.Reading.{whole, rows, Fields, members_of}
-use Rattle.clock_setup.specs.declared.opening_scan.OpeningFound.{OpeningFound}
+use Rattle.clock_setup.specs.declared.opening_scan.FoundOpening.{FoundOpening}
 use Rattle.clock_setup.specs.declared.opening_scan.ScannedOpening.{ScannedOpening}
 use Rattle.clock_setup.specs.SetupData.{setup_data}
 
@@ -20,7 +20,7 @@ abbrev pub opening_data : Data → List (List ℕ) → ℕ → Data
 opening_data setup demands increment = object (members_of (opening_fields (Some (rows demands)) (Some increment) (Some setup)))
 
 -- the keys of an opening that is being read
-abbrev pub found_opening : OpeningFound → Fields
+abbrev pub found_opening : FoundOpening → Fields
 found_opening found =
     opening_fields (option_map rows found.demands) found.increment (option_map (λ held. setup_data held.setup) found.held)
 

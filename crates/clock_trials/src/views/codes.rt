@@ -1,6 +1,6 @@
 //! The codes of replies, each with its status, its reason and its text.
 
-use clock_views::Code;
+use clock_http::Code;
 use std::process::Abort;
 
 /// These codes have this status and this reason, and stand in pages by these texts.

@@ -26,7 +26,7 @@ pub enum Unread {
 }
 
 impl From<NoMemory> for Unread {
-    ghost use Rattle.clock_front.specs.declared.reading.Unread.TheVariants as unread;
+    ghost use Rattle.clock_front.specs.declared.arrival.Unread.TheVariants as unread;
 
     ghost from_gives = { λ _ fault. fault ≡ unread.Memory };
 

@@ -3,7 +3,7 @@ use Rattle.clock_house.specs.House.{closing_in}
 use Rattle.clock_views.specs.OperatorPages.{closed_value}
 use Rattle.clock_front.specs.Outcomes.{answer_of, done}
 use Rattle.clock_front.proofs.ChangeLaws.{closed_outcome, closing_followed, refusal_told}
-use Rattle.clock_front.proofs.changes.close_round.Goals as goal
+use Rattle.clock_front.proofs.commands.close_round.Goals as goal
 
 pub returns-in-Ok-closed-clause-reply : goal.returns-in-Ok-closed-clause-reply
 returns-in-Ok-closed-clause-reply g c =

@@ -1,6 +1,6 @@
 use Rattle.std.proofs.Common.{rules}
 use Rattle.clock_front.proofs.PrivateLaws.{accepted_by_view, refused_by_view}
-use Rattle.clock_front.proofs.changes.put_sheet.Goals as goal
+use Rattle.clock_front.proofs.commands.put_sheet.Goals as goal
 
 pub returns-in_ok-reply-in-Ok-clause-private : goal.returns-in_ok-reply-in-Ok-clause-private
 returns-in_ok-reply-in-Ok-clause-private g c =

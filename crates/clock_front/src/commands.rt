@@ -16,11 +16,9 @@ use crate::pages::{refusal, written};
 use clock_bodies::{BodyFault, CloseBody, PutBody, is_of_version, read_close, read_put};
 use clock_device::NoMemory;
 use clock_house::{CloseFault, House, PutFault};
-use clock_http::{Reply, text_with_room};
+use clock_http::{Code, Reply, text_with_room};
 use clock_processor::Processor;
-use clock_views::{
-    Code, Refusal, accepted_room, closed_room, push_accepted_page, push_closed_page,
-};
+use clock_views::{Refusal, accepted_room, closed_room, push_accepted_page, push_closed_page};
 use std::alloc::Global;
 
 /// A refusal of a change.

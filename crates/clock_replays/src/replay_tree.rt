@@ -5,8 +5,8 @@ ghost use Rattle.clock_replays.specs.ReplayShape as shape;
 
 use crate::closing::{Closing, Closings};
 use crate::limit_lists::LimitLists;
-use crate::scanned_scripts::SheetReader;
 use crate::script::{BidList, Script, Scripts};
+use crate::script_scan::SheetReader;
 use clock_bodies::{BidReader, TieReader, increments_of};
 use clock_device::NoMemory;
 use clock_json::tree::{RowReader, ValueReader, each_at, each_of, has_members, text_at};

@@ -2,9 +2,9 @@
 ghost use Rattle.clock_replays.specs.inside.ReplayData.{found_replay, found_data};
 
 use crate::closing::Closings;
-use crate::scanned_closings::FoundClosing;
-use crate::scanned_scripts::FoundScript;
+use crate::closing_scan::FoundClosing;
 use crate::script::Scripts;
+use crate::script_scan::FoundScript;
 use clock_json::{PartReader, Scan, ScanStop, ScannedMembers, is_key, scanned_parts};
 use clock_setup::HeldSetup;
 use std::alloc::Global;
