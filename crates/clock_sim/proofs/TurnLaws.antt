@@ -19,7 +19,7 @@ use Rattle.clock_sim.specs.Rehearsal.{if_done, after_request, after_request_if, 
 use Rattle.clock_sim.specs.ScriptedRequests.{scripted_put}
 use Rattle.clock_sim.specs.inside.Groups.{Request, ClosesNoRound, text_in, after_group, with_request}
 use Rattle.clock_sim.specs.inside.Steps.{IsGoing, ComesTo, MakesStep, IsLeft, MakesWay}
-use Rattle.clock_sim.proofs.StepLaws.{Texts, Step, IsOnWay, and_then}
+use Rattle.clock_sim.proofs.StepLaws.{Texts, Step, IsOnWay}
 use Rattle.clock_sim.proofs.GroupLaws.{ended_ok, one_step, with_one}
 
 -- ---- steps with requests that wait
