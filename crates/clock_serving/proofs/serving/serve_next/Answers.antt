@@ -1,4 +1,4 @@
-use Rattle.std.proofs.Common.{sym, subst}
+use Rattle.std.proofs.Common.{refl, sym, subst, ◌∙◌}
 use Rattle.clock_journal.specs.Kept.{JournalState}
 use Rattle.clock_serving.specs.Exchanges.{Exchange}
 use Rattle.clock_serving.specs.inside.Served.{IsServed}
@@ -36,3 +36,9 @@ returns-in-Err-clause-ends g c =
           c.in-Ok.ensures.closed c.in-Ok.ensures.source c.in-Ok.ensures.sink c.close.ensures.closed,
       c.in-Err.ensures.served,
     )
+
+pub returns-in-Err-clause-unfailed : goal.returns-in-Err-clause-unfailed
+returns-in-Err-clause-unfailed g c = tt
+
+pub returns-in-Err-clause-taken : goal.returns-in-Err-clause-taken
+returns-in-Err-clause-taken g c = c.close.ensures.failed ∙ c.in-Ok.ensures.failed ∙ rw c.requires.taken refl
