@@ -4,7 +4,7 @@
 --     HasClosed old new exchanges      these connections were closed, in order, and no others
 --     Closes old new reading writing      one was
 --     no_journal      what is kept where nothing is
-use Rattle.std.specs.Prelude.{◌≡◌, ◌++◌, ℕ, false, List, [], ◌∷◌, Option, Some, None}
+use Rattle.std.specs.Prelude.{◌≡◌, ◌++◌, false, List, [], ◌∷◌, Option, Some, None}
 use Rattle.clock_device.specs.Told.{Reading, SinkTold, SourceTold, Writing}
 use Rattle.clock_journal.specs.Kept.{JournalState}
 
