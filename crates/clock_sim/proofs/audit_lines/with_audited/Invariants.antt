@@ -1,7 +1,7 @@
 use Rattle.std.proofs.Common.{◌≡◌, ◌++◌, drop, zip}
 use Rattle.std.specs.List.{flat_map}
 use Rattle.clock_sim.specs.ReportText.{audited_round}
-use Rattle.clock_sim.proofs.audit_lines.push_audited.Given as goal
+use Rattle.clock_sim.proofs.audit_lines.with_audited.Given as goal
 
 -- with the lines of the other rounds it is the whole text
 abbrev pub invariant-loop-index : goal.invariant-loop-index

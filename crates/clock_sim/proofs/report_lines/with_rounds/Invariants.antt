@@ -1,7 +1,7 @@
 use Rattle.std.proofs.Common.{◌≡◌, ◌++◌, drop}
 use Rattle.std.specs.List.{flat_map}
 use Rattle.clock_posting.specs.SheetText.{sheet_text}
-use Rattle.clock_sim.proofs.report_lines.push_rounds.Given as goal
+use Rattle.clock_sim.proofs.report_lines.with_rounds.Given as goal
 
 -- with the lines of the other rounds it is the whole text
 abbrev pub invariant-loop-sheet : goal.invariant-loop-sheet
