@@ -8,8 +8,8 @@ ghost use Rattle.clock_sim.specs.inside.Groups.{IsWrittenIn, Keeps, is_awaited};
 ghost use Rattle.clock_sim.specs.inside.Groups.{StandFrom, Waits, Writes, after_group, piece_at, requests_in, text_at, with_request};
 ghost use Rattle.clock_sim.specs.inside.Steps.{IsGoing, MakesStep, MakesWay};
 
-use crate::bodies::Bodies;
-use crate::request_texts::push_head;
+use crate::sheet_bodies::Bodies;
+use crate::request_writer::push_head;
 use crate::sending::{send, send_body};
 use crate::sim_fault::SimFault;
 use clock_device::NoMemory;

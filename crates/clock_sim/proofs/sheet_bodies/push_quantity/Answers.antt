@@ -1,6 +1,6 @@
 use Rattle.std.proofs.Common.{List, ℕ, ◌++◌, codes, ap, sym, ◌∙◌, arith}
 use Rattle.std.proofs.lemmas.Fmt.{decimal_digit}
-use Rattle.clock_sim.proofs.bodies.push_quantity.Goals as goal
+use Rattle.clock_sim.proofs.sheet_bodies.push_quantity.Goals as goal
 
 pub returns-then-quantity-lt10 : goal.returns-then-quantity-lt10
 returns-then-quantity-lt10 c = record {

@@ -5,67 +5,67 @@ ghost use Rattle.std.specs.Prelude.{◌≡◌, ◌≤◌, ◌++◌, ℕ, List, t
 ghost use Rattle.clock_bids.specs.declared.sheet.Bid.{Bid};
 ghost use Rattle.clock_views.specs.Values.{Adds};
 ghost use Rattle.clock_sim.specs.RequestTexts.{written_put};
-ghost use Rattle.clock_sim.specs.inside.Bodies.{bid_front, bid_text, bids_text};
+ghost use Rattle.clock_sim.specs.inside.Bodies.{bid_start, bid_text, bids_text};
 
-use crate::request_texts::{end_array, push_label, push_number};
+use crate::request_writer::{end_array, push_label, push_number};
 use clock_bids::Bid;
 use clock_device::NoMemory;
 use std::alloc::Global;
 use std::marker::Model;
 
-/// How many bytes of a front are kept: those of prices below 10^12 and of products below 10,000. It is a number of whole
-/// vectors, since as many bytes are copied of each front.
-const FRONT_ROOM: usize = 48;
+/// How many bytes of a start are kept: those of prices below 10^12 and of products below 10,000. It is a number of whole
+/// vectors, since as many bytes are copied of each start.
+const START_ROOM: usize = 48;
 
 /// What stands ahead of the quantity in the last bid for a product, if one was written, with zeros behind it.
 ///
 /// Contracts see its bytes.
 #[derive(Drop)]
-struct Front {
-    text: [u8; FRONT_ROOM],
+struct BidStart {
+    text: [u8; START_ROOM],
     price: u64,
     product: u64,
     length: usize,
 }
 
-impl Model for Front {
+impl Model for BidStart {
     ghost use Rattle.std.specs.Prelude.{List, ℕ, take};
-    ghost use Rattle.clock_sim.specs.inside.Bodies.{IsFrontOf};
+    ghost use Rattle.clock_sim.specs.inside.Bodies.{IsStartOf};
 
     ghost Value = { List ℕ };
 
     ghost view = { λ f. take f.length f.text };
 
-    ghost invariant = { λ f. IsFrontOf f.price f.product f.length f.text };
+    ghost invariant = { λ f. IsStartOf f.price f.product f.length f.text };
 }
 
-impl Front {
+impl BidStart {
     /// None yet.
-    fn new() -> Front {
-        Front {
-            text: [0; FRONT_ROOM],
+    fn new() -> BidStart {
+        BidStart {
+            text: [0; START_ROOM],
             price: 0,
             product: 0,
             length: 0,
         }
     }
 
-    /// Whether it is the front of a price and a product.
+    /// Whether it is the start of a bid at a price for a product.
     #[inline(always)]
     fn is_of(&self, price: u64, product: u64) -> bool
-        ensures { result ≡ true → self.now ≡ bid_front price product }
+        ensures { result ≡ true → self.now ≡ bid_start price product }
     {
         self.length > 0 && self.price == price && self.product == product
     }
 
-    /// Makes it the front of a price and a product, if there is room for its bytes.
-    fn keep(&mut self, price: u64, product: u64, front: &[u8])
-        requires { front.now ≡ bid_front price product }
+    /// Makes it the start of a bid at a price for a product, if there is room for its bytes.
+    fn keep(&mut self, price: u64, product: u64, start: &[u8])
+        requires { start.now ≡ bid_start price product }
     {
-        let length = front.len();
-        if length <= FRONT_ROOM {
+        let length = start.len();
+        if length <= START_ROOM {
             self.length = 0;
-            self.text[..length].copy_from_slice(front);
+            self.text[..length].copy_from_slice(start);
             self.price = price;
             self.product = product;
             self.length = length;
@@ -78,25 +78,25 @@ impl Front {
         ensures { OnOk result (Adds self.now text.old.items text.new.items) }
     {
         text.extend_from_slice(&self.text)?;
-        text.truncate(text.len() - (FRONT_ROOM - self.length));
+        text.truncate(text.len() - (START_ROOM - self.length));
         Ok(())
     }
 
-    /// Adds the front of a price and a product, which it then is if there is room for its bytes.
+    /// Adds the start of a bid at a price for a product, which it then is if there is room for its bytes.
     #[inline(never)]
     fn push_other(&mut self, text: &mut Vec<u8>, price: u64, product: u64) -> Result<(), NoMemory>
-        ensures { OnOk result (Adds (bid_front price product) text.old.items text.new.items) }
+        ensures { OnOk result (Adds (bid_start price product) text.old.items text.new.items) }
     {
-        let start = text.len();
-        push_front(text, price, product)?;
-        self.keep(price, product, &text.as_slice()[start..]);
+        let from = text.len();
+        push_start(text, price, product)?;
+        self.keep(price, product, &text.as_slice()[from..]);
         Ok(())
     }
 }
 
-/// Writes what stands in a bid ahead of its quantity.
-fn push_front(text: &mut Vec<u8>, price: u64, product: u64) -> Result<(), NoMemory>
-    ensures { OnOk result (Adds (bid_front price product) text.old.items text.new.items) }
+/// Writes the start of a bid at a price for a product: what stands ahead of its quantity.
+fn push_start(text: &mut Vec<u8>, price: u64, product: u64) -> Result<(), NoMemory>
+    ensures { OnOk result (Adds (bid_start price product) text.old.items text.new.items) }
 {
     push_number(text, b"{\"price\":", price)?;
     push_number(text, b",\"product\":", product)?;
@@ -123,36 +123,36 @@ fn push_quantity(text: &mut Vec<u8>, quantity: u64) -> Result<(), NoMemory>
 pub(crate) struct Bodies {
     /// Their bytes.
     pub(crate) text: Vec<u8>,
-    /// For each product the front of its last bid: most bids for it in a round are at one price.
-    fronts: Vec<Front>,
+    /// For each product the start of its last bid: most bids for it in a round are at one price.
+    starts: Vec<BidStart>,
 }
 
 impl Bodies {
     /// None yet, of an auction of so many products.
     pub(crate) fn new(alloc: Global, products: usize) -> Result<Bodies, NoMemory> {
-        let mut fronts = Vec::with_capacity(alloc, products)?;
+        let mut starts = Vec::with_capacity(alloc, products)?;
         for _product in 0..products {
-            fronts.push(Front::new())?;
+            starts.push(BidStart::new())?;
         }
         Ok(Bodies {
             text: Vec::new(alloc),
-            fronts,
+            starts,
         })
     }
 
-    /// Adds the front of a price and a product.
+    /// Adds the start of a bid at a price for a product.
     #[inline(always)]
-    fn push_front(&mut self, price: u64, product: u64) -> Result<(), NoMemory>
-        ensures { OnOk result (Adds (bid_front price product) self.old.text.items self.new.text.items) }
+    fn push_start(&mut self, price: u64, product: u64) -> Result<(), NoMemory>
+        ensures { OnOk result (Adds (bid_start price product) self.old.text.items self.new.text.items) }
     {
-        if product >= self.fronts.len() as u64 {
-            return push_front(&mut self.text, price, product);
+        if product >= self.starts.len() as u64 {
+            return push_start(&mut self.text, price, product);
         }
-        let front = &mut self.fronts[product as usize];
-        if front.is_of(price, product) {
-            return front.push(&mut self.text);
+        let start = &mut self.starts[product as usize];
+        if start.is_of(price, product) {
+            return start.push(&mut self.text);
         }
-        front.push_other(&mut self.text, price, product)
+        start.push_other(&mut self.text, price, product)
     }
 
     /// Adds a bid, with a comma behind it.
@@ -160,17 +160,17 @@ impl Bodies {
     pub(crate) fn push_bid(&mut self, bid: &Bid) -> Result<(), NoMemory>
         ensures { OnOk result (Adds (bid_text bid.now) self.old.text.items self.new.text.items) }
     {
-        self.push_front(bid.price, bid.product)?;
+        self.push_start(bid.price, bid.product)?;
         push_quantity(&mut self.text, bid.quantity)?;
         Ok(())
     }
 
-    /// Adds a bid at a price of its own, with a comma behind it. Its front is not kept: nobody else bids at that price, and the
+    /// Adds a bid at a price of its own, with a comma behind it. Its start is not kept: nobody else bids at that price, and the
     /// one that is kept serves the next bidder.
     pub(crate) fn push_own_bid(&mut self, bid: &Bid) -> Result<(), NoMemory>
         ensures { OnOk result (Adds (bid_text bid.now) self.old.text.items self.new.text.items) }
     {
-        push_front(&mut self.text, bid.price, bid.product)?;
+        push_start(&mut self.text, bid.price, bid.product)?;
         push_quantity(&mut self.text, bid.quantity)?;
         Ok(())
     }

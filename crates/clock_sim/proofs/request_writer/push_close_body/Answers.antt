@@ -1,6 +1,6 @@
 use Rattle.clock_views.proofs.Pushes.{before, together}
 use Rattle.clock_sim.proofs.TextPieces.{close_in_pieces}
-use Rattle.clock_sim.proofs.request_texts.push_close_body.Goals as goal
+use Rattle.clock_sim.proofs.request_writer.push_close_body.Goals as goal
 
 pub returns : goal.returns
 returns c =

@@ -1,6 +1,6 @@
 use Rattle.clock_views.proofs.Pushes.{before, together}
 use Rattle.clock_sim.proofs.TextPieces.{tie_in_pieces}
-use Rattle.clock_sim.proofs.request_texts.push_tie.Goals as goal
+use Rattle.clock_sim.proofs.request_writer.push_tie.Goals as goal
 
 pub returns : goal.returns
 returns c =

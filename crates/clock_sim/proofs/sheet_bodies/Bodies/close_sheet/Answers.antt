@@ -4,7 +4,7 @@ use Rattle.clock_views.specs.Values.{Adds}
 use Rattle.clock_views.proofs.Pushes.{before, together}
 use Rattle.clock_views.proofs.Texts.{bids_in_pieces}
 use Rattle.clock_sim.proofs.ArrayLaws.{array_from}
-use Rattle.clock_sim.proofs.bodies.Bodies.close_sheet.Goals as goal
+use Rattle.clock_sim.proofs.sheet_bodies.Bodies.close_sheet.Goals as goal
 
 pub returns : goal.returns
 returns c = λ old begun bids opened from all.

@@ -1,7 +1,7 @@
 use Rattle.std.proofs.Common.{◌≡◌, ◌++◌, drop}
 use Rattle.clock_sim.specs.RequestTexts.{tie_value}
 use Rattle.clock_sim.specs.inside.Arrays.{with_commas}
-use Rattle.clock_sim.proofs.request_texts.push_ties.Given as goal
+use Rattle.clock_sim.proofs.request_writer.push_ties.Given as goal
 
 -- with the other items they are all there
 abbrev pub invariant-loop-tie : goal.invariant-loop-tie

@@ -1,5 +1,5 @@
 use Rattle.clock_views.proofs.Pushes.{before}
-use Rattle.clock_sim.proofs.request_texts.push_head.Goals as goal
+use Rattle.clock_sim.proofs.request_writer.push_head.Goals as goal
 
 pub returns : goal.returns
 returns c =

@@ -1,7 +1,7 @@
 use Rattle.std.proofs.Common.{arith}
 use Rattle.clock_views.specs.Values.{whole}
 use Rattle.clock_sim.proofs.ArrayLaws.{array_done}
-use Rattle.clock_sim.proofs.request_texts.push_numbers.Goals as goal
+use Rattle.clock_sim.proofs.request_writer.push_numbers.Goals as goal
 
 pub returns : goal.returns
 returns c = record {

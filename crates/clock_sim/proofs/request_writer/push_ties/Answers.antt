@@ -1,7 +1,7 @@
 use Rattle.std.proofs.Common.{arith}
 use Rattle.clock_sim.specs.RequestTexts.{tie_value}
 use Rattle.clock_sim.proofs.ArrayLaws.{array_done}
-use Rattle.clock_sim.proofs.request_texts.push_ties.Goals as goal
+use Rattle.clock_sim.proofs.request_writer.push_ties.Goals as goal
 
 pub returns : goal.returns
 returns c = record {

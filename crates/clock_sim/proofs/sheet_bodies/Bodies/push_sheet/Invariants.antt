@@ -1,6 +1,6 @@
 use Rattle.std.proofs.Common.{◌≡◌, ◌++◌, drop}
 use Rattle.clock_sim.specs.inside.Bodies.{bids_text}
-use Rattle.clock_sim.proofs.bodies.Bodies.push_sheet.Given as goal
+use Rattle.clock_sim.proofs.sheet_bodies.Bodies.push_sheet.Given as goal
 
 -- with the other bids they are all there
 abbrev pub invariant-loop-bid : goal.invariant-loop-bid
