@@ -13,15 +13,10 @@ use clock_front::Front;
 use clock_journal::{Link, digest_of};
 use clock_queue::Woken;
 use clock_words::Files as Named;
-use std::alloc::Global;
 use std::fs::File;
-use std::rt::Files;
 
 /// Prints what a journal holds.
-pub fn tell_texts<R>(rt: &R, out: &mut impl Sink, named: &Named) -> Result<(), Fault>
-where
-    R: Files<File = File> + Print + Alloc<A = Global>,
-{
+pub fn tell_texts(rt: &HostRuntime, out: &mut impl Sink, named: &Named) -> Result<(), Fault> {
     let document = file_bytes(rt, named.setup)?;
     let first = digest_of(document.as_slice());
     drop(document);
@@ -34,10 +29,7 @@ where
 }
 
 /// What a journal holds, for the set-up document of a digest.
-fn listed<R>(rt: &R, first: Link, path: &str) -> Result<Listing, Fault>
-where
-    R: Files<File = File> + Alloc<A = Global>,
-{
+fn listed(rt: &HostRuntime, first: Link, path: &str) -> Result<Listing, Fault> {
     let bytes = journal_bytes(rt, path)?;
     let listing = listing_of(rt.alloc(), first, bytes.as_slice());
     drop(bytes);
@@ -45,10 +37,7 @@ where
 }
 
 /// Prints an auction that is recounted from its journal.
-pub fn tell_audit<R>(rt: &R, out: &mut impl Sink, named: &Named) -> Result<(), Fault>
-where
-    R: Files<File = File> + Print + Alloc<A = Global>,
-{
+pub fn tell_audit(rt: &HostRuntime, out: &mut impl Sink, named: &Named) -> Result<(), Fault> {
     let document = file_bytes(rt, named.setup)?;
     let first = digest_of(document.as_slice());
     let front = front_in(rt.alloc(), document)?;
@@ -61,9 +50,12 @@ where
 }
 
 /// An auction that was recounted from the file of its journal.
-fn recounted_of<R>(rt: &R, front: Front<Woken>, first: Link, path: &str) -> Result<Recount, Fault>
-where
-    R: Files<File = File> + Alloc<A = Global>,
+fn recounted_of(
+    rt: &HostRuntime,
+    front: Front<Woken>,
+    first: Link,
+    path: &str,
+) -> Result<Recount, Fault>
     requires { StandsForTexts [] front }
     ensures { IfOk result (λ recount. IsSomeRecount recount.front recount.chain recount.digests.items) }
 {
@@ -93,10 +85,7 @@ fn tell_text(out: &mut impl Sink, made: Result<Text, Fault>) -> Result<(), Fault
 }
 
 /// All bytes of a journal.
-fn journal_bytes<R: Files<File = File> + Alloc<A = Global>>(
-    rt: &R,
-    path: &str,
-) -> Result<Vec<u8>, Fault> {
+fn journal_bytes(rt: &HostRuntime, path: &str) -> Result<Vec<u8>, Fault> {
     match File::open(rt, path) {
         Ok(file) if is_plain(&file) => bytes_of(rt.alloc(), &file),
         _ => Err(Fault::Journal),

@@ -1,4 +1,5 @@
-ghost use Rattle.std.specs.Prelude.{◌≡◌, ◌≤◌, map};
+ghost use Rattle.std.specs.Prelude.{◌≡◌, ◌≢◌, ◌≤◌, IfSome, map};
+ghost use Rattle.clap.specs.Words.{kind_of};
 ghost use Rattle.clock_device.specs.Told.{IsUnread, IsUnused};
 ghost use Rattle.clock_commands.specs.FaultLines.{fault_line};
 ghost use Rattle.clock_commands.specs.Input.{most_document_reads};
@@ -9,6 +10,7 @@ use crate::answer::answer;
 use crate::fault::Fault;
 use crate::fault_lines::write_fault;
 use crate::input::read_all;
+use clap::Error;
 use clap::error::ErrorKind;
 use clock_device::{Sink, Source, write_all};
 use clock_words::{Job, job_asked};
@@ -58,19 +60,31 @@ pub fn command<R: Source, W: Sink, F: Sink>(
             let _ = write_all(faults, NOT_HERE.as_bytes());
             2
         }
-        Err(error) => {
-            if error.kind() == ErrorKind::OutOfMemory {
-                show_fault(Fault::Memory, faults);
-                return 1;
+        Err(error) => match usage_of(alloc, error) {
+            Some(usage) => {
+                let _ = write_all(faults, usage.as_bytes());
+                drop(usage);
+                2
             }
-            let Ok(usage) = error.to_string(alloc) else {
+            None => {
                 show_fault(Fault::Memory, faults);
-                return 1;
-            };
-            let _ = write_all(faults, usage.as_bytes());
-            2
-        }
+                1
+            }
+        },
     }
+}
+
+/// What clap says of words that it refuses, where there is memory for them and for it.
+fn usage_of(alloc: Global, error: Error) -> Option<String>
+    ensures { IfSome result (λ usage. kind_of error ≢ ErrorKind.OutOfMemory) }
+{
+    let usage = if error.kind() == ErrorKind::OutOfMemory {
+        None
+    } else {
+        error.to_string(alloc).ok()
+    };
+    drop(error);
+    usage
 }
 
 /// Reads the document, and prints the answer to it.

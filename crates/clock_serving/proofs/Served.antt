@@ -1,6 +1,11 @@
 -- A run goes on by one connection that is served.
 use Rattle.std.proofs.Common.{◌≡◌, ◌≤◌, ◌⊎◌, inl, inr, ℕ, List, [], ◌∷◌, ◌++◌, Option, Some, length, refl, sym, ap, ◌∙◌, subst, arith, length-append, append-nil}
+use Rattle.std.specs.Prelude.{◌||◌, Result, Ok, Err, false, is_err}
 use Rattle.std.proofs.Math.Seq.{take-append_seam}
+use Rattle.clock_device.specs.Streams.{WritesText}
+use Rattle.clock_device.specs.Told.{IsUnused, SinkTold, Writing}
+use Rattle.clock_device.specs.Writings.{WritesNothing}
+use Rattle.clock_device.proofs.Streams.{same_bytes}
 use Rattle.clock_terms.specs.Limits.{SetupFields, IsSetup}
 use Rattle.clock_house.specs.House.{HouseFields}
 use Rattle.clock_http.specs.Replies.{Answer}
@@ -18,6 +23,17 @@ use Rattle.clock_serving.specs.Serving.{AreServed, KeepsText, RepliesTo, Walks, 
 use Rattle.clock_serving.specs.inside.Served.{IsServed}
 use Rattle.clock_front.proofs.RunLaws.{right}
 use Rattle.clock_serving.proofs.Walking.{all_behind, walks_on}
+
+-- a reply was written, or a front of it
+pub reply_written : {U E : Type 0} (writing : Writing) (answer : Answer) (result : Result U E)
+    → WritesText writing.before.taken writing.after.taken answer.bytes result → writing.before.has_failed ≡ false
+    → writing.after.has_failed ≡ (writing.before.has_failed || is_err result) → WritesReply writing answer
+reply_written writing answer (Ok done) bytes fresh failed = inl (record { bytes = bytes; unfailed = failed ∙ rw fresh refl })
+reply_written writing answer (Err fault) bytes fresh failed = inr (record { bytes = bytes; failed = failed ∙ rw fresh refl })
+
+-- no write was made
+pub nothing_written : (told : SinkTold) → IsUnused told → WritesNothing (record { before = told; after = told })
+nothing_written told unused = record { unused = unused; bytes = same_bytes told.taken }
 
 -- of a journal to which texts were added a stop has left those that were there, and of the others the first
 pub left_since : (digest : List ℕ) (past more : List (List ℕ)) (journal_old journal_new : JournalState) (left : List ℕ)

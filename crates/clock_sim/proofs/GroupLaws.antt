@@ -4,7 +4,7 @@ use Rattle.std.proofs.Common.{Result, Ok, Err, refl, sym, ◌∙◌, ap, subst, 
 use Rattle.std.specs.Prelude.{if◌then◌else◌, nat_lt}
 use Rattle.std.proofs.lemmas.Bool.{cases_Bool, eqb-false}
 use Rattle.std.proofs.lemmas.Bool.Decides.{nat_tests}
-use Rattle.std.proofs.lemmas.List.{get_or_default, get_or_append_left, get_or_push, drop_all, length_push}
+use Rattle.std.proofs.lemmas.List.{get_or_default, get_or_append_left, get_or_push, length_push}
 use Rattle.std.proofs.lemmas.List.Elements.{All-push}
 use Rattle.clock_terms.specs.Limits.{SetupFields}
 use Rattle.clock_terms.specs.Faults.{◌>>=◌}
@@ -18,7 +18,7 @@ use Rattle.clock_sim.specs.declared.sim_fault.SimFault.{SimFault}
 use Rattle.clock_sim.specs.Rehearsal.{after_request}
 use Rattle.clock_sim.specs.inside.Groups.{Request, ClosesNoRound, text_in, after_group, StandFrom, AreApart, IsGroup}
 use Rattle.clock_sim.specs.inside.Steps.{MakesStep}
-use Rattle.clock_sim.proofs.StepLaws.{Texts, Step, IsOnWay, next_at, goes_on, stops, ends}
+use Rattle.clock_sim.proofs.StepLaws.{Texts, Step, IsOnWay, next_at, goes_on, stops}
 
 -- ---- one connection has changed
 

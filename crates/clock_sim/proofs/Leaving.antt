@@ -1,11 +1,10 @@
 -- The bids of blocks one by one are those at the different leaving prices.
 use Rattle.std.proofs.Common.{◌≡◌, ℕ, ◌+◌, ◌-◌, ◌<◌, ◌≤◌, zero, suc, max, List, [], ◌∷◌, ◌++◌, length, map, reverse, take, get_or, Bool, true, false}
-use Rattle.std.proofs.Common.{cond, not, Option, Some, None, min, append-nil, refl, sym, ◌∙◌, ap, ap₂, subst, append_assoc, add-one, arith}
+use Rattle.std.proofs.Common.{cond, not, Option, Some, None, min, append-nil, refl, sym, ◌∙◌, ap, ap₂, subst, arith}
 use Rattle.std.specs.Prelude.{nat_le, nat_lt, nat_eq, ◌==◌, if◌then◌else◌}
 use Rattle.std.specs.List.{filter_map, cons_option, count_by, dedup, dedup_from}
 use Rattle.std.proofs.lemmas.Bool.Decides.{nat_tests}
 use Rattle.std.proofs.lemmas.List.{reverse-append, length-reverse, length-take, get_or-take, take_all, take_min}
-use Rattle.std.proofs.lemmas.Grind.{flat_map-append}
 use Rattle.std.proofs.Math.Seq.{take-suc}
 use Rattle.std.proofs.lemmas.List.Sums.{sum_by-cons}
 use Rattle.clock_terms.specs.declared.prices.PricePair.{PricePair}

@@ -177,6 +177,7 @@ impl Sincere<'_> {
     }
 
     /// Adds the bids of a later round. It holds few of the products, and nothing is looked at of the others.
+    #[inline(never)]
     fn push_later(&self, bodies: &mut Bodies) -> Result<(), NoMemory>
         requires sheet { IsSincere self.now }
         requires later { self.now.own.round ≢ 1 }

@@ -19,7 +19,7 @@ mod operator;
 mod pieces;
 mod public;
 mod refusal;
-mod refusal_page;
+mod refusal_pages;
 mod room;
 
 pub use bidder::{
@@ -35,4 +35,4 @@ pub use public::{
     status_room,
 };
 pub use refusal::Refusal;
-pub use refusal_page::{REFUSAL_ROOM, push_refusal_page, refusal_page};
+pub use refusal_pages::{REFUSAL_ROOM, push_refusal_page, refusal_page};

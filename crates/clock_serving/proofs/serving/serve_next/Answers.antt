@@ -1,4 +1,4 @@
-use Rattle.std.proofs.Common.{sym, subst}
+use Rattle.std.proofs.Common.{refl, sym, subst, ◌∙◌}
 use Rattle.clock_journal.specs.Kept.{JournalState}
 use Rattle.clock_serving.specs.Exchanges.{Exchange}
 use Rattle.clock_serving.specs.inside.Served.{IsServed}
@@ -21,3 +21,24 @@ returns-in-Ok-kept-clause-ends g c =
       subst (λ (kept : JournalState). IsServed one (journal c.args.keeper.now) kept c.args.front.now c.serve_one-kept.new.front)
           (sym c.tell_closing.ensures) c.in-Ok-kept.ensures.served,
     )
+
+pub returns-in-Err-clause-ends : goal.returns-in-Err-clause-ends
+returns-in-Err-clause-ends g c =
+    let source = g.C.Reader.Source in
+    let sink = g.C.Writer.Sink in
+    let one : Exchange = record {
+      reading = record { before = source.told c.in-Ok.one.source; after = source.told c.serve_one-kept.new.source };
+      writing = record { before = sink.told c.in-Ok.one.sink; after = sink.told c.serve_one-kept.new.sink };
+    } in (
+      one,
+      closed_one (g.C.Connections.closed c.args.connections.now) (g.C.Connections.closed c.accept.new.self) (g.C.Connections.closed c.close.new.self)
+          (g.C.Connections.offer c.accept.new.self) one.reading one.writing
+          c.in-Ok.ensures.closed c.in-Ok.ensures.source c.in-Ok.ensures.sink c.close.ensures.closed,
+      c.in-Err.ensures.served,
+    )
+
+pub returns-in-Err-clause-unfailed : goal.returns-in-Err-clause-unfailed
+returns-in-Err-clause-unfailed g c = tt
+
+pub returns-in-Err-clause-taken : goal.returns-in-Err-clause-taken
+returns-in-Err-clause-taken g c = c.close.ensures.failed ∙ c.in-Ok.ensures.failed ∙ rw c.requires.taken refl
