@@ -19,7 +19,7 @@ use Rattle.clock_sim.specs.declared.sim_fault.SimFault.{SimFault}
 use Rattle.clock_sim.specs.declared.sim_fault.SimFault.TheVariants.{NoMemory}
 use Rattle.clock_sim.specs.Rehearsal.{if_done, after_request, after_request_if, after_put, after_puts, rounds_after}
 use Rattle.clock_sim.specs.ScriptedRequests.{scripted_put}
-use Rattle.clock_sim.specs.inside.Groups.{Request, ClosesNoRound, ComesUnderWay, IsGroup, IsUnderWay, Keeps, Waits, text_in, after_group, requests_in, with_request}
+use Rattle.clock_sim.specs.inside.Groups.{Request, ClosesNoRound, ComesUnderWay, IsGroup, IsUnderWay, Keeps, text_in, after_group, requests_in, with_request}
 use Rattle.clock_sim.specs.inside.Steps.{IsGoing, ComesTo, MakesStep, IsLeft, MakesWay}
 use Rattle.clock_sim.proofs.StepLaws.{Texts, Step, IsOnWay, and_then, next_at}
 use Rattle.clock_sim.proofs.GroupLaws.{ended_ok, one_step, with_one}
@@ -63,17 +63,6 @@ way_then {T = T} whole left last old mid new done result one two = record {
 none_left : (setup : SetupFields) (group : List Request) (texts : Texts) → length group ≡ 0 → after_group setup group texts ≡ Ok texts
 none_left setup [] texts none = refl
 none_left setup (one ∷ group) texts none = absurd (omega (arith, none))
-
--- steps that are made, of which nothing is left
-pub whole_way : {T : Type 0} (whole : Step) (setup : SetupFields) (group : List Request) (old new : HouseFields) (result : Result T SimFault)
-    → MakesStep whole old new result → OnOk result (length group ≡ 0) → MakesWay whole (after_group setup group) old new result
-whole_way whole setup group old new (Ok done) made none = record {
-  setup = made.setup;
-  comes = λ texts stands.
-      let end = made.comes texts stands in
-      record { texts = end.texts; stands = end.stands; same = none_left setup group end.texts none ∙ sym end.is };
-}
-whole_way whole setup group old new (Err fault) made none = record { setup = made.setup; comes = made.comes }
 
 on_ok : {T : Type 0} (P : Type 0) (result : Result T SimFault) → P → OnOk result P
 on_ok P (Ok done) is = is
@@ -148,11 +137,6 @@ going_after_one bidder round text old new (Err fault) closes before made = tt
 
 -- ---- a group that is sent
 
-under_way_if : {T : Type 0} (next : Group) (new : HubFields) (result : Result T SimFault) → Waits new.connections next
-    → OnOk result (IsGoing new.house) → OnOk result (IsUnderWay new next)
-under_way_if next new (Ok done) waits going = record { waits = waits; going = going }
-under_way_if next new (Err fault) waits going = tt
-
 -- a request that is written stands behind those that wait
 pub still_under_way : (hub : HubFields) (group next : Group) → IsUnderWay hub group → Keeps group next → IsUnderWay hub next
 still_under_way hub group next before keeps =
@@ -169,39 +153,39 @@ no_memory_under_way steps old new group same = record {
   way = record { setup = same; comes = λ texts stands other. absurd (other refl) };
 }
 
--- the requests that waited were sent
-pub sent_group : {T : Type 0} (group next : Group) (old new : HubFields) (result : Result T SimFault) → IsUnderWay old group
-    → MakesStep (after_group old.house.setup (requests_in group)) old.house new.house result → OnOk result (requests_in next ≡ [])
-    → ComesUnderWay (after_group old.house.setup (requests_in group)) old new next result
-sent_group group next old new (Ok done) before made none = record {
-  under_way = record {
-    waits = none_wait new.connections next none;
-    going = going_after_group (requests_in group) old.house new.house (Ok done) before.waits.requests.close before.going made;
+-- steps that were made, behind which no request waits
+pub all_sent : {T : Type 0} (steps : Step) (next : Group) (old new : HubFields) (result : Result T SimFault) → MakesStep steps old.house new.house result
+    → OnOk result (requests_in next ≡ []) → OnOk result (IsGoing new.house) → ComesUnderWay steps old new next result
+all_sent steps next old new (Ok done) made none going = record {
+  under_way = record { waits = none_wait new.connections next none; going = going };
+  way = record {
+    setup = made.setup;
+    comes = λ texts stands.
+        let end = made.comes texts stands in
+        record {
+          texts = end.texts;
+          stands = end.stands;
+          same = none_left old.house.setup (requests_in next) end.texts (ap length none) ∙ sym end.is;
+        };
   };
-  way = whole_way (after_group old.house.setup (requests_in group)) old.house.setup (requests_in next) old.house new.house (Ok done) made (ap length none);
 }
-sent_group group next old new (Err fault) before made none = record {
+all_sent steps next old new (Err fault) made none going = record {
   under_way = tt;
-  way = whole_way (after_group old.house.setup (requests_in group)) old.house.setup (requests_in next) old.house new.house (Err fault) made tt;
+  way = record { setup = made.setup; comes = made.comes };
 }
 
--- and then one more of a bidder by itself
+-- the requests that waited were sent, and then one more of a bidder by itself
 pub sent_alone : {U T : Type 0} (group next : Group) (bidder round : ℕ) (text : List ℕ) (old mid new : HubFields) (done : U) (result : Result T SimFault)
     → IsUnderWay old group → ClosesNoRound text → MakesStep (after_group old.house.setup (requests_in group)) old.house mid.house (Ok done)
     → requests_in next ≡ [] → MakesStep (λ texts. after_request mid.house.setup texts (Some bidder) round text) mid.house new.house result
     → ComesUnderWay (with_request old.house.setup (requests_in group) bidder round text) old new next result
 sent_alone {T = T} group next bidder round text old mid new done result before closes made none sent =
-    let step : Step = after_group old.house.setup (requests_in group) in
     let last : SetupFields → Step = λ setup texts. after_request setup texts (Some bidder) round text in
     let going = going_after_group (requests_in group) old.house mid.house (Ok done) before.waits.requests.close before.going made in
-    let after = going_after_one bidder round text mid.house new.house result closes going sent in
-    record {
-      under_way = under_way_if next new result (none_wait new.connections next none) after;
-      way = whole_way (with_request old.house.setup (requests_in group) bidder round text) old.house.setup (requests_in next) old.house new.house result
-          (and_then step (last old.house.setup) old.house mid.house new.house done result made
-          (subst (λ (setup : SetupFields). MakesStep (last setup) mid.house new.house result) made.setup sent))
-          (on_ok (length (requests_in next) ≡ 0) result (ap length none));
-    }
+    all_sent (with_request old.house.setup (requests_in group) bidder round text) next old new result
+    (and_then (after_group old.house.setup (requests_in group)) (last old.house.setup) old.house mid.house new.house done result made
+    (subst (λ (setup : SetupFields). MakesStep (last setup) mid.house new.house result) made.setup sent))
+    (on_ok (requests_in next ≡ []) result none) (going_after_one bidder round text mid.house new.house result closes going sent)
 
 -- the sheet that a script gives is the same before and after the requests of the group
 module _ (old : HouseFields) (group : List Request) (bidder : ℕ) (script : Script) (close : All (λ one. ClosesNoRound (text_in one)) group) where
