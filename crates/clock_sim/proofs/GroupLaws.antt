@@ -4,7 +4,7 @@ use Rattle.std.proofs.Common.{Result, Ok, Err, refl, sym, ◌∙◌, ap, subst, 
 use Rattle.std.specs.Prelude.{if◌then◌else◌, nat_lt}
 use Rattle.std.proofs.lemmas.Bool.{cases_Bool, eqb-false}
 use Rattle.std.proofs.lemmas.Bool.Decides.{nat_tests}
-use Rattle.std.proofs.lemmas.List.{get_or_default, get_or_append_left, get_or_push, drop_more, length_push}
+use Rattle.std.proofs.lemmas.List.{get_or_default, get_or_append_left, get_or_push, length_push}
 use Rattle.std.proofs.lemmas.List.Elements.{All-push}
 use Rattle.clock_terms.specs.Limits.{SetupFields}
 use Rattle.clock_terms.specs.Faults.{◌>>=◌}
@@ -18,7 +18,7 @@ use Rattle.clock_sim.specs.declared.sim_fault.SimFault.{SimFault}
 use Rattle.clock_sim.specs.Rehearsal.{after_request}
 use Rattle.clock_sim.specs.inside.Groups.{Request, ClosesNoRound, text_in, after_group, StandFrom, AreApart, IsGroup}
 use Rattle.clock_sim.specs.inside.Steps.{MakesStep}
-use Rattle.clock_sim.proofs.StepLaws.{Texts, Step, IsOnWay, goes_on, stops}
+use Rattle.clock_sim.proofs.StepLaws.{Texts, Step, IsOnWay, next_at, goes_on, stops}
 
 -- ---- one connection has changed
 
@@ -100,9 +100,6 @@ heads_kept old new group i one apart here is stand others =
     one_changed group i i (i + 1) one old new (λ k w. w.head) (λ k w. w.head) apart here is others (omega arith) stand (λ k other at differs. refl)
     (λ at. absurd (let bad = at in omega arith))
 
-next_one : (group : List Request) (i : ℕ) (one : Request) → i < length group → one ≡ get_or group i one → drop i group ≡ one ∷ drop (i + 1) group
-next_one group i one below is = drop_more group i one below ∙ ap (λ (w : Request). w ∷ drop (i + 1) group) (sym is)
-
 abbrev pub one_step : SetupFields → Request → Step
 one_step setup one texts = after_request setup texts (Some one.bidder) one.round (text_in one)
 
@@ -111,7 +108,7 @@ before_body : (whole : Step) (group : List Request) (i : ℕ) (one : Request) (i
     → IsOnWay whole (λ texts. one_step initial.setup one texts >>= after_group initial.setup (drop (i + 1) group)) initial now
 before_body whole group i one initial now below is before =
     let P : List Request → Type 0 = λ rest. IsOnWay whole (after_group initial.setup rest) initial now in
-    subst P (next_one group i one below is) before
+    subst P (next_at group i one below is) before
 
 -- a request of the group is done
 pub body_done : {U : Type 0} (whole : Step) (group : List Request) (i : ℕ) (one : Request) (initial now next : HouseFields) (done : U)

@@ -28,6 +28,10 @@ Texts = List (List ℕ)
 abbrev pub Step : Type 0
 Step = Texts → Result Texts SimFault
 
+-- what is left of a list begins with the item at its place
+pub next_at : {A : Type 0} (list : List A) (i : ℕ) (one : A) → i < length list → one ≡ get_or list i one → drop i list ≡ one ∷ drop (i + 1) list
+next_at {A = A} list i one below is = drop_more list i one below ∙ ap (λ (first : A). first ∷ drop (i + 1) list) (sym is)
+
 -- ---- one request
 
 not_done : {T : Type 0} (code : Code) (done : T) (fault : SimFault) → code ≢ Done → if_done code done fault ≡ Err fault
@@ -166,19 +170,23 @@ ended_as initial now texts ended same stands e =
 abbrev pub until_end : SetupFields → Step → Step
 until_end setup rest closed = if (standing setup.products (rounds_after setup closed)).ended then Ok closed else rest closed
 
-pub goes_past : (whole rest : Step) (initial now : HouseFields) → IsOnWay whole (until_end initial.setup rest) initial now → (standing_in now).ended ≡ false
-    → IsOnWay whole rest initial now
-goes_past whole rest initial now before going = record {
+until_over : (whole rest : Step) (initial now : HouseFields) (over : Bool) → IsOnWay whole (until_end initial.setup rest) initial now
+    → (standing_in now).ended ≡ over → IsOnWay whole (λ texts. if over then Ok texts else rest texts) initial now
+until_over whole rest initial now over before is = record {
   setup = before.setup;
   comes = λ texts stands.
       let way = before.comes texts stands in
-      let is = ended_as initial now way.texts false before.setup way.stands going in
+      let same = ended_as initial now way.texts over before.setup way.stands is in
       record {
         texts = way.texts;
         stands = way.stands;
-        same = sym (ap (λ (over : Bool). if over then Ok way.texts else rest way.texts) is) ∙ way.same;
+        same = sym (ap (λ (ended : Bool). if ended then Ok way.texts else rest way.texts) same) ∙ way.same;
       };
 }
+
+pub goes_past : (whole rest : Step) (initial now : HouseFields) → IsOnWay whole (until_end initial.setup rest) initial now → (standing_in now).ended ≡ false
+    → IsOnWay whole rest initial now
+goes_past whole rest initial now before going = until_over whole rest initial now false before going
 
 -- where the auction has not ended after a step, it goes on
 pub goes_on_after : {T : Type 0} (step : Step) (old new : HouseFields) (done : T) → IsGoing old → MakesStep step old new (Ok done)
@@ -186,32 +194,6 @@ pub goes_on_after : {T : Type 0} (step : Step) (old new : HouseFields) (done : T
 goes_on_after step old new done before made going =
     let end = made.comes before.texts before.stands in
     record { going = going; texts = end.texts; stands = end.stands }
-
-pub ends_there : {T : Type 0} (whole rest : Step) (initial now : HouseFields) (done : T) → IsOnWay whole (until_end initial.setup rest) initial now
-    → (standing_in now).ended ≡ true → MakesStep whole initial now (Ok done)
-ends_there whole rest initial now done before over = record {
-  setup = before.setup;
-  comes = λ texts stands.
-      let way = before.comes texts stands in
-      let is = ended_as initial now way.texts true before.setup way.stands over in
-      record {
-        texts = way.texts;
-        is = sym way.same ∙ ap (λ (over : Bool). if over then Ok way.texts else rest way.texts) is;
-        stands = way.stands;
-      };
-}
-
--- a last step is made, and its end is a fault
-pub spent : {U T : Type 0} (whole step : Step) (initial now next : HouseFields) (done : U) (fault : SimFault)
-    → IsOnWay whole (λ texts. step texts >>= (λ put. Err fault)) initial now → MakesStep step now next (Ok done)
-    → MakesStep {T = T} whole initial next (Err fault)
-spent whole step initial now next done fault before made = record {
-  setup = made.setup ∙ before.setup;
-  comes = λ texts stands other.
-      let way = before.comes texts stands in
-      let one = made.comes way.texts way.stands in
-      sym way.same ∙ ap (λ answer. answer >>= (λ put. Err fault)) one.is;
-}
 
 -- nothing is left
 pub ends : {T : Type 0} (whole rest : Step) (initial now : HouseFields) (done : T) → IsOnWay whole rest initial now
@@ -223,11 +205,22 @@ ends whole rest initial now done before none = record {
       record { texts = way.texts; is = sym way.same ∙ none way.texts; stands = way.stands };
 }
 
--- ---- round after round
+pub ends_there : {T : Type 0} (whole rest : Step) (initial now : HouseFields) (done : T) → IsOnWay whole (until_end initial.setup rest) initial now
+    → (standing_in now).ended ≡ true → MakesStep whole initial now (Ok done)
+ends_there whole rest initial now done before over =
+    ends whole (λ (texts : Texts). Ok texts) initial now done (until_over whole rest initial now true before over) (λ texts. refl)
 
-next_closing : (closings : List Closing) (i : ℕ) (closing : Closing) → i < length closings → closing ≡ get_or closings i closing
-    → drop i closings ≡ closing ∷ drop (i + 1) closings
-next_closing closings i closing below is = drop_more closings i closing below ∙ ap (λ (one : Closing). one ∷ drop (i + 1) closings) (sym is)
+-- a last step is made, and its end is a fault
+pub spent : {U T : Type 0} (whole step : Step) (initial now next : HouseFields) (done : U) (fault : SimFault)
+    → IsOnWay whole (λ texts. step texts >>= (λ put. Err fault)) initial now → MakesStep step now next (Ok done)
+    → MakesStep {T = T} whole initial next (Err fault)
+spent whole step initial now next done fault before made =
+    let way = goes_on whole step (λ put. Err fault) initial now next done before made in record {
+      setup = way.setup;
+      comes = λ texts stands other. sym (way.comes texts stands).same;
+    }
+
+-- ---- round after round
 
 before_round : (whole : Step) (scripts : List Script) (closings : List Closing) (i : ℕ) (closing : Closing) (initial now : HouseFields)
     → i < length closings → closing ≡ get_or closings i closing
@@ -236,7 +229,7 @@ before_round : (whole : Step) (scripts : List Script) (closings : List Closing) 
     until_end initial.setup (rehearsed initial.setup scripts (drop (i + 1) closings))) initial now
 before_round whole scripts closings i closing initial now below is before =
     let P : List Closing → Type 0 = λ rest. IsOnWay whole (rehearsed initial.setup scripts rest) initial now in
-    subst P (next_closing closings i closing below is) before
+    subst P (next_at closings i closing below is) before
 
 -- a round is played
 pub round_played : {U : Type 0} (whole : Step) (scripts : List Script) (closings : List Closing) (i : ℕ) (closing : Closing)

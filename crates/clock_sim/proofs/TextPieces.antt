@@ -10,15 +10,15 @@ use Rattle.clock_views.specs.Values.{list_of}
 use Rattle.clock_views.proofs.Texts.{bid_in_pieces}
 use Rattle.clock_sim.specs.RequestTexts.{tie_value, close_value}
 use Rattle.clock_sim.specs.inside.Arrays.{with_comma}
-use Rattle.clock_sim.specs.inside.Bodies.{bid_front, bid_text}
+use Rattle.clock_sim.specs.inside.Bodies.{bid_start, bid_text}
 use Rattle.clock_sim.specs.inside.RequestTexts.{increments_text}
 
 regrouped : (a b c d e : List ℕ) → (a ++ (b ++ ((c ++ d) ++ e))) ++ codes "," ≡ (a ++ (b ++ c)) ++ (d ++ (e ++ codes ","))
 regrouped a b c d e = simp append_assoc
 
--- a bid with its comma, by the front of its price and product
-pub bid_by_front : (bid : Bid) → bid_text bid ≡ bid_front bid.price bid.product ++ (decimal bid.quantity ++ codes "},")
-bid_by_front bid =
+-- a bid with its comma, by its start
+pub bid_by_start : (bid : Bid) → bid_text bid ≡ bid_start bid.price bid.product ++ (decimal bid.quantity ++ codes "},")
+bid_by_start bid =
     ap (λ text. text ++ codes ",") (bid_in_pieces bid)
     ∙ regrouped (codes "{\"price\":" ++ decimal bid.price) (codes ",\"product\":" ++ decimal bid.product)
     (codes ",\"quantity\":") (decimal bid.quantity) (codes "}")

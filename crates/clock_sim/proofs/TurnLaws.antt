@@ -2,7 +2,7 @@
 use Rattle.std.proofs.Common.{◌≡◌, ℕ, ◌+◌, ◌<◌, ◌≤◌, List, [], ◌∷◌, ◌++◌, length, drop, get_or, Option, Some, None, Result, Ok, Err, refl, sym, ◌∙◌}
 use Rattle.std.proofs.Common.{ap, subst, All, arith}
 use Rattle.std.specs.Prelude.{MatchResult, OnOk}
-use Rattle.std.proofs.lemmas.List.{drop_more, drop_all}
+use Rattle.std.proofs.lemmas.List.{drop_all}
 use Rattle.std.proofs.lemmas.List.Elements.{All-tail}
 use Rattle.clock_terms.specs.Limits.{SetupFields}
 use Rattle.clock_terms.specs.Faults.{◌>>=◌, IsRefusal}
@@ -12,15 +12,18 @@ use Rattle.clock_closing.specs.declared.closed_round.ClosedRound.{ClosedRound}
 use Rattle.clock_http.specs.declared.code.Code.{Code}
 use Rattle.clock_http.specs.declared.code.Code.TheVariants.{Done}
 use Rattle.clock_front.specs.Fronts.{StandsForTexts}
+use Rattle.clock_front.specs.Hubs.{HubFields}
 use Rattle.clock_replays.specs.declared.script.Script.{Script}
+use Rattle.clock_sim.specs.declared.groups.Group.{Group}
 use Rattle.clock_sim.specs.declared.sim_fault.SimFault.{SimFault}
 use Rattle.clock_sim.specs.declared.sim_fault.SimFault.TheVariants.{NoMemory}
 use Rattle.clock_sim.specs.Rehearsal.{if_done, after_request, after_request_if, after_put, after_puts, rounds_after}
 use Rattle.clock_sim.specs.ScriptedRequests.{scripted_put}
-use Rattle.clock_sim.specs.inside.Groups.{Request, ClosesNoRound, text_in, after_group, with_request}
+use Rattle.clock_sim.specs.inside.Groups.{Request, ClosesNoRound, ComesUnderWay, IsGroup, IsUnderWay, Keeps, text_in, after_group, requests_in, with_request}
 use Rattle.clock_sim.specs.inside.Steps.{IsGoing, ComesTo, MakesStep, IsLeft, MakesWay}
-use Rattle.clock_sim.proofs.StepLaws.{Texts, Step, IsOnWay}
+use Rattle.clock_sim.proofs.StepLaws.{Texts, Step, IsOnWay, and_then, next_at}
 use Rattle.clock_sim.proofs.GroupLaws.{ended_ok, one_step, with_one}
+use Rattle.clock_sim.proofs.WrittenLaws.{none_wait}
 
 -- ---- steps with requests that wait
 
@@ -57,24 +60,9 @@ way_then {T = T} whole left last old mid new done result one two = record {
       subst P way.same (two.comes way.texts way.stands);
 }
 
--- where there was no memory, nothing is told
-pub no_memory_way : {T : Type 0} (whole rest : Step) (old new : HouseFields) → new.setup ≡ old.setup → MakesWay {T = T} whole rest old new (Err NoMemory)
-no_memory_way whole rest old new same = record { setup = same; comes = λ texts stands other. absurd (other refl) }
-
 none_left : (setup : SetupFields) (group : List Request) (texts : Texts) → length group ≡ 0 → after_group setup group texts ≡ Ok texts
 none_left setup [] texts none = refl
 none_left setup (one ∷ group) texts none = absurd (omega (arith, none))
-
--- steps that are made, of which nothing is left
-pub whole_way : {T : Type 0} (whole : Step) (setup : SetupFields) (group : List Request) (old new : HouseFields) (result : Result T SimFault)
-    → MakesStep whole old new result → OnOk result (length group ≡ 0) → MakesWay whole (after_group setup group) old new result
-whole_way whole setup group old new (Ok done) made none = record {
-  setup = made.setup;
-  comes = λ texts stands.
-      let end = made.comes texts stands in
-      record { texts = end.texts; stands = end.stands; same = none_left setup group end.texts none ∙ sym end.is };
-}
-whole_way whole setup group old new (Err fault) made none = record { setup = made.setup; comes = made.comes }
 
 on_ok : {T : Type 0} (P : Type 0) (result : Result T SimFault) → P → OnOk result P
 on_ok P (Ok done) is = is
@@ -147,6 +135,58 @@ going_after_one bidder round text old new (Ok done) closes before made =
     (λ texts end is. ap (rounds_after old.setup) (sent_text old.setup texts end (Some bidder) round text is) ∙ closes old.setup texts)
 going_after_one bidder round text old new (Err fault) closes before made = tt
 
+-- ---- a group that is sent
+
+-- a request that is written stands behind those that wait
+pub still_under_way : (hub : HubFields) (group next : Group) → IsUnderWay hub group → Keeps group next → IsUnderWay hub next
+still_under_way hub group next before keeps =
+    let kept = keeps before.waits.written in record {
+      waits = record { requests = subst (IsGroup hub.connections) (sym kept.0) before.waits.requests; written = kept.1 };
+      going = before.going;
+    }
+
+-- where there was no memory, nothing is told
+pub no_memory_under_way : {T : Type 0} (steps : Step) (old new : HubFields) (group : Group) → new.house.setup ≡ old.house.setup
+    → ComesUnderWay {T = T} steps old new group (Err NoMemory)
+no_memory_under_way steps old new group same = record {
+  under_way = tt;
+  way = record { setup = same; comes = λ texts stands other. absurd (other refl) };
+}
+
+-- steps that were made, behind which no request waits
+pub all_sent : {T : Type 0} (steps : Step) (next : Group) (old new : HubFields) (result : Result T SimFault) → MakesStep steps old.house new.house result
+    → OnOk result (requests_in next ≡ []) → OnOk result (IsGoing new.house) → ComesUnderWay steps old new next result
+all_sent steps next old new (Ok done) made none going = record {
+  under_way = record { waits = none_wait new.connections next none; going = going };
+  way = record {
+    setup = made.setup;
+    comes = λ texts stands.
+        let end = made.comes texts stands in
+        record {
+          texts = end.texts;
+          stands = end.stands;
+          same = none_left old.house.setup (requests_in next) end.texts (ap length none) ∙ sym end.is;
+        };
+  };
+}
+all_sent steps next old new (Err fault) made none going = record {
+  under_way = tt;
+  way = record { setup = made.setup; comes = made.comes };
+}
+
+-- the requests that waited were sent, and then one more of a bidder by itself
+pub sent_alone : {U T : Type 0} (group next : Group) (bidder round : ℕ) (text : List ℕ) (old mid new : HubFields) (done : U) (result : Result T SimFault)
+    → IsUnderWay old group → ClosesNoRound text → MakesStep (after_group old.house.setup (requests_in group)) old.house mid.house (Ok done)
+    → requests_in next ≡ [] → MakesStep (λ texts. after_request mid.house.setup texts (Some bidder) round text) mid.house new.house result
+    → ComesUnderWay (with_request old.house.setup (requests_in group) bidder round text) old new next result
+sent_alone {T = T} group next bidder round text old mid new done result before closes made none sent =
+    let last : SetupFields → Step = λ setup texts. after_request setup texts (Some bidder) round text in
+    let going = going_after_group (requests_in group) old.house mid.house (Ok done) before.waits.requests.close before.going made in
+    all_sent (with_request old.house.setup (requests_in group) bidder round text) next old new result
+    (and_then (after_group old.house.setup (requests_in group)) (last old.house.setup) old.house mid.house new.house done result made
+    (subst (λ (setup : SetupFields). MakesStep (last setup) mid.house new.house result) made.setup sent))
+    (on_ok (requests_in next ≡ []) result none) (going_after_one bidder round text mid.house new.house result closes going sent)
+
 -- the sheet that a script gives is the same before and after the requests of the group
 module _ (old : HouseFields) (group : List Request) (bidder : ℕ) (script : Script) (close : All (λ one. ClosesNoRound (text_in one)) group) where
   abbrev given : List ClosedRound → Texts → Option (List ℕ) → Result Texts SimFault
@@ -193,10 +233,6 @@ module _ (old : HouseFields) (group : List Request) (bidder : ℕ) (script : Scr
 
 -- ---- bidder after bidder
 
-next_script : (scripts : List Script) (i : ℕ) (script : Script) → i < length scripts → script ≡ get_or scripts i script
-    → drop i scripts ≡ script ∷ drop (i + 1) scripts
-next_script scripts i script below is = drop_more scripts i script below ∙ ap (λ (one : Script). one ∷ drop (i + 1) scripts) (sym is)
-
 -- the requests that wait, and then the sheets of the bidders from this one on
 abbrev pub then_puts : SetupFields → List Request → ℕ → List Script → Step
 then_puts setup group i scripts texts = after_group setup group texts >>= after_puts setup i scripts
@@ -218,7 +254,7 @@ before_turn whole scripts group i script initial now below is before = record {
         texts = way.texts;
         stands = way.stands;
         same = sym (in_turn initial.setup i script (drop (i + 1) scripts) (after_group initial.setup group way.texts))
-            ∙ ap (λ (rest : List Script). then_puts initial.setup group i rest way.texts) (sym (next_script scripts i script below is)) ∙ way.same;
+            ∙ ap (λ (rest : List Script). then_puts initial.setup group i rest way.texts) (sym (next_at scripts i script below is)) ∙ way.same;
       };
 }
 

@@ -1,12 +1,12 @@
 //! The text of an audit.
-ghost use Rattle.std.specs.Prelude.{◌≡◌, ◌≤◌, ◌++◌, All, IfOk, OnOk, length, zip};
+ghost use Rattle.std.specs.Prelude.{◌≡◌, ◌≤◌, ◌++◌, All, IfOk, OnOk, length, codes, decimal, zip};
 ghost use Rattle.std.specs.List.{flat_map};
 ghost use Rattle.clock_sim.specs.ReportText as words;
 
 use crate::report::Report;
 use crate::report_lines::push_wins;
 use clock_device::{NoMemory, Text};
-use clock_posting::{RoundSheet, sheet_lines};
+use clock_posting::{RoundSheet, with_sheet_lines};
 use clock_terms::Setup;
 use std::alloc::Global;
 
@@ -29,55 +29,59 @@ pub fn audit_text(alloc: Global, report: &Report, digests: &[Digits]) -> Result<
     ensures { IfOk result (λ text. text ≡ words.audit_text report.now digests.now) }
 {
     let sheets = report.sheets.as_slice();
-    let mut text = Text::new(alloc);
-    push_audited(alloc, &mut text, &report.setup, sheets, digests)?;
+    let mut text = with_audited(Text::new(alloc), &report.setup, sheets, digests)?;
     let last = &sheets[sheets.len() - 1];
     if last.ended {
         push_wins(
             alloc,
             &mut text,
+            &report.setup,
             last.lines.as_slice(),
-            report.setup.bidders.as_slice(),
             &report.grid,
         )?;
     }
     Ok(text)
 }
 
-/// Adds the lines of the rounds, each with the digest of its closing behind it.
-fn push_audited(
-    alloc: Global,
-    text: &mut Text,
+/// A text, and behind it the lines of the rounds, each with the digest of its closing behind it.
+fn with_audited(
+    mut text: Text,
     setup: &Setup,
     sheets: &[RoundSheet],
     digests: &[Digits],
-) -> Result<(), NoMemory>
+) -> Result<Text, NoMemory>
     requires each { All (λ sheet. length sheet.lines ≡ length setup.now.products) sheets.now }
     requires enough { length sheets.now ≤ length digests.now }
-    ensures { OnOk result (text.new ≡ text.old ++ flat_map (words.audited_round setup.now.products)
+    ensures { IfOk result (λ lines. lines ≡ text ++ flat_map (words.audited_round setup.now.products)
         (zip sheets.now digests.now)) }
 {
     for (index, sheet) in sheets.iter().enumerate() {
-        push_round(alloc, text, setup, sheet, &digests[index])?;
+        text = with_round(text, setup, sheet, &digests[index])?;
     }
-    Ok(())
+    Ok(text)
 }
 
-/// Adds the lines of a round, with the digest of its closing behind them.
-fn push_round(
-    alloc: Global,
-    text: &mut Text,
+/// A text, and behind it the lines of a round, with the digest of its closing behind them.
+fn with_round(
+    text: Text,
     setup: &Setup,
     sheet: &RoundSheet,
     digest: &Digits,
-) -> Result<(), NoMemory>
+) -> Result<Text, NoMemory>
     requires { length sheet.now.lines ≡ length setup.now.products }
-    ensures { OnOk result (text.new ≡ text.old ++ words.audited_round setup.now.products (sheet.now, digest.now)) }
+    ensures { IfOk result (λ lines. lines ≡ text ++ words.audited_round setup.now.products (sheet.now, digest.now)) }
 {
-    let lines = sheet_lines(alloc, setup, sheet)?;
-    text.extend_from_slice(lines.as_slice())?;
+    let mut text = with_sheet_lines(text, setup, sheet)?;
+    push_closed(&mut text, sheet.round, digest)?;
+    Ok(text)
+}
+
+/// Adds the line of a closing, with its digest.
+fn push_closed(text: &mut Text, round: u64, digest: &Digits) -> Result<(), NoMemory>
+    ensures { OnOk result (text.new ≡ text.old ++ codes "closed " ++ decimal round ++ codes " " ++ digest.now ++ codes "\n") }
+{
     text.extend_from_slice(b"closed ")?;
-    text.push_number(sheet.round)?;
+    text.push_number(round)?;
     text.push(b' ')?;
     text.extend_from_slice(digest)?;
     text.push(b'\n')?;

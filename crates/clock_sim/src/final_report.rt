@@ -1,7 +1,6 @@
-//! The report of an auction that has ended, or of its rounds so far.
+//! The report of an auction, of its rounds so far.
 
-ghost use Rattle.std.specs.Prelude.{◌≡◌, ◌<◌, ◌≤◌, Some, true, length, map, reverse, slice_get, All, IfOk};
-ghost use Rattle.clock_house.specs.House.{standing_in};
+ghost use Rattle.std.specs.Prelude.{◌≡◌, ◌<◌, ◌≤◌, Some, length, map, reverse, slice_get, All, IfOk};
 ghost use Rattle.clock_sim.specs.inside.Reports.{IsPricedLine};
 ghost use Rattle.clock_sim.specs.FinalReport as rules;
 
@@ -16,9 +15,7 @@ fn line_copy(line: &Line) -> Line
     ensures same { result ≡ line.now }
     ensures priced { IsPricedLine result }
 {
-    let _start = line.start.get();
-    let _clock = line.clock.get();
-    let _posted = line.posted.get();
+    prove!(line.start.get() >= 1 && line.clock.get() >= 1 && line.posted.get() >= 1);
     *line
 }
 
@@ -88,12 +85,4 @@ pub fn report_so_far<P>(alloc: Global, house: &House<P>) -> Result<Report, NoMem
         grid,
     };
     Ok(report)
-}
-
-/// The report of an auction that has ended.
-pub(crate) fn final_report<P>(alloc: Global, house: &House<P>) -> Result<Report, NoMemory>
-    requires { (standing_in house.now).ended ≡ true }
-    ensures { IfOk result (λ report. report ≡ rules.report_of house.now.setup house.now.closed) }
-{
-    report_so_far(alloc, house)
 }

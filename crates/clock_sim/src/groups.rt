@@ -3,14 +3,14 @@
 ghost use Rattle.std.specs.Prelude.{◌≡◌, ◌≤◌, ◌-◌, ◌++◌, [], Some, true, false, nat_le, length, drop, IfOk, OnOk, OnErr};
 ghost use Rattle.clock_http.specs.Framing.{needs_more};
 ghost use Rattle.clock_sim.specs.RequestTexts.{request_text};
-ghost use Rattle.clock_sim.specs.inside.Groups.{AreApart, AwaitsBody, ClosesNoRound, AreWritten, HasHead, HasTextsOf, IsPlaceIn};
-ghost use Rattle.clock_sim.specs.inside.Groups.{IsWrittenIn, Keeps, is_awaited};
-ghost use Rattle.clock_sim.specs.inside.Groups.{StandFrom, Waits, Writes, after_group, piece_at, requests_in, text_at, with_request};
-ghost use Rattle.clock_sim.specs.inside.Steps.{IsGoing, MakesStep, MakesWay};
+ghost use Rattle.clock_sim.specs.inside.Groups.{AreApart, AwaitsBody, ClosesNoRound, ComesUnderWay, HasHead, HasTextsOf};
+ghost use Rattle.clock_sim.specs.inside.Groups.{AreWritten, IsPlaceIn, IsUnderWay, IsWrittenIn, Keeps, StandFrom, Waits, Writes};
+ghost use Rattle.clock_sim.specs.inside.Groups.{after_group, is_awaited, piece_at, requests_in, text_at, with_written};
+ghost use Rattle.clock_sim.specs.inside.Steps.{MakesStep};
 
-use crate::bodies::Bodies;
-use crate::request_texts::push_head;
+use crate::request_writer::push_head;
 use crate::sending::{send, send_body};
+use crate::sheet_bodies::Bodies;
 use crate::sim_fault::SimFault;
 use clock_device::NoMemory;
 use clock_front::{Conn, Hub, HubFault};
@@ -197,16 +197,12 @@ impl Group {
         round: u64,
         written: Written,
     ) -> Result<(), SimFault>
-        requires group { Waits hub.old.connections self.old }
+        requires under_way { IsUnderWay hub.old self.old }
         requires within { IsWrittenIn self.old written }
         requires needs { needs_more (piece_at self.old.heads.items written.head) ≡ true }
         requires closes { ClosesNoRound (text_at self.old written) }
-        requires going { IsGoing hub.old.house }
-        ensures group { OnOk result (Waits hub.new.connections self.new) }
-        ensures going { OnOk result (IsGoing hub.new.house) }
-        ensures way { MakesWay
-            (with_request hub.old.house.setup (requests_in self.old) bidder round (text_at self.old written))
-            (after_group hub.old.house.setup (requests_in self.new)) hub.old.house hub.new.house result }
+        ensures { ComesUnderWay (with_written hub.old.house.setup self.old bidder round written) hub.old hub.new self.new
+            result }
     {
         let conn = hub.connect()?;
         self.waiting.push(Waiting {
@@ -220,12 +216,9 @@ impl Group {
 
     /// Sends a group that is full.
     fn send_full<P: Processor>(&mut self, hub: &mut Hub<P>) -> Result<(), SimFault>
-        requires group { Waits hub.old.connections self.old }
-        requires going { IsGoing hub.old.house }
-        ensures group { OnOk result (Waits hub.new.connections self.new) }
-        ensures going { OnOk result (IsGoing hub.new.house) }
-        ensures way { MakesWay (after_group hub.old.house.setup (requests_in self.old)) (after_group hub.old.house.setup
-            (requests_in self.new)) hub.old.house hub.new.house result }
+        requires { IsUnderWay hub.old self.old }
+        ensures { ComesUnderWay (after_group hub.old.house.setup (requests_in self.old)) hub.old hub.new self.new
+            result }
     {
         if self.waiting.len() >= MOST_WAITING {
             return self.send_all(hub);
@@ -241,15 +234,11 @@ impl Group {
         round: u64,
         written: Written,
     ) -> Result<(), SimFault>
-        requires group { Waits hub.old.connections self.old }
+        requires under_way { IsUnderWay hub.old self.old }
         requires within { IsWrittenIn self.old written }
         requires closes { ClosesNoRound (text_at self.old written) }
-        requires going { IsGoing hub.old.house }
-        ensures group { OnOk result (Waits hub.new.connections self.new) }
-        ensures going { OnOk result (IsGoing hub.new.house) }
-        ensures way { MakesWay
-            (with_request hub.old.house.setup (requests_in self.old) bidder round (text_at self.old written))
-            (after_group hub.old.house.setup (requests_in self.new)) hub.old.house hub.new.house result }
+        ensures { ComesUnderWay (with_written hub.old.house.setup self.old bidder round written) hub.old hub.new self.new
+            result }
     {
         self.send_all(hub)?;
         send(
@@ -269,16 +258,12 @@ impl Group {
         round: u64,
         written: Written,
     ) -> Result<(), SimFault>
-        requires group { Waits hub.old.connections self.old }
+        requires under_way { IsUnderWay hub.old self.old }
         requires within { IsWrittenIn self.old written }
         requires awaits { AwaitsBody self.old written }
         requires closes { ClosesNoRound (text_at self.old written) }
-        requires going { IsGoing hub.old.house }
-        ensures group { OnOk result (Waits hub.new.connections self.new) }
-        ensures going { OnOk result (IsGoing hub.new.house) }
-        ensures way { MakesWay
-            (with_request hub.old.house.setup (requests_in self.old) bidder round (text_at self.old written))
-            (after_group hub.old.house.setup (requests_in self.new)) hub.old.house hub.new.house result }
+        ensures { ComesUnderWay (with_written hub.old.house.setup self.old bidder round written) hub.old hub.new self.new
+            result }
     {
         if !written.needs_body() {
             return self.send_alone(hub, bidder, round, written);

@@ -8,7 +8,7 @@ ghost use Rattle.clock_sim.specs.FinalReport as rules;
 ghost use Rattle.clock_sim.specs.ReportText as words;
 
 use crate::final_report::sheet_at;
-use crate::report_lines::push_won_by_all;
+use crate::report_lines::push_wins;
 use clock_device::{NoMemory, Text};
 use clock_house::House;
 use clock_posting::with_sheet_lines;
@@ -42,7 +42,7 @@ pub(crate) fn final_text<P>(alloc: Global, house: &House<P>) -> Result<Text, NoM
     let empty = empty_text(alloc, house)?;
     let mut text = with_closed_rounds(empty, house)?;
     let last = sheet_at(house, house.closed_rounds() - 1);
-    push_won_by_all(
+    push_wins(
         alloc,
         &mut text,
         house.setup(),

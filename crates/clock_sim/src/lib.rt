@@ -5,16 +5,16 @@
 #![tactic(auto)]
 
 mod audit_lines;
-mod bodies;
 mod final_report;
 mod groups;
 mod house_text;
 mod report;
 mod report_lines;
-mod request_texts;
+mod request_writer;
 mod rounds;
 mod scripted;
 mod sending;
+mod sheet_bodies;
 mod sim_fault;
 mod simulation;
 mod sincere;

@@ -8,7 +8,7 @@ ghost use Rattle.clock_sim.specs.ReportText as words;
 
 use crate::report::Report;
 use clock_device::{NoMemory, Text};
-use clock_posting::{Line, RoundSheet, sheet_lines};
+use clock_posting::{Line, RoundSheet, with_sheet_lines};
 use clock_terms::{Bidder, Grid, Row, Setup};
 use std::alloc::Global;
 
@@ -27,45 +27,21 @@ pub fn report_text(alloc: Global, report: &Report) -> Result<Text, NoMemory>
     ensures { IfOk result (λ text. text ≡ words.report_text report.now) }
 {
     let sheets = report.sheets.as_slice();
-    let mut text = Text::new(alloc);
-    push_rounds(alloc, &mut text, &report.setup, sheets)?;
+    let mut text = with_rounds(Text::new(alloc), &report.setup, sheets)?;
     let lines = sheets[sheets.len() - 1].lines.as_slice();
-    push_won_by_all(alloc, &mut text, &report.setup, lines, &report.grid)?;
+    push_wins(alloc, &mut text, &report.setup, lines, &report.grid)?;
     Ok(text)
 }
 
-/// Adds the lines of a set-up's bidders. There is a line for each product, and a row of the grid for each bidder.
-pub(crate) fn push_won_by_all(
-    alloc: Global,
-    text: &mut Text,
-    setup: &Setup,
-    lines: &[Line],
-    grid: &Grid,
-) -> Result<(), NoMemory>
-    requires lines { length lines.now ≡ length setup.now.products }
-    requires bidders { length grid.now ≡ length setup.now.bidders }
-    requires rows { All (IsRow setup.now.products) grid.now }
-    ensures { OnOk result (text.new ≡ text.old ++ flat_map (words.won_text lines.now)
-        (zip setup.now.bidders grid.now)) }
-{
-    push_wins(alloc, text, lines, setup.bidders.as_slice(), grid)
-}
-
-/// Adds the lines of the rounds.
-fn push_rounds(
-    alloc: Global,
-    text: &mut Text,
-    setup: &Setup,
-    sheets: &[RoundSheet],
-) -> Result<(), NoMemory>
+/// A text, and behind it the lines of the rounds.
+fn with_rounds(mut text: Text, setup: &Setup, sheets: &[RoundSheet]) -> Result<Text, NoMemory>
     requires { All (λ sheet. length sheet.lines ≡ length setup.now.products) sheets.now }
-    ensures { OnOk result (text.new ≡ text.old ++ flat_map (sheet_text setup.now.products) sheets.now) }
+    ensures { IfOk result (λ lines. lines ≡ text ++ flat_map (sheet_text setup.now.products) sheets.now) }
 {
     for sheet in sheets {
-        let lines = sheet_lines(alloc, setup, sheet)?;
-        text.extend_from_slice(lines.as_slice())?;
+        text = with_sheet_lines(text, setup, sheet)?;
     }
-    Ok(())
+    Ok(text)
 }
 
 /// What demands cost at the posted prices, in whole dollars.
@@ -145,22 +121,22 @@ fn push_won(
     Ok(())
 }
 
-/// Adds the lines of the bidders.
+/// Adds the lines of a set-up's bidders. There is a line for each product, and a row of the grid for each bidder.
 pub(crate) fn push_wins(
     alloc: Global,
     text: &mut Text,
+    setup: &Setup,
     lines: &[Line],
-    bidders: &[Bidder],
     grid: &Grid,
 ) -> Result<(), NoMemory>
-    requires few { length lines.now ≤ most_products }
-    requires bidders { length grid.now ≡ length bidders.now }
-    requires each { All (λ row. length row ≡ length lines.now) grid.now }
-    requires small { All (λ row. All (λ demand. demand ≤ most_supply) row) grid.now }
-    ensures { OnOk result (text.new ≡ text.old ++ flat_map (words.won_text lines.now) (zip bidders.now grid.now)) }
+    requires lines { length lines.now ≡ length setup.now.products }
+    requires bidders { length grid.now ≡ length setup.now.bidders }
+    requires rows { All (IsRow setup.now.products) grid.now }
+    ensures { OnOk result (text.new ≡ text.old ++ flat_map (words.won_text lines.now)
+        (zip setup.now.bidders grid.now)) }
 {
     let none = none_held_text(alloc, lines.len())?;
-    for (number, bidder) in bidders.iter().enumerate() {
+    for (number, bidder) in setup.bidders.iter().enumerate() {
         push_won(text, none.as_slice(), lines, bidder, grid.row(number))?;
     }
     Ok(())

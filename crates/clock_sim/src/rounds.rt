@@ -4,8 +4,8 @@ ghost use Rattle.std.specs.Prelude.{◌≡◌, ◌<◌, length, true, All, OnOk}
 ghost use Rattle.clock_house.specs.House.{standing_in};
 ghost use Rattle.clock_sim.specs.Rehearsal as rules;
 ghost use Rattle.clock_replays.specs.Replays.{IsScript};
-ghost use Rattle.clock_sim.specs.inside.Groups.{Waits, after_group, requests_in, with_put};
-ghost use Rattle.clock_sim.specs.inside.Steps.{IsGoing, MakesStep, MakesWay};
+ghost use Rattle.clock_sim.specs.inside.Groups.{ComesUnderWay, IsUnderWay, requests_in, with_put};
+ghost use Rattle.clock_sim.specs.inside.Steps.{IsGoing, MakesStep};
 
 use crate::groups::Group;
 use crate::sending::send;
@@ -30,13 +30,9 @@ fn put_scripted<P: Processor>(
 ) -> Result<(), SimFault>
     requires known { bidder < length hub.old.house.setup.bidders }
     requires script { IsScript hub.old.house.setup.products script.now }
-    requires group { Waits hub.old.connections group.old }
-    requires going { IsGoing hub.old.house }
-    ensures group { OnOk result (Waits hub.new.connections group.new) }
-    ensures going { OnOk result (IsGoing hub.new.house) }
-    ensures way { MakesWay
-        (with_put hub.old.house.setup (requests_in group.old) bidder script.now)
-        (after_group hub.old.house.setup (requests_in group.new)) hub.old.house hub.new.house result }
+    requires under_way { IsUnderWay hub.old group.old }
+    ensures { ComesUnderWay (with_put hub.old.house.setup (requests_in group.old) bidder script.now) hub.old hub.new
+        group.new result }
 {
     let round = current_round(hub);
     let written = group.write_put(hub.front().house(), bidder, script)?;

@@ -13,7 +13,7 @@ ghost use Rattle.clock_sim.specs.inside.Groups.{AwaitsBody, Writes, WritesIf};
 ghost use Rattle.clock_sim.specs.inside.SincereSheets.{IsSincere, sheet_of as bids_of};
 
 use crate::groups::{Group, Written};
-use crate::request_texts::push_close_body;
+use crate::request_writer::push_close_body;
 use crate::sincere::Sincere;
 use clock_bids::Bid;
 use clock_device::NoMemory;

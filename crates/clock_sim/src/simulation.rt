@@ -2,12 +2,13 @@ ghost use Rattle.std.specs.Prelude.{◌≡◌, [], Ok, true, length, All, IfOk, 
 ghost use Rattle.clock_terms.specs.Faults.{IsRefusal};
 ghost use Rattle.clock_house.specs.House.{standing_in};
 ghost use Rattle.clock_front.specs.Fronts.{StandsForTexts};
-ghost use Rattle.clock_replays.specs.Replays.{IsScript, ReplayFields};
+ghost use Rattle.clock_replays.specs.Replays.{IsScript};
 ghost use Rattle.clock_sim.specs.FinalReport.{report_of};
 ghost use Rattle.clock_sim.specs.Rehearsal as rules;
+ghost use Rattle.clock_sim.specs.inside.Steps.{replay_of};
 ghost use Rattle.clock_sim.specs.declared.sim_fault.SimFault.TheVariants as faults;
 
-use crate::final_report::final_report;
+use crate::final_report::report_so_far;
 use crate::groups::Group;
 use crate::house_text::final_text;
 use crate::report::Report;
@@ -17,7 +18,8 @@ use clock_device::{NoMemory, Text};
 use clock_front::{Front, Hub};
 use clock_processor::Processor;
 use clock_queue::Woken;
-use clock_replays::{Closing, Replay, Script};
+use clock_replays::{Closing, Closings, Replay, Script, Scripts};
+use clock_terms::Setup;
 use std::alloc::Global;
 
 /// The requests of an auction, of which none is written yet.
@@ -26,12 +28,11 @@ fn no_requests<P: Processor>(alloc: Global, hub: &Hub<P>) -> Result<Group, NoMem
     Group::new(alloc, setup.products.as_slice().len())
 }
 
-/// A front and no connection yet, for an auction of a replay's set-up.
-fn hub_of<P: Processor>(alloc: Global, replay: &Replay, processor: P) -> Result<Hub<P>, NoMemory>
+/// A front and no connection yet, for an auction of a set-up.
+fn hub_of<P: Processor>(alloc: Global, setup: Setup, processor: P) -> Result<Hub<P>, NoMemory>
     ensures first { IfOk result (λ hub. StandsForTexts [] hub.house) }
-    ensures same { IfOk result (λ hub. hub.house.setup ≡ replay.now.setup) }
+    ensures same { IfOk result (λ hub. hub.house.setup ≡ setup) }
 {
-    let setup = replay.setup.copy(alloc)?;
     let front = Front::new(alloc, setup, processor)?;
     Ok(Hub::new(alloc, front))
 }
@@ -46,21 +47,11 @@ fn play_out<P: Processor>(
     requires first { StandsForTexts [] hub.old.house }
     requires each { length scripts.now ≡ length hub.old.house.setup.bidders }
     requires scripts { All (IsScript hub.old.house.setup.products) scripts.now }
-    ensures ok { let replay : ReplayFields = record {
-      setup = hub.old.house.setup;
-      scripts = scripts.now;
-      closings =
-          closings.now;
-    } in
-        OnOk result (rules.simulated replay ≡ Ok (report_of hub.new.house.setup hub.new.house.closed)) }
+    ensures ok { OnOk result (rules.simulated (replay_of hub.old.house scripts.now closings.now)
+        ≡ Ok (report_of hub.new.house.setup hub.new.house.closed)) }
     ensures ended { OnOk result ((standing_in hub.new.house).ended ≡ true) }
-    ensures err { let replay : ReplayFields = record {
-      setup = hub.old.house.setup;
-      scripts = scripts.now;
-      closings =
-          closings.now;
-    } in
-        IfErr result (IsRefusal faults.NoMemory (rules.simulated replay)) }
+    ensures err { IfErr result (IsRefusal faults.NoMemory
+        (rules.simulated (replay_of hub.old.house scripts.now closings.now))) }
 {
     let mut group = no_requests(alloc, hub)?;
     play(hub, &mut group, scripts, closings)?;
@@ -84,24 +75,28 @@ fn played<P: Processor>(
         replay.scripts.as_slice(),
         replay.closings.as_slice(),
     )?;
-    Ok(final_report(alloc, hub.front().house())?)
+    Ok(report_so_far(alloc, hub.front().house())?)
 }
 
-/// Plays the auction of a replay to its end, and lets the replay go: the report needs nothing of it.
-fn played_out<P: Processor>(alloc: Global, hub: &mut Hub<P>, replay: Replay) -> Result<(), SimFault>
+/// Plays an auction as [`play_out`] does, and lets scripts and closings go: the report needs nothing of them.
+fn played_out<P: Processor>(
+    alloc: Global,
+    hub: &mut Hub<P>,
+    scripts: Scripts,
+    closings: Closings,
+) -> Result<(), SimFault>
     requires first { StandsForTexts [] hub.old.house }
-    requires same { hub.old.house.setup ≡ replay.setup }
-    ensures ok { OnOk result (rules.simulated replay ≡ Ok (report_of hub.new.house.setup hub.new.house.closed)) }
+    requires each { length scripts ≡ length hub.old.house.setup.bidders }
+    requires scripts { All (IsScript hub.old.house.setup.products) scripts }
+    ensures ok { OnOk result (rules.simulated (replay_of hub.old.house scripts closings)
+        ≡ Ok (report_of hub.new.house.setup hub.new.house.closed)) }
     ensures ended { OnOk result ((standing_in hub.new.house).ended ≡ true) }
-    ensures err { IfErr result (IsRefusal faults.NoMemory (rules.simulated replay)) }
+    ensures err { IfErr result (IsRefusal faults.NoMemory
+        (rules.simulated (replay_of hub.old.house scripts closings))) }
 {
-    let played = play_out(
-        alloc,
-        hub,
-        replay.scripts.as_slice(),
-        replay.closings.as_slice(),
-    );
-    drop(replay);
+    let played = play_out(alloc, hub, scripts.as_slice(), closings.as_slice());
+    drop(scripts);
+    drop(closings);
     played
 }
 
@@ -109,14 +104,17 @@ fn played_out<P: Processor>(alloc: Global, hub: &mut Hub<P>, replay: Replay) -> 
 fn text_played<P: Processor>(
     alloc: Global,
     hub: &mut Hub<P>,
-    replay: Replay,
+    scripts: Scripts,
+    closings: Closings,
 ) -> Result<Text, SimFault>
     requires first { StandsForTexts [] hub.old.house }
-    requires same { hub.old.house.setup ≡ replay.setup }
-    ensures ok { IfOk result (λ text. rules.played_text replay ≡ Ok text) }
-    ensures err { IfErr result (IsRefusal faults.NoMemory (rules.played_text replay)) }
+    requires each { length scripts ≡ length hub.old.house.setup.bidders }
+    requires scripts { All (IsScript hub.old.house.setup.products) scripts }
+    ensures ok { IfOk result (λ text. rules.played_text (replay_of hub.old.house scripts closings) ≡ Ok text) }
+    ensures err { IfErr result (IsRefusal faults.NoMemory
+        (rules.played_text (replay_of hub.old.house scripts closings))) }
 {
-    played_out(alloc, hub, replay)?;
+    played_out(alloc, hub, scripts, closings)?;
     Ok(final_text(alloc, hub.front().house())?)
 }
 
@@ -129,7 +127,8 @@ pub fn simulate_with<P: Processor + Drop>(
     ensures ok { IfOk result (λ report. rules.simulated replay.now ≡ Ok report) }
     ensures err { IfErr result (IsRefusal faults.NoMemory (rules.simulated replay.now)) }
 {
-    let mut hub = hub_of(alloc, replay, processor)?;
+    let setup = replay.setup.copy(alloc)?;
+    let mut hub = hub_of(alloc, setup, processor)?;
     let report = played(alloc, &mut hub, replay);
     // let go by a call: at the end of the scope it would be proved part by part
     drop(hub);
@@ -156,11 +155,17 @@ pub fn replay_text(alloc: Global, replay: Replay) -> Result<Text, SimFault>
     ensures ok { IfOk result (λ text. rules.played_text replay ≡ Ok text) }
     ensures err { IfErr result (IsRefusal faults.NoMemory (rules.played_text replay)) }
 {
-    let Ok(mut hub) = hub_of(alloc, &replay, Woken) else {
-        drop(replay);
+    let Replay {
+        setup,
+        scripts,
+        closings,
+    } = replay;
+    let Ok(mut hub) = hub_of(alloc, setup, Woken) else {
+        drop(scripts);
+        drop(closings);
         return Err(SimFault::NoMemory);
     };
-    let text = text_played(alloc, &mut hub, replay);
+    let text = text_played(alloc, &mut hub, scripts, closings);
     // let go by a call, as above
     drop(hub);
     text

@@ -9,7 +9,7 @@ ghost use Rattle.clock_sim.specs.inside.Blocks as one_by_one;
 ghost use Rattle.clock_sim.specs.inside.Bodies.{bids_text};
 ghost use Rattle.clock_sim.specs.inside.SincereSheets.{IsSincere, sheet_of};
 
-use crate::bodies::Bodies;
+use crate::sheet_bodies::Bodies;
 use clock_bids::{Bid, Own};
 use clock_device::NoMemory;
 use clock_replays::LimitLists;

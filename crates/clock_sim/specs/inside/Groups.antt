@@ -8,16 +8,19 @@
 --     is_awaited count, AwaitsBody group written      a body of so many bytes needs to come; its head needs it just where it does
 --     text_in one, after_group setup group texts      the text of a request, and the requests of a group, answered one after the other
 --     with_request setup group bidder round text texts, with_put setup group bidder script texts      and then one more of a bidder
+--     with_written setup group bidder round written texts      and then one that was written
 --     StandFrom place connections group text      from a place on, each connection stands with these bytes
 --     AreApart group      no two of the connections are one
 --     IsGroup connections group      the requests wait, each over a connection of its own, over which nothing has come yet
 --     Waits connections group      those of a group do
-use Rattle.std.specs.Prelude.{◌≡◌, ◌≤◌, ◌<◌, ◌-◌, ◌&&◌, ℕ, Bool, List, [], ◌∷◌, ◌++◌, true, nat_le, length, map, take, drop, slice_index_or, Option, Some, None, Result, Ok, All}
+--     IsUnderWay hub group      they do, and the auction goes on
+--     ComesUnderWay steps old new group result      some steps were made but for the requests that wait
+use Rattle.std.specs.Prelude.{◌≡◌, ◌≤◌, ◌<◌, ◌-◌, ◌&&◌, ℕ, Bool, List, [], ◌∷◌, ◌++◌, true, nat_le, length, map, take, drop, slice_index_or, Option, Some, None, Result, Ok, OnOk, All}
 use Rattle.clock_terms.specs.Limits.{SetupFields}
 use Rattle.clock_terms.specs.Faults.{◌>>=◌}
 use Rattle.clock_http.specs.HeaderLines.{body_limit}
 use Rattle.clock_http.specs.Framing.{needs_more}
-use Rattle.clock_front.specs.Hubs.{ConnectionFields, text_of}
+use Rattle.clock_front.specs.Hubs.{ConnectionFields, HubFields, text_of}
 use Rattle.clock_front.specs.declared.connections.Conn.{Conn}
 use Rattle.clock_sim.specs.declared.groups.Place.{Place}
 use Rattle.clock_sim.specs.declared.groups.Written.{Written}
@@ -27,6 +30,7 @@ use Rattle.clock_replays.specs.declared.script.Script.{Script}
 use Rattle.clock_sim.specs.declared.sim_fault.SimFault.{SimFault}
 use Rattle.clock_sim.specs.RequestTexts.{request_head}
 use Rattle.clock_sim.specs.Rehearsal.{rounds_after, after_request, after_put}
+use Rattle.clock_sim.specs.inside.Steps.{IsGoing, MakesWay}
 
 -- the closed rounds are those before
 abbrev pub ClosesNoRound : List ℕ → Type 0
@@ -124,6 +128,10 @@ with_request setup group bidder round text texts =
 abbrev pub with_put : SetupFields → List Request → ℕ → Script → List (List ℕ) → Result (List (List ℕ)) SimFault
 with_put setup group bidder script texts = after_group setup group texts >>= after_put setup bidder script
 
+-- the requests of a group, and then one that was written
+abbrev pub with_written : SetupFields → Group → ℕ → ℕ → Written → List (List ℕ) → Result (List (List ℕ)) SimFault
+with_written setup group bidder round written = with_request setup (requests_in group) bidder round (text_at group written)
+
 -- from a place on, each connection stands with these bytes
 abbrev pub StandFrom : ℕ → ConnectionFields → List Request → (ℕ → Request → List ℕ) → Type 0
 StandFrom place connections group text =
@@ -148,3 +156,14 @@ pub record IsGroup (connections : ConnectionFields) (group : List Request) : Typ
 pub record Waits (connections : ConnectionFields) (group : Group) : Type 0 where
   pub requests : IsGroup connections (requests_in group)
   pub written : AreWritten group
+
+-- the requests of a group wait, and the auction goes on
+pub record IsUnderWay (hub : HubFields) (group : Group) : Type 0 where
+  pub waits : Waits hub.connections group
+  pub going : IsGoing hub.house
+
+-- some steps were made but for the requests that wait now, and the auction goes on; or their fault is told
+pub record ComesUnderWay {T : Type 0} (steps : List (List ℕ) → Result (List (List ℕ)) SimFault) (old new : HubFields) (group : Group)
+    (result : Result T SimFault) : Type 0 where
+  pub under_way : OnOk result (IsUnderWay new group)
+  pub way : MakesWay steps (after_group old.house.setup (requests_in group)) old.house new.house result

@@ -1,4 +1,5 @@
 -- What a step of a rehearsal has come to, for the calls that make it.
+--     replay_of house scripts closings      the replay of scripts and closings in the auction of a house
 --     IsGoing house      the auction of a house goes on
 --     IsTold code fault result      what the code of a reply is told as
 --     ComesTo answer house      the step has an end, and the house stands for its texts
@@ -11,8 +12,15 @@ use Rattle.clock_house.specs.House.{HouseFields, standing_in}
 use Rattle.clock_http.specs.declared.code.Code.{Code}
 use Rattle.clock_http.specs.declared.code.Code.TheVariants.{Done, Memory}
 use Rattle.clock_front.specs.Fronts.{StandsForTexts}
+use Rattle.clock_replays.specs.declared.script.Script.{Script}
+use Rattle.clock_replays.specs.declared.closing.Closing.{Closing}
+use Rattle.clock_replays.specs.Replays.{ReplayFields}
 use Rattle.clock_sim.specs.declared.sim_fault.SimFault.{SimFault}
 use Rattle.clock_sim.specs.declared.sim_fault.SimFault.TheVariants.{NoMemory}
+
+-- scripts and closings that are played in the auction of a house
+abbrev pub replay_of : HouseFields → List Script → List Closing → ReplayFields
+replay_of house scripts closings = record { setup = house.setup; scripts = scripts; closings = closings }
 
 -- the auction has not ended, and the house stands for some texts
 pub record IsGoing (house : HouseFields) : Type 0 where

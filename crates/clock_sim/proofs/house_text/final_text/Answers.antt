@@ -12,8 +12,8 @@ use Rattle.clock_sim.specs.ReportText.{won_text}
 use Rattle.clock_sim.proofs.RoundLaws.{rows_of, index_got}
 use Rattle.clock_sim.proofs.house_text.final_text.Goals as goal
 
-pub push_won_by_all-requires-clause-rows : goal.push_won_by_all-requires-clause-rows
-push_won_by_all-requires-clause-rows g c =
+pub push_wins-requires-clause-rows : goal.push_wins-requires-clause-rows
+push_wins-requires-clause-rows g c =
     let house = c.args.house.now in
     let f = λ (bidder : ℕ). (holding_in house bidder).demands in
     subst (λ (setup : SetupFields). All (IsRow setup.products) c.demands.result.now) (sym c.setup.ensures)
@@ -34,7 +34,7 @@ returns g c =
     index_got sheets (length sheets - 1) last none (ap (λ n. slice_get sheets n) (sym count) ∙ c.sheet_at-last.ensures.is) in
     let lines : c.as_slice.result.now ≡ (slice_index_or sheets (length sheets - 1) none).lines =
     c.as_slice.ensures ∙ ap (λ (sheet : RoundSheet). sheet.lines) (sym is) in
-    c.in_ok-push_won_by_all.ensures
+    c.in_ok-push_wins.ensures
     ∙ ap (λ (text : List ℕ). text ++ flat_map (won_text c.as_slice.result.now) (zip c.setup.result.now.bidders c.demands.result.now))
     (c.in_ok-text.ensures ∙ ap (λ (text : List ℕ). text ++ rounds) c.in_ok-empty.ensures)
     ∙ ap (λ (list : List Line). rounds ++ flat_map (won_text list) (zip c.setup.result.now.bidders c.demands.result.now)) lines

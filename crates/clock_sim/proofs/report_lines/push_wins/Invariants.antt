@@ -6,5 +6,5 @@ use Rattle.clock_sim.proofs.report_lines.push_wins.Given as goal
 -- with the lines of the other bidders it is the whole text
 abbrev pub invariant-loop-number : goal.invariant-loop-number
 invariant-loop-number l =
-    l.text ++ flat_map (won_text l.lines) (zip (drop l.number l.bidders) (drop l.number l.grid))
-    ≡ l.initial.text ++ flat_map (won_text l.lines) (zip l.bidders l.grid)
+    l.text ++ flat_map (won_text l.lines) (zip (drop l.number l.setup.bidders) (drop l.number l.grid))
+    ≡ l.initial.text ++ flat_map (won_text l.lines) (zip l.setup.bidders l.grid)

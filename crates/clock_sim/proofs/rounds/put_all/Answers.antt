@@ -15,8 +15,7 @@ loop-bidder-init g c =
     let group = c.clear.new.self in
     let none : length (requests_in group) ≡ 0 = ap length c.clear.ensures.none in (
       first_turn old.house.setup (requests_in group) c.args.scripts.now old.house refl none,
-      none_wait old.connections group c.clear.ensures.none,
-      c.requires.going,
+      record { waits = none_wait old.connections group c.clear.ensures.none; going = c.requires.going },
     )
 
 pub put_scripted-requires-clause-known : goal.put_scripted-requires-clause-known
@@ -35,8 +34,7 @@ loop-bidder-preserved g c = (
   turn_over (after_puts c.args.hub.now.house.setup 0 c.args.scripts.now) c.args.scripts.now (requests_in c.loop-bidder.group) (requests_in c.put_scripted.new.group)
       c.loop-bidder.bidder c.index-scripts-bidder.result c.args.hub.now.house c.loop-bidder.hub.house c.put_scripted.new.hub.house _
       c.loop-bidder-test.true c.index-scripts-bidder.is c.loop-bidder.invariant.0 c.in_ok-put_scripted.ensures.way,
-  c.in_ok-put_scripted.ensures.group,
-  c.in_ok-put_scripted.ensures.going,
+  c.in_ok-put_scripted.ensures.under_way,
 )
 
 pub returns-in_err-put_scripted : goal.returns-in_err-put_scripted

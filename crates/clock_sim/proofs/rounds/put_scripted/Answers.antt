@@ -7,16 +7,20 @@ use Rattle.clock_sim.specs.ScriptedRequests.{scripted_put}
 use Rattle.clock_sim.specs.inside.Groups.{AwaitsBody, Request, WritesIf, after_group, requests_in, text_at, with_put, with_request}
 use Rattle.clock_sim.specs.inside.Steps.{MakesWay}
 use Rattle.clock_sim.proofs.PutLaws.{scripted_closes_none}
-use Rattle.clock_sim.proofs.TurnLaws.{no_memory_way, none_put, put_waits}
+use Rattle.clock_sim.proofs.TurnLaws.{no_memory_under_way, none_put, put_waits, still_under_way}
 use Rattle.clock_sim.proofs.rounds.put_scripted.Goals as goal
 
-pub returns-in_err-written-clause-way : goal.returns-in_err-written-clause-way
-returns-in_err-written-clause-way g c =
+pub returns-in_err-written : goal.returns-in_err-written
+returns-in_err-written g c =
     let told = err_from_is_err_and c.from_residual.result c.from_residual.ensures.1 in
-    let house = c.args.hub.now.house in
-    let group = requests_in c.args.group.now in
     rw (told.1, told.2)
-    (no_memory_way (with_put house.setup group c.args.bidder c.args.script.now) (after_group house.setup (requests_in c.write_put.new.self)) house house refl)
+    (no_memory_under_way (with_put c.args.hub.now.house.setup (requests_in c.args.group.now) c.args.bidder c.args.script.now) c.args.hub.now
+    c.args.hub.now c.write_put.new.self refl)
+
+pub take_turn-requires-clause-under_way : goal.take_turn-requires-clause-under_way
+take_turn-requires-clause-under_way g c =
+    let put = subst (WritesIf c.args.group.now c.write_put.new.self _) c.in-Some.is c.in_ok-written.ensures.writes in
+    still_under_way c.args.hub.now c.args.group.now c.write_put.new.self c.requires.under_way put.1.kept
 
 pub take_turn-requires-clause-closes : goal.take_turn-requires-clause-closes
 take_turn-requires-clause-closes g c =
@@ -29,8 +33,9 @@ pub take_turn-requires-clause-awaits : goal.take_turn-requires-clause-awaits
 take_turn-requires-clause-awaits g c =
     subst (λ (written : Option Written). IfSome written (AwaitsBody c.write_put.new.self)) c.in-Some.is c.in_ok-written.ensures.awaits
 
-pub returns-in-Some-clause-way : goal.returns-in-Some-clause-way
-returns-in-Some-clause-way g c =
+pub returns-in-Some : goal.returns-in-Some
+returns-in-Some g c =
+    let before = c.requires.under_way in
     let house = c.args.hub.now.house in
     let group = c.args.group.now in
     let mid = c.write_put.new.self in
@@ -42,12 +47,16 @@ returns-in-Some-clause-way g c =
     let IsMade : List Request → Type 0 =
     λ requests. MakesWay (with_request house.setup requests c.args.bidder c.current_round-round.result text) rest house c.take_turn.new.hub.house
     c.take_turn.result in
-    put_waits house (requests_in group) c.args.bidder c.args.script.now c.requires.group.requests.close c.take_turn.new.hub.house rest text
-    c.current_round-round.result c.take_turn.result put.0 c.current_round-round.ensures
-    (subst IsMade (put.1.kept c.requires.group.written).0 c.take_turn.ensures.way)
+    record {
+      under_way = c.take_turn.ensures.under_way;
+      way = put_waits house (requests_in group) c.args.bidder c.args.script.now before.waits.requests.close c.take_turn.new.hub.house rest text
+          c.current_round-round.result c.take_turn.result put.0 c.current_round-round.ensures
+          (subst IsMade (put.1.kept before.waits.written).0 c.take_turn.ensures.way);
+    }
 
-pub returns-in-None-clause-way : goal.returns-in-None-clause-way
-returns-in-None-clause-way g c =
+pub returns-in-None : goal.returns-in-None
+returns-in-None g c =
+    let before = c.requires.under_way in
     let house = c.args.hub.now.house in
     let group = c.args.group.now in
     let mid = c.write_put.new.self in
@@ -57,5 +66,8 @@ returns-in-None-clause-way g c =
     let IsMade : List Request → Type 0 =
     λ requests. MakesWay {T = Unit {0}} (with_put house.setup (requests_in group) c.args.bidder c.args.script.now) (after_group house.setup requests) house house
     (Ok tt) in
-    subst IsMade (sym (put.1 c.requires.group.written).0)
-    (none_put house (requests_in group) c.args.bidder c.args.script.now c.requires.group.requests.close _ put.0)
+    record {
+      under_way = still_under_way c.args.hub.now group mid before put.1;
+      way = subst IsMade (sym (put.1 before.waits.written).0)
+          (none_put house (requests_in group) c.args.bidder c.args.script.now before.waits.requests.close _ put.0);
+    }

@@ -1,18 +1,19 @@
 use Rattle.std.proofs.Common.{◌≡◌, ◌++◌, ℕ, List, ap, ap₂, sym, subst, ◌∙◌}
-use Rattle.clock_sim.specs.inside.Groups.{ClosesNoRound, piece_at, requests_in, text_at}
-use Rattle.clock_sim.proofs.TurnLaws.{going_after_group, going_after_one}
+use Rattle.clock_sim.specs.inside.Groups.{ClosesNoRound, ComesUnderWay, piece_at, requests_in, text_at, with_request}
+use Rattle.clock_sim.proofs.TurnLaws.{sent_alone}
 use Rattle.clock_sim.proofs.groups.Group.send_alone.Goals as goal
 
-pub returns-clause-going : goal.returns-clause-going
-returns-clause-going g c =
-    let old = c.args.hub.now.house in
-    let mid = c.send_all.new.hub.house in
+pub returns : goal.returns
+returns g c =
+    let old = c.args.hub.now in
     let group = c.args.self.now in
+    let next = c.send_all.new.self in
     let texts = c.in_ok-send_all.ensures.texts in
-    let going = going_after_group (requests_in group) old mid _ c.requires.group.requests.close c.requires.going c.in_ok-send_all.ensures.step in
     let text : c.head.result.now ++ c.body.result.now ≡ text_at group c.args.written =
     ap₂ (λ (head body : List ℕ). head ++ body)
     (c.head.ensures ∙ ap (λ (items : List ℕ). piece_at items c.args.written.head) texts.0)
     (c.body.ensures ∙ ap (λ (items : List ℕ). piece_at items c.args.written.body) texts.1) in
-    going_after_one c.args.bidder c.args.round (c.head.result.now ++ c.body.result.now) mid c.send.new.hub.house c.send.result
-    (subst ClosesNoRound (sym text) c.requires.closes) going c.send.ensures
+    subst (λ (sent : List ℕ). ComesUnderWay (with_request old.house.setup (requests_in group) c.args.bidder c.args.round sent) old c.send.new.hub next
+    c.send.result) text
+    (sent_alone group next c.args.bidder c.args.round (c.head.result.now ++ c.body.result.now) old c.send_all.new.hub c.send.new.hub _ c.send.result
+    c.requires.under_way (subst ClosesNoRound (sym text) c.requires.closes) c.in_ok-send_all.ensures.step c.in_ok-send_all.ensures.none c.send.ensures)
