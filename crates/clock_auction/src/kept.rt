@@ -14,12 +14,21 @@ use clock_words::Serving;
 use std::alloc::Global;
 use std::fs::{File, OpenOptions, TryLockError};
 use std::io::{self, Read};
+use std::net::{Net, TcpListener, TcpStream};
 use std::os::unix::fs::OpenOptionsExt;
+use std::rt::Files;
 
 /// Serves an auction of the set-up in a file, and keeps it in a journal: takes the journal over, tells how many texts
 /// it has and the digest of the last, listens on 127.0.0.1, and serves so many connections, one after the other. The
 /// first fault ends it.
-pub fn serve_kept(rt: &HostRuntime, serving: &Serving, path: &str) -> Result<(), Fault> {
+pub fn serve_kept<R>(rt: &R, serving: &Serving, path: &str) -> Result<(), Fault>
+where
+    R: Files<File = File>
+        + Print
+        + Eprint
+        + Net<Listener = TcpListener, Stream = TcpStream>
+        + Alloc<A = Global>,
+{
     let document = file_bytes(rt, serving.setup)?;
     let digest = digest_of(document.as_slice());
     let front = front_in(rt.alloc(), document)?;
@@ -31,13 +40,19 @@ pub fn serve_kept(rt: &HostRuntime, serving: &Serving, path: &str) -> Result<(),
 }
 
 /// Takes the journal over, and serves connections by it.
-fn keep_and_serve(
-    rt: &HostRuntime,
+fn keep_and_serve<R>(
+    rt: &R,
     auction: &mut Auction<Woken>,
     digest: Link,
     serving: &Serving,
     path: &str,
 ) -> Result<(), Fault>
+where
+    R: Files<File = File>
+        + Print
+        + Eprint
+        + Net<Listener = TcpListener, Stream = TcpStream>
+        + Alloc<A = Global>,
     requires { StandsForTexts [] auction.old.front }
 {
     let journal = taken_over(rt, auction, digest, path)?;
@@ -48,12 +63,14 @@ fn keep_and_serve(
 }
 
 /// Tells what was taken over, listens, and serves connections.
-fn tell_and_serve(
-    rt: &HostRuntime,
+fn tell_and_serve<R>(
+    rt: &R,
     auction: &mut Auction<Woken>,
-    telling: &mut Telling<'_, HostRuntime, FileDisk<File>>,
+    telling: &mut Telling<'_, R, FileDisk<File>>,
     serving: &Serving,
 ) -> Result<(), Fault>
+where
+    R: Print + Net<Listener = TcpListener, Stream = TcpStream> + Alloc<A = Global>,
     requires { telling.old.has_failed ≡ false }
 {
     tell_journal(rt, auction.texts, telling.chain())?;
@@ -70,12 +87,14 @@ fn tell_and_serve(
 }
 
 /// The journal in a file that was taken over and is held by this server alone.
-fn taken_over(
-    rt: &HostRuntime,
+fn taken_over<R>(
+    rt: &R,
     auction: &mut Auction<Woken>,
     digest: Link,
     path: &str,
 ) -> Result<Journal<FileDisk<File>>, Fault>
+where
+    R: Files<File = File> + Eprint + Alloc<A = Global>,
     requires { StandsForTexts [] auction.old.front }
     ensures unfailed { IfOk result (λ journal. journal.has_failed ≡ false) }
 {
@@ -90,12 +109,14 @@ fn taken_over(
 }
 
 /// Takes up the auction from the bytes of a file.
-fn recovered_in(
-    rt: &HostRuntime,
+fn recovered_in<R>(
+    rt: &R,
     auction: &mut Auction<Woken>,
     digest: &Link,
     file: &File,
 ) -> Result<Recovered, Fault>
+where
+    R: Eprint + Alloc<A = Global>,
     requires { StandsForTexts [] auction.old.front }
 {
     let bytes = bytes_of(rt.alloc(), file)?;
@@ -113,13 +134,15 @@ fn recovered_in(
 }
 
 /// The journal that goes on, and whose file a loss of power leaves in its folder.
-fn resumed(
-    rt: &HostRuntime,
+fn resumed<R>(
+    rt: &R,
     file: File,
     digest: Link,
     recovered: Recovered,
     path: &str,
 ) -> Result<Journal<FileDisk<File>>, Fault>
+where
+    R: Files<File = File>,
     ensures unfailed { IfOk result (λ journal. journal.has_failed ≡ false) }
 {
     match Journal::resume(FileDisk::new(file), digest, recovered) {
@@ -135,7 +158,7 @@ fn resumed(
 }
 
 /// The file, which is made where there is none, readable by its owner alone, and locked.
-fn opened(rt: &HostRuntime, path: &str) -> Result<File, Fault> {
+fn opened<R: Files<File = File>>(rt: &R, path: &str) -> Result<File, Fault> {
     let mut how = OpenOptions::new();
     how.read(true).append(true).create(true).mode(0o600);
     let Ok(file) = how.open(rt, path) else {
@@ -171,7 +194,7 @@ pub fn bytes_of(alloc: Global, file: &File) -> Result<Vec<u8>, Fault> {
 }
 
 /// Puts the name of the file on the disk, which its folder holds.
-fn sync_folder(rt: &HostRuntime, path: &str) -> Result<(), Fault> {
+fn sync_folder<R: Files<File = File>>(rt: &R, path: &str) -> Result<(), Fault> {
     match File::open(rt, folder_of(path)) {
         Ok(folder) if folder.sync_all().is_ok() => Ok(()),
         _ => Err(Fault::Journal),
@@ -188,7 +211,7 @@ fn folder_of(path: &str) -> &str {
 }
 
 /// Tells how many texts were taken over, and the digest of the last.
-pub fn tell_journal(rt: &HostRuntime, texts: u64, chain: Link) -> Result<(), Fault> {
+pub fn tell_journal<R: Print>(rt: &R, texts: u64, chain: Link) -> Result<(), Fault> {
     let digest = Hex(chain);
     match println!(rt; "journal {texts} {digest}") {
         Ok(()) => Ok(()),

@@ -11,11 +11,15 @@ use clock_words::Serving;
 use std::alloc::Global;
 use std::fs::File;
 use std::io;
-use std::net::{Ipv4Addr, TcpListener};
+use std::net::{Ipv4Addr, Net, TcpListener, TcpStream};
+use std::rt::Files;
 
 /// Serves an auction of the set-up in a file: listens on 127.0.0.1, prints `ready` and the port, and
 /// serves so many connections, one after the other. The first fault ends it.
-pub fn serve(rt: &HostRuntime, serving: &Serving) -> Result<(), Fault> {
+pub fn serve<R>(rt: &R, serving: &Serving) -> Result<(), Fault>
+where
+    R: Files + Print + Net<Listener = TcpListener, Stream = TcpStream> + Alloc<A = Global>,
+{
     let document = file_bytes(rt, serving.setup)?;
     let mut front = front_in(rt.alloc(), document)?;
     let served = listen(rt, &mut front, serving);
@@ -34,7 +38,10 @@ pub fn front_in(alloc: Global, document: Text) -> Result<Front<Woken>, Fault>
 }
 
 /// Listens on a port, tells it, and serves connections by a front.
-fn listen(rt: &HostRuntime, front: &mut Front<Woken>, serving: &Serving) -> Result<(), Fault> {
+fn listen<R>(rt: &R, front: &mut Front<Woken>, serving: &Serving) -> Result<(), Fault>
+where
+    R: Print + Net<Listener = TcpListener, Stream = TcpStream> + Alloc<A = Global>,
+{
     let listener = listening(rt, serving.port)?;
     let served = serve_on(rt.alloc(), front, &listener, serving.connections);
     drop(listener);
@@ -42,7 +49,10 @@ fn listen(rt: &HostRuntime, front: &mut Front<Woken>, serving: &Serving) -> Resu
 }
 
 /// The port of this machine, listened on, which is told on standard output.
-pub fn listening(rt: &HostRuntime, port: u16) -> Result<TcpListener, Fault> {
+pub fn listening<R>(rt: &R, port: u16) -> Result<TcpListener, Fault>
+where
+    R: Print + Net<Listener = TcpListener, Stream = TcpStream>,
+{
     let Ok(listener) = TcpListener::bind(rt, (Ipv4Addr::LOCALHOST, port)) else {
         return Err(Fault::Bind);
     };
@@ -56,7 +66,7 @@ pub fn listening(rt: &HostRuntime, port: u16) -> Result<TcpListener, Fault> {
 }
 
 /// All bytes of a file.
-pub fn file_bytes(rt: &HostRuntime, path: &str) -> Result<Text, Fault> {
+pub fn file_bytes<R: Files + Alloc<A = Global>>(rt: &R, path: &str) -> Result<Text, Fault> {
     match File::open(rt, path) {
         Ok(file) => read_all(rt.alloc(), &mut FromReader::new(file)),
         Err(error) if error.kind() == io::ErrorKind::OutOfMemory => Err(Fault::Memory),

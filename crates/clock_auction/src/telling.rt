@@ -13,10 +13,15 @@ use clock_front::Front;
 use clock_journal::{Link, digest_of};
 use clock_queue::Woken;
 use clock_words::Files as Named;
+use std::alloc::Global;
 use std::fs::File;
+use std::rt::Files;
 
 /// Prints what a journal holds.
-pub fn tell_texts(rt: &HostRuntime, out: &mut impl Sink, named: &Named) -> Result<(), Fault> {
+pub fn tell_texts<R>(rt: &R, out: &mut impl Sink, named: &Named) -> Result<(), Fault>
+where
+    R: Files<File = File> + Print + Alloc<A = Global>,
+{
     let document = file_bytes(rt, named.setup)?;
     let first = digest_of(document.as_slice());
     drop(document);
@@ -29,7 +34,10 @@ pub fn tell_texts(rt: &HostRuntime, out: &mut impl Sink, named: &Named) -> Resul
 }
 
 /// What a journal holds, for the set-up document of a digest.
-fn listed(rt: &HostRuntime, first: Link, path: &str) -> Result<Listing, Fault> {
+fn listed<R>(rt: &R, first: Link, path: &str) -> Result<Listing, Fault>
+where
+    R: Files<File = File> + Alloc<A = Global>,
+{
     let bytes = journal_bytes(rt, path)?;
     let listing = listing_of(rt.alloc(), first, bytes.as_slice());
     drop(bytes);
@@ -37,7 +45,10 @@ fn listed(rt: &HostRuntime, first: Link, path: &str) -> Result<Listing, Fault> {
 }
 
 /// Prints an auction that is recounted from its journal.
-pub fn tell_audit(rt: &HostRuntime, out: &mut impl Sink, named: &Named) -> Result<(), Fault> {
+pub fn tell_audit<R>(rt: &R, out: &mut impl Sink, named: &Named) -> Result<(), Fault>
+where
+    R: Files<File = File> + Print + Alloc<A = Global>,
+{
     let document = file_bytes(rt, named.setup)?;
     let first = digest_of(document.as_slice());
     let front = front_in(rt.alloc(), document)?;
@@ -50,12 +61,9 @@ pub fn tell_audit(rt: &HostRuntime, out: &mut impl Sink, named: &Named) -> Resul
 }
 
 /// An auction that was recounted from the file of its journal.
-fn recounted_of(
-    rt: &HostRuntime,
-    front: Front<Woken>,
-    first: Link,
-    path: &str,
-) -> Result<Recount, Fault>
+fn recounted_of<R>(rt: &R, front: Front<Woken>, first: Link, path: &str) -> Result<Recount, Fault>
+where
+    R: Files<File = File> + Alloc<A = Global>,
     requires { StandsForTexts [] front }
     ensures { IfOk result (λ recount. IsSomeRecount recount.front recount.chain recount.digests.items) }
 {
@@ -85,7 +93,10 @@ fn tell_text(out: &mut impl Sink, made: Result<Text, Fault>) -> Result<(), Fault
 }
 
 /// All bytes of a journal.
-fn journal_bytes(rt: &HostRuntime, path: &str) -> Result<Vec<u8>, Fault> {
+fn journal_bytes<R: Files<File = File> + Alloc<A = Global>>(
+    rt: &R,
+    path: &str,
+) -> Result<Vec<u8>, Fault> {
     match File::open(rt, path) {
         Ok(file) if is_plain(&file) => bytes_of(rt.alloc(), &file),
         _ => Err(Fault::Journal),
