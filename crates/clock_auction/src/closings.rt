@@ -36,7 +36,9 @@ impl<'a, R, D: Durable> Telling<'a, R, D> {
     }
 
     /// The digest of the last text.
-    pub fn chain(&self) -> Link {
+    pub fn chain(&self) -> Link
+        ensures { result ≡ self.now.chain }
+    {
         *self.journal.chain()
     }
 }
