@@ -11,13 +11,14 @@ use Rattle.clock_front.specs.Fronts.{StandsForTexts, commands_of}
 use Rattle.clock_http.specs.Replies.{Answer}
 use Rattle.clock_front.specs.Headline.{Runs, IsRun}
 use Rattle.clock_front.proofs.RunLaws.{IsUnderWay, step}
-use Rattle.clock_front.specs.declared.connections.Conn.{Conn}
-use Rattle.clock_front.specs.declared.events.Event.{Event}
-use Rattle.clock_front.specs.declared.events.Event.TheVariants.{Connect, Piece, Finish}
+use Rattle.clock_connections.specs.declared.connections.Conn.{Conn}
+use Rattle.clock_connections.specs.declared.event.Event.{Event}
+use Rattle.clock_connections.specs.declared.event.Event.TheVariants.{Connect, Piece, Finish}
 use Rattle.clock_front.specs.declared.events.EventReply.{EventReply}
-use Rattle.clock_front.specs.Pieces.{Numbered, completed, after, and_then, requests_from, requests_of}
-use Rattle.clock_front.specs.Hubs.{ConnectionFields}
-use Rattle.clock_front.specs.inside.NumberedHubs.{Stands, HasCompleted}
+use Rattle.clock_connections.specs.Pieces.{Numbered, completed, after, and_then, requests_from, requests_of}
+use Rattle.clock_connections.specs.Connections.{ConnectionFields}
+use Rattle.clock_connections.specs.inside.Numbers.{Stands}
+use Rattle.clock_front.specs.inside.NumberedHubs.{HasCompleted}
 use Rattle.clock_front.specs.Headline.{IsEventRun}
 use Rattle.clock_front.specs.inside.EventRuns.{kept, numbers_of, numbers_of_requests, texts_of, answers_of}
 

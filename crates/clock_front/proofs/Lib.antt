@@ -8,7 +8,6 @@ pub mod RunLaws
 mod ConnectionLaws
 mod NumberedLaws
 mod EventLaws
-mod ArrivalLaws
 mod StreamLaws
 pub mod AskerLaws
 pub mod TextViews

@@ -9,14 +9,15 @@ use Rattle.clock_http.specs.declared.code.Code.{Code}
 use Rattle.clock_http.specs.declared.routes.Page.{Page}
 use Rattle.clock_http.specs.Replies.{Answer, reply_bytes}
 use Rattle.clock_front.specs.Outcomes.{with_page}
+use Rattle.clock_front.specs.inside.KeptPage.{head_room}
 
 -- a reply whose page was added to a text with room for a head
 pub written_page : (told : Answer) (code : Code) (allowed : Option Page) (text new : List ℕ) (value : Data)
-    → told ≡ record { code = code; bytes = reply_bytes code allowed (drop 256 new) } → length text ≡ 256 → Adds (compact_text value) text new
+    → told ≡ record { code = code; bytes = reply_bytes code allowed (drop head_room new) } → length text ≡ head_room → Adds (compact_text value) text new
     → told ≡ with_page code allowed value
 written_page told code allowed text new value is size added =
     let made : List ℕ → Answer = λ page. record { code = code; bytes = reply_bytes code allowed page } in
-    is ∙ ap made (ap (drop 256) added.is ∙ ap (λ n. drop n (text ++ compact_text value)) (sym size) ∙ drop-append_seam text (compact_text value))
+    is ∙ ap made (ap (drop head_room) added.is ∙ ap (λ n. drop n (text ++ compact_text value)) (sym size) ∙ drop-append_seam text (compact_text value))
 
 -- what a bidder holds, put together
 pub held_is : (held : Holding) (eligibility : ℕ) (demands : List ℕ) → eligibility ≡ held.eligibility → demands ≡ held.demands

@@ -17,12 +17,12 @@ use Rattle.clock_terms.specs.Limits.{SetupFields, public_setup}
 use Rattle.clock_house.specs.History.{history, bidder_at}
 use Rattle.clock_house.specs.Laws.{IsSound}
 use Rattle.clock_http.specs.Replies.{Answer}
-use Rattle.clock_front.specs.declared.events.Event.{Event}
+use Rattle.clock_connections.specs.declared.event.Event.{Event}
 use Rattle.clock_front.specs.declared.events.EventReply.{EventReply}
 use Rattle.clock_front.specs.Askers.{HasOwnTokens}
 use Rattle.clock_front.specs.Fronts.{reply, commands_of, IsStruckOut}
 use Rattle.clock_front.specs.Views.{is_own, text_view, answer}
-use Rattle.clock_front.specs.Pieces.{requests_of}
+use Rattle.clock_connections.specs.Pieces.{requests_of}
 
 -- a bidder sees the same in two runs, of which the set-ups may differ in all but the public part and its row
 pub record SeesTheSame (one two : SetupFields) (bidder other_number : ℕ) (past other_past : List (List ℕ)) : Type 0 where

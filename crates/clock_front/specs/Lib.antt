@@ -3,9 +3,7 @@ pub mod Askers
 pub mod Requests
 pub mod Outcomes
 pub mod Fronts
-pub mod Pieces
 pub mod Hubs
-pub mod Arrivals
 pub mod Streamed
 pub mod Views
 pub mod Headline

@@ -12,7 +12,7 @@ use Rattle.clock_front.specs.Fronts.{AnswersText, IsStruckOut, StandsForTexts}
 use Rattle.clock_front.specs.Private.{IsPrivateReply}
 use Rattle.clock_device.specs.Told.{Reading, Writing}
 use Rattle.clock_device.specs.Writings.{WritesWhole, WritesFront, WritesNothing}
-use Rattle.clock_front.specs.Arrivals.{HasArrived, IsNotRead, HasNoRoom}
+use Rattle.clock_connections.specs.Arrivals.{HasArrived, IsNotRead, HasNoRoom}
 use Rattle.clock_front.specs.declared.stream_fault.StreamFault.{StreamFault}
 use Rattle.clock_front.specs.declared.stream_fault.StreamFault.TheVariants as fault
 

@@ -1,5 +1,4 @@
 -- What only proofs and private functions use: no clause of a public call cites it.
-pub mod Arrivals
 pub mod Askers
 pub mod EventRuns
 pub mod FixedReplies

@@ -1,30 +1,16 @@
 ghost use Rattle.std.specs.Prelude.{[], IfOk};
 ghost use Rattle.clock_front.specs.Headline.{IsEventRun};
 ghost use Rattle.clock_front.specs.Fronts.{StandsForTexts};
-ghost use Rattle.clock_front.specs.inside.NumberedHubs.{Stands};
+ghost use Rattle.clock_connections.specs.inside.Numbers.{Stands};
 
 use crate::front::Front;
 use crate::numbered::NumberedHub;
-use clock_device::{Items, NoMemory, Text};
+use clock_connections::Event;
+use clock_device::{Items, NoMemory};
 use clock_http::Reply;
 use clock_processor::Processor;
 use clock_terms::Setup;
 use std::alloc::Global;
-
-/// What comes of connections, which are numbered from 0 as they are asked for, those that are refused too.
-///
-/// - `Connect`: one more is asked for. It is refused where 256 stand.
-/// - `Piece`: bytes of a connection's request.
-/// - `Finish`: the end of a connection's input.
-///
-/// A piece and an end do nothing where the connection was refused, its request was answered, or it was not asked for
-/// yet.
-#[derive(Drop)]
-pub enum Event {
-    Connect,
-    Piece(u64, Text),
-    Finish(u64),
-}
 
 /// The reply to the request of the connection of a number.
 #[derive(Drop)]

@@ -1,14 +1,14 @@
 ghost use Rattle.std.specs.Prelude.{◌≡◌, ◌++◌, ℕ, true, List, [], Some, IfNone, IfOk, IfErr, IfSome, OnErr, OnOk, IsSome};
 ghost use Rattle.clock_front.specs.Fronts.{IsCutShort};
 ghost use Rattle.clock_http.specs.Framing.{needs_more};
-ghost use Rattle.clock_front.specs.Hubs.{text_of, IsConnected, IsConnectFault, IsFed, IsFeedFault, IsAnswered, IsFinishFault};
+ghost use Rattle.clock_connections.specs.Connections.{text_of, IsConnected, IsConnectFault};
+ghost use Rattle.clock_front.specs.Hubs.{IsFed, IsFeedFault, IsAnswered, IsFinishFault};
 ghost use Rattle.clock_front.specs.declared.fed.Fed.TheVariants as fed;
 ghost use Rattle.clock_front.specs.inside.Hubs.{hub_of};
 
-use crate::connections::{Conn, Connections};
 use crate::fed::Fed;
 use crate::front::Front;
-use crate::hub_fault::HubFault;
+use clock_connections::{Conn, Connections, HubFault};
 use clock_device::NoMemory;
 use clock_http::Reply;
 use clock_processor::Processor;
@@ -27,7 +27,7 @@ pub struct Hub<P> {
 
 impl<P> Model for Hub<P> {
     ghost use Rattle.clock_front.specs.Hubs.{HubFields};
-    ghost use Rattle.clock_front.specs.inside.Hubs.{AllNeedMore};
+    ghost use Rattle.clock_connections.specs.inside.Waiting.{AllNeedMore};
 
     ghost Value = { HubFields };
 

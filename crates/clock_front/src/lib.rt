@@ -7,16 +7,13 @@
 //! [`serve_stream`] reads one request out of a source, as far as it is needed, and writes its reply to a sink.
 #![tactic(auto)]
 
-mod arrival;
 mod asked;
 mod commands;
-mod connections;
 mod events;
 mod fed;
 mod fixed_replies;
 mod front;
 mod hub;
-mod hub_fault;
 mod numbered;
 mod pages;
 mod runs;
@@ -26,16 +23,14 @@ mod telling;
 mod tokens;
 mod unanswered;
 
-pub use arrival::{Unread, read_request};
 pub use clock_bodies::{BodyFault, CloseBody, PutBody, read_close, read_put};
+pub use clock_connections::{Conn, Event, HubFault, Unread, read_request};
 pub use clock_http::{Arriving, EndedHead, Framing, Head, Page, Progress, Reply, frame};
-pub use connections::Conn;
-pub use events::{Event, EventReplies, EventReply, run_events};
+pub use events::{EventReplies, EventReply, run_events};
 pub use fed::Fed;
 pub use fixed_replies::no_memory_reply;
 pub use front::Front;
 pub use hub::Hub;
-pub use hub_fault::HubFault;
 pub use runs::{Replies, run};
 pub use stream::serve_stream;
 pub use stream_fault::StreamFault;

@@ -1,14 +1,15 @@
 ghost use Rattle.std.specs.Prelude.{◌≡◌, ◌<◌, [], length, Some, None, OnOk, IfOk};
-ghost use Rattle.clock_front.specs.Pieces.{Numbered, completed, after};
-ghost use Rattle.clock_front.specs.inside.NumberedHubs.{Stands, HasCompleted, conn_at};
-ghost use Rattle.clock_front.specs.declared.events.Event.TheVariants as events;
+ghost use Rattle.clock_connections.specs.Pieces.{Numbered, completed, after};
+ghost use Rattle.clock_connections.specs.Connections.{most_serials};
+ghost use Rattle.clock_connections.specs.inside.Numbers.{Stands, conn_at};
+ghost use Rattle.clock_front.specs.inside.NumberedHubs.{HasCompleted};
+ghost use Rattle.clock_connections.specs.declared.event.Event.TheVariants as events;
 
-use crate::connections::Conn;
-use crate::events::{Event, EventReply};
+use crate::events::EventReply;
 use crate::fed::Fed;
 use crate::front::Front;
 use crate::hub::Hub;
-use crate::hub_fault::HubFault;
+use clock_connections::{Conn, Event, HubFault};
 use clock_device::{Items, NoMemory};
 use clock_processor::Processor;
 use std::alloc::Global;
@@ -44,7 +45,7 @@ impl<P: Processor> NumberedHub<P> {
 
     /// One more connection is asked for.
     fn connect(&mut self) -> Result<(), NoMemory>
-        requires { length self.old.conns < 18446744073709551615 }
+        requires { length self.old.conns < most_serials }
         ensures stands { (numbered : Numbered) → Stands numbered self.old.hub.connections self.old.conns
             → OnOk result (Stands (after numbered events.Connect) self.new.hub.connections self.new.conns) }
         ensures house { self.new.hub.house ≡ self.old.hub.house }
@@ -96,7 +97,7 @@ impl<P: Processor> NumberedHub<P> {
 
     /// Takes an event, and tells the reply to the request that it completes.
     pub fn take_event(&mut self, event: &Event) -> Result<Option<EventReply>, NoMemory>
-        requires { length self.old.conns < 18446744073709551615 }
+        requires { length self.old.conns < most_serials }
         ensures stands { (numbered : Numbered) → Stands numbered self.old.hub.connections self.old.conns
             → OnOk result (Stands (after numbered event.now) self.new.hub.connections self.new.conns) }
         ensures told { (numbered : Numbered) → Stands numbered self.old.hub.connections self.old.conns

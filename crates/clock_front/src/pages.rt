@@ -5,7 +5,7 @@ ghost use Rattle.clock_front.specs.declared.tokens.Asker.TheVariants as who;
 ghost use Rattle.clock_front.specs.Outcomes.{answer_of, done, not_allowed as told_not_allowed, refused, told};
 ghost use Rattle.clock_front.specs.Rooms.{refusal_room, reply_room};
 ghost use Rattle.clock_http.specs.Replies.{reply_bytes};
-ghost use Rattle.clock_front.specs.inside.KeptPage.{IsProductsPage};
+ghost use Rattle.clock_front.specs.inside.KeptPage.{IsProductsPage, head_room};
 ghost use Rattle.clock_terms.specs.Limits.{SetupFields, public_setup};
 ghost use Rattle.clock_views.specs.PublicPages.{products_value};
 ghost use Rattle.clock_front.specs.inside.Roomless.{without_room};
@@ -24,8 +24,8 @@ use std::alloc::Global;
 
 /// The reply whose page stands in a text behind the room for its head.
 pub(crate) fn written(code: Code, allowed: Option<Page>, text: Bounded<u8>) -> Reply
-    requires { 256 ≤ length text.items }
-    ensures { result ≡ record { code = code; bytes = reply_bytes code allowed (drop 256 text.items) } }
+    requires { head_room ≤ length text.items }
+    ensures { result ≡ record { code = code; bytes = reply_bytes code allowed (drop head_room text.items) } }
 {
     Reply::written(code, allowed, text.into_items())
 }

@@ -1,13 +1,13 @@
 ghost use Rattle.std.specs.Prelude.{◌≡◌, ◌≤◌, ℕ, List, MatchOption};
 ghost use Rattle.clock_device.specs.Told.{IsUnread, IsUnused, Reading};
-ghost use Rattle.clock_front.specs.Arrivals.{most_request_reads};
+ghost use Rattle.clock_connections.specs.Arrivals.{most_request_reads};
 ghost use Rattle.clock_front.specs.Fronts.{StandsForTexts};
 ghost use Rattle.clock_front.specs.Streamed.{HasServed, IsAnswerTo, IsServed, IsLeftUnread};
 
-use crate::arrival::{Unread, read_request};
 use crate::fixed_replies::no_memory_reply;
 use crate::front::Front;
 use crate::stream_fault::StreamFault;
+use clock_connections::{Unread, read_request};
 use clock_device::{Sink, Source, write_all};
 use clock_http::{Code, Reply};
 use clock_processor::Processor;

@@ -1,7 +1,7 @@
 ghost use Rattle.std.specs.Prelude.{◌≡◌, ◌≤◌, ℕ, List, [], length, IfOk, OnOk, if◌then◌else◌};
 ghost use Rattle.clock_front.specs.Askers as askers;
 ghost use Rattle.clock_front.specs.inside.Askers.{IsKnown};
-ghost use Rattle.clock_terms.specs.Limits.{SetupFields};
+ghost use Rattle.clock_terms.specs.Limits.{SetupFields, most_bidders};
 ghost use Rattle.clock_front.specs.inside.HeldTokens.{found, IsTableOf};
 ghost use Rattle.clock_http.specs.Heads.{same_bytes};
 ghost use Rattle.clock_http.specs.Shown.{shown_bytes};
@@ -36,7 +36,7 @@ fn add(alloc: Global, tokens: &mut Tokens, token: &[u8], asker: Asker) -> Result
 
 /// The bidders' tokens.
 fn add_bidders(alloc: Global, tokens: &mut Tokens, bidders: &[Bidder]) -> Result<(), NoMemory>
-    requires few { length bidders.now ≤ 512 }
+    requires few { length bidders.now ≤ most_bidders }
     requires empty { (token : List ℕ) → found tokens.old.entries token ≡ askers.holder [] token }
     ensures { OnOk result ((token : List ℕ) → found tokens.new.entries token
         ≡ askers.holder (askers.bidder_tokens 0 bidders.now) token) }

@@ -15,7 +15,7 @@ use Rattle.clock_house.specs.House.{HouseFields}
 use Rattle.clock_http.specs.Replies.{Answer}
 use Rattle.clock_device.specs.Told.{Writing}
 use Rattle.clock_device.specs.Writings.{WritesWhole, WritesFront, WritesNothing}
-use Rattle.clock_front.specs.Arrivals.{HasArrived, HasNoRoom, IsNotRead}
+use Rattle.clock_connections.specs.Arrivals.{HasArrived, HasNoRoom, IsNotRead}
 use Rattle.clock_front.specs.FixedReplies.{no_memory}
 use Rattle.clock_front.specs.Fronts.{IsStruckOut, StandsForTexts}
 use Rattle.clock_front.specs.Headline.{IsRight}

@@ -10,8 +10,9 @@ use Rattle.clock_terms.specs.Limits.{SetupFields}
 use Rattle.clock_terms.specs.Faults.{◌>>=◌}
 use Rattle.clock_house.specs.House.{HouseFields}
 use Rattle.clock_http.specs.Framing.{needs_more}
-use Rattle.clock_front.specs.Hubs.{ConnectionFields, HubFields, text_of, KeepsOthers, IsConnected, IsFed}
-use Rattle.clock_front.specs.declared.connections.Conn.{Conn}
+use Rattle.clock_connections.specs.Connections.{ConnectionFields, text_of, KeepsOthers, IsConnected}
+use Rattle.clock_front.specs.Hubs.{HubFields, IsFed}
+use Rattle.clock_connections.specs.declared.connections.Conn.{Conn}
 use Rattle.clock_front.specs.declared.fed.Fed.{Fed}
 use Rattle.clock_front.specs.declared.fed.Fed.TheVariants.{More, Reply}
 use Rattle.clock_sim.specs.declared.sim_fault.SimFault.{SimFault}

@@ -11,8 +11,8 @@ use Rattle.clock_front.specs.Private.{IsPrivateReply}
 use Rattle.clock_http.specs.Replies.{Answer}
 use Rattle.clock_front.specs.Requests.{Request, request_of, ask_of}
 use Rattle.clock_front.specs.Hubs.{HubFields, IsFed, IsAnswered}
-use Rattle.clock_front.specs.declared.connections.Conn.{Conn}
-use Rattle.clock_front.specs.declared.hub_fault.HubFault.{HubFault}
+use Rattle.clock_connections.specs.declared.connections.Conn.{Conn}
+use Rattle.clock_connections.specs.declared.hub_fault.HubFault.{HubFault}
 use Rattle.clock_front.specs.declared.fed.Fed.TheVariants.{More}
 
 -- a piece came, and then the input ended

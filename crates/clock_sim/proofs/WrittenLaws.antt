@@ -5,7 +5,7 @@ use Rattle.std.proofs.lemmas.List.{take-append-le, drop-append-le, length-append
 use Rattle.std.proofs.lemmas.List.Elements.{All-tail}
 use Rattle.std.specs.Prelude.{Result, Ok, Err, IfOk}
 use Rattle.clock_device.specs.declared.no_memory.NoMemory.{NoMemory}
-use Rattle.clock_front.specs.Hubs.{ConnectionFields}
+use Rattle.clock_connections.specs.Connections.{ConnectionFields}
 use Rattle.clock_views.specs.Values.{Adds}
 use Rattle.clock_sim.specs.declared.groups.Place.{Place}
 use Rattle.clock_sim.specs.declared.groups.Written.{Written}

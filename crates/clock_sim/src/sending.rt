@@ -1,7 +1,8 @@
 //! A request is sent over a connection of its own, its head before its body.
 
 ghost use Rattle.std.specs.Prelude.{◌≡◌, ◌++◌, ℕ, List, Some, IfOk, OnOk, OnErr};
-ghost use Rattle.clock_front.specs.Hubs.{text_of, IsAnswered, KeepsOthers};
+ghost use Rattle.clock_connections.specs.Connections.{text_of, KeepsOthers};
+ghost use Rattle.clock_front.specs.Hubs.{IsAnswered};
 ghost use Rattle.clock_sim.specs.Rehearsal as rules;
 ghost use Rattle.clock_sim.specs.inside.Steps.{IsTold, MakesStep};
 

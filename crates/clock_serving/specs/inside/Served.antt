@@ -9,7 +9,7 @@ use Rattle.clock_device.specs.Told.{Reading}
 use Rattle.clock_device.specs.Writings.{WritesNothing}
 use Rattle.clock_house.specs.House.{HouseFields}
 use Rattle.clock_http.specs.Replies.{Answer}
-use Rattle.clock_front.specs.Arrivals.{HasArrived, HasNoRoom}
+use Rattle.clock_connections.specs.Arrivals.{HasArrived, HasNoRoom}
 use Rattle.clock_front.specs.FixedReplies.{no_memory}
 use Rattle.clock_front.specs.Fronts.{AnswersText}
 use Rattle.clock_front.specs.Streamed.{IsLeftUnread}

@@ -20,8 +20,9 @@ use Rattle.clock_terms.specs.Limits.{SetupFields}
 use Rattle.clock_terms.specs.Faults.{◌>>=◌}
 use Rattle.clock_http.specs.HeaderLines.{body_limit}
 use Rattle.clock_http.specs.Framing.{needs_more}
-use Rattle.clock_front.specs.Hubs.{ConnectionFields, HubFields, text_of}
-use Rattle.clock_front.specs.declared.connections.Conn.{Conn}
+use Rattle.clock_connections.specs.Connections.{ConnectionFields, text_of}
+use Rattle.clock_front.specs.Hubs.{HubFields}
+use Rattle.clock_connections.specs.declared.connections.Conn.{Conn}
 use Rattle.clock_sim.specs.declared.groups.Place.{Place}
 use Rattle.clock_sim.specs.declared.groups.Written.{Written}
 use Rattle.clock_sim.specs.declared.groups.Waiting.{Waiting}

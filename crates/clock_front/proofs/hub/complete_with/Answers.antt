@@ -1,5 +1,5 @@
 use Rattle.std.proofs.Common.{◌++◌}
-use Rattle.clock_front.specs.Hubs.{text_of}
+use Rattle.clock_connections.specs.Connections.{text_of}
 use Rattle.clock_front.proofs.ConnectionLaws.{some_text}
 use Rattle.clock_front.proofs.hub.complete_with.Goals as goal
 

@@ -1,5 +1,5 @@
 use Rattle.std.proofs.Common.{◌++◌, is_some, sym, ◌∙◌, ap}
-use Rattle.clock_front.specs.Hubs.{text_of}
+use Rattle.clock_connections.specs.Connections.{text_of}
 use Rattle.clock_front.specs.inside.Hubs.{hub_of}
 use Rattle.clock_front.proofs.ConnectionLaws.{some_text, fed_and_answered}
 use Rattle.clock_front.proofs.hub.feed_on.Goals as goal

@@ -1,6 +1,6 @@
 use Rattle.std.proofs.Common.{◌≡◌, List, ℕ, inl, sym, subst}
 use Rattle.clock_device.specs.Told.{Reading}
-use Rattle.clock_front.specs.Arrivals.{HasArrived}
+use Rattle.clock_connections.specs.Arrivals.{HasArrived}
 use Rattle.clock_serving.proofs.serving.answer_source.Goals as goal
 
 -- the bytes that are looked at are those of the request

@@ -1,7 +1,8 @@
 use Rattle.std.proofs.Common.{◌≡◌, ◌++◌, ℕ, List, [], Some, ap, subst, ◌∙◌}
 use Rattle.clock_house.specs.House.{HouseFields}
 use Rattle.clock_front.specs.Fronts.{AnswersText}
-use Rattle.clock_front.specs.Hubs.{text_of, IsFed}
+use Rattle.clock_connections.specs.Connections.{text_of}
+use Rattle.clock_front.specs.Hubs.{IsFed}
 use Rattle.clock_front.specs.declared.fed.Fed.{Fed}
 use Rattle.clock_front.specs.declared.fed.Fed.TheVariants.{Reply}
 use Rattle.clock_sim.proofs.SendLaws.{answered_early}

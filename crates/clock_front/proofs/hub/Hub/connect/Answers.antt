@@ -1,4 +1,4 @@
-use Rattle.clock_front.proofs.ConnectionLaws.{connect_keeps}
+use Rattle.clock_connections.proofs.WaitingLaws.{connect_keeps}
 use Rattle.clock_front.proofs.hub.Hub.connect.Goals as goal
 
 pub invariant_of-self : goal.invariant_of-self

@@ -1,8 +1,10 @@
 use Rattle.std.proofs.Common.{◌++◌, [], ◌∷◌, Option, None, sym, subst}
-use Rattle.clock_front.specs.declared.connections.Conn.{Conn}
-use Rattle.clock_front.specs.Hubs.{HubFields, IsConnectFault}
-use Rattle.clock_front.specs.inside.NumberedHubs.{opened, Stands}
-use Rattle.clock_front.proofs.NumberedLaws.{then_ok, connected_stands, refused_stands}
+use Rattle.clock_connections.specs.declared.connections.Conn.{Conn}
+use Rattle.clock_connections.specs.Connections.{IsConnectFault}
+use Rattle.clock_front.specs.Hubs.{HubFields}
+use Rattle.clock_connections.specs.inside.Numbers.{opened, Stands}
+use Rattle.clock_connections.proofs.NumberLaws.{connected_stands, refused_stands}
+use Rattle.clock_front.proofs.NumberedLaws.{then_ok}
 use Rattle.clock_front.proofs.numbered.NumberedHub.connect.Goals as goal
 use Rattle.clock_front.proofs.numbered.NumberedHub.connect.Goals.{in-Ok, in-Err-Full, in-Err-Unknown}
 

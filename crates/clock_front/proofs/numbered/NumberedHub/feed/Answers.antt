@@ -1,8 +1,9 @@
 use Rattle.std.proofs.Common.{◌≡◌, ◌++◌, ℕ, List, Some, refl, sym, subst}
 use Rattle.clock_front.specs.declared.fed.Fed.{Fed}
 use Rattle.clock_front.specs.declared.fed.Fed.TheVariants.{More, Reply}
-use Rattle.clock_front.specs.Hubs.{text_of, IsFed}
-use Rattle.clock_front.specs.Pieces.{text_at}
+use Rattle.clock_connections.specs.Connections.{text_of}
+use Rattle.clock_front.specs.Hubs.{IsFed}
+use Rattle.clock_connections.specs.Pieces.{text_at}
 use Rattle.clock_front.proofs.NumberedLaws.{more_stands, answered_stands}
 use Rattle.clock_front.proofs.numbered.NumberedHub.feed.Goals as goal
 

@@ -1,5 +1,5 @@
 use Rattle.std.proofs.Common.{refl, sym}
-use Rattle.clock_front.specs.Pieces.{text_at}
+use Rattle.clock_connections.specs.Pieces.{text_at}
 use Rattle.clock_front.proofs.NumberedLaws.{finished_stands}
 use Rattle.clock_front.proofs.numbered.NumberedHub.finish.Goals as goal
 

@@ -1,5 +1,6 @@
 use Rattle.std.proofs.Common.{◌≡◌, ◌++◌, ℕ, List, length, Some, ◌∙◌, ap, subst₂, arith}
-use Rattle.clock_front.specs.Hubs.{text_of, IsFed}
+use Rattle.clock_connections.specs.Connections.{text_of}
+use Rattle.clock_front.specs.Hubs.{IsFed}
 use Rattle.clock_sim.specs.declared.groups.Waiting.{Waiting}
 use Rattle.clock_sim.specs.inside.Groups.{Request, request_in, requests_in, piece_at}
 use Rattle.clock_sim.proofs.GroupLaws.{head_came}

@@ -1,6 +1,6 @@
 use Rattle.std.proofs.Common.{◌≡◌, Ok, Err, List, ℕ, length, Some, ◌++◌, ap, ◌∙◌, arith, subst₂}
 use Rattle.std.proofs.lemmas.Result.{err_from_is_err_and}
-use Rattle.clock_front.specs.Hubs.{text_of, KeepsOthers}
+use Rattle.clock_connections.specs.Connections.{text_of, KeepsOthers}
 use Rattle.clock_sim.specs.declared.groups.Waiting.{Waiting}
 use Rattle.clock_sim.specs.Rehearsal.{after_request}
 use Rattle.clock_sim.specs.inside.Groups.{Request, after_group, request_in, requests_in, piece_at}

@@ -3,8 +3,8 @@ ghost use Rattle.clock_device.specs.Calls.{count_after};
 ghost use Rattle.clock_device.specs.Told.{IsUnread};
 ghost use Rattle.clock_http.specs.Framing.{needs_more};
 ghost use Rattle.clock_device.specs.inside.Readings.{GrowsByOneAtMost};
-ghost use Rattle.clock_front.specs.Arrivals.{most_request_reads, EndsArrival};
-ghost use Rattle.clock_front.specs.inside.Arrivals.{IsStepOf, is_read_fault};
+ghost use Rattle.clock_connections.specs.Arrivals.{most_request_reads, EndsArrival};
+ghost use Rattle.clock_connections.specs.inside.Arrivals.{IsStepOf, is_read_fault};
 
 use clock_device::{NoMemory, Source, Stop, room_for_read};
 use clock_http::Arriving;
@@ -26,7 +26,7 @@ pub enum Unread {
 }
 
 impl From<NoMemory> for Unread {
-    ghost use Rattle.clock_front.specs.declared.arrival.Unread.TheVariants as unread;
+    ghost use Rattle.clock_connections.specs.declared.arrival.Unread.TheVariants as unread;
 
     ghost from_gives = { λ _ fault. fault ≡ unread.Memory };
 

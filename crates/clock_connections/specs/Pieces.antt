@@ -7,12 +7,9 @@
 use Rattle.std.specs.Prelude.{ℕ, ◌++◌, List, [], ◌∷◌, Option, Some, None, option_map, option_and_then, if◌then◌else◌, nat_lt}
 use Rattle.std.specs.Prelude.{is_some, count_by, slice_index_or, slice_set}
 use Rattle.clock_http.specs.Framing.{needs_more}
-use Rattle.clock_front.specs.declared.events.Event.{Event}
-use Rattle.clock_front.specs.declared.events.Event.TheVariants.{Connect, Piece, Finish}
-
--- the most connections that stand at once (own limit)
-abbrev pub most_connections : ℕ
-most_connections = 256
+use Rattle.clock_connections.specs.Connections.{most_connections}
+use Rattle.clock_connections.specs.declared.event.Event.{Event}
+use Rattle.clock_connections.specs.declared.event.Event.TheVariants.{Connect, Piece, Finish}
 
 -- for each number the pieces that came, joined; nothing where the connection was refused, or its request is complete
 abbrev pub Numbered : Type 0

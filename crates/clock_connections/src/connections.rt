@@ -1,7 +1,7 @@
 ghost use Rattle.std.specs.Prelude.{◌≡◌, ◌++◌, ℕ, List, [], Some, IfOk, IfErr, IfSome, OnErr, OnOk, OnSome, false, is_some, IsSome};
 ghost use Rattle.clock_http.specs.Framing.{needs_more};
 ghost use Rattle.clock_http.specs.Shown.{IsFramed};
-ghost use Rattle.clock_front.specs.Hubs.{text_of, IsConnected, IsConnectFault, IsTaken, IsGone};
+ghost use Rattle.clock_connections.specs.Connections.{text_of, IsConnected, IsConnectFault, IsTaken, IsGone};
 
 use crate::hub_fault::HubFault;
 use clock_device::NoMemory;
@@ -20,11 +20,19 @@ pub struct Conn {
     serial: u64,
 }
 
-/// A request on its way over a connection, and the connection's serial number.
+/// A connection that stands: its serial number, and the request on its way over it.
 #[derive(Drop)]
 pub struct Partial {
     serial: u64,
     text: Arriving,
+}
+
+impl Model for Partial {
+    ghost use Rattle.clock_connections.specs.Connections.{OpenConnection};
+
+    ghost Value = { OpenConnection };
+
+    ghost view = { λ p. record { serial = p.serial; text = p.text } };
 }
 
 /// The connections that stand, each with its request on its way.
@@ -36,7 +44,7 @@ pub struct Connections {
 }
 
 impl Model for Connections {
-    ghost use Rattle.clock_front.specs.Hubs.{ConnectionFields};
+    ghost use Rattle.clock_connections.specs.Connections.{ConnectionFields};
 
     ghost Value = { ConnectionFields };
 

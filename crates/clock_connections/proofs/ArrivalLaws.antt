@@ -4,10 +4,10 @@ use Rattle.clock_device.specs.Streams.{HasRead}
 use Rattle.clock_device.proofs.Streams.{read_nothing, read_twice, same_bytes}
 use Rattle.clock_http.specs.Framing.{framing, needs_more}
 use Rattle.clock_device.specs.Told.{IsUnread, Reading, SourceTold}
-use Rattle.clock_front.specs.Arrivals.{IsReadByNeed, HasArrived, HasNoRoom, EndsArrival}
-use Rattle.clock_front.specs.inside.Arrivals.{IsStepOf, is_read_fault}
-use Rattle.clock_front.specs.declared.arrival.Unread.{Unread}
-use Rattle.clock_front.specs.declared.arrival.Unread.TheVariants as unread
+use Rattle.clock_connections.specs.Arrivals.{IsReadByNeed, HasArrived, HasNoRoom, EndsArrival}
+use Rattle.clock_connections.specs.inside.Arrivals.{IsStepOf, is_read_fault}
+use Rattle.clock_connections.specs.declared.arrival.Unread.{Unread}
+use Rattle.clock_connections.specs.declared.arrival.Unread.TheVariants as unread
 
 pub nothing_needs_more : needs_more [] ≡ true
 unfolding framing

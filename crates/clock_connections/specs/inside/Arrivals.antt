@@ -3,9 +3,9 @@
 use Rattle.std.specs.Prelude.{◌≡◌, ◌++◌, ℕ, List, [], Option, Bool, true, false, Result, Ok, Err}
 use Rattle.clock_device.specs.Streams.{HasRead}
 use Rattle.clock_http.specs.Framing.{needs_more}
-use Rattle.clock_front.specs.declared.arrival.Unread.{Unread}
-use Rattle.clock_front.specs.declared.arrival.Unread.TheVariants as unread
-use Rattle.clock_front.specs.Arrivals.{IsLast}
+use Rattle.clock_connections.specs.declared.arrival.Unread.{Unread}
+use Rattle.clock_connections.specs.declared.arrival.Unread.TheVariants as unread
+use Rattle.clock_connections.specs.Arrivals.{IsLast}
 
 -- whether a read was the last, by what it brought
 abbrev pub IsLastIf : Bool → Option (List ℕ) → List ℕ → List ℕ → Type 0

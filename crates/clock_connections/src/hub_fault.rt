@@ -17,7 +17,7 @@ pub enum HubFault {
 }
 
 impl From<NoMemory> for HubFault {
-    ghost use Rattle.clock_front.specs.declared.hub_fault.HubFault.TheVariants as faults;
+    ghost use Rattle.clock_connections.specs.declared.hub_fault.HubFault.TheVariants as faults;
     ghost use Rattle.std.specs.Prelude.{◌≡◌};
 
     ghost from_gives = { λ _ fault. fault ≡ faults.NoMemory };

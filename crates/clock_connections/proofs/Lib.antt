@@ -1,0 +1,3 @@
+mod ArrivalLaws
+pub mod WaitingLaws
+pub mod NumberLaws

@@ -1,0 +1,4 @@
+pub mod Connections
+pub mod Arrivals
+pub mod Pieces
+pub mod inside

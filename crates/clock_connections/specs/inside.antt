@@ -1,0 +1,4 @@
+-- What only proofs and private functions use: no clause of a public call cites it.
+pub mod Arrivals
+pub mod Waiting
+pub mod Numbers
