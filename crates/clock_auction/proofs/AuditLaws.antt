@@ -10,8 +10,8 @@ use Rattle.clock_house.specs.Command.{Command, put, close, other}
 use Rattle.clock_house.specs.History.{Auction, history, after_closing, after_command, closing_of}
 use Rattle.clock_house.specs.House.{HouseFields}
 use Rattle.clock_front.specs.Fronts.{commands_of, text_command}
-use Rattle.clock_sim.specs.FinalReport.{report_of}
-use Rattle.clock_sim.specs.Reports.{ReportFields}
+use Rattle.clock_reports.specs.FinalReport.{report_of}
+use Rattle.clock_reports.specs.Reports.{ReportFields}
 use Rattle.clock_auction.specs.Audits.{IsRecounted, IsSomeRecount, chain_of, closed_after, closes, closing_digests, with_digest_if}
 
 one_more : (auction : Auction) (command : Command) (result : Result ClosedRound CloseFault)

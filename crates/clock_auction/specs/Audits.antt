@@ -16,8 +16,8 @@ use Rattle.clock_journal.specs.Format.{link}
 use Rattle.clock_journal.specs.Reading.{onto}
 use Rattle.clock_journal.specs.Recovering.{IsPlaced}
 use Rattle.clock_journal.specs.declared.recovered.Recovered.{Recovered}
-use Rattle.clock_sim.specs.FinalReport.{report_of}
-use Rattle.clock_sim.specs.ReportText.{audit_text}
+use Rattle.clock_reports.specs.FinalReport.{report_of}
+use Rattle.clock_reports.specs.ReportText.{audit_text}
 
 abbrev pub chain_of : List ℕ → List (List ℕ) → List ℕ
 chain_of first [] = first

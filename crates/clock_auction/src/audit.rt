@@ -12,7 +12,7 @@ use clock_front::Front;
 use clock_http::Code;
 use clock_journal::{Link, Machine, Untaken, link_of, recover};
 use clock_queue::Woken;
-use clock_sim::{Digits, audit_text, report_so_far};
+use clock_reports::{Digits, audit_text, report_so_far};
 use std::alloc::Global;
 
 /// An auction that takes the texts of a journal, and remembers the digest of each closing.

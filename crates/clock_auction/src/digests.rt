@@ -3,7 +3,7 @@ ghost use Rattle.std.specs.Prelude.{◌≡◌};
 ghost use Rattle.hex.specs.Hex.{encode_lower};
 
 use clock_journal::Link;
-use clock_sim::Digits;
+use clock_reports::Digits;
 use hex::encode_to_slice;
 use std::fmt::{self, Display, Formatter};
 

@@ -13,9 +13,9 @@ use Rattle.clock_posting.specs.Posting.{opening_posted, price_limit_fault, round
 use Rattle.clock_posting.specs.SheetText.{sheet_text}
 use Rattle.clock_replays.specs.ReplayDocument.{document_replay}
 use Rattle.clock_replays.specs.Replays.{ReplayFields}
-use Rattle.clock_sim.specs.Reports.{ReportFields}
+use Rattle.clock_reports.specs.Reports.{ReportFields}
 use Rattle.clock_sim.specs.Rehearsal.{simulated}
-use Rattle.clock_sim.specs.ReportText.{report_text}
+use Rattle.clock_reports.specs.ReportText.{report_text}
 use Rattle.clock_replays.specs.declared.fault.ScriptFault.{ScriptFault}
 use Rattle.clock_sim.specs.declared.sim_fault.SimFault.{SimFault}
 use Rattle.clock_commands.specs.PriceLines.{price_lines}

@@ -25,8 +25,8 @@ use Rattle.clock_front.specs.declared.tokens.Asker.{Asker}
 use Rattle.clock_front.specs.declared.tokens.Asker.TheVariants.{Nobody, Operator, Bidder}
 use Rattle.clock_replays.specs.declared.script.Script.{Script}
 use Rattle.clock_sim.specs.inside.Groups.{ClosesNoRound}
-use Rattle.clock_sim.specs.RequestTexts.{put_text}
-use Rattle.clock_sim.specs.ScriptedRequests.{scripted_put}
+use Rattle.clock_scripts.specs.RequestTexts.{put_text}
+use Rattle.clock_scripts.specs.ScriptedRequests.{scripted_put}
 
 -- ---- the method of a head
 

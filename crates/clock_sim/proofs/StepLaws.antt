@@ -15,11 +15,11 @@ use Rattle.clock_front.specs.Fronts.{reply, StandsForTexts, AnswersText}
 use Rattle.clock_sim.specs.declared.sim_fault.SimFault.{SimFault}
 use Rattle.clock_sim.specs.declared.sim_fault.SimFault.TheVariants.{NoMemory, ClosingsSpent}
 use Rattle.clock_sim.specs.Rehearsal.{if_done, refused_by, after_request, rounds_after, after_puts, after_close, after_round, rehearsed, simulated}
-use Rattle.clock_sim.specs.FinalReport.{report_of}
+use Rattle.clock_reports.specs.FinalReport.{report_of}
 use Rattle.clock_replays.specs.Replays.{ReplayFields}
 use Rattle.clock_replays.specs.declared.script.Script.{Script}
 use Rattle.clock_replays.specs.declared.closing.Closing.{Closing}
-use Rattle.clock_sim.specs.ScriptedRequests.{scripted_close}
+use Rattle.clock_scripts.specs.ScriptedRequests.{scripted_close}
 use Rattle.clock_sim.specs.inside.Steps.{IsGoing, IsTold, ComesTo, MakesStep, IsLeft}
 
 abbrev pub Texts : Type 0

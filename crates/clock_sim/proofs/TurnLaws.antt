@@ -18,8 +18,8 @@ use Rattle.clock_sim.specs.declared.groups.Group.{Group}
 use Rattle.clock_sim.specs.declared.sim_fault.SimFault.{SimFault}
 use Rattle.clock_sim.specs.declared.sim_fault.SimFault.TheVariants.{NoMemory}
 use Rattle.clock_sim.specs.Rehearsal.{if_done, after_request, after_request_if, after_put, after_puts, rounds_after}
-use Rattle.clock_sim.specs.ScriptedRequests.{scripted_put}
-use Rattle.clock_sim.specs.inside.Groups.{Request, ClosesNoRound, ComesUnderWay, IsGroup, IsUnderWay, Keeps, text_in, after_group, requests_in, with_request}
+use Rattle.clock_scripts.specs.ScriptedRequests.{scripted_put}
+use Rattle.clock_sim.specs.inside.Groups.{Request, ClosesNoRound, ComesUnderWay, IsGroup, IsUnderWay, StillWait, text_in, after_group, requests_in, with_request}
 use Rattle.clock_sim.specs.inside.Steps.{IsGoing, ComesTo, MakesStep, IsLeft, MakesWay}
 use Rattle.clock_sim.proofs.StepLaws.{Texts, Step, IsOnWay, and_then, next_at}
 use Rattle.clock_sim.proofs.GroupLaws.{ended_ok, one_step, with_one}
@@ -138,7 +138,7 @@ going_after_one bidder round text old new (Err fault) closes before made = tt
 -- ---- a group that is sent
 
 -- a request that is written stands behind those that wait
-pub still_under_way : (hub : HubFields) (group next : Group) → IsUnderWay hub group → Keeps group next → IsUnderWay hub next
+pub still_under_way : (hub : HubFields) (group next : Group) → IsUnderWay hub group → StillWait group next → IsUnderWay hub next
 still_under_way hub group next before keeps =
     let kept = keeps before.waits.written in record {
       waits = record { requests = subst (IsGroup hub.connections) (sym kept.0) before.waits.requests; written = kept.1 };

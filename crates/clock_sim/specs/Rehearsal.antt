@@ -18,10 +18,10 @@ use Rattle.clock_replays.specs.declared.closing.Closing.{Closing}
 use Rattle.clock_sim.specs.declared.sim_fault.SimFault.{SimFault}
 use Rattle.clock_sim.specs.declared.sim_fault.SimFault.TheVariants as faults
 use Rattle.clock_replays.specs.Replays.{ReplayFields}
-use Rattle.clock_sim.specs.Reports.{ReportFields}
-use Rattle.clock_sim.specs.FinalReport.{report_of}
-use Rattle.clock_sim.specs.ReportText.{report_text}
-use Rattle.clock_sim.specs.ScriptedRequests.{scripted_put, scripted_close}
+use Rattle.clock_reports.specs.Reports.{ReportFields}
+use Rattle.clock_reports.specs.FinalReport.{report_of}
+use Rattle.clock_reports.specs.ReportText.{report_text}
+use Rattle.clock_scripts.specs.ScriptedRequests.{scripted_put, scripted_close}
 
 -- the closed rounds that the texts have made
 abbrev pub rounds_after : SetupFields → List (List ℕ) → List ClosedRound

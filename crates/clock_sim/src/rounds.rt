@@ -35,7 +35,8 @@ fn put_scripted<P: Processor>(
         group.new result }
 {
     let round = current_round(hub);
-    let written = group.write_put(hub.front().house(), bidder, script)?;
+    group.make_room();
+    let written = group.pieces.write_put(hub.front().house(), bidder, script)?;
     match written {
         None => Ok(()),
         Some(written) => group.take_turn(hub, bidder as u64, round, written),
@@ -70,8 +71,15 @@ fn close_scripted<P: Processor>(
     ensures { MakesStep (rules.after_close hub.old.house.setup closing.now) hub.old.house hub.new.house result }
 {
     let round = current_round(hub);
-    let written = group.write_close(hub.front().house(), closing)?;
-    send(hub, None, round, group.head(&written), group.body(&written))
+    group.make_room();
+    let written = group.pieces.write_close(hub.front().house(), closing)?;
+    send(
+        hub,
+        None,
+        round,
+        group.pieces.head(&written),
+        group.pieces.body(&written),
+    )
 }
 
 /// The bidders put their sheets, and the round is closed.

@@ -3,15 +3,12 @@ ghost use Rattle.clock_terms.specs.Faults.{IsRefusal};
 ghost use Rattle.clock_house.specs.House.{standing_in};
 ghost use Rattle.clock_front.specs.Fronts.{StandsForTexts};
 ghost use Rattle.clock_replays.specs.Replays.{IsScript};
-ghost use Rattle.clock_sim.specs.FinalReport.{report_of};
+ghost use Rattle.clock_reports.specs.FinalReport.{report_of};
 ghost use Rattle.clock_sim.specs.Rehearsal as rules;
 ghost use Rattle.clock_sim.specs.inside.Steps.{replay_of};
 ghost use Rattle.clock_sim.specs.declared.sim_fault.SimFault.TheVariants as faults;
 
-use crate::final_report::report_so_far;
 use crate::groups::Group;
-use crate::house_text::final_text;
-use crate::report::Report;
 use crate::rounds::play;
 use crate::sim_fault::SimFault;
 use clock_device::{NoMemory, Text};
@@ -19,6 +16,7 @@ use clock_front::{Front, Hub};
 use clock_processor::Processor;
 use clock_queue::Woken;
 use clock_replays::{Closing, Closings, Replay, Script, Scripts};
+use clock_reports::{Report, final_text, report_so_far};
 use clock_terms::Setup;
 use std::alloc::Global;
 

@@ -1,11 +1,7 @@
 -- Requests of a group, which are sent over connections that stand at once.
 --     ClosesNoRound text      whatever was sent before, the text closes no round
---     Request, piece_at text place, text_at group written, requests_in group      a request that waits, by the texts of its group
---     IsWrittenIn group written, AreWritten group      the two pieces of a request stand in the texts; those of all that wait do
---     HasTextsOf old group, Keeps old group      the texts are the same; the requests that wait are
---     Writes old group text written, WritesIf old group text written      a request was written, if there is one
---     HasHead line token group written      its head is that of a line, with a token
---     is_awaited count, AwaitsBody group written      a body of so many bytes needs to come; its head needs it just where it does
+--     Request, request_in pieces one, requests_in group      a request that waits, by the pieces of its group
+--     AreWritten group, StillWait old group      the pieces of all that wait stand in the texts; the requests that wait are the same
 --     text_in one, after_group setup group texts      the text of a request, and the requests of a group, answered one after the other
 --     with_request setup group bidder round text texts, with_put setup group bidder script texts      and then one more of a bidder
 --     with_written setup group bidder round written texts      and then one that was written
@@ -15,21 +11,20 @@
 --     Waits connections group      those of a group do
 --     IsUnderWay hub group      they do, and the auction goes on
 --     ComesUnderWay steps old new group result      some steps were made but for the requests that wait
-use Rattle.std.specs.Prelude.{◌≡◌, ◌≤◌, ◌<◌, ◌-◌, ◌&&◌, ℕ, Bool, List, [], ◌∷◌, ◌++◌, true, nat_le, length, map, take, drop, slice_index_or, Option, Some, None, Result, Ok, OnOk, All}
+use Rattle.std.specs.Prelude.{◌≡◌, ◌≤◌, ◌<◌, ℕ, List, [], ◌∷◌, ◌++◌, true, length, map, slice_index_or, Option, Some, None, Result, Ok, OnOk, All}
 use Rattle.clock_terms.specs.Limits.{SetupFields}
 use Rattle.clock_terms.specs.Faults.{◌>>=◌}
-use Rattle.clock_http.specs.HeaderLines.{body_limit}
 use Rattle.clock_http.specs.Framing.{needs_more}
 use Rattle.clock_connections.specs.Connections.{ConnectionFields, text_of}
 use Rattle.clock_front.specs.Hubs.{HubFields}
 use Rattle.clock_connections.specs.declared.connections.Conn.{Conn}
-use Rattle.clock_sim.specs.declared.groups.Place.{Place}
-use Rattle.clock_sim.specs.declared.groups.Written.{Written}
+use Rattle.clock_scripts.specs.declared.pieces.Written.{Written}
+use Rattle.clock_scripts.specs.declared.pieces.Pieces.{Pieces}
+use Rattle.clock_scripts.specs.Pieces.{IsWrittenIn, piece_at, text_at}
 use Rattle.clock_sim.specs.declared.groups.Waiting.{Waiting}
 use Rattle.clock_sim.specs.declared.groups.Group.{Group}
 use Rattle.clock_replays.specs.declared.script.Script.{Script}
 use Rattle.clock_sim.specs.declared.sim_fault.SimFault.{SimFault}
-use Rattle.clock_sim.specs.RequestTexts.{request_head}
 use Rattle.clock_sim.specs.Rehearsal.{rounds_after, after_request, after_put}
 use Rattle.clock_sim.specs.inside.Steps.{IsGoing, MakesWay}
 
@@ -45,71 +40,27 @@ pub record Request : Type 0 where
   pub head : List ℕ
   pub body : List ℕ
 
--- what stands at a place of a text
-abbrev pub piece_at : List ℕ → Place → List ℕ
-piece_at text place = take (place.end - place.start) (drop place.start text)
-
--- the two pieces of a request that was written
-abbrev pub text_at : Group → Written → List ℕ
-text_at group written = piece_at group.heads.items written.head ++ piece_at group.bodies.text.items written.body
-
-abbrev pub request_in : List ℕ → List ℕ → Waiting → Request
-request_in heads bodies one = record {
+-- by the pieces that were written
+abbrev pub request_in : Pieces → Waiting → Request
+request_in pieces one = record {
   bidder = one.bidder;
   round = one.round;
   conn = one.conn;
-  head = piece_at heads one.written.head;
-  body = piece_at bodies one.written.body;
+  head = piece_at pieces.heads.items one.written.head;
+  body = piece_at pieces.bodies.text.items one.written.body;
 }
 
 -- the requests that wait
 abbrev pub requests_in : Group → List Request
-requests_in group = map (request_in group.heads.items group.bodies.text.items) group.waiting.items
+requests_in group = map (request_in group.pieces) group.waiting.items
 
--- the place is one of the text
-abbrev pub IsPlaceIn : List ℕ → Place → Type 0
-IsPlaceIn text place = (place.start ≤ place.end) × (place.end ≤ length text)
-
--- the pieces of a request stand in the texts of the group
-abbrev pub IsWrittenIn : Group → Written → Type 0
-IsWrittenIn group written = IsPlaceIn group.heads.items written.head × IsPlaceIn group.bodies.text.items written.body
-
--- those of the requests that wait do
+-- the pieces of the requests that wait stand in the texts
 abbrev pub AreWritten : Group → Type 0
-AreWritten group = All (λ one. IsWrittenIn group one.written) group.waiting.items
-
--- the texts are the same
-abbrev pub HasTextsOf : Group → Group → Type 0
-HasTextsOf old group = (group.heads.items ≡ old.heads.items) × (group.bodies.text.items ≡ old.bodies.text.items)
+AreWritten group = All (λ one. IsWrittenIn group.pieces one.written) group.waiting.items
 
 -- the requests that wait are the same
-abbrev pub Keeps : Group → Group → Type 0
-Keeps old group = AreWritten old → (requests_in group ≡ requests_in old) × AreWritten group
-
--- a request was written of this text, and stands there
-pub record Writes (old group : Group) (text : List ℕ) (written : Written) : Type 0 where
-  pub kept : Keeps old group
-  pub reads : text_at group written ≡ text
-  pub within : IsWrittenIn group written
-
--- a request was written, if there is a text
-abbrev pub WritesIf : Group → Group → Option (List ℕ) → Option Written → Type 0
-WritesIf old group text None = (text ≡ None) × Keeps old group
-WritesIf old group text (Some written) = (text ≡ Some (text_at group written)) × Writes old group (text_at group written) written
-
--- its head is that of a line, with a token, before a body of so many bytes as its own
-abbrev pub HasHead : List ℕ → List ℕ → Group → Written → Type 0
-HasHead line token group written =
-    piece_at group.heads.items written.head ≡ request_head line token (written.body.end - written.body.start)
-
--- behind its head a body of so many bytes needs to come: there is one, and it is not too long
-abbrev pub is_awaited : ℕ → Bool
-is_awaited count = nat_le 1 count && nat_le count body_limit
-
--- the head of a request needs more just where its body needs to come
-abbrev pub AwaitsBody : Group → Written → Type 0
-AwaitsBody group written =
-    needs_more (piece_at group.heads.items written.head) ≡ is_awaited (written.body.end - written.body.start)
+abbrev pub StillWait : Group → Group → Type 0
+StillWait old group = AreWritten old → (requests_in group ≡ requests_in old) × AreWritten group
 
 -- the two pieces of a request
 abbrev pub text_in : Request → List ℕ
@@ -131,7 +82,7 @@ with_put setup group bidder script texts = after_group setup group texts >>= aft
 
 -- the requests of a group, and then one that was written
 abbrev pub with_written : SetupFields → Group → ℕ → ℕ → Written → List (List ℕ) → Result (List (List ℕ)) SimFault
-with_written setup group bidder round written = with_request setup (requests_in group) bidder round (text_at group written)
+with_written setup group bidder round written = with_request setup (requests_in group) bidder round (text_at group.pieces written)
 
 -- from a place on, each connection stands with these bytes
 abbrev pub StandFrom : ℕ → ConnectionFields → List Request → (ℕ → Request → List ℕ) → Type 0

@@ -1,6 +1,6 @@
 use Rattle.std.proofs.Common.{◌∙◌, ap}
 use Rattle.clock_house.specs.House.{HouseFields}
-use Rattle.clock_sim.specs.FinalReport.{report_of}
+use Rattle.clock_reports.specs.FinalReport.{report_of}
 use Rattle.clock_auction.proofs.AuditLaws.{enough_for_report}
 use Rattle.clock_auction.proofs.audit.audit_of.Goals as goal
 

@@ -1,8 +1,8 @@
 use Rattle.std.proofs.Common.{◌≡◌, ◌++◌, refl, ap, ◌∙◌}
 use Rattle.std.proofs.lemmas.Result.{err_from_is_err_and}
 use Rattle.clock_house.specs.House.{HouseFields}
-use Rattle.clock_sim.specs.ScriptedRequests.{scripted_close}
-use Rattle.clock_sim.specs.inside.Groups.{text_at}
+use Rattle.clock_scripts.specs.ScriptedRequests.{scripted_close}
+use Rattle.clock_scripts.specs.Pieces.{text_at}
 use Rattle.clock_sim.specs.Rehearsal.{after_close}
 use Rattle.clock_sim.proofs.StepLaws.{out_of_memory, round_closed}
 use Rattle.clock_sim.proofs.rounds.close_scripted.Goals as goal

@@ -1,6 +1,6 @@
 use Rattle.std.proofs.Common.{◌≤◌, length, sym, subst, ◌∙◌}
 use Rattle.clock_house.specs.House.{HouseFields}
-use Rattle.clock_sim.proofs.RoundLaws.{some_closed}
+use Rattle.clock_reports.proofs.RoundLaws.{some_closed}
 use Rattle.clock_sim.proofs.simulation.played.Goals as goal
 
 pub report_so_far-requires : goal.report_so_far-requires

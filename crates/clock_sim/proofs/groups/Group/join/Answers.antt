@@ -1,8 +1,9 @@
 use Rattle.std.proofs.Common.{sym, subst, All, List, refl}
 use Rattle.std.proofs.lemmas.List.Elements.{All-push}
+use Rattle.clock_scripts.specs.Pieces.{IsWrittenIn, text_at}
 use Rattle.clock_sim.specs.declared.groups.Group.{Group}
 use Rattle.clock_sim.specs.declared.groups.Waiting.{Waiting}
-use Rattle.clock_sim.specs.inside.Groups.{IsGroup, IsPlaceIn, request_in, requests_in, text_at}
+use Rattle.clock_sim.specs.inside.Groups.{IsGroup, request_in, requests_in}
 use Rattle.clock_sim.specs.inside.Steps.{IsGoing}
 use Rattle.clock_sim.proofs.GroupLaws.{joined_group}
 use Rattle.clock_sim.proofs.TurnLaws.{one_waits}
@@ -12,26 +13,25 @@ use Rattle.clock_sim.proofs.groups.Group.join.Goals as goal
 pub returns : goal.returns
 returns g c =
     let group = c.args.self.now in
-    let heads = group.heads.items in
-    let bodies = group.bodies.text.items in
+    let pieces = group.pieces in
     let one : Waiting = record { bidder = c.args.bidder; round = c.args.round; conn = c.in_ok-conn.conn; written = c.args.written } in
-    let next : Group = record { heads = group.heads; bodies = group.bodies; waiting = c.push.new.self } in
+    let next : Group = record { pieces = pieces; waiting = c.push.new.self } in
     let before = c.requires.under_way in
     let front = c.in_ok-conn.ensures.front in
     let more = c.in_ok-push.ensures.items in
-    let waiting = one_more heads bodies group.waiting.items _ one more in
-    let Stands : Waiting → Type 0 = λ w. IsPlaceIn heads w.written.head × IsPlaceIn bodies w.written.body in
+    let waiting = one_more pieces group.waiting.items _ one more in
+    let Stands : Waiting → Type 0 = λ w. IsWrittenIn pieces w.written in
     record {
       under_way = record {
         waits = record {
           requests = subst (IsGroup c.connect.new.self.connections) (sym waiting)
-              (joined_group c.args.hub.now.connections c.connect.new.self.connections (requests_in group) (request_in heads bodies one)
+              (joined_group c.args.hub.now.connections c.connect.new.self.connections (requests_in group) (request_in pieces one)
               before.waits.requests c.in_ok-conn.ensures.connected c.requires.needs c.requires.closes);
           written = subst (λ (list : List Waiting). All Stands list) (sym more)
               (All-push Stands group.waiting.items one before.waits.written c.requires.within);
         };
         going = subst IsGoing (sym front) before.going;
       };
-      way = one_waits (requests_in group) (requests_in next) (request_in heads bodies one) (text_at group c.args.written)
+      way = one_waits (requests_in group) (requests_in next) (request_in pieces one) (text_at pieces c.args.written)
           c.args.hub.now.house c.connect.new.self.house _ front waiting refl;
     }

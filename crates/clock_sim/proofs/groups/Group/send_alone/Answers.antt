@@ -1,5 +1,7 @@
 use Rattle.std.proofs.Common.{◌≡◌, ◌++◌, ℕ, List, ap, ap₂, sym, subst, ◌∙◌}
-use Rattle.clock_sim.specs.inside.Groups.{ClosesNoRound, ComesUnderWay, piece_at, requests_in, text_at, with_request}
+use Rattle.clock_scripts.specs.declared.pieces.Pieces.{Pieces}
+use Rattle.clock_scripts.specs.Pieces.{piece_at, text_at}
+use Rattle.clock_sim.specs.inside.Groups.{ClosesNoRound, ComesUnderWay, requests_in, with_request}
 use Rattle.clock_sim.proofs.TurnLaws.{sent_alone}
 use Rattle.clock_sim.proofs.groups.Group.send_alone.Goals as goal
 
@@ -8,11 +10,11 @@ returns g c =
     let old = c.args.hub.now in
     let group = c.args.self.now in
     let next = c.send_all.new.self in
-    let texts = c.in_ok-send_all.ensures.texts in
-    let text : c.head.result.now ++ c.body.result.now ≡ text_at group c.args.written =
+    let same = c.in_ok-send_all.ensures.pieces in
+    let text : c.head.result.now ++ c.body.result.now ≡ text_at group.pieces c.args.written =
     ap₂ (λ (head body : List ℕ). head ++ body)
-    (c.head.ensures ∙ ap (λ (items : List ℕ). piece_at items c.args.written.head) texts.0)
-    (c.body.ensures ∙ ap (λ (items : List ℕ). piece_at items c.args.written.body) texts.1) in
+    (c.head.ensures ∙ ap (λ (pieces : Pieces). piece_at pieces.heads.items c.args.written.head) same)
+    (c.body.ensures ∙ ap (λ (pieces : Pieces). piece_at pieces.bodies.text.items c.args.written.body) same) in
     subst (λ (sent : List ℕ). ComesUnderWay (with_request old.house.setup (requests_in group) c.args.bidder c.args.round sent) old c.send.new.hub next
     c.send.result) text
     (sent_alone group next c.args.bidder c.args.round (c.head.result.now ++ c.body.result.now) old c.send_all.new.hub c.send.new.hub _ c.send.result

@@ -1,9 +1,10 @@
 use Rattle.std.proofs.Common.{◌≡◌, Ok, Err, List, ℕ, length, Some, ◌++◌, ap, ◌∙◌, arith, subst₂}
 use Rattle.std.proofs.lemmas.Result.{err_from_is_err_and}
 use Rattle.clock_connections.specs.Connections.{text_of, KeepsOthers}
+use Rattle.clock_scripts.specs.Pieces.{piece_at}
 use Rattle.clock_sim.specs.declared.groups.Waiting.{Waiting}
 use Rattle.clock_sim.specs.Rehearsal.{after_request}
-use Rattle.clock_sim.specs.inside.Groups.{Request, after_group, request_in, requests_in, piece_at}
+use Rattle.clock_sim.specs.inside.Groups.{Request, after_group, request_in, requests_in}
 use Rattle.clock_sim.specs.inside.Steps.{MakesStep}
 use Rattle.clock_sim.proofs.GroupLaws.{head_at, heads_kept, body_done, body_refused}
 use Rattle.clock_sim.proofs.WrittenLaws.{waiting_at, request_at}
@@ -18,7 +19,7 @@ loop-one-preserved g c =
     let i = c.loop-one.one-index in
     let same = c.deref-one-items.ensures.value in
     let at = request_at group i (omega (arith, c.loop-one-test.true, ap (λ (list : List Waiting). length list) same)) in
-    let one : Request = request_in group.heads.items group.bodies.text.items (waiting_at group.waiting.items i) in
+    let one : Request = request_in group.pieces (waiting_at group.waiting.items i) in
     let stands = head_at old.connections requests i one at.0 at.1 c.loop-one.invariant.1 in
     let IsMade : List Waiting → List ℕ → Type 0 =
     λ waiting body. (head : List ℕ) → text_of old.connections (waiting_at waiting i).conn ≡ Some head
@@ -29,7 +30,7 @@ loop-one-preserved g c =
     λ waiting body. (head : List ℕ) → text_of old.connections (waiting_at waiting i).conn ≡ Some head
     → KeepsOthers old.connections new.connections (waiting_at waiting i).conn in
     let body : c.body.result.now ≡ one.body =
-    c.body.ensures ∙ ap (λ (list : List Waiting). piece_at group.bodies.text.items (waiting_at list i).written.body) same in (
+    c.body.ensures ∙ ap (λ (list : List Waiting). piece_at group.pieces.bodies.text.items (waiting_at list i).written.body) same in (
       body_done (after_group c.args.hub.now.house.setup requests) requests i one c.args.hub.now.house old.house new.house _ at.0 at.1
           c.loop-one.invariant.0 (subst₂ IsMade same body c.in_ok-send_body.ensures.step one.head stands),
       heads_kept old.connections new.connections requests i one c.requires.apart at.0 at.1 c.loop-one.invariant.1
@@ -46,7 +47,7 @@ returns-in_err-send_body g c =
     let i = c.loop-one.one-index in
     let same = c.deref-one-items.ensures.value in
     let at = request_at group i (omega (arith, c.loop-one-test.true, ap (λ (list : List Waiting). length list) same)) in
-    let one : Request = request_in group.heads.items group.bodies.text.items (waiting_at group.waiting.items i) in
+    let one : Request = request_in group.pieces (waiting_at group.waiting.items i) in
     let stands = head_at old.connections requests i one at.0 at.1 c.loop-one.invariant.1 in
     let IsMade : List Waiting → List ℕ → Type 0 =
     λ waiting body. (head : List ℕ) → text_of old.connections (waiting_at waiting i).conn ≡ Some head
@@ -54,7 +55,7 @@ returns-in_err-send_body g c =
     (λ texts. after_request old.house.setup texts (Some (waiting_at waiting i).bidder) (waiting_at waiting i).round (head ++ body))
     old.house new.house (Err c.in_err-send_body.field-0.0) in
     let body : c.body.result.now ≡ one.body =
-    c.body.ensures ∙ ap (λ (list : List Waiting). piece_at group.bodies.text.items (waiting_at list i).written.body) same in
+    c.body.ensures ∙ ap (λ (list : List Waiting). piece_at group.pieces.bodies.text.items (waiting_at list i).written.body) same in
     rw (told.1, told.2)
     (body_refused (after_group c.args.hub.now.house.setup requests) requests i one c.args.hub.now.house old.house new.house _ at.0 at.1
     c.loop-one.invariant.0 (subst₂ IsMade same body c.in_err-send_body.ensures.step one.head stands))

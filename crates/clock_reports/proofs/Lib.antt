@@ -1,0 +1,3 @@
+mod Examples
+pub mod RoundLaws
+pub mod WonLaws

@@ -1,0 +1,89 @@
+//! The text of an audit.
+ghost use Rattle.std.specs.Prelude.{◌≡◌, ◌≤◌, ◌++◌, All, IfOk, OnOk, length, codes, decimal, zip};
+ghost use Rattle.std.specs.List.{flat_map};
+ghost use Rattle.clock_reports.specs.ReportText as words;
+
+use crate::report::Report;
+use crate::report_lines::push_wins;
+use clock_device::{NoMemory, Text};
+use clock_posting::{RoundSheet, with_sheet_lines};
+use clock_terms::Setup;
+use std::alloc::Global;
+
+/// A digest in digits of base 16.
+pub type Digits = [u8; 64];
+
+/// The text of an audit: the lines of each round's sheet, by rising round, and behind each the line `closed ROUND
+/// DIGEST` with the digest of the closing, one for each round; and where the auction has ended the lines of what each
+/// bidder won, as [`crate::report_text`] has them.
+///
+/// ```text
+/// round 1
+/// A 100 100 100 - -
+/// closed 1 5be1a2c4..
+/// won X 1 100
+/// won Y 1 100
+/// ```
+pub fn audit_text(alloc: Global, report: &Report, digests: &[Digits]) -> Result<Text, NoMemory>
+    requires { length report.now.sheets ≤ length digests.now }
+    ensures { IfOk result (λ text. text ≡ words.audit_text report.now digests.now) }
+{
+    let sheets = report.sheets.as_slice();
+    let mut text = with_audited(Text::new(alloc), &report.setup, sheets, digests)?;
+    let last = &sheets[sheets.len() - 1];
+    if last.ended {
+        push_wins(
+            alloc,
+            &mut text,
+            &report.setup,
+            last.lines.as_slice(),
+            &report.grid,
+        )?;
+    }
+    Ok(text)
+}
+
+/// A text, and behind it the lines of the rounds, each with the digest of its closing behind it.
+fn with_audited(
+    mut text: Text,
+    setup: &Setup,
+    sheets: &[RoundSheet],
+    digests: &[Digits],
+) -> Result<Text, NoMemory>
+    requires each { All (λ sheet. length sheet.lines ≡ length setup.now.products) sheets.now }
+    requires enough { length sheets.now ≤ length digests.now }
+    ensures { IfOk result (λ lines. lines ≡ text ++ flat_map (words.audited_round setup.now.products)
+        (zip sheets.now digests.now)) }
+{
+    for (index, sheet) in sheets.iter().enumerate() {
+        text = with_round(text, setup, sheet, &digests[index])?;
+    }
+    Ok(text)
+}
+
+/// A text, and behind it the lines of a round, with the digest of its closing behind them.
+fn with_round(
+    text: Text,
+    setup: &Setup,
+    sheet: &RoundSheet,
+    digest: &Digits,
+) -> Result<Text, NoMemory>
+    requires { length sheet.now.lines ≡ length setup.now.products }
+    ensures { IfOk result (λ lines. lines ≡ text ++ words.audited_round setup.now.products (sheet.now, digest.now)) }
+{
+    let mut text = with_sheet_lines(text, setup, sheet)?;
+    push_closed(&mut text, sheet.round, digest)?;
+    Ok(text)
+}
+
+/// Adds the line of a closing, with its digest.
+fn push_closed(text: &mut Text, round: u64, digest: &Digits) -> Result<(), NoMemory>
+    ensures { OnOk result (text.new ≡ text.old ++ codes "closed " ++ decimal round ++ codes " " ++ digest.now ++ codes "\n") }
+{
+    text.extend_from_slice(b"closed ")?;
+    text.push_number(round)?;
+    text.push(b' ')?;
+    text.extend_from_slice(digest)?;
+    text.push(b'\n')?;
+    Ok(())
+}

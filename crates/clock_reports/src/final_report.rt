@@ -1,0 +1,88 @@
+//! The report of an auction, of its rounds so far.
+
+ghost use Rattle.std.specs.Prelude.{◌≡◌, ◌<◌, ◌≤◌, Some, length, map, reverse, slice_get, All, IfOk};
+ghost use Rattle.clock_reports.specs.inside.Reports.{IsPricedLine};
+ghost use Rattle.clock_reports.specs.FinalReport as rules;
+
+use crate::report::{Report, RoundSheets};
+use clock_device::NoMemory;
+use clock_house::House;
+use clock_posting::{Line, Lines, RoundSheet};
+use std::alloc::Global;
+
+/// An equal line, whose prices are prices.
+fn line_copy(line: &Line) -> Line
+    ensures same { result ≡ line.now }
+    ensures priced { IsPricedLine result }
+{
+    prove!(line.start.get() >= 1 && line.clock.get() >= 1 && line.posted.get() >= 1);
+    *line
+}
+
+/// Equal lines.
+fn lines_copy(alloc: Global, lines: &[Line]) -> Result<Lines, NoMemory>
+    ensures same { IfOk result (λ copy. copy ≡ lines.now) }
+    ensures priced { IfOk result (All IsPricedLine) }
+{
+    let mut copy = Vec::with_capacity(alloc, lines.len())?;
+    for line in lines {
+        copy.push(line_copy(line))?;
+    }
+    Ok(Lines::from_vec(copy))
+}
+
+/// An equal sheet.
+fn sheet_copy(alloc: Global, sheet: &RoundSheet) -> Result<RoundSheet, NoMemory>
+    ensures same { IfOk result (λ copy. copy ≡ sheet.now) }
+    ensures priced { IfOk result (λ copy. All IsPricedLine copy.lines) }
+{
+    let lines = lines_copy(alloc, sheet.lines.as_slice())?;
+    Ok(RoundSheet {
+        round: sheet.round,
+        ended: sheet.ended,
+        lines,
+    })
+}
+
+/// The sheet of a closed round; rounds are numbered from 0 here.
+pub(crate) fn sheet_at<P>(house: &House<P>, round: u64) -> &RoundSheet
+    requires { round < length house.now.closed }
+    ensures is { slice_get (map (λ closed. closed.sheet) (reverse house.now.closed)) round ≡ Some result.now }
+    ensures lines { length result.now.lines ≡ length house.now.setup.products }
+{
+    house.law_of_house();
+    match house.sheet(round + 1) {
+        Some(sheet) => sheet,
+        None => unreachable!(),
+    }
+}
+
+/// The sheets of the closed rounds, in order.
+fn sheets_of<P>(alloc: Global, house: &House<P>) -> Result<RoundSheets, NoMemory>
+    ensures same { IfOk result (λ sheets. sheets ≡ map (λ closed. closed.sheet) (reverse house.now.closed)) }
+    ensures priced { IfOk result (All (λ sheet. All IsPricedLine sheet.lines)) }
+{
+    let mut sheets = RoundSheets::new(alloc);
+    for round in 0..house.closed_rounds() {
+        let copy = sheet_copy(alloc, sheet_at(house, round))?;
+        sheets.push(copy)?;
+    }
+    Ok(sheets)
+}
+
+/// The report of an auction of which a round is closed at least: its rounds so far, and what each bidder holds.
+pub fn report_so_far<P>(alloc: Global, house: &House<P>) -> Result<Report, NoMemory>
+    requires { 1 ≤ length house.now.closed }
+    ensures { IfOk result (λ report. report ≡ rules.report_of house.now.setup house.now.closed) }
+{
+    house.law_of_house();
+    let setup = house.setup().copy(alloc)?;
+    let sheets = sheets_of(alloc, house)?;
+    let grid = house.demands().copy(alloc)?;
+    let report = Report {
+        setup,
+        sheets,
+        grid,
+    };
+    Ok(report)
+}

@@ -1,0 +1,143 @@
+ghost use Rattle.std.specs.Prelude.{◌≡◌, ◌≤◌, ◌++◌, ℕ, All, IfOk, OnOk, length, decimal, codes, zip};
+ghost use Rattle.std.specs.List.{flat_map};
+ghost use Rattle.clock_terms.specs.Limits.{IsRow, most_products, most_supply};
+ghost use Rattle.clock_posting.specs.SheetText.{sheet_text};
+ghost use Rattle.clock_reports.specs.inside.Reports.{IsReport};
+ghost use Rattle.clock_reports.specs.inside.WonLines.{none_held};
+ghost use Rattle.clock_reports.specs.ReportText as words;
+
+use crate::report::Report;
+use clock_device::{NoMemory, Text};
+use clock_posting::{Line, RoundSheet, with_sheet_lines};
+use clock_terms::{Bidder, Grid, Row, Setup};
+use std::alloc::Global;
+
+/// The text of a report: the lines of each round's sheet, by rising round, then for each bidder the line
+/// `won NAME DEMAND .. PAY` with its demand for each product and the sum of demand times posted price of the last
+/// round, in whole dollars. Fields are parted by one space, numbers are plain decimal, and each line ends with a line
+/// feed:
+///
+/// ```text
+/// round 1
+/// A 100 100 100 - -
+/// won X 1 100
+/// won Y 1 100
+/// ```
+pub fn report_text(alloc: Global, report: &Report) -> Result<Text, NoMemory>
+    ensures { IfOk result (λ text. text ≡ words.report_text report.now) }
+{
+    let sheets = report.sheets.as_slice();
+    let mut text = with_rounds(Text::new(alloc), &report.setup, sheets)?;
+    let lines = sheets[sheets.len() - 1].lines.as_slice();
+    push_wins(alloc, &mut text, &report.setup, lines, &report.grid)?;
+    Ok(text)
+}
+
+/// A text, and behind it the lines of the rounds.
+fn with_rounds(mut text: Text, setup: &Setup, sheets: &[RoundSheet]) -> Result<Text, NoMemory>
+    requires { All (λ sheet. length sheet.lines ≡ length setup.now.products) sheets.now }
+    ensures { IfOk result (λ lines. lines ≡ text ++ flat_map (sheet_text setup.now.products) sheets.now) }
+{
+    for sheet in sheets {
+        text = with_sheet_lines(text, setup, sheet)?;
+    }
+    Ok(text)
+}
+
+/// What demands cost at the posted prices, in whole dollars.
+fn payment(lines: &[Line], demands: &Row) -> u64
+    requires each { length demands.now ≡ length lines.now }
+    requires few { length lines.now ≤ most_products }
+    requires small { All (λ demand. demand ≤ most_supply) demands.now }
+    ensures { result ≡ words.payment lines.now demands.now }
+{
+    let mut total: u64 = 0;
+    let mut held = demands.held();
+    'held: while let Some(one) = held.next() {
+        let line = &lines[one.product];
+        total += line.posted.get() * one.demand;
+    }
+    total
+}
+
+/// The demands for so many products of which none is held, each with a space behind it.
+fn none_held_text(alloc: Global, products: usize) -> Result<Text, NoMemory>
+    ensures { IfOk result (λ text. text ≡ none_held products) }
+{
+    let room = Vec::with_capacity(alloc, products.saturating_mul(2))?;
+    let mut text = Text::from_vec(room);
+    for _product in 0..products {
+        text.extend_from_slice(b"0 ")?;
+    }
+    Ok(text)
+}
+
+/// Adds the demands for so many products of which none is held, out of the text of as many or more.
+fn push_none_held(text: &mut Text, none: &[u8], products: usize) -> Result<(), NoMemory>
+    requires { (many : ℕ) × (products ≤ many) × (none.now ≡ none_held many) }
+    ensures { OnOk result (text.new ≡ text.old ++ none_held products) }
+{
+    text.extend_from_slice(&none[..2 * products])
+}
+
+/// Adds demands by product, each with a space behind it. Nothing is looked at but what is held; the others are copied out
+/// of the text of as many products of which none is.
+fn push_demands(text: &mut Text, none: &[u8], demands: &Row) -> Result<(), NoMemory>
+    requires { none.now ≡ none_held (length demands.now) }
+    ensures { OnOk result (text.new ≡ text.old ++ flat_map (λ demand. decimal demand ++ codes " ") demands.now) }
+{
+    let products = demands.len();
+    let mut held = demands.held();
+    let mut from = 0;
+    'held: while let Some(one) = held.next() {
+        push_none_held(text, none, one.product - from)?;
+        text.push_number(one.demand)?;
+        text.push(b' ')?;
+        from = one.product + 1;
+    }
+    push_none_held(text, none, products - from)
+}
+
+/// Adds the line of a bidder.
+fn push_won(
+    text: &mut Text,
+    none: &[u8],
+    lines: &[Line],
+    bidder: &Bidder,
+    demands: &Row,
+) -> Result<(), NoMemory>
+    requires none { none.now ≡ none_held (length demands.now) }
+    requires each { length demands.now ≡ length lines.now }
+    requires few { length lines.now ≤ most_products }
+    requires small { All (λ demand. demand ≤ most_supply) demands.now }
+    ensures { OnOk result (text.new ≡ text.old ++ words.won_text lines.now (bidder.now, demands.now)) }
+{
+    text.extend_from_slice(b"won ")?;
+    text.extend_from_slice(bidder.name.as_slice())?;
+    text.push(b' ')?;
+    push_demands(text, none, demands)?;
+    text.push_number(payment(lines, demands))?;
+    text.push(b'\n')?;
+    Ok(())
+}
+
+/// Adds the lines of a set-up's bidders. There is a line for each product, and a row of the grid for each bidder.
+pub(crate) fn push_wins(
+    alloc: Global,
+    text: &mut Text,
+    setup: &Setup,
+    lines: &[Line],
+    grid: &Grid,
+) -> Result<(), NoMemory>
+    requires lines { length lines.now ≡ length setup.now.products }
+    requires bidders { length grid.now ≡ length setup.now.bidders }
+    requires rows { All (IsRow setup.now.products) grid.now }
+    ensures { OnOk result (text.new ≡ text.old ++ flat_map (words.won_text lines.now)
+        (zip setup.now.bidders grid.now)) }
+{
+    let none = none_held_text(alloc, lines.len())?;
+    for (number, bidder) in setup.bidders.iter().enumerate() {
+        push_won(text, none.as_slice(), lines, bidder, grid.row(number))?;
+    }
+    Ok(())
+}

@@ -1,0 +1,49 @@
+-- The texts of bodies in the pieces in which they are pushed.
+use Rattle.std.proofs.Common.{◌≡◌, ℕ, List, ◌++◌, codes, decimal, refl, ap, ◌∙◌, append_assoc}
+use Rattle.serde_json.specs.Written.{compact_text}
+use Rattle.serde_json.proofs.OnLiterals.{serde_json_on_literals}
+use Rattle.clock_terms.specs.declared.increments.Increments.{Increments}
+use Rattle.clock_terms.specs.declared.increments.Increments.TheVariants.{Single, PerProduct}
+use Rattle.clock_bids.specs.declared.sheet.Bid.{Bid}
+use Rattle.clock_order.specs.declared.ties.Tie.{Tie}
+use Rattle.clock_views.specs.Values.{list_of}
+use Rattle.clock_views.proofs.Texts.{bid_in_pieces}
+use Rattle.clock_scripts.specs.RequestTexts.{tie_value, close_value}
+use Rattle.clock_scripts.specs.inside.Arrays.{with_comma}
+use Rattle.clock_scripts.specs.inside.Bodies.{bid_start, bid_text}
+use Rattle.clock_scripts.specs.inside.RequestTexts.{increments_text}
+
+regrouped : (a b c d e : List ℕ) → (a ++ (b ++ ((c ++ d) ++ e))) ++ codes "," ≡ (a ++ (b ++ c)) ++ (d ++ (e ++ codes ","))
+regrouped a b c d e = simp append_assoc
+
+-- a bid with its comma, by its start
+pub bid_by_start : (bid : Bid) → bid_text bid ≡ bid_start bid.price bid.product ++ (decimal bid.quantity ++ codes "},")
+bid_by_start bid =
+    ap (λ text. text ++ codes ",") (bid_in_pieces bid)
+    ∙ regrouped (codes "{\"price\":" ++ decimal bid.price) (codes ",\"product\":" ++ decimal bid.product)
+    (codes ",\"quantity\":") (decimal bid.quantity) (codes "}")
+
+tie_regrouped : (a b c d : List ℕ) → (a ++ (b ++ (c ++ d))) ++ codes "," ≡ a ++ (b ++ (c ++ (d ++ codes ",")))
+tie_regrouped a b c d = simp append_assoc
+
+tie_alone : (tie : Tie)
+    → compact_text (tie_value tie)
+    ≡ (codes "[" ++ decimal tie.bidder) ++ ((codes "," ++ decimal tie.product) ++ ((codes "," ++ decimal tie.number) ++ codes "]"))
+unfolding serde_json_on_literals
+tie_alone tie = refl
+
+-- a tie number with its comma
+pub tie_in_pieces : (tie : Tie)
+    → with_comma tie_value tie
+    ≡ (codes "[" ++ decimal tie.bidder) ++ ((codes "," ++ decimal tie.product) ++ ((codes "," ++ decimal tie.number) ++ codes "],"))
+tie_in_pieces tie =
+    ap (λ text. text ++ codes ",") (tie_alone tie)
+    ∙ tie_regrouped (codes "[" ++ decimal tie.bidder) (codes "," ++ decimal tie.product) (codes "," ++ decimal tie.number) (codes "]")
+
+pub close_in_pieces : (round : ℕ) (increments : Increments) (ties : List Tie)
+    → compact_text (close_value round increments ties)
+    ≡ codes "{" ++ (increments_text increments ++ ((codes ",\"round\":" ++ decimal round)
+    ++ (codes ",\"ties\":" ++ (compact_text (list_of tie_value ties) ++ codes "}"))))
+unfolding close_value serde_json_on_literals
+close_in_pieces round (Single increment) ties = refl
+close_in_pieces round (PerProduct increments) ties = refl

@@ -1,0 +1,85 @@
+-- Requests whose pieces stand one behind the other.
+use Rattle.std.proofs.Common.{◌≡◌, ℕ, ◌+◌, ◌-◌, ◌≤◌, List, [], ◌++◌, length, take, drop, sym, ◌∙◌, ap, ap₂, arith, append-nil}
+use Rattle.std.proofs.Math.Seq.{drop-append_seam}
+use Rattle.std.proofs.lemmas.List.{take-append-le, drop-append-le, length-append, length-drop, take_all}
+use Rattle.std.specs.Prelude.{Result, Ok, Err, IfOk}
+use Rattle.clock_device.specs.declared.no_memory.NoMemory.{NoMemory}
+use Rattle.clock_views.specs.Values.{Adds}
+use Rattle.clock_scripts.specs.declared.pieces.Place.{Place}
+use Rattle.clock_scripts.specs.declared.pieces.Written.{Written}
+use Rattle.clock_scripts.specs.declared.pieces.Pieces.{Pieces}
+use Rattle.clock_scripts.specs.RequestTexts.{request_head, request_text}
+use Rattle.clock_scripts.specs.Pieces.{IsKept, IsPlaceIn, Keeps, Writes, piece_at, text_at}
+
+-- a piece stands in a longer text still
+kept_in : (text more whole : List ℕ) (place : Place) → whole ≡ text ++ more → IsPlaceIn text place → IsKept text whole place
+kept_in text more whole place is within =
+    let count : length (drop place.start text) ≡ length text - place.start = length-drop place.start text in
+    let long : length whole ≡ length text + length more = ap length is ∙ length-append text more in
+    record {
+      within = (within.0, omega (arith, within.1, long));
+      same = ap (λ (text : List ℕ). piece_at text place) is
+          ∙ ap (λ (rest : List ℕ). take (place.end - place.start) rest) (drop-append-le place.start text more (omega (arith, within.0, within.1)))
+          ∙ take-append-le (place.end - place.start) (drop place.start text) more (omega (arith, count, within.0, within.1));
+    }
+
+-- in longer texts the requests stand still
+pub longer : (old new : Pieces) (more rest : List ℕ) → new.heads.items ≡ old.heads.items ++ more
+    → new.bodies.text.items ≡ old.bodies.text.items ++ rest → Keeps old new
+longer old new more rest heads bodies = λ written within. (
+  kept_in old.heads.items more new.heads.items written.head heads within.0,
+  kept_in old.bodies.text.items rest new.bodies.text.items written.body bodies within.1,
+)
+
+-- one after the other
+kept_twice : (first second third : Pieces) → Keeps first second → Keeps second third → Keeps first third
+kept_twice first second third one two = λ written within.
+    let now = one written within in
+    let then_ = two written (now.0.within, now.1.within) in (
+      record { within = then_.0.within; same = then_.0.same ∙ now.0.same },
+      record { within = then_.1.within; same = then_.1.same ∙ now.1.same },
+    )
+
+-- ---- what was written last
+
+pub piece_behind : (text whole more : List ℕ) (place : Place) → whole ≡ text ++ more → place.start ≡ length text → place.end ≡ length whole
+    → piece_at whole place ≡ more
+piece_behind text whole more place is start end =
+    let count : length whole ≡ length text + length more = ap length is ∙ length-append text more in
+    let rest : drop place.start whole ≡ more =
+    ap₂ (λ (n : ℕ) (list : List ℕ). drop n list) start is ∙ drop-append_seam text more in
+    ap (λ (list : List ℕ). take (place.end - place.start) list) rest
+    ∙ take_all (place.end - place.start) more (omega (arith, count, start, end))
+
+-- the rest of a text
+piece_from : (text : List ℕ) (place : Place) → place.start ≤ length text → place.end ≡ length text → piece_at text place ≡ drop place.start text
+piece_from text place within end =
+    take_all (place.end - place.start) (drop place.start text) (omega (arith, length-drop place.start text, end))
+
+-- a head behind the others, of the body that was written last
+pub written_last : (old new : Pieces) (line token : List ℕ) (written : Written) (count : ℕ)
+    → new.heads.items ≡ old.heads.items ++ request_head line token count → new.bodies.text.items ≡ old.bodies.text.items
+    → written.head.start ≡ length old.heads.items → written.head.end ≡ length new.heads.items
+    → written.body.start ≤ length old.bodies.text.items → written.body.end ≡ length old.bodies.text.items → count ≡ written.body.end - written.body.start
+    → text_at new written ≡ request_text line token (drop written.body.start old.bodies.text.items)
+written_last old new line token written count heads bodies start end within last is =
+    let body = drop written.body.start old.bodies.text.items in
+    let size : count ≡ length body = omega (arith, is, last, length-drop written.body.start old.bodies.text.items) in
+    ap₂ (λ (head rest : List ℕ). head ++ rest)
+    (piece_behind old.heads.items new.heads.items (request_head line token count) written.head heads start end ∙ ap (request_head line token) size)
+    (ap (λ (text : List ℕ). piece_at text written.body) bodies ∙ piece_from old.bodies.text.items written.body within last)
+
+-- a request behind the others, whose body was pushed before its head
+pub written_behind : (old pushed new : Pieces) (line token body : List ℕ) (start : ℕ) (result : Result Written NoMemory)
+    → pushed.heads.items ≡ old.heads.items → Adds body old.bodies.text.items pushed.bodies.text.items → start ≡ length old.bodies.text.items
+    → IfOk result (Writes pushed new (request_text line token (drop start pushed.bodies.text.items)))
+    → IfOk result (Writes old new (request_text line token body))
+written_behind old pushed new line token body start (Err fault) heads added from ended = tt
+written_behind old pushed new line token body start (Ok written) heads added from ended =
+    let rest : drop start pushed.bodies.text.items ≡ body =
+    ap₂ (λ (n : ℕ) (text : List ℕ). drop n text) from added.is ∙ drop-append_seam old.bodies.text.items body in
+    record {
+      kept = kept_twice old pushed new (longer old pushed [] body (heads ∙ sym (append-nil old.heads.items)) added.is) ended.kept;
+      reads = ended.reads ∙ ap (request_text line token) rest;
+      within = ended.within;
+    }

@@ -1,0 +1,18 @@
+use Rattle.std.proofs.Common.{◌≡◌, ◌++◌, ◌-◌, min, length, flat_map}
+use Rattle.std.specs.List.{range_with_len}
+use Rattle.clock_scripts.proofs.SheetWalks.{written_for}
+use Rattle.clock_scripts.proofs.sincere.Sincere.push_later.Given as goal
+
+-- with the bids for the products that were not looked at it is the whole sheet
+abbrev pub invariant-held : goal.invariant-held
+invariant-held l =
+    let n = length l.self.prices.now in
+    let from = min l.held.from n in record {
+      limits : l.limits ≡ l.self.limits.now;
+      row : l.held.demands ≡ l.self.own.demands.now;
+      rest : l.bodies.text.items ++ flat_map (written_for l.self) (range_with_len from (n - from))
+          ≡ l.initial.bodies.text.items ++ flat_map (written_for l.self) (range_with_len 0 n);
+    }
+
+abbrev pub decreases-held : goal.decreases-held
+decreases-held l = length l.self.prices.now - l.held.from

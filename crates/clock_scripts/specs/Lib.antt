@@ -1,0 +1,5 @@
+pub mod Sincere
+pub mod RequestTexts
+pub mod ScriptedRequests
+pub mod Pieces
+pub mod inside

@@ -1,0 +1,58 @@
+-- Requests that were written: their heads stand one behind the other in one text, their bodies in another.
+--     piece_at text place, text_at pieces written      what stands at a place, and the two pieces of a request
+--     IsPlaceIn text place, IsWrittenIn pieces written      the place is one of the text; those of a request are
+--     Keeps old pieces      each request that stood in the texts stands there still
+--     Writes old pieces text written, WritesIf old pieces text written      a request was written, if there is one
+--     is_awaited count, AwaitsBody pieces written      a body of so many bytes needs to come; its head needs it just where it does
+use Rattle.std.specs.Prelude.{◌≡◌, ◌≤◌, ◌-◌, ◌&&◌, ℕ, Bool, List, ◌++◌, nat_le, length, take, drop, Option, Some, None}
+use Rattle.clock_http.specs.HeaderLines.{body_limit}
+use Rattle.clock_http.specs.Framing.{needs_more}
+use Rattle.clock_scripts.specs.declared.pieces.Place.{Place}
+use Rattle.clock_scripts.specs.declared.pieces.Written.{Written}
+use Rattle.clock_scripts.specs.declared.pieces.Pieces.{Pieces}
+
+-- what stands at a place of a text
+abbrev pub piece_at : List ℕ → Place → List ℕ
+piece_at text place = take (place.end - place.start) (drop place.start text)
+
+-- the two pieces of a request that was written
+abbrev pub text_at : Pieces → Written → List ℕ
+text_at pieces written = piece_at pieces.heads.items written.head ++ piece_at pieces.bodies.text.items written.body
+
+-- the place is one of the text
+abbrev pub IsPlaceIn : List ℕ → Place → Type 0
+IsPlaceIn text place = (place.start ≤ place.end) × (place.end ≤ length text)
+
+-- the pieces of a request stand in the texts
+abbrev pub IsWrittenIn : Pieces → Written → Type 0
+IsWrittenIn pieces written = IsPlaceIn pieces.heads.items written.head × IsPlaceIn pieces.bodies.text.items written.body
+
+-- a piece stands at its place still
+pub record IsKept (old text : List ℕ) (place : Place) : Type 0 where
+  pub within : IsPlaceIn text place
+  pub same : piece_at text place ≡ piece_at old place
+
+-- each request that stood in the texts stands there still
+abbrev pub Keeps : Pieces → Pieces → Type 0
+Keeps old pieces = (written : Written) → IsWrittenIn old written
+    → IsKept old.heads.items pieces.heads.items written.head × IsKept old.bodies.text.items pieces.bodies.text.items written.body
+
+-- a request was written of this text, and stands there
+pub record Writes (old pieces : Pieces) (text : List ℕ) (written : Written) : Type 0 where
+  pub kept : Keeps old pieces
+  pub reads : text_at pieces written ≡ text
+  pub within : IsWrittenIn pieces written
+
+-- a request was written, if there is a text
+abbrev pub WritesIf : Pieces → Pieces → Option (List ℕ) → Option Written → Type 0
+WritesIf old pieces text None = (text ≡ None) × Keeps old pieces
+WritesIf old pieces text (Some written) = (text ≡ Some (text_at pieces written)) × Writes old pieces (text_at pieces written) written
+
+-- behind its head a body of so many bytes needs to come: there is one, and it is not too long
+abbrev pub is_awaited : ℕ → Bool
+is_awaited count = nat_le 1 count && nat_le count body_limit
+
+-- the head of a request needs more just where its body needs to come
+abbrev pub AwaitsBody : Pieces → Written → Type 0
+AwaitsBody pieces written =
+    needs_more (piece_at pieces.heads.items written.head) ≡ is_awaited (written.body.end - written.body.start)

@@ -1,0 +1,191 @@
+//! The requests of scripted bidders and of the operator.
+
+ghost use Rattle.std.specs.Prelude.{◌≡◌, ◌<◌, ◌≤◌, ◌-◌, false, length, drop, codes, IfOk, IfSome, OnOk, Some, None, if◌then◌else◌};
+ghost use Rattle.std.specs.Prelude.{option_copied, option_map, slice_index_or};
+ghost use Rattle.clock_terms.specs.Limits.{IsToken};
+ghost use Rattle.clock_house.specs.History.{bidder_at};
+ghost use Rattle.clock_house.specs.House.{standing_in, holding_in};
+ghost use Rattle.clock_scripts.specs.ScriptedRequests as rules;
+ghost use Rattle.clock_replays.specs.Replays.{IsScript, IsLimits};
+ghost use Rattle.clock_scripts.specs.Sincere.{sincere_sheet};
+ghost use Rattle.clock_scripts.specs.RequestTexts.{request_text, put_text, close_text};
+ghost use Rattle.clock_scripts.specs.Pieces.{AwaitsBody, Writes, WritesIf};
+ghost use Rattle.clock_scripts.specs.inside.SincereSheets.{IsSincere, sheet_of as bids_of};
+
+use crate::pieces::{Pieces, Written};
+use crate::request_writer::push_close_body;
+use crate::sincere::Sincere;
+use clock_bids::Bid;
+use clock_device::NoMemory;
+use clock_house::House;
+use clock_http::law_head_of_grammar;
+use clock_order::Tie;
+use clock_replays::{BidList, Closing, LimitLists, Script};
+use clock_terms::{Increments, Setup};
+
+/// A bidder's token.
+fn token_of(setup: &Setup, bidder: u32) -> &[u8]
+    requires { bidder < length setup.now.bidders }
+    ensures own { result.now ≡ (bidder_at setup.now bidder).token }
+    ensures limits { IsToken result.now }
+{
+    setup.bidders.as_slice()[bidder as usize].token.as_slice()
+}
+
+/// The sheet of a round in a list of sheets, from round 1 on.
+fn sheet_of(sheets: &[Option<BidList>], round: u64) -> Option<&BidList>
+    ensures { option_copied result ≡ slice_index_or sheets.now (round - 1) None }
+{
+    match sheets.get(round.saturating_sub(1) as usize) {
+        Some(Some(bids)) => Some(bids),
+        _ => None,
+    }
+}
+
+impl Pieces {
+    /// Writes the head of the request by which the holder of a token puts a sheet, whose body stands behind all others from
+    /// a place on.
+    fn end_put(&mut self, token: &[u8], body: usize) -> Result<Written, NoMemory>
+        requires body { body ≤ length self.old.bodies.text.items }
+        requires token { IsToken token.now }
+        ensures writes { IfOk result (Writes self.old self.new
+            (request_text (codes "PUT /v1/me/bids") token.now (drop body self.old.bodies.text.items))) }
+        ensures awaits { IfOk result (AwaitsBody self.new) }
+    {
+        law_head_of_grammar();
+        self.end_request(b"PUT /v1/me/bids", token, body)
+    }
+
+    /// Writes the request by which the holder of a token puts the sheet of a sincere bidder.
+    fn put_sincere(&mut self, token: &[u8], sheet: &Sincere<'_>) -> Result<Written, NoMemory>
+        requires token { IsToken token.now }
+        requires sheet { IsSincere sheet.now }
+        ensures writes { IfOk result (Writes self.old self.new
+            (put_text token.now sheet.now.own.round (bids_of sheet.now))) }
+        ensures awaits { IfOk result (AwaitsBody self.new) }
+    {
+        let start = self.bodies.text.len();
+        sheet.push(&mut self.bodies)?;
+        self.end_put(token, start)
+    }
+
+    /// Writes the request by which the holder of a token puts a sheet of these bids.
+    fn put_bids(&mut self, token: &[u8], round: u64, bids: &[Bid]) -> Result<Written, NoMemory>
+        requires token { IsToken token.now }
+        ensures writes { IfOk result (Writes self.old self.new (put_text token.now round bids.now)) }
+        ensures awaits { IfOk result (AwaitsBody self.new) }
+    {
+        let start = self.bodies.text.len();
+        self.bodies.push_sheet(round, bids)?;
+        self.end_put(token, start)
+    }
+
+    /// Writes the request by which the operator, whose token it is, closes a round.
+    fn put_closing(
+        &mut self,
+        token: &[u8],
+        round: u64,
+        increments: &Increments,
+        ties: &[Tie],
+    ) -> Result<Written, NoMemory>
+        ensures { IfOk result (Writes self.old self.new (close_text token.now round increments.now ties.now)) }
+    {
+        let start = self.bodies.text.len();
+        push_close_body(&mut self.bodies.text, round, increments, ties)?;
+        self.end_request(b"POST /v1/close", token, start)
+    }
+
+    /// Writes the sheet that a sincere bidder puts.
+    fn write_sincere<P>(
+        &mut self,
+        house: &House<P>,
+        bidder: u32,
+        limits: &LimitLists,
+    ) -> Result<Written, NoMemory>
+        requires known { bidder < length house.now.setup.bidders }
+        requires going { (standing_in house.now).ended ≡ false }
+        requires limits { IsLimits house.now.setup.products limits.now }
+        ensures writes { IfOk result (Writes self.old self.new (put_text (bidder_at house.now.setup bidder).token
+            (standing_in house.now).round
+            (sincere_sheet (standing_in house.now).round (standing_in house.now).prices
+            (holding_in house.now bidder).demands limits.now))) }
+        ensures awaits { IfOk result (AwaitsBody self.new) }
+    {
+        house.law_of_house();
+        let setup = house.setup();
+        let sheet = Sincere {
+            prices: house.prices().as_slice(),
+            own: house.own(bidder),
+            limits,
+        };
+        self.put_sincere(token_of(setup, bidder), &sheet)
+    }
+
+    /// Writes the sheet of a round in a list of sheets, by the holder of a token, if there is one.
+    fn write_literal(
+        &mut self,
+        token: &[u8],
+        round: u64,
+        sheets: &[Option<BidList>],
+    ) -> Result<Option<Written>, NoMemory>
+        requires { IsToken token.now }
+        ensures writes { IfOk result (WritesIf self.old self.new
+            (option_map (put_text token.now round) (slice_index_or sheets.now (round - 1) None))) }
+        ensures awaits { IfOk result (λ written. IfSome written (AwaitsBody self.new)) }
+    {
+        match sheet_of(sheets, round) {
+            None => Ok(None),
+            Some(bids) => {
+                let written = self.put_bids(token, round, bids.as_slice())?;
+                Ok(Some(written))
+            }
+        }
+    }
+
+    /// Writes the request by which a bidder puts the sheet that its script gives, if there is one.
+    #[tactic(auto, unfolding(crate::specs::ScriptedRequests::scripted_put))]
+    pub fn write_put<P>(
+        &mut self,
+        house: &House<P>,
+        bidder: u32,
+        script: &Script,
+    ) -> Result<Option<Written>, NoMemory>
+        requires known { bidder < length house.now.setup.bidders }
+        requires going { (standing_in house.now).ended ≡ false }
+        requires script { IsScript house.now.setup.products script.now }
+        ensures writes { IfOk result (WritesIf self.old self.new
+            (rules.scripted_put house.now.setup house.now.closed bidder script.now)) }
+        ensures awaits { IfOk result (λ written. IfSome written (AwaitsBody self.new)) }
+    {
+        match script {
+            Script::Sincere(limits) => {
+                let written = self.write_sincere(house, bidder, limits)?;
+                Ok(Some(written))
+            }
+            Script::Literal(sheets) => {
+                let token = token_of(house.setup(), bidder);
+                let written = self.write_literal(token, house.round(), sheets.as_slice())?;
+                Ok(written)
+            }
+        }
+    }
+
+    /// Writes the request by which the operator closes the current round.
+    #[tactic(auto, unfolding(crate::specs::ScriptedRequests::scripted_close))]
+    pub fn write_close<P>(
+        &mut self,
+        house: &House<P>,
+        closing: &Closing,
+    ) -> Result<Written, NoMemory>
+        ensures { IfOk result (Writes self.old self.new
+            (rules.scripted_close house.now.setup house.now.closed closing.now)) }
+    {
+        let written = self.put_closing(
+            house.setup().operator.as_slice(),
+            house.round(),
+            &closing.increments,
+            closing.ties.as_slice(),
+        )?;
+        Ok(written)
+    }
+}

@@ -1,0 +1,211 @@
+//! The sheets of sincere bidders.
+
+ghost use Rattle.std.specs.Prelude.{◌≡◌, ◌≤◌, ◌<◌, ◌≢◌, length, take, reverse, OnOk, codes};
+ghost use Rattle.clock_views.specs.Values.{Adds};
+ghost use Rattle.clock_replays.specs.Replays.{NeverRises};
+ghost use Rattle.clock_scripts.specs.RequestTexts.{written_put};
+ghost use Rattle.clock_scripts.specs.Sincere as rules;
+ghost use Rattle.clock_scripts.specs.inside.Blocks as one_by_one;
+ghost use Rattle.clock_scripts.specs.inside.Bodies.{bids_text};
+ghost use Rattle.clock_scripts.specs.inside.SincereSheets.{IsSincere, sheet_of};
+
+use crate::sheet_bodies::Bodies;
+use clock_bids::{Bid, Own};
+use clock_device::NoMemory;
+use clock_replays::LimitLists;
+use clock_terms::PricePair;
+
+/// The price at which a block leaves, where it does not stay up to the clock price.
+fn leaving_price(pair: &PricePair, limit: u64) -> Option<u64>
+    ensures { result ≡ rules.leaving_price pair.now limit }
+{
+    if limit < pair.clock.get() {
+        Some(pair.start.get().max(limit))
+    } else {
+        None
+    }
+}
+
+/// The price at which the last of so many blocks leaves, where there is one that does.
+#[inline(always)]
+fn last_leaving(pair: &PricePair, limits: &[u64], blocks: usize) -> Option<u64>
+    requires { blocks ≤ length limits.now }
+    ensures { result ≡ one_by_one.last_leaving pair.now (reverse (take blocks limits.now)) }
+{
+    if blocks == 0 {
+        None
+    } else {
+        leaving_price(pair, limits[blocks - 1])
+    }
+}
+
+/// Whether the block before one that leaves at a price does not leave there.
+fn is_last(price: u64, next: Option<u64>) -> bool
+    ensures { result ≡ one_by_one.is_last price next }
+{
+    match next {
+        None => true,
+        Some(next) => next != price,
+    }
+}
+
+/// Adds the bid at the price at which a block leaves, where the block before does not leave there.
+fn push_block(
+    bodies: &mut Bodies,
+    product: u64,
+    before: u64,
+    price: Option<u64>,
+    next: Option<u64>,
+) -> Result<(), NoMemory>
+    ensures { OnOk result (Adds (bids_text (one_by_one.block_bid product before price next))
+        bodies.old.text.items bodies.new.text.items) }
+{
+    let Some(price) = price else {
+        return Ok(());
+    };
+    if !is_last(price, next) {
+        return Ok(());
+    }
+    bodies.push_own_bid(&Bid {
+        product,
+        quantity: before,
+        price,
+    })
+}
+
+/// Adds a bid for each different price at which one of the held blocks leaves, rising. The blocks past the limits stay.
+#[inline(never)]
+fn push_leaving(
+    bodies: &mut Bodies,
+    product: u64,
+    pair: &PricePair,
+    held: u64,
+    limits: &[u64],
+) -> Result<(), NoMemory>
+    requires falls { NeverRises limits.now }
+    requires within { length limits.now ≤ held }
+    ensures { OnOk result (Adds (bids_text (rules.leaving_bids product held (rules.leaving_prices pair.now limits.now)))
+        bodies.old.text.items bodies.new.text.items) }
+{
+    let past = held - limits.len() as u64;
+    for block in (0..limits.len()).rev() {
+        let price = leaving_price(pair, limits[block]);
+        let next = last_leaving(pair, limits, block);
+        push_block(bodies, product, past + block as u64, price, next)?;
+    }
+    Ok(())
+}
+
+/// Adds the bids for a product of which so many blocks are held, in a later round: one that keeps them where none leaves.
+#[inline(always)]
+fn push_held(
+    bodies: &mut Bodies,
+    product: u64,
+    pair: &PricePair,
+    held: u64,
+    limits: &[u64],
+) -> Result<(), NoMemory>
+    requires falls { NeverRises limits.now }
+    requires some { 0 < held }
+    ensures { OnOk result (Adds (bids_text (rules.later_bids product pair.now held limits.now))
+        bodies.old.text.items bodies.new.text.items) }
+{
+    let blocks = (held as usize).min(limits.len());
+    match last_leaving(pair, limits, blocks) {
+        Some(_) => {
+            push_leaving(bodies, product, pair, held, &limits[..blocks])?;
+            Ok(())
+        }
+        None => {
+            bodies.push_bid(&Bid {
+                product,
+                quantity: held,
+                price: pair.clock.get(),
+            })?;
+            Ok(())
+        }
+    }
+}
+
+/// Adds the bid for a product in the first round.
+#[inline(always)]
+fn push_opening(
+    bodies: &mut Bodies,
+    product: u64,
+    pair: &PricePair,
+    limits: &[u64],
+) -> Result<(), NoMemory>
+    ensures { OnOk result (Adds (bids_text (rules.opening_bids product pair.now limits.now))
+        bodies.old.text.items bodies.new.text.items) }
+{
+    let price = pair.start.get();
+    let quantity = limits.iter().filter(|limit| price <= **limit).count() as u64;
+    if quantity == 0 {
+        return Ok(());
+    }
+    bodies.push_bid(&Bid {
+        product,
+        quantity,
+        price,
+    })
+}
+
+/// What the sheet of a sincere bidder follows from: the prices of the round, what it holds, and its limits, a list for each
+/// product that never rises.
+#[derive(Drop)]
+pub(crate) struct Sincere<'a> {
+    /// The prices of the round, a pair for each product.
+    pub(crate) prices: &'a [PricePair],
+    /// What it holds.
+    pub(crate) own: Own<'a>,
+    /// Up to which price it wants each block.
+    pub(crate) limits: &'a LimitLists,
+}
+
+impl Sincere<'_> {
+    /// Adds the bids of the first round, for one product after another.
+    fn push_first(&self, bodies: &mut Bodies) -> Result<(), NoMemory>
+        requires sheet { IsSincere self.now }
+        requires first { self.now.own.round ≡ 1 }
+        ensures { OnOk result (Adds (bids_text (sheet_of self.now)) bodies.old.text.items bodies.new.text.items) }
+    {
+        let mut limits = self.limits.walk();
+        for (product, pair) in self.prices.iter().enumerate() {
+            push_opening(bodies, product as u64, pair, limits.list(product))?;
+        }
+        Ok(())
+    }
+
+    /// Adds the bids of a later round. It holds few of the products, and nothing is looked at of the others.
+    #[inline(never)]
+    fn push_later(&self, bodies: &mut Bodies) -> Result<(), NoMemory>
+        requires sheet { IsSincere self.now }
+        requires later { self.now.own.round ≢ 1 }
+        ensures { OnOk result (Adds (bids_text (sheet_of self.now)) bodies.old.text.items bodies.new.text.items) }
+    {
+        let mut limits = self.limits.walk();
+        let mut held = self.own.demands.held();
+        'held: while let Some(one) = held.next() {
+            let pair = &self.prices[one.product];
+            let wanted = limits.list(one.product);
+            push_held(bodies, one.product as u64, pair, one.demand, wanted)?;
+        }
+        Ok(())
+    }
+
+    /// Adds the body of the sheet.
+    pub(crate) fn push(&self, bodies: &mut Bodies) -> Result<(), NoMemory>
+        requires { IsSincere self.now }
+        ensures { OnOk result (Adds (written_put self.now.own.round (sheet_of self.now))
+            bodies.old.text.items bodies.new.text.items) }
+    {
+        let start = bodies.open_sheet()?;
+        if self.own.round == 1 {
+            self.push_first(bodies)?;
+        } else {
+            self.push_later(bodies)?;
+        }
+        bodies.close_sheet(start, self.own.round)?;
+        Ok(())
+    }
+}

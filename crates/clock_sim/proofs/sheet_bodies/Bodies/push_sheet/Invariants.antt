@@ -1,7 +1,0 @@
-use Rattle.std.proofs.Common.{◌≡◌, ◌++◌, drop}
-use Rattle.clock_sim.specs.inside.Bodies.{bids_text}
-use Rattle.clock_sim.proofs.sheet_bodies.Bodies.push_sheet.Given as goal
-
--- with the other bids they are all there
-abbrev pub invariant-loop-bid : goal.invariant-loop-bid
-invariant-loop-bid l = l.self.text.items ++ bids_text (drop l.bid-index l.bids) ≡ l.initial.self.text.items ++ bids_text l.bids
