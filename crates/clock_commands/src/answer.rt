@@ -1,5 +1,6 @@
-ghost use Rattle.std.specs.Prelude.{◌≡◌, ◌≢◌, ◌≤◌, Ok, Err, length, IfOk, IfErr};
+ghost use Rattle.std.specs.Prelude.{◌≡◌, ◌≤◌, Ok, length, IfOk, IfErr};
 ghost use Rattle.clock_terms.specs.Demands.{IsGrid};
+ghost use Rattle.clock_terms.specs.Faults.{IsRefusal};
 ghost use Rattle.clock_terms.specs.Increments.{IsIncrement};
 ghost use Rattle.clock_setup.specs.SetupDocument.{document_setup};
 ghost use Rattle.clock_commands.specs.Answers.{answer_to, first_round, played, read_in};
@@ -19,7 +20,7 @@ use std::alloc::Global;
 pub fn answer(alloc: Global, job: Job, document: Text) -> Result<Text, Fault>
     requires { IsJob job }
     ensures ok { IfOk result (λ text. answer_to job document ≡ Ok text) }
-    ensures err { IfErr result (λ fault. fault ≢ Fault.Memory → answer_to job document ≡ Err fault) }
+    ensures err { IfErr result (IsRefusal Fault.Memory (answer_to job document)) }
 {
     match job {
         Job::Prices(increment) => prices_answer(alloc, increment, document.as_slice()),
@@ -31,7 +32,7 @@ pub fn answer(alloc: Global, job: Job, document: Text) -> Result<Text, Fault>
 /// The set-up that a document means, or the document's fault.
 pub fn setup_in(alloc: Global, document: &[u8]) -> Result<Setup, Fault>
     ensures ok { IfOk result (λ setup. document_setup document.now ≡ Ok setup) }
-    ensures err { IfErr result (λ fault. fault ≢ Fault.Memory → read_in (document_setup document.now) ≡ Err fault) }
+    ensures err { IfErr result (IsRefusal Fault.Memory (read_in (document_setup document.now))) }
 {
     match read_setup(alloc, document) {
         Ok(setup) => Ok(setup),
@@ -43,8 +44,7 @@ pub fn setup_in(alloc: Global, document: &[u8]) -> Result<Setup, Fault>
 fn prices_answer(alloc: Global, increment: u64, document: &[u8]) -> Result<Text, Fault>
     requires { IsJob (Job.Prices increment) }
     ensures ok { IfOk result (λ text. answer_to (Job.Prices increment) document.now ≡ Ok text) }
-    ensures err { IfErr result (λ fault. fault ≢ Fault.Memory
-        → answer_to (Job.Prices increment) document.now ≡ Err fault) }
+    ensures err { IfErr result (IsRefusal Fault.Memory (answer_to (Job.Prices increment) document.now)) }
 {
     let setup = setup_in(alloc, document)?;
     let text = prices_text(alloc, &setup, increment);
@@ -57,7 +57,7 @@ fn first_lines(alloc: Global, opening: &Opening) -> Result<Text, Fault>
     requires increment { IsIncrement opening.now.increment }
     requires grid { IsGrid (length opening.now.setup.bidders) (length opening.now.setup.products) opening.now.grid }
     ensures ok { IfOk result (λ text. first_round opening.now ≡ Ok text) }
-    ensures err { IfErr result (λ fault. fault ≢ Fault.Memory → first_round opening.now ≡ Err fault) }
+    ensures err { IfErr result (IsRefusal Fault.Memory (first_round opening.now)) }
 {
     let increments = Increments::Single(opening.increment);
     let posted = post_first(alloc, &opening.setup, &opening.grid, &increments);
@@ -75,8 +75,7 @@ fn first_lines(alloc: Global, opening: &Opening) -> Result<Text, Fault>
 
 fn opening_answer(alloc: Global, document: &[u8]) -> Result<Text, Fault>
     ensures ok { IfOk result (λ text. answer_to Job.Opening document.now ≡ Ok text) }
-    ensures err { IfErr result (λ fault. fault ≢ Fault.Memory
-        → answer_to Job.Opening document.now ≡ Err fault) }
+    ensures err { IfErr result (IsRefusal Fault.Memory (answer_to Job.Opening document.now)) }
 {
     match read_opening(alloc, document) {
         Ok(opening) => {
@@ -92,7 +91,7 @@ fn opening_answer(alloc: Global, document: &[u8]) -> Result<Text, Fault>
 /// The report of a replay, or why it did not come to its end.
 fn report_lines(alloc: Global, replay: Replay) -> Result<Text, Fault>
     ensures ok { IfOk result (λ text. played (simulated replay) ≡ Ok text) }
-    ensures err { IfErr result (λ fault. fault ≢ Fault.Memory → played (simulated replay) ≡ Err fault) }
+    ensures err { IfErr result (IsRefusal Fault.Memory (played (simulated replay))) }
 {
     match replay_text(alloc, replay) {
         Ok(text) => Ok(text),
@@ -104,8 +103,7 @@ fn report_lines(alloc: Global, replay: Replay) -> Result<Text, Fault>
 /// The report of the replay that a document means, which is let go before the auction is played.
 fn replay_answer(alloc: Global, document: Text) -> Result<Text, Fault>
     ensures ok { IfOk result (λ text. answer_to Job.Replay document ≡ Ok text) }
-    ensures err { IfErr result (λ fault. fault ≢ Fault.Memory
-        → answer_to Job.Replay document ≡ Err fault) }
+    ensures err { IfErr result (IsRefusal Fault.Memory (answer_to Job.Replay document)) }
 {
     let read = read_replay(alloc, document.as_slice());
     drop(document);

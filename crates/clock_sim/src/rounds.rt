@@ -1,11 +1,11 @@
 //! The rounds of a replay: each bidder's sheet, then the closing.
 
-ghost use Rattle.std.specs.Prelude.{◌≡◌, ◌<◌, length, true, All, OnOk};
+ghost use Rattle.std.specs.Prelude.{◌≡◌, ◌<◌, length, true, OnOk};
 ghost use Rattle.clock_house.specs.House.{standing_in};
 ghost use Rattle.clock_sim.specs.Rehearsal as rules;
 ghost use Rattle.clock_replays.specs.Replays.{IsScript};
 ghost use Rattle.clock_sim.specs.inside.Groups.{ComesUnderWay, IsUnderWay, requests_in, with_put};
-ghost use Rattle.clock_sim.specs.inside.Steps.{IsGoing, MakesStep};
+ghost use Rattle.clock_sim.specs.inside.Steps.{AreScriptsOf, IsGoing, MakesStep};
 
 use crate::groups::Group;
 use crate::sending::send;
@@ -49,8 +49,7 @@ fn put_all<P: Processor>(
     group: &mut Group,
     scripts: &[Script],
 ) -> Result<(), SimFault>
-    requires each { length scripts.now ≡ length hub.old.house.setup.bidders }
-    requires scripts { All (IsScript hub.old.house.setup.products) scripts.now }
+    requires scripts { AreScriptsOf hub.old.house.setup scripts.now }
     requires going { IsGoing hub.old.house }
     ensures { MakesStep (rules.after_puts hub.old.house.setup 0 scripts.now) hub.old.house hub.new.house result }
 {
@@ -89,8 +88,7 @@ fn play_round<P: Processor>(
     scripts: &[Script],
     closing: &Closing,
 ) -> Result<(), SimFault>
-    requires each { length scripts.now ≡ length hub.old.house.setup.bidders }
-    requires scripts { All (IsScript hub.old.house.setup.products) scripts.now }
+    requires scripts { AreScriptsOf hub.old.house.setup scripts.now }
     requires going { IsGoing hub.old.house }
     ensures { MakesStep (rules.after_round hub.old.house.setup scripts.now closing.now) hub.old.house
         hub.new.house result }
@@ -106,8 +104,7 @@ pub(crate) fn play<P: Processor>(
     scripts: &[Script],
     closings: &[Closing],
 ) -> Result<(), SimFault>
-    requires each { length scripts.now ≡ length hub.old.house.setup.bidders }
-    requires scripts { All (IsScript hub.old.house.setup.products) scripts.now }
+    requires scripts { AreScriptsOf hub.old.house.setup scripts.now }
     requires going { IsGoing hub.old.house }
     ensures step { MakesStep (rules.rehearsed hub.old.house.setup scripts.now closings.now) hub.old.house
         hub.new.house result }

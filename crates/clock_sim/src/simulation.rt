@@ -1,11 +1,10 @@
-ghost use Rattle.std.specs.Prelude.{◌≡◌, [], Ok, true, length, All, IfOk, IfErr, OnOk};
+ghost use Rattle.std.specs.Prelude.{◌≡◌, [], Ok, true, IfOk, IfErr, OnOk};
 ghost use Rattle.clock_terms.specs.Faults.{IsRefusal};
 ghost use Rattle.clock_house.specs.House.{standing_in};
 ghost use Rattle.clock_front.specs.Fronts.{StandsForTexts};
-ghost use Rattle.clock_replays.specs.Replays.{IsScript};
 ghost use Rattle.clock_reports.specs.FinalReport.{report_of};
 ghost use Rattle.clock_sim.specs.Rehearsal as rules;
-ghost use Rattle.clock_sim.specs.inside.Steps.{replay_of};
+ghost use Rattle.clock_sim.specs.inside.Steps.{AreScriptsOf, replay_of};
 ghost use Rattle.clock_sim.specs.declared.sim_fault.SimFault.TheVariants as faults;
 
 use crate::groups::Group;
@@ -43,8 +42,7 @@ fn play_out<P: Processor>(
     closings: &[Closing],
 ) -> Result<(), SimFault>
     requires first { StandsForTexts [] hub.old.house }
-    requires each { length scripts.now ≡ length hub.old.house.setup.bidders }
-    requires scripts { All (IsScript hub.old.house.setup.products) scripts.now }
+    requires scripts { AreScriptsOf hub.old.house.setup scripts.now }
     ensures ok { OnOk result (rules.simulated (replay_of hub.old.house scripts.now closings.now)
         ≡ Ok (report_of hub.new.house.setup hub.new.house.closed)) }
     ensures ended { OnOk result ((standing_in hub.new.house).ended ≡ true) }
@@ -76,29 +74,8 @@ fn played<P: Processor>(
     Ok(report_so_far(alloc, hub.front().house())?)
 }
 
-/// Plays an auction as [`play_out`] does, and lets scripts and closings go: the report needs nothing of them.
-fn played_out<P: Processor>(
-    alloc: Global,
-    hub: &mut Hub<P>,
-    scripts: Scripts,
-    closings: Closings,
-) -> Result<(), SimFault>
-    requires first { StandsForTexts [] hub.old.house }
-    requires each { length scripts ≡ length hub.old.house.setup.bidders }
-    requires scripts { All (IsScript hub.old.house.setup.products) scripts }
-    ensures ok { OnOk result (rules.simulated (replay_of hub.old.house scripts closings)
-        ≡ Ok (report_of hub.new.house.setup hub.new.house.closed)) }
-    ensures ended { OnOk result ((standing_in hub.new.house).ended ≡ true) }
-    ensures err { IfErr result (IsRefusal faults.NoMemory
-        (rules.simulated (replay_of hub.old.house scripts closings))) }
-{
-    let played = play_out(alloc, hub, scripts.as_slice(), closings.as_slice());
-    drop(scripts);
-    drop(closings);
-    played
-}
-
-/// Plays an auction before its first request, and writes the text of its report.
+/// Plays an auction before its first request, and writes the text of its report, which needs nothing of the scripts and
+/// closings: they are let go before.
 fn text_played<P: Processor>(
     alloc: Global,
     hub: &mut Hub<P>,
@@ -106,13 +83,15 @@ fn text_played<P: Processor>(
     closings: Closings,
 ) -> Result<Text, SimFault>
     requires first { StandsForTexts [] hub.old.house }
-    requires each { length scripts ≡ length hub.old.house.setup.bidders }
-    requires scripts { All (IsScript hub.old.house.setup.products) scripts }
+    requires scripts { AreScriptsOf hub.old.house.setup scripts }
     ensures ok { IfOk result (λ text. rules.played_text (replay_of hub.old.house scripts closings) ≡ Ok text) }
     ensures err { IfErr result (IsRefusal faults.NoMemory
         (rules.played_text (replay_of hub.old.house scripts closings))) }
 {
-    played_out(alloc, hub, scripts, closings)?;
+    let played = play_out(alloc, hub, scripts.as_slice(), closings.as_slice());
+    drop(scripts);
+    drop(closings);
+    played?;
     Ok(final_text(alloc, hub.front().house())?)
 }
 

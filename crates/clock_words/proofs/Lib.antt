@@ -1,2 +1,3 @@
 mod NumberText
 mod Grammar
+pub mod Told

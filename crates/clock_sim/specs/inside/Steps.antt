@@ -1,12 +1,13 @@
 -- What a step of a rehearsal has come to, for the calls that make it.
 --     replay_of house scripts closings      the replay of scripts and closings in the auction of a house
+--     AreScriptsOf setup scripts      there is a script for each bidder
 --     IsGoing house      the auction of a house goes on
 --     IsTold code fault result      what the code of a reply is told as
 --     ComesTo answer house      the step has an end, and the house stands for its texts
 --     MakesStep step old new result      whatever the house stood for, the step was made, or its fault is told
 --     IsLeft rest answer house      the rest of the steps, made from what the house stands for, has this end
 --     MakesWay whole rest old new result      a part of some steps was made, and the rest is left
-use Rattle.std.specs.Prelude.{◌≡◌, ◌≢◌, ℕ, List, false, Result, Ok, Err, MatchResult}
+use Rattle.std.specs.Prelude.{◌≡◌, ◌≢◌, ℕ, List, All, length, false, Result, Ok, Err, MatchResult}
 use Rattle.clock_terms.specs.Faults.{IsRefusal}
 use Rattle.clock_house.specs.House.{HouseFields, standing_in}
 use Rattle.clock_http.specs.declared.code.Code.{Code}
@@ -14,13 +15,19 @@ use Rattle.clock_http.specs.declared.code.Code.TheVariants.{Done, Memory}
 use Rattle.clock_front.specs.Fronts.{StandsForTexts}
 use Rattle.clock_replays.specs.declared.script.Script.{Script}
 use Rattle.clock_replays.specs.declared.closing.Closing.{Closing}
-use Rattle.clock_replays.specs.Replays.{ReplayFields}
+use Rattle.clock_terms.specs.Limits.{SetupFields}
+use Rattle.clock_replays.specs.Replays.{ReplayFields, IsScript}
 use Rattle.clock_sim.specs.declared.sim_fault.SimFault.{SimFault}
 use Rattle.clock_sim.specs.declared.sim_fault.SimFault.TheVariants.{NoMemory}
 
 -- scripts and closings that are played in the auction of a house
 abbrev pub replay_of : HouseFields → List Script → List Closing → ReplayFields
 replay_of house scripts closings = record { setup = house.setup; scripts = scripts; closings = closings }
+
+-- one for each bidder, each for the products
+pub record AreScriptsOf (setup : SetupFields) (scripts : List Script) : Type 0 where
+  pub each : length scripts ≡ length setup.bidders
+  pub all : All (IsScript setup.products) scripts
 
 -- the auction has not ended, and the house stands for some texts
 pub record IsGoing (house : HouseFields) : Type 0 where

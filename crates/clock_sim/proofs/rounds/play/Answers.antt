@@ -1,28 +1,22 @@
-use Rattle.std.proofs.Common.{◌≡◌, ◌+◌, All, true, false, drop, length, ap, sym, subst, ◌∙◌, arith}
+use Rattle.std.proofs.Common.{◌≡◌, ◌+◌, true, false, drop, ap, sym, subst, ◌∙◌, arith}
 use Rattle.std.proofs.lemmas.Result.{err_from_is_err_and}
 use Rattle.clock_terms.specs.Limits.{SetupFields}
 use Rattle.clock_house.specs.House.{HouseFields, standing_in}
-use Rattle.clock_replays.specs.Replays.{IsScript}
 use Rattle.clock_sim.specs.Rehearsal.{after_round, rehearsed}
+use Rattle.clock_sim.specs.inside.Steps.{AreScriptsOf}
 use Rattle.clock_sim.proofs.StepLaws.{begins, round_played, round_refused, goes_past, goes_on_after, ends_there, closings_spent, last_refused}
 use Rattle.clock_sim.proofs.rounds.play.Goals as goal
 
 pub loop-closing-init : goal.loop-closing-init
 loop-closing-init g c = (begins (rehearsed c.args.hub.now.house.setup c.args.scripts.now c.args.closings.now) c.args.hub.now.house, c.requires.going)
 
-pub play_round-requires-clause-each : goal.play_round-requires-clause-each
-play_round-requires-clause-each g c = c.requires.each ∙ sym (ap (λ (setup : SetupFields). length setup.bidders) c.loop-closing.invariant.0.setup)
-
 pub play_round-requires-clause-scripts : goal.play_round-requires-clause-scripts
 play_round-requires-clause-scripts g c =
-    subst (λ (setup : SetupFields). All (IsScript setup.products) c.args.scripts.now) (sym c.loop-closing.invariant.0.setup) c.requires.scripts
-
-pub put_all-requires-clause-each : goal.put_all-requires-clause-each
-put_all-requires-clause-each g c = c.requires.each ∙ sym (ap (λ (setup : SetupFields). length setup.bidders) c.loop-closing.invariant.0.setup)
+    subst (λ (setup : SetupFields). AreScriptsOf setup c.args.scripts.now) (sym c.loop-closing.invariant.0.setup) c.requires.scripts
 
 pub put_all-requires-clause-scripts : goal.put_all-requires-clause-scripts
 put_all-requires-clause-scripts g c =
-    subst (λ (setup : SetupFields). All (IsScript setup.products) c.args.scripts.now) (sym c.loop-closing.invariant.0.setup) c.requires.scripts
+    subst (λ (setup : SetupFields). AreScriptsOf setup c.args.scripts.now) (sym c.loop-closing.invariant.0.setup) c.requires.scripts
 
 pub returns-in_err-play_round-clause-step : goal.returns-in_err-play_round-clause-step
 returns-in_err-play_round-clause-step g c =

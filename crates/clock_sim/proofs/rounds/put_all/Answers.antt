@@ -20,14 +20,14 @@ loop-bidder-init g c =
 
 pub put_scripted-requires-clause-known : goal.put_scripted-requires-clause-known
 put_scripted-requires-clause-known g c =
-    omega (arith, c.requires.each, ap (λ (setup : SetupFields). length setup.bidders) c.loop-bidder.invariant.0.setup)
+    omega (arith, c.requires.scripts.each, ap (λ (setup : SetupFields). length setup.bidders) c.loop-bidder.invariant.0.setup)
 
 pub put_scripted-requires-clause-script : goal.put_scripted-requires-clause-script
 put_scripted-requires-clause-script g c =
     let script = c.index-scripts-bidder.result in
     subst (λ (setup : SetupFields). IsScript setup.products script) (sym c.loop-bidder.invariant.0.setup)
     (subst (λ (one : Script). IsScript c.args.hub.now.house.setup.products one) (sym c.index-scripts-bidder.is)
-    (c.requires.scripts c.loop-bidder.bidder script c.loop-bidder-test.true))
+    (c.requires.scripts.all c.loop-bidder.bidder script c.loop-bidder-test.true))
 
 pub loop-bidder-preserved : goal.loop-bidder-preserved
 loop-bidder-preserved g c = (
