@@ -3,8 +3,8 @@ use Rattle.std.proofs.Common.{◌≡◌, ℕ, ◌+◌, ◌<◌, ◌≤◌, All, 
 use Rattle.std.proofs.Common.{get_or, drop, zip, None, Some, refl, sym, ap, subst, ◌∙◌, arith}
 use Rattle.std.specs.Prelude.{EachIndex}
 use Rattle.std.specs.List.{list_all}
-use Rattle.std.proofs.lemmas.Bool.{and_parts, le-leb, lt-leb, leb-true, eqb-true}
-use Rattle.std.proofs.lemmas.List.{drop_more, drop_all, get_or_default}
+use Rattle.std.proofs.lemmas.Bool.{and_parts, le-leb, leb-true, eqb-true}
+use Rattle.std.proofs.lemmas.List.{drop_more, get_or_default}
 use Rattle.std.proofs.lemmas.List.Elements.{All-nil, All-cons}
 use Rattle.std.proofs.lemmas.List.Kept.{AllPairs-cons}
 use Rattle.std.proofs.lemmas.List.Sums.{AllPass-from_list_all, list_all-from_AllPass}
@@ -54,23 +54,10 @@ below_next last price rest h =
     ap (λ test. (test && list_all (λ p. nat_le p last) rest) && (list_all (λ p. nat_le p price) rest && never_rises rest)) (le-leb price last h)
     ∙ absorbed _ _ _ (all_below price last rest h)
 
-above_next : (last price : ℕ) (rest : List ℕ) → last < price → go_on_below last (price ∷ rest) ≡ false
-above_next last price rest h =
-    ap (λ test. (test && list_all (λ p. nat_le p last) rest) && (list_all (λ p. nat_le p price) rest && never_rises rest)) (lt-leb price last h)
-
 -- the next price does not rise
 pub price_passed : (last : ℕ) (prices : List ℕ) (i : ℕ) → i < length prices → get_or prices i 0 ≤ last
     → go_on_below last (drop i prices) ≡ go_on_below (get_or prices i 0) (drop (i + 1) prices)
 price_passed last prices i h le = ap (go_on_below last) (drop_more prices i 0 h) ∙ below_next last _ _ le
-
--- the next price rises
-pub price_failed : (last : ℕ) (prices : List ℕ) (i : ℕ) → i < length prices → last < get_or prices i 0
-    → go_on_below last (drop i prices) ≡ false
-price_failed last prices i h lt = ap (go_on_below last) (drop_more prices i 0 h) ∙ above_next last _ _ lt
-
--- no price is left
-pub prices_end : (last : ℕ) (prices : List ℕ) (i : ℕ) → length prices ≤ i → go_on_below last (drop i prices) ≡ true
-prices_end last prices i h = ap (go_on_below last) (drop_all i prices h)
 
 -- the test tells what the prices do
 pub falling_of_test : (prices : List ℕ) → never_rises prices ≡ true → NeverRises prices

@@ -1,9 +1,9 @@
 -- Arrays that are written with a comma behind each item.
-use Rattle.std.proofs.Common.{◌≡◌, ℕ, ◌+◌, ◌-◌, ◌<◌, ◌≤◌, Bool, true, false, nat_lt, List, [], ◌∷◌, ◌++◌, length, take, drop, get_or, codes, refl, sym, ap, ◌∙◌, append_assoc, append-nil, arith}
+use Rattle.std.proofs.Common.{◌≡◌, ℕ, ◌+◌, ◌-◌, ◌≤◌, Bool, true, false, nat_lt, List, [], ◌∷◌, ◌++◌, length, take, drop, codes, refl, sym, ap, ◌∙◌, append_assoc, append-nil, arith}
 use Rattle.std.specs.Prelude.{if◌then◌else◌}
 use Rattle.std.proofs.Math.Seq.{take-append_seam}
 use Rattle.std.proofs.lemmas.Bool.Decides.{nat_tests}
-use Rattle.std.proofs.lemmas.List.{drop_more, drop_all, length-append}
+use Rattle.std.proofs.lemmas.List.{drop_all, length-append}
 use Rattle.serde_json.specs.Data.{Data}
 use Rattle.serde_json.specs.Written.{compact_text, items_text, comma_if}
 use Rattle.clock_views.specs.Values.{items_of, list_of, Adds}
@@ -53,17 +53,6 @@ module _ {A : Type 0} (value : A → Data) where
       ∙ ap (λ (all : List ℕ). all ++ codes "]") (take-append_seam text (codes ","))
       ∙ append_assoc before end.front (codes "]")
       ∙ ap (λ (more : List ℕ). before ++ more) (sym (end.closed false))
-
-  -- an item more, and those behind it
-  pub item_more : (items : List A) (i : ℕ) (item : A) (text next : List ℕ) → i < length items → item ≡ get_or items i item
-      → Adds (with_comma value item) text next
-      → next ++ with_commas value (drop (i + 1) items) ≡ text ++ with_commas value (drop i items)
-  item_more items i item text next within is added =
-      let rest = with_commas value (drop (i + 1) items) in
-      ap (λ (first : List ℕ). first ++ rest) added.is
-      ∙ append_assoc text (with_comma value item) rest
-      ∙ ap (λ (one : A). text ++ (with_comma value one ++ rest)) is
-      ∙ ap (λ (all : List A). text ++ with_commas value all) (sym (drop_more items i item within))
 
   -- behind the opening bracket and all items it is the array
   pub array_from : (items : List A) (old begun text new : List ℕ) (start : ℕ) → Adds (codes "[") old begun → start ≡ length begun
