@@ -59,10 +59,7 @@ pub fn increments_of(alloc: Global, value: &Value) -> Result<Option<Increments>,
     let Some(items) = items_at(value, "increments") else {
         return Ok(None);
     };
-    match numbers_of(alloc, items)? {
-        Some(increments) => Ok(Some(Increments::PerProduct(increments))),
-        None => Ok(None),
-    }
+    Ok(numbers_of(alloc, items)?.map(Increments::PerProduct))
 }
 
 #[tactic(auto, unfolding(crate::specs::CloseBodies::close_of))]
@@ -79,10 +76,7 @@ impl<'v> Body<'v> for FoundClose {
         let Some(ties) = each_at(alloc, value, "ties", &TieReader)? else {
             return Ok(None);
         };
-        if !has_members(value, 3) {
-            return Ok(None);
-        }
-        Ok(Some(CloseBody {
+        Ok(has_members(value, 3).then_some(CloseBody {
             round,
             increments,
             ties,

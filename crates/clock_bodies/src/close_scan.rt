@@ -18,13 +18,11 @@ pub fn one_form(single: Option<u64>, listed: Option<Items<u64>>) -> Option<Incre
     ensures single { IfSome result (λ increments. single ≡ single_of increments) }
     ensures listed { IfSome result (λ increments. listed ≡ listed_of increments) }
 {
-    let Some(increments) = listed else {
-        return Some(Increments::Single(single?));
-    };
-    if single.is_some() {
-        return None;
+    match (single, listed) {
+        (Some(increment), None) => Some(Increments::Single(increment)),
+        (None, Some(increments)) => Some(Increments::PerProduct(increments)),
+        _ => None,
     }
-    Some(Increments::PerProduct(increments))
 }
 
 /// A tie number is read from a list of three numbers, each written in digits alone.

@@ -34,10 +34,7 @@ impl<'v> ValueReader<'v> for BidReader {
         ) else {
             return Ok(None);
         };
-        if !has_members(value, 3) {
-            return Ok(None);
-        }
-        Ok(Some(Bid {
+        Ok(has_members(value, 3).then_some(Bid {
             product,
             quantity,
             price,
@@ -56,11 +53,7 @@ impl<'v> Body<'v> for FoundPut {
         let Some(bids) = each_at(alloc, value, "bids", &BidReader)? else {
             return Ok(None);
         };
-        if has_members(value, 2) {
-            Ok(Some(PutBody { round, bids }))
-        } else {
-            Ok(None)
-        }
+        Ok(has_members(value, 2).then_some(PutBody { round, bids }))
     }
 }
 

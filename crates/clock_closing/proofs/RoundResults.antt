@@ -137,6 +137,23 @@ module _ (setup : PublicSetup) (now : OpenRound) (sound : IsOpen setup now) (tie
         ap (λ (result : RoundResult). total_of result.grid product) (result-later setup.products now ties later),
       )
 
+-- numbers by themselves, since a search reads all that is in scope
+from_one : (next now : ℕ) → next ≡ now + 1 → 1 ≤ next
+from_one next now is = omega (arith, is)
+
+rising_range : (pair : PricePair) → IsRising pair → IsPriceRange pair
+rising_range pair is = omega (arith, is)
+
+start_within : (pair : PricePair) → IsRising pair → pair.clock ≤ highest_price → pair.start ≤ highest_price
+start_within pair rises most = omega (arith, rises, most)
+
+first_bound : (next now long products sum : ℕ) → next ≡ now + 1 → now ≡ 1 → long ≡ products → long ≤ sum → next + products ≤ 2 + sum
+first_bound next now long products sum is one many most = omega (arith, is, one, many, most)
+
+later_bound : (next now products sum more posted : ℕ) → next ≡ now + 1 → now + products ≤ 2 + sum → more ≡ posted → sum < posted →
+    next + products ≤ 2 + more
+later_bound next now products sum more posted is bound same rises = omega (arith, is, bound, same, rises)
+
 -- the next prices of a round that goes on
 module _ (products : List Product) (now : Standing) (priced : HasSoundPrices products now) (grid : List (List ℕ)) (posted : List ℕ)
     (increments : Increments) (are : ArePosted products now.prices grid posted increments)
@@ -171,7 +188,7 @@ module _ (products : List Product) (now : Standing) (priced : HasSoundPrices pro
   above_start : 2 ≤ now.round → All (λ (line : Line). line.start < line.clock) (lines_of_round products now.prices grid posted increments)
   above_start later =
       all_in_range (λ (line : Line). line.start < line.clock) (sheet_line products now.prices grid posted increments) (length products)
-      (λ k lt. priced.rising later k (record { start = 0; clock = 0 }) (omega (arith, lt, priced.pairs)))
+      (λ k lt. priced.rising later k (record { start = 0; clock = 0 }) (subst (λ n. k < n) (sym priced.pairs) lt))
 
   sum_rises : 2 ≤ now.round → sum_by (λ (pair : PricePair). pair.start) now.prices < sum_by (λ (line : Line). line.posted)
       (lines_of_round products now.prices grid posted increments)
@@ -185,8 +202,8 @@ module _ (products : List Product) (now : Standing) (priced : HasSoundPrices pro
       (lines_of_round products now.prices grid posted increments) here.0 here.1 long
       (All-weaker IsBetween (λ (line : Line). line.start ≤ line.posted) (λ line is. is.from_start)
       (lines_of_round products now.prices grid posted increments) are.between)
-      (omega (arith, at, above)) in
-      omega (arith, less, starts)
+      (subst (λ n. line.start < n) (sym at) above) in
+      subst (λ n. n < sum_by (λ (line : Line). line.posted) (lines_of_round products now.prices grid posted increments)) starts less
 
   long_lines : length (map next_pair (lines_of_round products now.prices grid posted increments)) ≡ length products
   long_lines = length-map (lines_of_round products now.prices grid posted increments) next_pair
@@ -199,27 +216,22 @@ module _ (products : List Product) (now : Standing) (priced : HasSoundPrices pro
   next_some : All (λ (pair : PricePair). 1 ≤ pair.start) (map next_pair (lines_of_round products now.prices grid posted increments))
   next_some = subst (All (λ (pair : PricePair). 1 ≤ pair.start)) shown
       (all_in_range (λ (pair : PricePair). 1 ≤ pair.start) (next_price products increments posted) (length products)
-      (λ k lt. are.positive k 0 (omega (arith, lt, are.lengths))))
+      (λ k lt. are.positive k 0 (subst (λ n. k < n) (sym are.lengths) lt)))
 
   next_highest : All (λ (pair : PricePair). pair.start ≤ highest_price) (map next_pair (lines_of_round products now.prices grid posted increments))
   next_highest =
       let clocks : All (λ (pair : PricePair). pair.clock ≤ highest_price) (map next_pair (lines_of_round products now.prices grid posted increments)) =
       subst (All (λ (pair : PricePair). pair.clock ≤ highest_price)) shown (next_within products increments posted limit) in
-      λ k d lt. omega (arith, rising k d lt, clocks k d lt)
+      λ k d lt. start_within _ (rising k d lt) (clocks k d lt)
 
   bounded_next : (next : ℕ) → next ≡ now.round + 1 → 1 ≤ now.round →
       next + length products ≤ 2 + sum_by (λ (pair : PricePair). pair.start) (map next_pair (lines_of_round products now.prices grid posted increments))
   bounded_next next is some = elim (first_or_later now.round some) as (λ _. next + length products
       ≤ 2 + sum_by (λ (pair : PricePair). pair.start) (map next_pair (lines_of_round products now.prices grid posted increments))) [
-        | inl one ↦ omega (
-          arith,
-          is,
-          one,
-          long_lines,
-          length-le-sum_by (λ (pair : PricePair). pair.start)
-              (map next_pair (lines_of_round products now.prices grid posted increments)) next_some,
-        )
-        | inr later ↦ omega (arith, is, priced.bounded later, next_starts, sum_rises later)
+        | inl one ↦ first_bound next now.round _ _ _ is one long_lines
+            (length-le-sum_by (λ (pair : PricePair). pair.start)
+            (map next_pair (lines_of_round products now.prices grid posted increments)) next_some)
+        | inr later ↦ later_bound next now.round _ _ _ _ is (priced.bounded later) next_starts (sum_rises later)
       ]
 
   -- they are in order again
@@ -229,9 +241,9 @@ module _ (products : List Product) (now : Standing) (priced : HasSoundPrices pro
       let P = λ (list : List PricePair). HasSoundPrices products (record { ended = standing.ended; round = standing.round; prices = list }) in
       subst P (sym prices)
       (record {
-        numbered = omega (arith, number);
+        numbered = from_one standing.round now.round number;
         pairs = long_lines;
-        ordered = All-weaker IsRising IsPriceRange (λ pair is. omega (arith, is))
+        ordered = All-weaker IsRising IsPriceRange rising_range
             (map next_pair (lines_of_round products now.prices grid posted increments)) rising;
         positive = next_some;
         highest = next_highest;

@@ -49,7 +49,7 @@ module _ (round : OpenRoundFields) (is : IsOpenRound round) where
   pub closes-good : (increments : Increments) (ties : List Tie) → are_increments (length round.setup.products) increments ≡ true →
       tie_fault (length round.setup.bidders) (length round.setup.products) ties ≡ None →
       closing (public_setup round.setup) round.before round.before.standing.round increments ties
-      ≡ posted_now (public_setup round.setup) round.before increments ties
+      ≡ posted_now round increments ties
   closes-good increments ties within fair =
       closes-fair (public_setup round.setup) round.before round.before.standing.round increments ties is.going refl within
       (ap (λ (n : ℕ). tie_fault n (length round.setup.products) ties) is.holdings ∙ fair)
@@ -58,7 +58,7 @@ module _ (round : OpenRoundFields) (is : IsOpenRound round) where
   pub closes-tested : (setup : SetupFields) (listed : List Product) (increments : Increments) (ties : List Tie) → setup ≡ round.setup →
       listed ≡ setup.products → are_increments (length listed) increments ≡ true → tie_fault (length setup.bidders) (length setup.products) ties ≡ None →
       closing (public_setup round.setup) round.before round.before.standing.round increments ties
-      ≡ posted_now (public_setup round.setup) round.before increments ties
+      ≡ posted_now round increments ties
   closes-tested setup listed increments ties same read within fair =
       closes-good increments ties
       (subst (λ (list : List Product). are_increments (length list) increments ≡ true) (read ∙ ap (λ (one : SetupFields). one.products) same) within)

@@ -6,8 +6,7 @@ use thiserror::Error;
 // The cases are described above the enum: `rt plant` takes a comment above a case for its name, and
 // then tries no body of `close`.
 
-/// Why a round is not closed: the first of these that applies, but for want of memory, which may
-/// come at any point.
+/// Why a round is not closed: the first of these that applies, but for want of memory, which may come at any point.
 ///
 /// - `Ended`: the auction has ended.
 /// - `WrongRound`: the closing is for another round than the current one, which is told.

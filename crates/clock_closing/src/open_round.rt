@@ -1,14 +1,11 @@
-ghost use Rattle.std.specs.Prelude.{◌≡◌, ◌≢◌, ◌<◌, None, length, slice_index_or, option_copied, IfOk, IfErr};
-ghost use Rattle.clock_terms.specs.Limits.{public_setup};
-ghost use Rattle.clock_terms.specs.Faults.{IsRefusal};
+ghost use Rattle.std.specs.Prelude.{◌≡◌, ◌≢◌, ◌<◌, None, length, slice_index_or, option_copied, IfOk};
 ghost use Rattle.clock_terms.specs.Increments.{AreIncrements};
 ghost use Rattle.clock_bids.specs.Holding.{holding_of};
 ghost use Rattle.clock_order.specs.declared.ties.TieFault.TheVariants as tie_faults;
-ghost use Rattle.clock_closing.specs.declared.fault.CloseFault.TheVariants as close_faults;
 ghost use Rattle.clock_closing.specs.OpenRound.{IsOpenRound, open_at, holding_at};
 ghost use Rattle.clock_closing.specs.Closing.{closing_now};
 ghost use Rattle.clock_closing.specs.Prepared.{Answers};
-ghost use Rattle.clock_closing.specs.inside.Postings.{AreResults, posted_now};
+ghost use Rattle.clock_closing.specs.inside.Postings.{ComesTo, posted_now};
 
 mod first_round;
 mod later_round;
@@ -116,10 +113,7 @@ impl<'a> OpenRound<'a> {
         old: Option<Grid>,
     ) -> Result<Results, CloseFault>
         requires { AreIncrements (length self.now.setup.products) increments.now }
-        ensures ok { IfOk result (AreResults
-            (posted_now (public_setup self.now.setup) self.now.before increments.now ties.now)) }
-        ensures err { IfErr result (IsRefusal close_faults.NoMemory
-            (posted_now (public_setup self.now.setup) self.now.before increments.now ties.now)) }
+        ensures { ComesTo (posted_now self.now increments.now ties.now) result }
     {
         if self.round == 1 {
             self.first_results(alloc, increments)

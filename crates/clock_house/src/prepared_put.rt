@@ -3,8 +3,7 @@ use std::marker::Model;
 
 /// A bidder's sheet that a house accepts and has not put in force yet.
 ///
-/// Contracts see the bidder, the round and the bids. It fits each house where this bidder's sheet
-/// has no fault.
+/// Contracts see the bidder, the round and the bids. It fits each house where this bidder's sheet has no fault.
 #[derive(Drop)]
 pub struct PreparedPut {
     pub(crate) bidder: u32,

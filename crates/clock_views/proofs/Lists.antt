@@ -6,7 +6,7 @@ use Rattle.serde_json.specs.Written.{compact_text, comma_if}
 use Rattle.std.specs.List.{range_with_len}
 use Rattle.std.proofs.lemmas.Bool.Decides.{nat_tests}
 use Rattle.std.proofs.lemmas.List.{drop_more}
-use Rattle.clock_views.specs.Values.{whole, Adds}
+use Rattle.clock_views.specs.Values.{Adds}
 use Rattle.clock_views.specs.inside.Values.{item_text, rest_text}
 
 -- an item and the rest behind it are the rest before it
@@ -24,14 +24,13 @@ one_number value text next i n below added =
     ∙ next_item value text (nat_lt 0 i) i (range_with_len (i + 1) (n - (i + 1)))
     ∙ ap (λ k. text ++ rest_text value (nat_lt 0 i) (range_with_len i k)) left
 
--- the demand for a product is added, before those for the others
-pub demand_more : (text next row : List ℕ) (product demand : ℕ) → product < length row → demand ≡ get_or row product 0
-    → Adds (item_text (nat_lt 0 product) (whole demand)) text next
-    → next ++ rest_text whole (nat_lt 0 (product + 1)) (drop (product + 1) row) ≡ text ++ rest_text whole (nat_lt 0 product) (drop product row)
-demand_more text next row product demand within is added =
-    let later : nat_lt 0 (product + 1) ≡ true = grind (arith, nat_tests) in
-    let others : List ℕ = drop (product + 1) row in
-    ap₂ (λ s b. s ++ rest_text whole b others) added.is later
-    ∙ next_item whole text (nat_lt 0 product) demand others
-    ∙ ap (λ one. text ++ rest_text whole (nat_lt 0 product) (one ∷ others)) is
-    ∙ ap (λ list. text ++ rest_text whole (nat_lt 0 product) list) (sym (drop_more row product 0 within))
+-- the item at a place is added, before those behind it
+pub item_more : {A : Type 0} (value : A → Data) (text next : List ℕ) (xs : List A) (i : ℕ) (x d : A) → i < length xs → x ≡ get_or xs i d
+    → Adds (item_text (nat_lt 0 i) (value x)) text next
+    → next ++ rest_text value (nat_lt 0 (i + 1)) (drop (i + 1) xs) ≡ text ++ rest_text value (nat_lt 0 i) (drop i xs)
+item_more value text next xs i x d within is added =
+    let later : nat_lt 0 (i + 1) ≡ true = grind (arith, nat_tests) in
+    ap₂ (λ s b. s ++ rest_text value b (drop (i + 1) xs)) added.is later
+    ∙ next_item value text (nat_lt 0 i) x (drop (i + 1) xs)
+    ∙ ap (λ one. text ++ rest_text value (nat_lt 0 i) (one ∷ drop (i + 1) xs)) is
+    ∙ ap (λ list. text ++ rest_text value (nat_lt 0 i) list) (sym (drop_more xs i d within))

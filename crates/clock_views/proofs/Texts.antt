@@ -1,8 +1,9 @@
 -- The texts of pages in the pieces in which they are pushed, and flat pages byte for byte.
-use Rattle.std.proofs.Common.{◌≡◌, ℕ, List, ◌++◌, [], ◌∷◌, Bool, true, false, Option, Some, None, append_assoc, codes, decimal, zip, length, refl, ap, sym}
+use Rattle.std.proofs.Common.{◌≡◌, ℕ, List, ◌++◌, [], ◌∷◌, Bool, true, false, Option, Some, None, append_assoc, codes, decimal, zip, length, refl}
 use Rattle.std.specs.List.{range_with_len}
 use Rattle.serde_json.specs.Data.{Data, boolean, string}
-use Rattle.serde_json.specs.Written.{compact_text}
+use Rattle.std.specs.Prelude.{is_some}
+use Rattle.serde_json.specs.Written.{compact_text, comma_if}
 use Rattle.serde_json.proofs.OnLiterals.{serde_json_on_literals}
 use Rattle.clock_terms.specs.declared.setup.Product.{Product}
 use Rattle.clock_terms.specs.Limits.{PublicSetup}
@@ -15,7 +16,6 @@ use Rattle.clock_closing.specs.declared.slip.Slip.{Slip}
 use Rattle.clock_house.specs.House.{HouseFields, standing_in}
 use Rattle.clock_views.specs.Values.{whole, whole_or_null, list_of, object_of, member_if, number_if, true_or_false}
 use Rattle.clock_views.specs.PublicPages.{status_value, status_bytes, from_version_2, product_value, products_value, line_value, sheet_value}
-use Rattle.clock_views.specs.inside.PublicPages.{limit_text}
 use Rattle.clock_views.specs.BidderPages.{account_value, bid_value, bids_value, sheet_or_null, accepted_value, accepted_bytes, slip_value}
 use Rattle.clock_views.specs.OperatorPages.{closed_value, closed_bytes, result_value, result_in, results_value}
 
@@ -69,22 +69,21 @@ products_with : (limit : Option ℕ) (products : Data) (requirement version : �
     ("products", products) ∷
     ("requirement", whole requirement) ∷
     ("version", whole version) ∷ []))
-    ≡ codes "{" ++ (limit_text limit ++ (codes "\"products\":"
+    ≡ codes "{" ++ (number_if (codes "\"limit\":") limit ++ (comma_if (is_some limit) ++ (codes "\"products\":"
     ++ (compact_text products
     ++ ((codes ",\"requirement\":" ++ decimal requirement)
-    ++ ((codes ",\"version\":" ++ decimal version) ++ codes "}")))))
+    ++ ((codes ",\"version\":" ++ decimal version) ++ codes "}"))))))
 unfolding serde_json_on_literals
 products_with None products requirement version = refl
-products_with (Some limit) products requirement version =
-    ap (λ s. codes "{\"limit\":" ++ s) (sym (append_assoc (decimal limit) (codes ",") (codes "\"products\":"
-    ++ (compact_text products ++ ((codes ",\"requirement\":" ++ decimal requirement) ++ ((codes ",\"version\":" ++ decimal version) ++ codes "}"))))))
+products_with (Some limit) products requirement version = refl
 
 pub products_in_pieces : (setup : PublicSetup)
     → compact_text (products_value setup)
-    ≡ codes "{" ++ (limit_text (from_version_2 setup.version setup.limit) ++ (codes "\"products\":"
+    ≡ codes "{" ++ (number_if (codes "\"limit\":") (from_version_2 setup.version setup.limit)
+    ++ (comma_if (is_some (from_version_2 setup.version setup.limit)) ++ (codes "\"products\":"
     ++ (compact_text (list_of (product_value setup.version) setup.products)
     ++ ((codes ",\"requirement\":" ++ decimal setup.requirement)
-    ++ ((codes ",\"version\":" ++ decimal setup.version) ++ codes "}")))))
+    ++ ((codes ",\"version\":" ++ decimal setup.version) ++ codes "}"))))))
 unfolding products_value
 products_in_pieces setup =
     products_with (from_version_2 setup.version setup.limit) (list_of (product_value setup.version) setup.products) setup.requirement setup.version

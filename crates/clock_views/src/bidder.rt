@@ -33,9 +33,6 @@ const NO_SHEET_ROOM: u128 = 59;
 /// How many bytes a bid takes at most, with the comma before it.
 const BID_ROOM: u128 = 95;
 
-/// How many bytes what answers a sheet takes at most.
-const ACCEPTED_ROOM: u128 = 76;
-
 /// How many bytes a slip takes at most besides its demands.
 const SLIP_ROOM: u128 = 111;
 
@@ -196,7 +193,7 @@ pub fn accepted_room() -> u128
     ensures is { result ≡ room_of_accepted }
     ensures most { (round bids : ℕ) → result ≡ most_text (accepted_value round bids) }
 {
-    ACCEPTED_ROOM
+    76
 }
 
 /// Adds the same page to a text that has room for it.
@@ -209,8 +206,7 @@ pub fn push_accepted_page(text: &mut Bounded<u8>, round: u64, bids: u64)
     push_label(text, b"}");
 }
 
-/// What a closed round has left a bidder with: its activity and demands, and its eligibility for the
-/// next round.
+/// What a closed round has left a bidder with: its activity and demands, and its eligibility for the next round.
 ///
 /// ```text
 /// {"activity":1,"demands":[1],"eligibility":2,"round":2}

@@ -1,17 +1,15 @@
 //! The pages of an auction, as compact JSON, and what a refusal shows.
 //!
-//! Everyone may see [`status_page`], [`products_page`] and [`sheet_page`], which are functions of
-//! what is public of a set-up. A bidder sees its own [`account_page`], [`bids_page`],
-//! [`accepted_page`] and [`slip_page`], and the operator [`closed_page`] and [`results_page`]. A
-//! refused request is answered by a [`refusal_page`], of which a [`Refusal`] says what it shows: a
-//! [`Code`], and for some codes a place or a round.
+//! Everyone may see [`status_page`], [`products_page`] and [`sheet_page`], which are functions of what is public of a
+//! set-up. A bidder sees its own [`account_page`], [`bids_page`], [`accepted_page`] and [`slip_page`], and the operator
+//! [`closed_page`] and [`results_page`]. A refused request is answered by a [`refusal_page`], of which a [`Refusal`]
+//! says what it shows: a [`Code`], and for some codes a place or a round.
 //!
-//! Contracts say of each page which value of JSON it is (specs/), and that its text is that value's
-//! compact text; of a flat page also its very bytes. Each page is written by pushes onto one text, in
-//! a time linear in that text, and no tree of values is built. The calls named `push_..` add the
-//! page to a text that already holds something, as the head of a reply, and has room for it: they take
-//! no memory and cannot fail. How much room that is the calls named `.._room` tell, by the shape of the
-//! page alone.
+//! Contracts say of each page which value of JSON it is (specs/), and that its text is that value's compact text; of a
+//! flat page also its very bytes. Each page is written by pushes onto one text, in a time linear in that text, and no
+//! tree of values is built. The calls named `push_..` add the page to a text that already holds something, as the head
+//! of a reply, and has room for it: they take no memory and cannot fail. How much room that is the calls named
+//! `.._room` tell, by the shape of the page alone.
 #![tactic(auto)]
 
 mod bidder;

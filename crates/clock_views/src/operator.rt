@@ -19,17 +19,13 @@ use clock_house::House;
 use clock_terms::Setup;
 use std::alloc::Global;
 
-/// How many bytes what answers a closing takes at most.
-const CLOSED_ROOM: u128 = 46;
-
 /// How many bytes the page of results takes at most besides what the bidders hold.
 const RESULTS_ROOM: u128 = 58;
 
 /// How many bytes what a bidder holds takes at most besides its demands, with the comma before it.
 const RESULT_ROOM: u128 = 93;
 
-/// What answers a closing that was accepted: the round that was closed, and whether the auction ends
-/// with it.
+/// What answers a closing that was accepted: the round that was closed, and whether the auction ends with it.
 ///
 /// ```text
 /// {"closed":1,"ended":false}
@@ -49,7 +45,7 @@ pub fn closed_room() -> u128
     ensures is { result ≡ room_of_closed }
     ensures most { (round : ℕ) (ended : Bool) → result ≡ most_text (closed_value round ended) }
 {
-    CLOSED_ROOM
+    46
 }
 
 /// Adds the same page to a text that has room for it.

@@ -5,9 +5,7 @@ ghost use Rattle.serde_json.specs.Written.{compact_text};
 ghost use Rattle.clock_terms.specs.Limits.{IsProduct, PublicSetup, public_setup};
 ghost use Rattle.clock_views.specs.PublicPages.{status_value, status_bytes, line_value, sheet_value};
 ghost use Rattle.clock_views.specs.PublicPages.{products_value, product_value, from_version_2 as number_from_version_2};
-ghost use Rattle.clock_views.specs.inside.PublicPages.{limit_text};
-ghost use Rattle.clock_views.specs.inside.Rooms.{room_of_product, room_of_array, room_of_limit, room_of_offer};
-ghost use Rattle.clock_views.specs.inside.Rooms.{room_of_line};
+ghost use Rattle.clock_views.specs.inside.Rooms.{room_of_product, room_of_array, room_of_offer, room_of_line};
 ghost use Rattle.clock_views.specs.PageRooms.{room_of_status, room_of_sheet};
 ghost use Rattle.clock_views.specs.Rooms.{most_text};
 ghost use Rattle.clock_views.specs.Values.{list_of, IsPage, Adds};
@@ -22,9 +20,6 @@ use clock_device::{Bounded, NoMemory, Text};
 use clock_posting::{Line, RoundSheet};
 use clock_terms::{Product, Setup};
 use std::alloc::Global;
-
-/// How many bytes the page of where the auction stands takes at most.
-const STATUS_ROOM: u128 = 76;
 
 /// How many bytes the page of products takes at most besides the products.
 const OFFER_ROOM: u128 = 111;
@@ -59,7 +54,7 @@ pub fn status_room() -> u128
     ensures most { (setup : PublicSetup) (round : ℕ) (ended : Bool) → result
         ≡ most_text (status_value setup round ended) }
 {
-    STATUS_ROOM
+    76
 }
 
 /// Adds the same page to a text that has room for it.
@@ -82,53 +77,26 @@ pub fn push_status_page(text: &mut Bounded<u8>, setup: &Setup, round: u64, ended
 pub fn products_page(alloc: Global, setup: &Setup) -> Result<Text, NoMemory>
     ensures { IfOk result (IsPage (products_value (public_setup setup.now))) }
 {
-    let mut text = page_with_room(
-        alloc,
-        OFFER_ROOM + PRODUCT_ROOM * setup.products.len() as u128,
-    )?;
-    push_offer(
-        &mut text,
-        setup.version,
-        setup.limit,
-        setup.requirement,
-        setup.products.as_slice(),
-    );
+    let room = OFFER_ROOM + PRODUCT_ROOM * setup.products.len() as u128;
+    let mut text = page_with_room(alloc, room)?;
+    push_offer(&mut text, setup);
     Ok(text.into_items())
 }
 
-/// Adds the page of a set-up with this version, limit and requirement, and these products.
-fn push_offer(
-    text: &mut Bounded<u8>,
-    version: u64,
-    limit: u64,
-    requirement: u64,
-    products: &[Product],
-)
-    requires limits { All IsProduct products.now }
-    requires room { room_of_offer (length products.now) ≤ text.old.room }
-    ensures { Adds (compact_text (products_value
-        (record { version = version; limit = limit; requirement = requirement; products = products.now })))
-        text.old.items text.new.items }
+/// Adds the same page to a text that has room for it.
+fn push_offer(text: &mut Bounded<u8>, setup: &Setup)
+    requires { room_of_offer (length setup.now.products) ≤ text.old.room }
+    ensures { Adds (compact_text (products_value (public_setup setup.now))) text.old.items text.new.items }
 {
+    let limit = from_version_2(setup.version, setup.limit);
     push_label(text, b"{");
-    push_limit(text, from_version_2(version, limit));
+    push_number_if(text, b"\"limit\":", limit);
+    push_comma_if(text, limit.is_some());
     push_label(text, b"\"products\":");
-    push_products(text, version, products);
-    push_number(text, b",\"requirement\":", requirement);
-    push_number(text, b",\"version\":", version);
+    push_products(text, setup.version, setup.products.as_slice());
+    push_number(text, b",\"requirement\":", setup.requirement);
+    push_number(text, b",\"version\":", setup.version);
     push_label(text, b"}");
-}
-
-/// Adds the activity limit and the comma behind it, where there is one.
-fn push_limit(text: &mut Bounded<u8>, limit: Option<u64>)
-    requires { room_of_limit ≤ text.old.room }
-    ensures adds { Adds (limit_text limit) text.old.items text.new.items }
-    ensures room { text.old.room ≤ text.new.room + room_of_limit }
-{
-    if let Some(limit) = limit {
-        push_number(text, b"\"limit\":", limit);
-        push_label(text, b",");
-    }
 }
 
 /// Adds the array of some products.

@@ -1,14 +1,12 @@
 //! The closing of the first round: the sheets' quantities stand as demands.
 
-ghost use Rattle.std.specs.Prelude.{◌≡◌, ◌<◌, length, IfOk, IfErr};
-ghost use Rattle.clock_terms.specs.Limits.{IsRow, public_setup};
-ghost use Rattle.clock_terms.specs.Faults.{IsRefusal};
+ghost use Rattle.std.specs.Prelude.{◌≡◌, ◌<◌, length, IfOk};
+ghost use Rattle.clock_terms.specs.Limits.{IsRow};
 ghost use Rattle.clock_terms.specs.Increments.{AreIncrements};
 ghost use Rattle.clock_bids.specs.Sheet as sheets;
-ghost use Rattle.clock_closing.specs.declared.fault.CloseFault.TheVariants as close_faults;
 ghost use Rattle.clock_closing.specs.OpenRound.{bids_at};
 ghost use Rattle.clock_closing.specs.Closing as rules;
-ghost use Rattle.clock_closing.specs.inside.Postings.{AreResults, posted};
+ghost use Rattle.clock_closing.specs.inside.Postings.{ComesTo, first_posted};
 
 use crate::fault::CloseFault;
 use crate::open_round::OpenRound;
@@ -28,11 +26,7 @@ impl OpenRound<'_> {
     ) -> Result<Results, CloseFault>
         requires first { self.now.before.standing.round ≡ 1 }
         requires increments { AreIncrements (length self.now.setup.products) increments.now }
-        ensures ok { IfOk result (AreResults (posted (public_setup self.now.setup) self.now.before increments.now
-            (rules.first_result self.now.setup.products self.now.before))) }
-        ensures err { IfErr result (IsRefusal close_faults.NoMemory
-            (posted (public_setup self.now.setup) self.now.before increments.now
-            (rules.first_result self.now.setup.products self.now.before))) }
+        ensures { ComesTo (first_posted self.now increments.now) result }
     {
         let grid = self.asked_grid(alloc)?;
         let posting = post_first(alloc, self.setup, &grid, increments)?;

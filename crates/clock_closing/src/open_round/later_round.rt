@@ -1,16 +1,13 @@
 //! The closing of a later round: all bidders' requests are settled in their order.
 
-ghost use Rattle.std.specs.Prelude.{◌≡◌, ◌≤◌, length, flat_map, AllPairs, IfOk, IfErr};
-ghost use Rattle.clock_terms.specs.Limits.{public_setup};
-ghost use Rattle.clock_terms.specs.Faults.{IsRefusal};
+ghost use Rattle.std.specs.Prelude.{◌≡◌, ◌≤◌, length, flat_map, AllPairs, IfOk};
 ghost use Rattle.clock_terms.specs.Increments.{AreIncrements};
 ghost use Rattle.clock_terms.specs.Requests.{AreApart};
 ghost use Rattle.clock_processor.specs.Board.{IsWithinEligibility};
-ghost use Rattle.clock_closing.specs.declared.fault.CloseFault.TheVariants as close_faults;
 ghost use Rattle.clock_closing.specs.OpenRound.{bidder_numbers};
 ghost use Rattle.clock_closing.specs.inside.OpenRound.{eligibilities_of};
 ghost use Rattle.clock_closing.specs.Closing as rules;
-ghost use Rattle.clock_closing.specs.inside.Postings.{AreRequests, AreResults, posted};
+ghost use Rattle.clock_closing.specs.inside.Postings.{AreRequests, ComesTo, later_posted};
 
 use crate::fault::CloseFault;
 use crate::open_round::OpenRound;
@@ -35,13 +32,7 @@ impl OpenRound<'_> {
     ) -> Result<Results, CloseFault>
         requires later { 2 ≤ self.now.before.standing.round }
         requires increments { AreIncrements (length self.now.setup.products) increments.now }
-        ensures ok { IfOk result (AreResults (posted (public_setup self.now.setup) self.now.before increments.now
-            (rules.later_result self.now.setup.products self.now.before
-            (rules.requests self.now.before ties.now)))) }
-        ensures err { IfErr result (IsRefusal close_faults.NoMemory
-            (posted (public_setup self.now.setup) self.now.before increments.now
-            (rules.later_result self.now.setup.products self.now.before
-            (rules.requests self.now.before ties.now)))) }
+        ensures { ComesTo (later_posted self.now increments.now ties.now) result }
     {
         let requests = self.requests(alloc, ties)?;
         let settled = self.settled(alloc, processor, &requests, old)?;

@@ -100,32 +100,22 @@ impl<P> House<P> {
 
     /// The sheet of a closed round, or none where the round is not closed.
     pub fn sheet(&self, round: u64) -> Option<&RoundSheet>
-        ensures found { option_copied result ≡ option_map (λ closed. closed.sheet)
-            (round_at round self.now.closed) }
-        ensures lines { IfSome result (λ sheet. length sheet.now.lines
-            ≡ length self.now.setup.products) }
+        ensures found { option_copied result ≡ option_map (λ closed. closed.sheet) (round_at round self.now.closed) }
+        ensures lines { IfSome result (λ sheet. length sheet.now.lines ≡ length self.now.setup.products) }
         ensures seen { (bidder : ℕ) → ToView self.now bidder
             (λ view. option_copied result ≡ option_map (λ seen. seen.0) (seen_round round view)) }
     {
-        match closed_at(self.rounds.as_slice(), round) {
-            Some(closed) => Some(&closed.sheet),
-            None => None,
-        }
+        Some(&closed_at(self.rounds.as_slice(), round)?.sheet)
     }
 
-    /// A bidder's slip of a closed round, or none where the round is not closed. The bidder is one of
-    /// the set-up's.
+    /// A bidder's slip of a closed round, or none where the round is not closed. The bidder is one of the set-up's.
     pub fn slip(&self, bidder: u32, round: u64) -> Option<&Slip>
         requires { bidder < length self.now.setup.bidders }
-        ensures found { option_copied result ≡ option_map (slip_of bidder)
-            (round_at round self.now.closed) }
+        ensures found { option_copied result ≡ option_map (slip_of bidder) (round_at round self.now.closed) }
         ensures seen { ToView self.now bidder (λ view. option_copied result ≡ option_map
             (λ seen. seen.1) (seen_round round view)) }
     {
-        match closed_at(self.rounds.as_slice(), round) {
-            Some(closed) => Some(slip_at(closed, bidder)),
-            None => None,
-        }
+        Some(slip_at(closed_at(self.rounds.as_slice(), round)?, bidder))
     }
 }
 
@@ -135,8 +125,7 @@ impl<P> House<P> {
     /// any auction is for a bidder is what its view shows. It does nothing when it runs.
     pub fn law_of_house(&self)
         ensures stands { (commands : List Command) × StandsFor commands self.now }
-        ensures sound { (commands : List Command) → IsSound self.now.setup
-            (history self.now.setup commands) }
+        ensures sound { (commands : List Command) → IsSound self.now.setup (history self.now.setup commands) }
         ensures limits { IsSetup self.now.setup }
         ensures within { (bidder : ℕ) → bidder < length self.now.setup.bidders →
             IsWithinLimits self.now.setup.products (holding_in self.now bidder) }
@@ -147,8 +136,7 @@ impl<P> House<P> {
         ensures sheets { length self.now.sheets ≡ length self.now.setup.bidders }
         ensures rounds { length self.now.closed ≤ most_rounds }
         ensures others { IsFollowedBy other self.now self.now }
-        ensures views { (setup : SetupFields) (bidder : ℕ) (commands : List Command) →
-            IsSeen setup bidder commands }
+        ensures views { (setup : SetupFields) (bidder : ℕ) (commands : List Command) → IsSeen setup bidder commands }
     {
         let _ = &self.setup;
     }
@@ -166,8 +154,5 @@ fn slip_at(closed: &ClosedRound, bidder: u32) -> &Slip
 fn closed_at(rounds: &[ClosedRound], round: u64) -> Option<&ClosedRound>
     ensures { option_copied result ≡ round_at round (reverse rounds.now) }
 {
-    if round == 0 {
-        return None;
-    }
-    rounds.get((round - 1) as usize)
+    rounds.get(round.checked_sub(1)? as usize)
 }

@@ -4,7 +4,7 @@ use Rattle.std.proofs.lemmas.List.{drop_all}
 use Rattle.std.specs.List.{AllWithin}
 use Rattle.clock_views.specs.Values.{whole}
 use Rattle.clock_views.specs.inside.Values.{rest_text}
-use Rattle.clock_views.proofs.Lists.{demand_more}
+use Rattle.clock_views.proofs.Lists.{item_more}
 use Rattle.clock_views.proofs.pieces.push_demands.Goals as goal
 
 -- no demand is held from one place to a third, where none is up to a second and none from there on
@@ -37,7 +37,7 @@ held-preserved c =
       order = omega (arith, c.in-Some.ensures.given);
       within = omega (arith, within);
       passed = subst (λ (demands : List ℕ). AllWithin (λ demand. demand ≡ 0) demands (product + 1) c.next.new.self.from) same c.in-Some.ensures.ahead;
-      adds = demand_more _ _ row product c.in-Some.one.demand within demand c.push_item.ensures.adds
+      adds = item_more whole _ _ row product c.in-Some.one.demand 0 within demand c.push_item.ensures.adds
           ∙ c.push_zeros.ensures.adds row (omega (arith, within)) (joined row c.held.from c.held.held.from product c.held.invariant.passed between)
           ∙ c.held.invariant.adds;
       room = omega (arith, c.push_item.ensures.room, c.push_zeros.ensures.room, c.held.invariant.room, c.held.invariant.order, c.in-Some.ensures.least);

@@ -1,5 +1,6 @@
 use Rattle.std.proofs.Common.{sym, ◌∙◌, arith}
-use Rattle.clock_views.proofs.Lists.{demand_more}
+use Rattle.clock_views.specs.Values.{whole}
+use Rattle.clock_views.proofs.Lists.{item_more}
 use Rattle.clock_views.proofs.pieces.push_zeros.Goals as goal
 
 pub loop-product-preserved : goal.loop-product-preserved
@@ -7,7 +8,7 @@ loop-product-preserved c =
     let product = c.loop-product.product in
     record {
       adds = λ row within none.
-          demand_more _ _ row product 0 (omega (arith, within, c.loop-product-test.true))
+          item_more whole _ _ row product 0 0 (omega (arith, within, c.loop-product-test.true))
           (sym (none product 0 c.loop-product.auto.product c.loop-product-test.true)) c.push_item.ensures.adds
           ∙ c.loop-product.invariant.adds row within none;
       room = omega (arith, c.push_item.ensures.room, c.loop-product.invariant.room, c.loop-product.auto.product);

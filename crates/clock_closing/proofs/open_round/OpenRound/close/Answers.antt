@@ -19,7 +19,7 @@ returns-in_err-results-clause-answer g c =
     let good = closes-tested c.args.self.now (is_open c.self.view_is c.self.invariant) c.self.inside.setup.now c.as_slice.result.now
     c.args.increments.now c.args.ties.now (ap (λ (round : OpenRoundFields). round.setup) c.self.view_is)
     (c.as_slice.ensures ∙ ap (λ (one : SetupFields). one.products) c.setup.view_is) (sym c.if-not-are_within.ensures) c.in_ok-ties.ensures.good in
-    let refused = rw c.in_ok-ties.ensures.listed at c.in_err-results.ensures.err in
+    let refused = rw c.in_ok-ties.ensures.listed at c.in_err-results.ensures in
     rw (told.1, told.2) (λ other. good ∙ refused other)
 
 pub returns-clause-answer : goal.returns-clause-answer
@@ -27,4 +27,4 @@ returns-clause-answer g c =
     closes-tested c.args.self.now (is_open c.self.view_is c.self.invariant) c.self.inside.setup.now c.as_slice.result.now
     c.args.increments.now c.args.ties.now (ap (λ (round : OpenRoundFields). round.setup) c.self.view_is)
     (c.as_slice.ensures ∙ ap (λ (one : SetupFields). one.products) c.setup.view_is) (sym c.if-not-are_within.ensures) c.in_ok-ties.ensures.good
-    ∙ (rw c.in_ok-ties.ensures.listed at c.in_ok-results.ensures.ok.closes)
+    ∙ (rw c.in_ok-ties.ensures.listed at c.in_ok-results.ensures.closes)

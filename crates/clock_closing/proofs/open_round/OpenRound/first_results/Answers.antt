@@ -18,8 +18,8 @@ pub with_slips-requires : goal.with_slips-requires
 with_slips-requires c =
     rw (c.in_ok-grid.ensures, ← c.self.view_is) (asked_within _ _ c.self.invariant.sound (rw (← c.self.view_is) at c.requires.first))
 
-pub returns-in_err-posting-clause-err : goal.returns-in_err-posting-clause-err
-returns-in_err-posting-clause-err c =
+pub returns-in_err-posting : goal.returns-in_err-posting
+returns-in_err-posting c =
     let told = err_from_is_err_and c.from_residual-in_err-posting.result c.from_residual-in_err-posting.ensures.1 in
     let setup : c.self.inside.setup.now ≡ c.args.self.now.setup = ap (λ (round : OpenRoundFields). round.setup) c.self.view_is in
     let refused = rw (c.in_ok-grid.ensures, setup) at c.in_err-posting.ensures.err in
@@ -27,8 +27,8 @@ returns-in_err-posting-clause-err c =
     (posts-refused (public_setup c.args.self.now.setup) c.args.self.now.before c.args.increments.now
     (first_result c.args.self.now.setup.products c.args.self.now.before) c.in_err-posting.field-0.0 refused)
 
-pub returns-clause-ok : goal.returns-clause-ok
-returns-clause-ok c =
+pub returns : goal.returns
+returns c =
     let now = c.args.self.now in
     let setup : c.self.inside.setup.now ≡ c.args.self.now.setup = ap (λ (round : OpenRoundFields). round.setup) c.self.view_is in
     let opening = (is_open c.self.view_is c.self.invariant).opening c.requires.first in

@@ -14,8 +14,8 @@ post-requires-clause-changes g c =
     All-permutation (IsWithinPrices c.self.inside.prices.now) _ _ (rw (← c.self.view_is) at c.in_ok-requests.ensures.all)
     (priced_requests _ _ c.self.invariant.sound (rw (← c.self.view_is) at c.requires.later))
 
-pub returns-in_err-posting-clause-err : goal.returns-in_err-posting-clause-err
-returns-in_err-posting-clause-err g c =
+pub returns-in_err-posting : goal.returns-in_err-posting
+returns-in_err-posting g c =
     let told = err_from_is_err_and c.from_residual-in_err-posting.result c.from_residual-in_err-posting.ensures.1 in
     let setup : c.self.inside.setup.now ≡ c.args.self.now.setup = ap (λ (round : OpenRoundFields). round.setup) c.self.view_is in
     let prices : c.self.inside.prices.now ≡ c.args.self.now.before.standing.prices =
@@ -27,8 +27,8 @@ returns-in_err-posting-clause-err g c =
     (later_result c.args.self.now.setup.products c.args.self.now.before (requests c.args.self.now.before c.args.ties.now))
     c.in_err-posting.field-0.0 refused)
 
-pub returns-clause-ok : goal.returns-clause-ok
-returns-clause-ok g c =
+pub returns : goal.returns
+returns g c =
     let setup : c.self.inside.setup.now ≡ c.args.self.now.setup = ap (λ (round : OpenRoundFields). round.setup) c.self.view_is in
     let number : c.self.inside.round ≡ c.args.self.now.before.standing.round =
     ap (λ (round : OpenRoundFields). round.before.standing.round) c.self.view_is in
