@@ -18,20 +18,28 @@ use std::test::Fail;
 /// A request: its kind, bidder, product, blocks and price.
 pub type Asked = (Kind, u32, u32, u64, u64);
 
-/// The requests in order, in a round from 100 to 110.
+/// The change that a request asks for by the bid at a place of its chain, in a round from 100 to 110.
+pub fn change_of(
+    &(kind, bidder, product, amount, price): &Asked,
+    place: u32,
+) -> Result<Change, Fail> {
+    let point = Point::of(100, price, 110).ok_or("no price of the round")?;
+    Ok(Change {
+        bidder,
+        product,
+        place,
+        kind,
+        amount,
+        price,
+        point,
+    })
+}
+
+/// The requests in order.
 fn requests(alloc: Global, asked: &[Asked]) -> Result<Changes, Fail> {
     let mut changes = Changes::new(alloc);
-    for &(kind, bidder, product, amount, price) in asked {
-        let point = Point::of(100, price, 110).ok_or("no price of the round")?;
-        changes.push(Change {
-            bidder,
-            product,
-            place: 0,
-            kind,
-            amount,
-            price,
-            point,
-        })?;
+    for request in asked {
+        changes.push(change_of(request, 0)?)?;
     }
     Ok(changes)
 }

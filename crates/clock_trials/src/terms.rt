@@ -3,7 +3,7 @@
 ghost use Rattle.std.specs.Prelude.{◌≤◌, IfOk};
 ghost use Rattle.clock_terms.specs.Demands.{IsGrid};
 
-use crate::comparing::assert_is;
+use crate::comparing::{assert_is, assert_is_at};
 use clock_device::NoMemory;
 use clock_money::Price;
 use clock_setup::fixtures::{ONE_PRODUCT, PRICE_EDGES};
@@ -69,10 +69,18 @@ fn are_for_two(alloc: Global, increments: &[u64]) -> Result<bool, NoMemory> {
     Ok(increments.are_within(2))
 }
 
+/// Increments for each product, and whether there are two within the limits.
+const INCREMENTS: &[(&[u64], bool)] = &[(&[10, 20], true), (&[10], false), (&[10, 51], false)];
+
 #[test]
-fn increments_are_one_for_each_product_within_limits(rt: HostRuntime) -> Result<(), Fail> {
-    assert!(rt; are_for_two(rt.alloc(), &[10, 20])?);
-    assert!(rt; !are_for_two(rt.alloc(), &[10])?);
-    assert!(rt; !are_for_two(rt.alloc(), &[10, 51])?);
+fn increments_are_one_for_each_product_within_limits(rt: HostRuntime) -> Result<(), NoMemory> {
+    for &(increments, are_within) in INCREMENTS {
+        assert_is_at(
+            &rt,
+            increments,
+            are_for_two(rt.alloc(), increments)?,
+            are_within,
+        );
+    }
     Ok(())
 }
