@@ -2,8 +2,8 @@
 mod in_pieces;
 
 use super::requests::{reply_of, text_of};
-use super::rows::{fields_of, replaced};
-use crate::comparing::assert_is;
+use super::rows::fields_of;
+use crate::comparing::assert_is_at;
 use crate::front::example::on_front;
 use clock_front::Front;
 use clock_processor::Plain;
@@ -115,24 +115,6 @@ fn has_pages(told: &str) -> bool {
     PAGES.split('\n').all(|page| told.contains(page))
 }
 
-/// A run: its bidders, and what the others send.
-type Run<'a> = (&'a str, &'a str);
-
-/// X is told the same in both runs of what is public, its pages among it.
-fn is_told_alike(
-    rt: &impl Abort,
-    alloc: Global,
-    public: &str,
-    one: Run<'_>,
-    two: Run<'_>,
-) -> Result<(), Fail> {
-    let one = told_x(alloc, public, one.0, one.1)?;
-    assert!(rt; has_pages(one.as_str()), "{}", one.as_str());
-    let two = told_x(alloc, public, two.0, two.1)?;
-    assert_is(rt, one.as_str(), two.as_str());
-    Ok(())
-}
-
 /// Y wants one block in both rounds.
 const BY_Y: &str = r#"PUT /v1/me/bids|Y|{"bids":[{"price":100,"product":0,"quantity":1}],"round":1}
 ~
@@ -158,11 +140,6 @@ PUT /v1/me/bids|W|{"bids":[{"price":110,"product":0,"quantity":1}],"round":2}
 ~
 POST /v1/close|O|{"increment":10,"round":2,"ties":[]}"#;
 
-#[test]
-fn rivals_show_in_no_reply(rt: HostRuntime) -> Result<(), Fail> {
-    is_told_alike(&rt, rt.alloc(), PUBLIC, (X_AND_Y, BY_Y), (V_X_AND_W, BY_W))
-}
-
 /// Three further requests, each of them refused: a closing, a sheet of nobody's, and what is no head.
 const BY_Y_AND_STRANGERS: &str =
     r#"PUT /v1/me/bids|Y|{"bids":[{"price":100,"product":0,"quantity":1}],"round":1}
@@ -176,42 +153,34 @@ PUT /v1/me/bids|Y|{"bids":[{"price":110,"product":0,"quantity":1}],"round":2}
 ~
 POST /v1/close|O|{"increment":10,"round":2,"ties":[]}"#;
 
-#[test]
-fn refused_requests_show_in_no_reply(rt: HostRuntime) -> Result<(), Fail> {
-    is_told_alike(
-        &rt,
-        rt.alloc(),
-        PUBLIC,
-        (X_AND_Y, BY_Y_AND_STRANGERS),
-        (V_X_AND_W, BY_W),
-    )
-}
-
 /// The same in the second version.
 const PUBLIC_2: &str = r#""version":2,"limit":125,"requirement":95,"operator":"OPERATOROPERATOR",
 "products":[{"name":"A","units":1,"supply":2,"cap":2,"opening":100,"granule":1}]"#;
 
-/// Rows of closings in the second version.
-fn in_version_2(alloc: Global, rows: &str) -> Result<String, Fail> {
-    replaced(alloc, rows, r#""increment":10"#, r#""increments":[10]"#)
-}
+/// In it a closing has an increment for each product.
+const BY_Y_2: &str =
+    r#"PUT /v1/me/bids|Y|{"bids":[{"price":100,"product":0,"quantity":1}],"round":1}
+~
+POST /v1/close|O|{"increments":[10],"round":1,"ties":[]}
+~
+PUT /v1/me/bids|Y|{"bids":[{"price":110,"product":0,"quantity":1}],"round":2}
+~
+POST /v1/close|O|{"increments":[10],"round":2,"ties":[]}"#;
 
-#[test]
-fn rivals_show_in_no_reply_of_version_2(rt: HostRuntime) -> Result<(), Fail> {
-    let by_y = in_version_2(rt.alloc(), BY_Y)?;
-    let by_w = in_version_2(rt.alloc(), BY_W)?;
-    let one = (X_AND_Y, by_y.as_str());
-    is_told_alike(&rt, rt.alloc(), PUBLIC_2, one, (V_X_AND_W, by_w.as_str()))
-}
+const BY_W_2: &str =
+    r#"PUT /v1/me/bids|W|{"bids":[{"price":100,"product":0,"quantity":2}],"round":1}
+PUT /v1/me/bids|W|{"bids":[{"price":100,"product":0,"quantity":1}],"round":1}
+PUT /v1/me/bids|W|{"bids":[{"price":100,"product":0,"quantity":3}],"round":1}
+~
+POST /v1/close|O|{"increments":[10],"round":1,"ties":[]}
+~
+PUT /v1/me/bids|W|{"bids":[{"price":110,"product":0,"quantity":1}],"round":2}
+~
+POST /v1/close|O|{"increments":[10],"round":2,"ties":[]}"#;
 
 /// The same bidders by other numbers.
 const Y_AND_X: &str =
     r#"{"name":"Y","token":"YYYYYYYYYYYYYYYY","eligibility":10},{"name":"X","token":"XXXXXXXXXXXXXXXX","eligibility":10}"#;
-
-#[test]
-fn its_number_shows_in_no_reply(rt: HostRuntime) -> Result<(), Fail> {
-    is_told_alike(&rt, rt.alloc(), PUBLIC, (X_AND_Y, BY_Y), (Y_AND_X, BY_Y))
-}
 
 /// Y's wrong sheets and the operator's refused closings, in another order at each place, and ties by other numbers.
 const BY_Y_WITH_FAULTS: &str = r#"POST /v1/close|O|{"increment":51,"round":1,"ties":[]}
@@ -246,9 +215,52 @@ PUT /v1/me/bids|Y|{"bids":[{"price":110,"product":0,"quantity":1}],"round":2}
 PUT /v1/me/bids|Y|{"bids":[{"price":111,"product":0,"quantity":1}],"round":2}
 POST /v1/close|O|{"increment":10,"round":2,"ties":[[0,0,8]]}"#;
 
+/// A run: its bidders, and what the others send.
+type Run<'a> = (&'a str, &'a str);
+
+/// What does not show in X's replies, what is public, and two runs that differ in it alone.
+const RUNS: &[(&str, &str, Run<'static>, Run<'static>)] = &[
+    ("rivals", PUBLIC, (X_AND_Y, BY_Y), (V_X_AND_W, BY_W)),
+    (
+        "refused requests",
+        PUBLIC,
+        (X_AND_Y, BY_Y_AND_STRANGERS),
+        (V_X_AND_W, BY_W),
+    ),
+    (
+        "rivals in version 2",
+        PUBLIC_2,
+        (X_AND_Y, BY_Y_2),
+        (V_X_AND_W, BY_W_2),
+    ),
+    ("its number", PUBLIC, (X_AND_Y, BY_Y), (Y_AND_X, BY_Y)),
+    (
+        "faults and ties of others",
+        PUBLIC,
+        (X_AND_Y, BY_Y_WITH_FAULTS),
+        (X_AND_Y, BY_Y_WITH_OTHER_FAULTS),
+    ),
+];
+
+/// X is told the same in both runs of what is public, its pages among it.
+fn is_told_alike(
+    rt: &impl Abort,
+    alloc: Global,
+    hidden: &str,
+    public: &str,
+    runs: (Run<'_>, Run<'_>),
+) -> Result<(), Fail> {
+    let one = told_x(alloc, public, runs.0.0, runs.0.1)?;
+    assert_is_at(rt, hidden, has_pages(one.as_str()), true);
+    let two = told_x(alloc, public, runs.1.0, runs.1.1)?;
+    assert_is_at(rt, hidden, one.as_str(), two.as_str());
+    Ok(())
+}
+
 #[test]
-fn faults_and_ties_of_others_show_in_no_reply(rt: HostRuntime) -> Result<(), Fail> {
-    let one = (X_AND_Y, BY_Y_WITH_FAULTS);
-    let two = (X_AND_Y, BY_Y_WITH_OTHER_FAULTS);
-    is_told_alike(&rt, rt.alloc(), PUBLIC, one, two)
+fn what_a_bidder_may_not_see_shows_in_no_reply(rt: HostRuntime) -> Result<(), Fail> {
+    for &(hidden, public, one, two) in RUNS {
+        is_told_alike(&rt, rt.alloc(), hidden, public, (one, two))?;
+    }
+    Ok(())
 }

@@ -1,6 +1,6 @@
 //! A replay is played, and its report or its first fault is told.
 
-use super::documents::{document, joined};
+use super::documents::joined;
 use crate::comparing::assert_is;
 use clock_device::{NoMemory, Text};
 use clock_http::Code;
@@ -51,7 +51,7 @@ enum Settled {
     Written,
 }
 
-const ALL_WAYS: [Settled; 3] = [Settled::Woken, Settled::Rescanned, Settled::Written];
+const ALL_WAYS: &[Settled] = &[Settled::Woken, Settled::Rescanned, Settled::Written];
 
 /// What a replay comes to.
 fn played(alloc: Global, replay: Replay, settled: Settled) -> Result<Text, SimFault> {
@@ -82,56 +82,64 @@ fn with_scripts(
     first: &str,
     second: &str,
 ) -> Result<Text, NoMemory> {
-    let scripts = joined(alloc, &["[", first, ",", second, "]"])?;
-    let Ok(scripts) = str::from_utf8(scripts.as_slice()) else {
-        return Err(NoMemory);
-    };
-    document(alloc, closings, scripts, ONE_PRODUCT)
+    joined(
+        alloc,
+        &[
+            "{\"closings\":",
+            closings,
+            ",\"scripts\":[",
+            first,
+            ",",
+            second,
+            "],\"setup\":",
+            ONE_PRODUCT,
+            "}",
+        ],
+    )
 }
 
-/// A document comes to this report in each way.
-fn has_report(rt: &impl Abort, alloc: Global, document: &[u8], report: &str) -> Result<(), Fail> {
-    for settled in ALL_WAYS.iter() {
-        let text = outcome(alloc, document, *settled)?;
-        assert_is(rt, text.as_slice(), report.as_bytes());
-    }
-    Ok(())
-}
-
-#[test]
-fn sincere_bidders_leave_at_their_limits(rt: HostRuntime) -> Result<(), Fail> {
-    let document = with_scripts(rt.alloc(), THREE_CLOSINGS, FALLING_LIMITS, ONE_BLOCK)?;
-    has_report(&rt, rt.alloc(), document.as_slice(), REPORT)
-}
-
-/// A script of X, the closings, and the fault.
-const FAULTS: [(&str, &str, SimFault); 3] = [
-    (FALLING_LIMITS, TWO_CLOSINGS, SimFault::ClosingsSpent),
+/// A script of X beside Y's, the closings, and the report or the fault: sincere bidders leave at their limits.
+const PLAYED: &[(&str, &str, Result<&str, SimFault>)] = &[
+    (FALLING_LIMITS, THREE_CLOSINGS, Ok(REPORT)),
+    (FALLING_LIMITS, TWO_CLOSINGS, Err(SimFault::ClosingsSpent)),
     (
         OVER_CAP,
         THREE_CLOSINGS,
-        SimFault::Refused(0, 1, Code::OverCap),
+        Err(SimFault::Refused(0, 1, Code::OverCap)),
     ),
     (
         FALLING_LIMITS,
         STEEP_CLOSING,
-        SimFault::Closing(1, Code::Increment),
+        Err(SimFault::Closing(1, Code::Increment)),
     ),
 ];
 
-/// A document has this fault in each way.
-fn has_fault(rt: &impl Abort, alloc: Global, document: &[u8], fault: SimFault) {
-    for settled in ALL_WAYS.iter() {
-        let told = outcome(alloc, document, *settled);
-        assert_is(rt, told.err(), Some(fault));
+/// Asserts the report or the fault of a document that is played in one way.
+fn comes_to(rt: &impl Abort, told: Result<Text, SimFault>, expected: Result<&str, SimFault>) {
+    let expected = expected.map(|report| report.as_bytes());
+    match told {
+        Ok(text) => assert_is(rt, Ok(text.as_slice()), expected),
+        Err(fault) => assert_is(rt, Err(fault), expected),
+    }
+}
+
+/// Asserts them in each way.
+fn comes_to_in_all_ways(
+    rt: &impl Abort,
+    alloc: Global,
+    document: &[u8],
+    expected: Result<&str, SimFault>,
+) {
+    for settled in ALL_WAYS {
+        comes_to(rt, outcome(alloc, document, *settled), expected);
     }
 }
 
 #[test]
-fn the_first_fault_is_told(rt: HostRuntime) -> Result<(), Fail> {
-    for (script, closings, fault) in FAULTS.iter() {
+fn a_report_or_the_first_fault_is_told(rt: HostRuntime) -> Result<(), Fail> {
+    for &(script, closings, expected) in PLAYED {
         let document = with_scripts(rt.alloc(), closings, script, ONE_BLOCK)?;
-        has_fault(&rt, rt.alloc(), document.as_slice(), *fault);
+        comes_to_in_all_ways(&rt, rt.alloc(), document.as_slice(), expected);
     }
     Ok(())
 }
@@ -217,7 +225,7 @@ fn many_sheets(alloc: Global, faulty: u64) -> Result<Text, NoMemory> {
 }
 
 /// From which bidder on sheets are refused, and the fault.
-const FAULTY: [(u64, Option<SimFault>); 6] = [
+const FAULTY: &[(u64, Option<SimFault>)] = &[
     (0, Some(SimFault::Refused(0, 1, Code::OverCap))),
     (1, Some(SimFault::Refused(1, 1, Code::OverCap))),
     (63, Some(SimFault::Refused(63, 1, Code::OverCap))),
@@ -228,9 +236,9 @@ const FAULTY: [(u64, Option<SimFault>); 6] = [
 
 #[test]
 fn groups_are_answered_in_the_order_of_the_bidders(rt: HostRuntime) -> Result<(), Fail> {
-    for (faulty, fault) in FAULTY.iter() {
-        let document = many_sheets(rt.alloc(), *faulty)?;
-        assert_is(&rt, fault_of(rt.alloc(), document.as_slice()), *fault);
+    for &(faulty, fault) in FAULTY {
+        let document = many_sheets(rt.alloc(), faulty)?;
+        assert_is(&rt, fault_of(rt.alloc(), document.as_slice()), fault);
     }
     Ok(())
 }
@@ -265,16 +273,16 @@ fn before_long(alloc: Global, script: &str) -> Result<Text, NoMemory> {
 }
 
 /// A script of X where Y's sheet is too long, and the fault.
-const BEFORE: [(&str, SimFault); 2] = [
+const BEFORE: &[(&str, SimFault)] = &[
     (FALLING_LIMITS, SimFault::Refused(1, 1, Code::LongBody)),
     (OVER_CAP, SimFault::Refused(0, 1, Code::OverCap)),
 ];
 
 #[test]
 fn a_sheet_that_is_too_long_waits_for_those_before_it(rt: HostRuntime) -> Result<(), Fail> {
-    for (script, fault) in BEFORE.iter() {
+    for &(script, fault) in BEFORE {
         let document = before_long(rt.alloc(), script)?;
-        assert_is(&rt, fault_of(rt.alloc(), document.as_slice()), Some(*fault));
+        assert_is(&rt, fault_of(rt.alloc(), document.as_slice()), Some(fault));
     }
     Ok(())
 }
