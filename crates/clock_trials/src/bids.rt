@@ -19,27 +19,16 @@ use std::test::Fail;
 /// first bidder's eligibility and demands.
 type Round<'a> = (&'a str, u64, &'a [u64]);
 
-/// A product's prices.
-fn pair() -> Option<PricePair> {
-    Some(PricePair {
-        start: Price::new(100)?,
-        clock: Price::new(110)?,
-    })
-}
-
-/// So many products' prices.
-fn repeated(alloc: Global, pair: &PricePair, count: usize) -> Result<Prices, NoMemory> {
-    let mut prices = Prices::new(alloc);
-    for _ in 0..count {
-        prices.push(*pair)?;
-    }
-    Ok(prices)
-}
-
 /// The prices of each product of a set-up.
 fn prices_of(alloc: Global, setup: &Setup) -> Result<Prices, Fail> {
-    let pair = pair().ok_or("prices")?;
-    Ok(repeated(alloc, &pair, setup.products.as_slice().len())?)
+    let (Some(start), Some(clock)) = (Price::new(100), Price::new(110)) else {
+        return Err("no prices")?;
+    };
+    let mut prices = Prices::new(alloc);
+    for _ in setup.products.as_slice() {
+        prices.push(PricePair { start, clock })?;
+    }
+    Ok(prices)
 }
 
 /// Whether there is a demand for each product, none above its cap.
@@ -135,15 +124,22 @@ fn asked_in(
     Ok(asked(rt, alloc, setup, &prices, held(round.1, &row), bids)?)
 }
 
-/// The same in the auction of a set-up document.
+/// The bids of a sheet, where it is put.
+fn sheet_of(bids: &[Bid], is_put: bool) -> Option<&[Bid]> {
+    if is_put { Some(bids) } else { None }
+}
+
+/// The same in the auction of a set-up document, by offers.
 fn asked_by(
     rt: &impl Abort,
     alloc: Global,
     round: &Round,
-    bids: Option<&[Bid]>,
+    offers: Option<&[Offer]>,
 ) -> Result<Changes, Fail> {
+    let bids = list_of(alloc, offers.unwrap_or(&[]), bid_of)?;
     let setup = read_setup(alloc, round.0.as_bytes())?;
-    let changes = asked_in(rt, alloc, &setup, round, bids);
+    let sheet = sheet_of(bids.as_slice(), offers.is_some());
+    let changes = asked_in(rt, alloc, &setup, round, sheet);
     drop(setup);
     changes
 }
@@ -214,15 +210,9 @@ const ASKS: &[Ask<'static>] = &[
 ];
 
 /// Asserts that the first bidder asks for the changes of a row.
-fn asks_for(
-    rt: &impl Abort,
-    alloc: Global,
-    shows: &str,
-    round: &Round,
-    bids: Option<&[Bid]>,
-    wanted: &[Wanted],
-) -> Result<(), Fail> {
-    let changes = asked_by(rt, alloc, round, bids)?;
+fn asks_for(rt: &impl Abort, alloc: Global, row: &Ask) -> Result<(), Fail> {
+    let &(shows, round, offers, wanted) = row;
+    let changes = asked_by(rt, alloc, &round, offers)?;
     let wanted = wanted_changes(alloc, wanted)?;
     assert_is_at(rt, shows, changes.as_slice(), wanted.as_slice());
     Ok(())
@@ -230,17 +220,25 @@ fn asks_for(
 
 #[test]
 fn a_sheet_asks_for_changes(rt: HostRuntime) -> Result<(), Fail> {
-    for &(shows, round, offers, wanted) in ASKS {
-        let bids = list_of(rt.alloc(), offers.unwrap_or(&[]), bid_of)?;
-        let sheet = if offers.is_some() {
-            Some(bids.as_slice())
-        } else {
-            None
-        };
-        asks_for(&rt, rt.alloc(), shows, &round, sheet, wanted)?;
+    for row in ASKS {
+        asks_for(&rt, rt.alloc(), row)?;
     }
     Ok(())
 }
+
+/// Two bids of a chain for the second product.
+const CHAIN: [Bid; 2] = [
+    Bid {
+        product: 1,
+        quantity: 1,
+        price: 104,
+    },
+    Bid {
+        product: 1,
+        quantity: 2,
+        price: 110,
+    },
+];
 
 /// The demands that bids ask for.
 fn demands_of(rt: &impl Abort, alloc: Global, bids: &[Bid]) -> Result<Amounts, Fail> {
@@ -253,8 +251,7 @@ fn demands_of(rt: &impl Abort, alloc: Global, bids: &[Bid]) -> Result<Amounts, F
 
 #[test]
 fn the_last_quantity_is_the_demand_asked_for(rt: HostRuntime) -> Result<(), Fail> {
-    let bids = list_of(rt.alloc(), &[(1, 1, 104), (1, 2, 110)], bid_of)?;
-    let demands = demands_of(&rt, rt.alloc(), bids.as_slice())?;
+    let demands = demands_of(&rt, rt.alloc(), &CHAIN)?;
     assert_is(&rt, demands.as_slice(), [0, 2].as_slice());
     Ok(())
 }

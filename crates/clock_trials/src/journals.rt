@@ -1,10 +1,12 @@
+//! A journal in memory and in a file: its fronts, damaged bytes, and how it goes on.
+
 ghost use Rattle.std.specs.Prelude.{◌≡◌, IsTrue, false};
 
 use crate::comparing::{assert_is, assert_is_at};
 use clock_journal::{
     Durable, FileDisk, Journal, JournalFault, Link, Machine, MemoryDisk, Untaken, recover,
 };
-use std::alloc::{AllocError, Global};
+use std::alloc::Global;
 use std::fs::{self, File, OpenOptions};
 use std::io::{self, Write};
 use std::process::Abort;
@@ -49,37 +51,43 @@ fn takes_two<D: Durable>(journal: &mut Journal<D>) -> bool
 }
 
 /// The bytes of a journal, or none where a text was not taken.
-fn bytes_if(journal: &Journal<MemoryDisk>, is_taken: bool) -> &[u8] {
-    if is_taken {
+fn bytes_if(alloc: Global, journal: &Journal<MemoryDisk>, is_taken: bool) -> Vec<u8> {
+    let bytes = if is_taken {
         journal.disk().bytes()
     } else {
         b""
+    };
+    match bytes.to_vec(alloc) {
+        Ok(bytes) => bytes,
+        Err(_) => Vec::new(alloc),
     }
 }
 
 /// The bytes of a journal of three texts of 5, 3 and 4 bytes on a disk with so much room: 56 of the head, and 45, 43
 /// and 44 of records. There are none where not all are taken.
-fn file(alloc: Global, room: usize) -> Result<Vec<u8>, AllocError> {
+fn file(alloc: Global, room: usize) -> Vec<u8> {
     let Ok(mut journal) = Journal::begin(MemoryDisk::new(alloc, room, 100), SETUP) else {
-        return Ok(Vec::new(alloc));
+        return Vec::new(alloc);
     };
     let is_taken = takes_two(&mut journal) && journal.append(b"last").is_ok();
-    let bytes = bytes_if(&journal, is_taken).to_vec(alloc);
+    let bytes = bytes_if(alloc, &journal, is_taken);
     drop(journal);
     bytes
 }
 
 #[test]
-fn a_journal_is_read(rt: HostRuntime) -> Result<(), AllocError> {
-    let bytes = file(rt.alloc(), 1000)?;
+fn a_journal_is_read(rt: HostRuntime) {
+    let bytes = file(rt.alloc(), 1000);
     assert_is(&rt, bytes.len(), 188);
     assert_is(&rt, taken(&bytes, &SETUP), Ok((3, 188)));
     assert_is(&rt, taken(&bytes, &OTHER), Err(JournalFault::Setup));
-    drop(bytes);
+}
+
+#[test]
+fn a_file_of_another_kind_is_told(rt: HostRuntime) {
     let other = b"clock_auction jourmal 1\n";
     assert_is(&rt, taken(other, &SETUP), Err(JournalFault::Unknown));
     assert_is(&rt, taken(b"", &SETUP), Ok((0, 0)));
-    Ok(())
 }
 
 /// How many texts a front of the file has, and where they end.
@@ -102,10 +110,9 @@ fn fronts_are_read(rt: &impl Abort, bytes: &[u8]) {
 }
 
 #[test]
-fn each_front_is_read(rt: HostRuntime) -> Result<(), AllocError> {
-    let bytes = file(rt.alloc(), 1000)?;
+fn each_front_is_read(rt: HostRuntime) {
+    let bytes = file(rt.alloc(), 1000);
     fronts_are_read(&rt, bytes.as_slice());
-    Ok(())
 }
 
 /// What is told where the byte at a place is damaged.
@@ -138,36 +145,34 @@ fn damage_is_told(rt: &impl Abort, bytes: &mut [u8]) {
 }
 
 #[test]
-fn each_damaged_byte_is_told(rt: HostRuntime) -> Result<(), AllocError> {
-    let mut bytes = file(rt.alloc(), 1000)?;
+fn each_damaged_byte_is_told(rt: HostRuntime) {
+    let mut bytes = file(rt.alloc(), 1000);
     damage_is_told(&rt, bytes.as_mut_slice());
-    Ok(())
 }
 
 #[test]
-fn a_full_disk_is_told(rt: HostRuntime) -> Result<(), AllocError> {
+fn a_full_disk_is_told(rt: HostRuntime) {
     for (room, length) in [(188, 188), (187, 0), (55, 0)] {
-        assert_is(&rt, file(rt.alloc(), room)?.len(), length);
+        assert_is(&rt, file(rt.alloc(), room).len(), length);
     }
-    Ok(())
 }
 
 /// Takes over the bytes, goes on with them on a disk of their own, and adds a text. There are none where it is not
 /// taken.
-fn resumed(alloc: Global, bytes: &[u8]) -> Result<Vec<u8>, AllocError> {
+fn resumed(alloc: Global, bytes: &[u8]) -> Vec<u8> {
     let mut count = Count { texts: 0 };
     let Ok(recovered) = recover(&mut count, &SETUP, bytes) else {
-        return Ok(Vec::new(alloc));
+        return Vec::new(alloc);
     };
     let mut disk = MemoryDisk::new(alloc, 1000, 100);
     if disk.append(bytes).is_err() {
-        return Ok(Vec::new(alloc));
+        return Vec::new(alloc);
     }
     let Ok(mut journal) = Journal::resume(disk, SETUP, recovered) else {
-        return Ok(Vec::new(alloc));
+        return Vec::new(alloc);
     };
     let is_taken = journal.append(b"more").is_ok();
-    let bytes = bytes_if(&journal, is_taken).to_vec(alloc);
+    let bytes = bytes_if(alloc, &journal, is_taken);
     drop(journal);
     bytes
 }
@@ -183,19 +188,18 @@ fn whole_after(length: usize) -> (u64, usize) {
 }
 
 /// Asserts that each front of the file goes on.
-fn fronts_go_on(rt: &impl Abort, alloc: Global, bytes: &[u8]) -> Result<(), AllocError> {
+fn fronts_go_on(rt: &impl Abort, alloc: Global, bytes: &[u8]) {
     for length in 0..=188usize {
         let front = bytes.get(..length).unwrap_or(b"a shorter file");
-        let more = resumed(alloc, front)?;
+        let more = resumed(alloc, front);
         assert_is_at(rt, length, taken(&more, &SETUP), Ok(whole_after(length)));
     }
-    Ok(())
 }
 
 #[test]
-fn each_front_goes_on(rt: HostRuntime) -> Result<(), AllocError> {
-    let bytes = file(rt.alloc(), 1000)?;
-    fronts_go_on(&rt, rt.alloc(), bytes.as_slice())
+fn each_front_goes_on(rt: HostRuntime) {
+    let bytes = file(rt.alloc(), 1000);
+    fronts_go_on(&rt, rt.alloc(), bytes.as_slice());
 }
 
 const PATH: &str = "clock_journal.trial";

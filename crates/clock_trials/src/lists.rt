@@ -48,9 +48,9 @@ fn numbered(alloc: Global, number: u64) -> Result<Text, NoMemory> {
     Ok(text)
 }
 
-/// A text to which numbers or dashes are added.
-fn dashed(alloc: Global, numbers: &[Option<u64>]) -> Result<Text, NoMemory> {
-    let mut text = Text::new(alloc);
+/// The same text with numbers or dashes behind.
+fn dashed(alloc: Global, number: u64, numbers: &[Option<u64>]) -> Result<Text, NoMemory> {
+    let mut text = numbered(alloc, number)?;
     for number in numbers {
         text.push_or_dash(*number)?;
     }
@@ -69,29 +69,30 @@ fn holds<T: Copy + Drop + PartialEq + Debug>(
     rt: &impl Abort,
     list: Result<Items<T>, NoMemory>,
     expected: &[T],
-) -> Result<(), NoMemory> {
-    let list = list?;
-    assert_is(rt, list.as_slice(), expected);
-    Ok(())
+) {
+    match list {
+        Ok(list) => assert_is(rt, list.as_slice(), expected),
+        Err(_) => assert_is(rt, &[], expected),
+    }
 }
 
 #[test]
-fn lists_grow_and_change(rt: HostRuntime) -> Result<(), NoMemory> {
+fn lists_grow_and_change(rt: HostRuntime) {
     let alloc = rt.alloc();
-    holds(&rt, three(alloc), &[3, 4, 5])?;
-    holds(&rt, copied(alloc), &[3, 4, 5])?;
-    holds(&rt, zeros(alloc, 2), &[0, 0])?;
-    holds(&rt, taken(alloc), &[7, 8])?;
-    holds(&rt, in_room(alloc), &[3, 4, 5])
+    holds(&rt, three(alloc), &[3, 4, 5]);
+    holds(&rt, copied(alloc), &[3, 4, 5]);
+    holds(&rt, zeros(alloc, 2), &[0, 0]);
+    holds(&rt, taken(alloc), &[7, 8]);
+    holds(&rt, in_room(alloc), &[3, 4, 5]);
 }
 
 #[test]
-fn numbers_and_dashes_are_written(rt: HostRuntime) -> Result<(), NoMemory> {
-    let alloc = rt.alloc();
-    let most = numbered(alloc, 18_446_744_073_709_551_615);
-    holds(&rt, most, b"round 18446744073709551615")?;
-    holds(&rt, dashed(alloc, &[Some(7), None, Some(0)]), b"7-0")?;
-    holds(&rt, cut(alloc), b"cut")
+fn numbers_and_dashes_are_written(rt: HostRuntime) {
+    let (alloc, most) = (rt.alloc(), 18_446_744_073_709_551_615);
+    holds(&rt, numbered(alloc, most), b"round 18446744073709551615");
+    let text = dashed(alloc, most, &[None, Some(0)]);
+    holds(&rt, text, b"round 18446744073709551615-0");
+    holds(&rt, cut(alloc), b"cut");
 }
 
 /// The sum of numbers.

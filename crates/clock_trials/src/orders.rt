@@ -12,7 +12,6 @@ use clock_setup::fixtures::{ONE_PRODUCT, TWO_PRODUCTS};
 use clock_setup::read_setup;
 use clock_terms::{Change, Changes, Kind};
 use std::alloc::Global;
-use std::process::Abort;
 use std::test::Fail;
 
 /// A reduction by a block: of a product, at a price between a start price and a clock price.
@@ -57,7 +56,7 @@ fn ties_of(alloc: Global, document: &str, draws: &[Draw]) -> Result<Result<Ties,
 
 /// The bidder of the first of some changes.
 fn first_bidder(changes: &[Change]) -> Option<u32> {
-    changes.first().map(|change| change.bidder)
+    Some(changes.first()?.bidder)
 }
 
 /// Which of two reductions, of bidder 0 and bidder 1, is processed first.
@@ -65,6 +64,19 @@ fn first_of(alloc: Global, ties: &Ties, x: &Reduction, y: &Reduction) -> Result<
     let changes = both(alloc, &change(0, x)?, &change(1, y)?)?;
     let list = ordered(alloc, &changes, ties)?;
     Ok(first_bidder(list.as_slice()))
+}
+
+/// The same with the tie numbers of a list.
+fn first_in(
+    alloc: Global,
+    document: &str,
+    draws: &[Draw],
+    reductions: &(Reduction, Reduction),
+) -> Result<Option<u32>, Fail> {
+    let ties = ties_of(alloc, document, draws)??;
+    let first = first_of(alloc, &ties, &reductions.0, &reductions.1);
+    drop(ties);
+    first
 }
 
 /// Reductions of bidder 0 and bidder 1 at the same point: of products with other prices, and of one product.
@@ -82,32 +94,31 @@ const ORDERS: &[(&str, &[Draw], (Reduction, Reduction), u32)] = &[
 
 #[test]
 fn changes_go_by_point_and_then_by_tie_number_and_bidder(rt: HostRuntime) -> Result<(), Fail> {
-    for (document, draws, (x, y), bidder) in ORDERS {
-        let ties = ties_of(rt.alloc(), document, draws)??;
-        let first = first_of(rt.alloc(), &ties, x, y)?;
-        drop(ties);
+    for (document, draws, reductions, bidder) in ORDERS {
+        let first = first_in(rt.alloc(), document, draws, reductions)?;
         assert_is_at(&rt, *draws, first, Some(*bidder));
     }
     Ok(())
 }
 
-/// A list of tie numbers is refused in the auction of one product.
-fn is_refused(
-    rt: &impl Abort,
-    alloc: Global,
-    draws: &[Draw],
-    expected: TieFault,
-) -> Result<(), Fail> {
-    let fault = ties_of(alloc, ONE_PRODUCT, draws)?.err();
-    assert_is(rt, fault, Some(expected));
-    Ok(())
+/// Lists of tie numbers, and their faults in the auction of one product.
+const FAULTY: &[(&[Draw], TieFault)] = &[
+    (&[(0, 1, 5)], TieFault::Range(0)),
+    (&[(0, 0, 1), (0, 0, 2)], TieFault::Repeated(1)),
+];
+
+/// The fault of a list of tie numbers, or none.
+fn fault_of(alloc: Global, draws: &[Draw]) -> Result<Option<TieFault>, Fail> {
+    Ok(ties_of(alloc, ONE_PRODUCT, draws)?.err())
 }
 
 #[test]
 fn a_tie_list_is_refused_for_its_first_fault(rt: HostRuntime) -> Result<(), Fail> {
-    let alloc = rt.alloc();
-    is_refused(&rt, alloc, &[(0, 1, 5)], TieFault::Range(0))?;
-    is_refused(&rt, alloc, &[(0, 0, 1), (0, 0, 2)], TieFault::Repeated(1))?;
-    let many = vec![in alloc; (0, 1, 5); 16_385]?;
-    is_refused(&rt, alloc, many.as_slice(), TieFault::TooMany)
+    for &(draws, fault) in FAULTY {
+        assert_is(&rt, fault_of(rt.alloc(), draws)?, Some(fault));
+    }
+    let many = vec![in rt.alloc(); (0, 1, 5); 16_385]?;
+    let fault = fault_of(rt.alloc(), many.as_slice())?;
+    assert_is(&rt, fault, Some(TieFault::TooMany));
+    Ok(())
 }

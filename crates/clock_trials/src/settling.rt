@@ -1,17 +1,14 @@
 //! Settlings: what requests come to, with the rescanned list and with the event queue.
 
 use crate::comparing::{assert_is, assert_is_at};
-use crate::settle::{Asked, settle_twice};
-use clock_processor::{Plain, Processor, Settled};
+use crate::settle::{Asked, End, settle_twice};
+use clock_processor::Plain;
 use clock_queue::Woken;
 use clock_setup::fixtures::TWO_PRODUCTS;
 use clock_terms::Kind;
 use std::alloc::{AllocError, Global};
 use std::process::Abort;
 use std::test::Fail;
-
-/// What a settling comes to: the demands row by row, what each request has left, and the applications.
-type End<'a> = (&'a [u64], &'a [u64], u64);
 
 /// X takes two of B, Y two of A and Z one of B.
 const FIRST: [Asked; 3] = [
@@ -30,29 +27,8 @@ const Z_DROPS_B: Asked = (Kind::Reduction, 2, 1, 1, 100);
 
 const X_DROPS_B: Asked = (Kind::Reduction, 0, 1, 2, 106);
 
-/// Asserts what a settling comes to.
-fn compare(rt: &impl Abort, demands: &[u64], settled: &Settled, end: End) {
-    let (all, left, applied) = end;
-    assert_is(rt, demands, all);
-    assert_is(rt, settled.left(), left);
-    assert_is(rt, settled.applied(), applied);
-}
-
-/// Settles requests after first ones, and asserts what they come to. The answer is how often a room was looked at.
-fn settles_with<P: Processor>(
-    rt: &impl Abort,
-    alloc: Global,
-    processor: &P,
-    document: &str,
-    requests: (&[Asked], &[Asked]),
-    end: End,
-) -> Result<u64, Fail> {
-    let (demands, settled) = settle_twice(alloc, processor, document, requests)?;
-    compare(rt, demands.as_slice(), &settled, end);
-    Ok(settled.tests())
-}
-
-/// Does so with both processors. The answer is how often the event queue looked at a room.
+/// Settles requests after first ones with both processors, and asserts what they come to. The answer is how often the
+/// event queue looked at a room.
 fn settles(
     rt: &impl Abort,
     alloc: Global,
@@ -60,8 +36,8 @@ fn settles(
     requests: (&[Asked], &[Asked]),
     end: End,
 ) -> Result<u64, Fail> {
-    settles_with(rt, alloc, &Plain, document, requests, end)?;
-    settles_with(rt, alloc, &Woken, document, requests, end)
+    settle_twice(rt, alloc, &Plain, document, requests, end)?;
+    settle_twice(rt, alloc, &Woken, document, requests, end)
 }
 
 /// What requests after the first ones on the two products show and come to, and how often the event queue looks at a

@@ -11,7 +11,6 @@ use clock_setup::{
 use serde_json::Value;
 use std::alloc::Global;
 use std::process::Abort;
-use std::test::Fail;
 
 const NO_PRODUCTS: &str = r#"{
   "version": 1, "requirement": 95, "operator": "OPERATOROPERATOR",
@@ -57,8 +56,11 @@ fn limits(product: &Product) -> Limits {
 type Told = (Numbers, Option<Limits>);
 
 fn told(setup: &Setup) -> Told {
-    let first = setup.products.as_slice().first();
-    (numbers(setup), first.map(limits))
+    let first = match setup.products.as_slice().first() {
+        Some(product) => Some(limits(product)),
+        None => None,
+    };
+    (numbers(setup), first)
 }
 
 /// What a document is read as, told of a copy of what was read.
@@ -73,8 +75,10 @@ fn read(alloc: Global, text: &str) -> Result<Told, SetupFault> {
 }
 
 /// What the value of a text is read as.
-fn read_value(alloc: Global, text: &str) -> Result<Told, Fail> {
-    let value = Value::from_str(alloc, text)?;
+fn read_value(alloc: Global, text: &str) -> Result<Told, SetupFault> {
+    let Ok(value) = Value::from_str(alloc, text) else {
+        return Err(SetupFault::NotJson);
+    };
     let setup = setup_of(alloc, &value);
     drop(value);
     let setup = setup?;
@@ -104,35 +108,13 @@ fn setup_fault(alloc: Global, text: &str) -> Option<SetupFault> {
     read_setup(alloc, text.as_bytes()).err()
 }
 
-fn opening_fault(alloc: Global, text: &str) -> Option<OpeningFault> {
-    read_opening(alloc, text.as_bytes()).err()
-}
-
-/// A document with one place changed.
-fn changed(alloc: Global, text: &str, from: &str, to: &str) -> Result<String, Fail> {
-    let (before, after) = text.split_once(from).ok_or("not in the document")?;
-    Ok(format!(in alloc; "{before}{to}{after}")?)
-}
-
-/// An opening document of a set-up.
-fn opening_text(
-    alloc: Global,
-    demands: &str,
-    increment: &str,
-    setup: &str,
-) -> Result<String, Fail> {
-    Ok(format!(in alloc; "{{\"demands\":{demands},\"increment\":{increment},\"setup\":{setup}}}")?)
-}
-
-/// The fault of the opening document of a set-up.
-fn opened_fault(
-    alloc: Global,
-    demands: &str,
-    increment: &str,
-    setup: &str,
-) -> Result<Option<OpeningFault>, Fail> {
-    let text = opening_text(alloc, demands, increment, setup)?;
-    Ok(opening_fault(alloc, text.as_str()))
+/// The fault of a document with one place changed, if it has the place.
+fn changed_fault(alloc: Global, text: &str, from: &str, to: &str) -> Option<Option<SetupFault>> {
+    let (before, after) = text.split_once(from)?;
+    let Ok(text) = format!(in alloc; "{before}{to}{after}") else {
+        return None;
+    };
+    Some(setup_fault(alloc, text.as_str()))
 }
 
 /// Documents of both versions, with their numbers and those of their first products.
@@ -148,19 +130,13 @@ const SETUPS: &[(&str, Numbers, Limits)] = &[
 ];
 
 #[test]
-fn reads_both_versions(rt: HostRuntime) -> Result<(), Fail> {
+fn reads_both_versions(rt: HostRuntime) {
     for &(text, numbers, product) in SETUPS {
-        let told = (numbers, Some(product));
-        assert_is_at(&rt, text, read(rt.alloc(), text)?, told);
-        assert_is_at(&rt, text, read_value(rt.alloc(), text)?, told);
+        let told = Ok((numbers, Some(product)));
+        assert_is_at(&rt, text, read(rt.alloc(), text), told);
+        assert_is_at(&rt, text, read_value(rt.alloc(), text), told);
     }
-    Ok(())
-}
-
-#[test]
-fn reads_the_last_bidder(rt: HostRuntime) -> Result<(), Fail> {
-    assert_is(&rt, has_z_last(rt.alloc(), TWO_PRODUCTS)?, true);
-    Ok(())
+    assert_is(&rt, has_z_last(rt.alloc(), TWO_PRODUCTS), Ok(true));
 }
 
 /// Texts that are no set-up, and their faults.
@@ -194,17 +170,11 @@ fn refuses_what_is_no_setup(rt: HostRuntime) {
 type Changed<'a> = (&'a str, &'a str, Option<SetupFault>);
 
 /// A document with one place changed has the fault of the row.
-fn has_faults(
-    rt: &impl Abort,
-    alloc: Global,
-    document: &str,
-    rows: &[Changed],
-) -> Result<(), Fail> {
-    for (from, to, fault) in rows {
-        let text = changed(alloc, document, from, to)?;
-        assert_is_at(rt, to, setup_fault(alloc, text.as_str()), *fault);
+fn has_faults(rt: &impl Abort, alloc: Global, document: &str, rows: &[Changed]) {
+    for &(from, to, fault) in rows {
+        let found = changed_fault(alloc, document, from, to);
+        assert_is_at(rt, to, found, Some(fault));
     }
-    Ok(())
 }
 
 /// One fault after the other of the one product.
@@ -272,35 +242,28 @@ const FAULTS_OF_VERSION_2: &[Changed<'static>] = &[
 ];
 
 #[test]
-fn refuses_each_fault_of_a_setup(rt: HostRuntime) -> Result<(), Fail> {
-    has_faults(&rt, rt.alloc(), ONE_PRODUCT, FAULTS)?;
-    has_faults(
-        &rt,
-        rt.alloc(),
-        GRANULES_AND_INCREMENTS,
-        FAULTS_OF_VERSION_2,
-    )
+fn refuses_each_fault_of_a_setup(rt: HostRuntime) {
+    let alloc = rt.alloc();
+    has_faults(&rt, alloc, ONE_PRODUCT, FAULTS);
+    has_faults(&rt, alloc, GRANULES_AND_INCREMENTS, FAULTS_OF_VERSION_2);
 }
 
-/// The total demand for an opening's first product, and the increment.
-fn opening_read(alloc: Global, text: &str) -> Result<(u64, u64), OpeningFault> {
+/// The total demand for an opening's first product, and the increment, or its fault.
+type Opened = Result<(u64, u64), OpeningFault>;
+
+fn opened(alloc: Global, text: &str) -> Opened {
     let opening = read_opening(alloc, text.as_bytes())?;
     Ok((opening.grid.total(0), opening.increment))
 }
 
-/// The demands and the set-up of openings, and the total demand for the first product.
-const TOTALS: &[(&str, &str, u64)] = &[
-    ("[[2],[1]]", ONE_PRODUCT, 3),
-    ("[[0,2],[2,0],[0,1]]", GRANULES_AND_INCREMENTS, 2),
-];
-
-#[test]
-fn reads_an_opening(rt: HostRuntime) -> Result<(), Fail> {
-    for &(demands, setup, total) in TOTALS {
-        let text = opening_text(rt.alloc(), demands, "10", setup)?;
-        assert_is(&rt, opening_read(rt.alloc(), text.as_str())?, (total, 10));
-    }
-    Ok(())
+/// The same of an opening document of a set-up.
+fn opened_of(alloc: Global, demands: &str, increment: &str, setup: &str) -> Opened {
+    let Ok(text) = format!(in alloc;
+        "{{\"demands\":{demands},\"increment\":{increment},\"setup\":{setup}}}"
+    ) else {
+        return Err(OpeningFault::NoMemory);
+    };
+    opened(alloc, text.as_str())
 }
 
 /// The one product where X may have only one block.
@@ -312,37 +275,53 @@ const WEAK: &str = r#"{"version":1,"requirement":95,"operator":"OPERATOROPERATOR
 /// A set-up of no version.
 const NO_VERSION: &str = r#"{"version":3}"#;
 
-/// The demands, the increment and the set-up of an opening, and its fault.
-const OPENINGS: &[(&str, &str, &str, OpeningFault)] = &[
-    ("[", "10", ONE_PRODUCT, OpeningFault::NotJson),
-    ("[[1],[1]]", "1.0", ONE_PRODUCT, OpeningFault::Shape),
-    ("[[1],\"1\"]", "10", ONE_PRODUCT, OpeningFault::Shape),
-    ("[[1]]", "51", ONE_PRODUCT, OpeningFault::Shape),
-    ("[[3],[1,1]]", "10", ONE_PRODUCT, OpeningFault::Shape),
-    ("[[3],[1]]", "10", ONE_PRODUCT, OpeningFault::Demand(0, 0)),
-    ("[[2],[3]]", "51", ONE_PRODUCT, OpeningFault::Demand(1, 0)),
-    ("[[1],[1]]", "0", ONE_PRODUCT, OpeningFault::Increment),
-    ("[[1],[1]]", "51", ONE_PRODUCT, OpeningFault::Increment),
-    ("[[1],[1]]", "[10]", ONE_PRODUCT, OpeningFault::Shape),
+/// The demands, the increment and the set-up of an opening, and what is read of it.
+const OPENINGS: &[(&str, &str, &str, Opened)] = &[
+    ("[[2],[1]]", "10", ONE_PRODUCT, Ok((3, 10))),
+    (
+        "[[0,2],[2,0],[0,1]]",
+        "10",
+        GRANULES_AND_INCREMENTS,
+        Ok((2, 10)),
+    ),
+    ("[", "10", ONE_PRODUCT, Err(OpeningFault::NotJson)),
+    ("[[1],[1]]", "1.0", ONE_PRODUCT, Err(OpeningFault::Shape)),
+    ("[[1],\"1\"]", "10", ONE_PRODUCT, Err(OpeningFault::Shape)),
+    ("[[1]]", "51", ONE_PRODUCT, Err(OpeningFault::Shape)),
+    ("[[3],[1,1]]", "10", ONE_PRODUCT, Err(OpeningFault::Shape)),
+    (
+        "[[3],[1]]",
+        "10",
+        ONE_PRODUCT,
+        Err(OpeningFault::Demand(0, 0)),
+    ),
+    (
+        "[[2],[3]]",
+        "51",
+        ONE_PRODUCT,
+        Err(OpeningFault::Demand(1, 0)),
+    ),
+    ("[[1],[1]]", "0", ONE_PRODUCT, Err(OpeningFault::Increment)),
+    ("[[1],[1]]", "51", ONE_PRODUCT, Err(OpeningFault::Increment)),
+    ("[[1],[1]]", "[10]", ONE_PRODUCT, Err(OpeningFault::Shape)),
     (
         "[]",
         "0",
         NO_VERSION,
-        OpeningFault::Setup(SetupFault::Version),
+        Err(OpeningFault::Setup(SetupFault::Version)),
     ),
-    ("[7]", "0", NO_VERSION, OpeningFault::Shape),
-    ("[[3],[1]]", "10", WEAK, OpeningFault::Demand(0, 0)),
-    ("[[2],[3]]", "10", WEAK, OpeningFault::Activity(0)),
-    ("[[2],[1]]", "51", WEAK, OpeningFault::Activity(0)),
+    ("[7]", "0", NO_VERSION, Err(OpeningFault::Shape)),
+    ("[[3],[1]]", "10", WEAK, Err(OpeningFault::Demand(0, 0))),
+    ("[[2],[3]]", "10", WEAK, Err(OpeningFault::Activity(0))),
+    ("[[2],[1]]", "51", WEAK, Err(OpeningFault::Activity(0))),
 ];
 
 #[test]
-fn refuses_each_fault_of_an_opening(rt: HostRuntime) -> Result<(), Fail> {
-    for &(demands, increment, setup, fault) in OPENINGS {
-        let found = opened_fault(rt.alloc(), demands, increment, setup)?;
-        assert_is_at(&rt, (demands, increment), found, Some(fault));
+fn reads_an_opening_or_refuses_it(rt: HostRuntime) {
+    for &(demands, increment, setup, told) in OPENINGS {
+        let found = opened_of(rt.alloc(), demands, increment, setup);
+        assert_is_at(&rt, (demands, increment), found, told);
     }
-    let bare = opening_fault(rt.alloc(), "{\"demands\":[],\"increment\":10}");
-    assert_is(&rt, bare, Some(OpeningFault::Shape));
-    Ok(())
+    let bare = opened(rt.alloc(), "{\"demands\":[],\"increment\":10}");
+    assert_is(&rt, bare, Err(OpeningFault::Shape));
 }

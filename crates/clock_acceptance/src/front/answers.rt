@@ -1,9 +1,9 @@
 //! What requests are answered with, one after the other.
-use super::requests::{compare, reply_of, setup_of, text_of};
-use super::rows::{Repeated, fields_of, repeated};
+use super::requests::{compare, fields_of, reply_of, setup_of, text_of};
 use super::texts::{ACCEPTED, PUT};
 use crate::comparing::assert_is;
 use crate::front::example::{on_front, on_one_product};
+use crate::repeated::{Repeated, repeated};
 use clock_device::{Items, Text};
 use clock_front::{Front, run};
 use clock_http::Code;

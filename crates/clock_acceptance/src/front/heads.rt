@@ -1,8 +1,8 @@
 //! What is answered where a head is at a limit or past it, or is none.
 use super::requests::compare;
-use super::rows::{Repeated, repeated};
 use crate::comparing::assert_is;
 use crate::front::example::on_one_product;
+use crate::repeated::{Repeated, repeated};
 use std::alloc::Global;
 use std::process::Abort;
 use std::test::Fail;

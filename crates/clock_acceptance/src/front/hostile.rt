@@ -1,14 +1,15 @@
 //! Truncated and malicious texts: over whole bytes, over a stream and over a connection the reply is the same.
 use super::hubs::{bytes_of, connected, fed, finished, on_hub};
 use super::requests::reply_with;
-use super::rows::{Repeated, repeated};
+use super::streams::serve;
 use super::texts::{ACCEPTED, BIDS_OF_X, CUT_SHORT, LONG_HEAD, NO_SHEET, PUT, SHEET};
 use crate::comparing::assert_is;
 use crate::front::example::on_one_product;
-use clock_device::{ListSink, ListSource, Text};
-use clock_front::{Front, Hub, serve_stream};
+use crate::repeated::{Repeated, repeated};
+use clock_device::Text;
+use clock_front::{Front, Hub};
 use clock_processor::Plain;
-use std::alloc::Global;
+use std::alloc::{AllocError, Global};
 use std::process::Abort;
 use std::test::Fail;
 
@@ -19,13 +20,8 @@ fn by_answer(alloc: Global, front: &mut Front<Plain>, text: &[u8]) -> Result<Tex
 
 /// What is written for a text that comes over a stream.
 fn by_stream(alloc: Global, front: &mut Front<Plain>, text: &[u8]) -> Result<Text, Fail> {
-    let mut source = ListSource::new(text, 100, None);
-    let mut sink = ListSink::new(alloc, 1024, 100, None)?;
-    let served = serve_stream(alloc, front, &mut source, &mut sink);
-    let written = Text::from_slice(alloc, sink.bytes());
-    drop(sink);
-    served?;
-    Ok(written?)
+    let (_answer, written) = serve(alloc, front, text, 100, None, None)?;
+    Ok(written)
 }
 
 /// The reply to a text that comes over a connection in single bytes, and ends then.
@@ -169,7 +165,7 @@ const HEAD_OF_2000: &str =
     "PUT /v1/me/bids HTTP/1.1\r\nauthorization: Bearer XXXXXXXXXXXXXXXX\r\ncontent-length: 2000\r\n\r\n";
 
 /// A sheet of a thousand lists, each within the one before.
-fn nested(alloc: Global) -> Result<String, Fail> {
+fn nested(alloc: Global) -> Result<String, AllocError> {
     let closing = repeated(alloc, ("", "]", 1_000, ""))?;
     repeated(alloc, (HEAD_OF_2000, "[", 1_000, closing.as_str()))
 }

@@ -1,13 +1,12 @@
 //! One bidder's replies in two runs in which it sees the same.
 mod in_pieces;
 
-use super::requests::{reply_of, text_of};
-use super::rows::fields_of;
+use super::requests::{fields_of, text_of};
 use crate::comparing::assert_is_at;
 use crate::front::example::on_front;
-use clock_front::Front;
+use clock_front::{Front, Reply};
 use clock_processor::Plain;
-use std::alloc::Global;
+use std::alloc::{AllocError, Global};
 use std::process::Abort;
 use std::test::Fail;
 
@@ -19,7 +18,8 @@ const PUBLIC: &str =
 const X_AND_Y: &str =
     r#"{"name":"X","token":"XXXXXXXXXXXXXXXX","eligibility":10},{"name":"Y","token":"YYYYYYYYYYYYYYYY","eligibility":10}"#;
 
-/// X's own requests: the request line, whose token it has, and its body. The others send theirs in turn.
+/// X's own requests: the request line, whose token it has, and its body. The others send theirs in turn: a line of `~`
+/// alone stands between two turns.
 const OWN: &str = r#"GET /v1/me/bids|X|
 PUT /v1/me/bids|X|{"bids":[{"price":100,"product":0,"quantity":3}],"round":1}
 PUT /v1/me/bids|X|{"bids":[{"price":100,"product":0,"quantity":2}],"round":1}
@@ -52,61 +52,91 @@ const PAGES: &str =
 {"activity":1,"demands":[1],"eligibility":2,"round":2}
 {"ended":true,"products":[{"clock":110,"demand":null,"name":"A","next":null,"posted":103,"start":100}],"round":2}"#;
 
-/// The text of the request of a row.
-fn text_of_row(alloc: Global, row: &str) -> Result<String, Fail> {
+/// A request of a run, and whether it is X's.
+#[derive(Drop)]
+struct Request {
+    is_own: bool,
+    text: String,
+}
+
+/// The request of a row.
+fn request_of(alloc: Global, row: &str, is_own: bool) -> Result<Request, Fail> {
     let fields = fields_of(alloc, row)?;
     let &[line, who, body] = fields.as_slice() else {
         return Err("a row has three fields")?;
     };
-    text_of(alloc, line, who, body)
+    let text = text_of(alloc, line, who, body)?;
+    Ok(Request { is_own, text })
 }
 
-/// The reply to the request of a row.
-fn reply_to(alloc: Global, front: &mut Front<Plain>, row: &str) -> Result<String, Fail> {
-    let text = text_of_row(alloc, row)?;
-    reply_of(alloc, front, text.as_str())
-}
-
-/// The replies to the requests of all rows.
-fn replies_to(alloc: Global, front: &mut Front<Plain>, rows: &str) -> Result<String, Fail> {
-    let mut replies = String::new(alloc);
+/// The requests of rows.
+fn push_rows(
+    alloc: Global,
+    requests: &mut Vec<Request>,
+    rows: &str,
+    is_own: bool,
+) -> Result<(), Fail> {
     for row in rows.split('\n') {
         if !row.is_empty() {
-            let reply = reply_to(alloc, front, row)?;
-            replies.push_str(reply.as_str())?;
+            requests.push(request_of(alloc, row, is_own)?)?;
         }
     }
-    Ok(replies)
-}
-
-/// Adds them to what was told.
-fn push_replies(
-    alloc: Global,
-    front: &mut Front<Plain>,
-    told: &mut String,
-    rows: &str,
-) -> Result<(), Fail> {
-    let replies = replies_to(alloc, front, rows)?;
-    told.push_str(replies.as_str())?;
     Ok(())
 }
 
-/// All replies to X's own requests, between which the others send theirs.
-fn replies_between(alloc: Global, front: &mut Front<Plain>, others: &str) -> Result<String, Fail> {
+/// The requests of a run in their order: X's of each turn, and then those of the others.
+fn requests_of(alloc: Global, others: &str) -> Result<Vec<Request>, Fail> {
+    let mut requests = Vec::new(alloc);
     let mut others = others.split('~');
-    let mut told = String::new(alloc);
     for own in OWN.split('~') {
-        push_replies(alloc, front, &mut told, own)?;
-        replies_to(alloc, front, others.next().unwrap_or(""))?;
+        push_rows(alloc, &mut requests, own, true)?;
+        push_rows(alloc, &mut requests, others.next().unwrap_or(""), false)?;
+    }
+    Ok(requests)
+}
+
+/// Adds the reply to a request of X.
+fn push_reply(
+    alloc: Global,
+    told: &mut String,
+    request: &Request,
+    reply: &Reply,
+) -> Result<(), Fail> {
+    if request.is_own {
+        let reply = String::from_utf8_lossy(alloc, reply.bytes())?;
+        told.push_str(reply.as_str())?;
+    }
+    Ok(())
+}
+
+/// What X is told by a front that answers the requests in turn.
+fn told_in_turn(
+    alloc: Global,
+    front: &mut Front<Plain>,
+    requests: &[Request],
+) -> Result<String, Fail> {
+    let mut told = String::new(alloc);
+    for request in requests {
+        let reply = front.answer(request.text.as_str().as_bytes());
+        push_reply(alloc, &mut told, request, &reply)?;
     }
     Ok(told)
 }
 
-/// The same with a front of what is public and of bidders.
-fn told_x(alloc: Global, public: &str, bidders: &str, others: &str) -> Result<String, Fail> {
-    let document = format!(in alloc; "{{{public},\"bidders\":[{bidders}]}}")?;
+/// The document of what is public and of bidders.
+fn document_of(alloc: Global, public: &str, bidders: &str) -> Result<String, AllocError> {
+    format!(in alloc; "{{{public},\"bidders\":[{bidders}]}}")
+}
+
+/// A run: its bidders, and what the others send.
+type Run<'a> = (&'a str, &'a str);
+
+/// What X is told in a run of what is public.
+fn told_x(alloc: Global, public: &str, run: Run<'_>) -> Result<String, Fail> {
+    let document = document_of(alloc, public, run.0)?;
+    let requests = requests_of(alloc, run.1)?;
     on_front(alloc, document.as_str(), |front| {
-        replies_between(alloc, front, others)
+        told_in_turn(alloc, front, requests.as_slice())
     })
 }
 
@@ -215,9 +245,6 @@ PUT /v1/me/bids|Y|{"bids":[{"price":110,"product":0,"quantity":1}],"round":2}
 PUT /v1/me/bids|Y|{"bids":[{"price":111,"product":0,"quantity":1}],"round":2}
 POST /v1/close|O|{"increment":10,"round":2,"ties":[[0,0,8]]}"#;
 
-/// A run: its bidders, and what the others send.
-type Run<'a> = (&'a str, &'a str);
-
 /// What does not show in X's replies, what is public, and two runs that differ in it alone.
 const RUNS: &[(&str, &str, Run<'static>, Run<'static>)] = &[
     ("rivals", PUBLIC, (X_AND_Y, BY_Y), (V_X_AND_W, BY_W)),
@@ -250,9 +277,9 @@ fn is_told_alike(
     public: &str,
     runs: (Run<'_>, Run<'_>),
 ) -> Result<(), Fail> {
-    let one = told_x(alloc, public, runs.0.0, runs.0.1)?;
+    let one = told_x(alloc, public, runs.0)?;
     assert_is_at(rt, hidden, has_pages(one.as_str()), true);
-    let two = told_x(alloc, public, runs.1.0, runs.1.1)?;
+    let two = told_x(alloc, public, runs.1)?;
     assert_is_at(rt, hidden, one.as_str(), two.as_str());
     Ok(())
 }

@@ -93,21 +93,23 @@ fn no_more_than_256_stand(rt: HostRuntime) -> Result<(), Fail> {
     on_hub(rt.alloc(), |hub| is_full_at(&rt, hub, 256))
 }
 
-/// What a connection is told at a step: a reply, or that more is needed.
-type Told<'a> = Result<Option<&'a str>, HubFault>;
+/// What a connection is told at a step: a reply, or that more is needed, or a fault in words.
+type Told<'a> = Result<Option<&'a str>, &'a str>;
+
+const UNKNOWN: Told<'static> = Err("no such connection");
 
 /// What the connections are told that are asked for in turn, as one after the other gets a text or its input ends.
 const STEPS: &[(usize, &str, Told<'static>)] = &[
     (0, "connect", Ok(None)),
     (0, STATUS, Ok(Some(FIRST_ROUND))),
-    (0, STATUS, Err(HubFault::Unknown)),
+    (0, STATUS, UNKNOWN),
     (1, "connect", Ok(None)),
     (1, "", Ok(None)),
     (1, "GET", Ok(None)),
     (1, "end", Ok(Some(CUT_SHORT))),
-    (1, "end", Err(HubFault::Unknown)),
+    (1, "end", UNKNOWN),
     (2, "connect", Ok(None)),
-    (1, STATUS, Err(HubFault::Unknown)),
+    (1, STATUS, UNKNOWN),
     (2, STATUS, Ok(Some(FIRST_ROUND))),
 ];
 
@@ -119,17 +121,21 @@ fn is_told(
     conn: Conn,
     text: &str,
     told: Told<'_>,
-) {
+) -> Result<(), Fail> {
     let reply = match text {
         "end" => finished(alloc, hub, conn).map(Some),
         text => fed(alloc, hub, conn, text.as_bytes()),
     };
-    let expected = told.map(|reply| reply.map(|reply| reply.as_bytes()));
+    let told = told.map(|reply| reply.map(|reply| reply.as_bytes()));
     match reply {
-        Ok(Some(reply)) => assert_is_at(rt, text, Ok(Some(reply.as_slice())), expected),
-        Ok(None) => assert_is_at(rt, text, Ok(None), expected),
-        Err(fault) => assert_is_at(rt, text, Err(fault), expected),
+        Ok(Some(reply)) => assert_is_at(rt, text, Ok(Some(reply.as_slice())), told),
+        Ok(None) => assert_is_at(rt, text, Ok(None), told),
+        Err(fault) => {
+            let words = format!(in alloc; "{fault}")?;
+            assert_is_at(rt, text, Err(words.as_str()), told);
+        }
     }
+    Ok(())
 }
 
 /// Takes all steps.
@@ -138,7 +144,7 @@ fn take_steps(rt: &impl Abort, alloc: Global, hub: &mut Hub<Plain>) -> Result<()
     for &(number, text, told) in STEPS {
         match conns.as_slice().get(number) {
             None => conns.push(hubs::connected(hub)?)?,
-            Some(conn) => is_told(rt, alloc, hub, *conn, text, told),
+            Some(conn) => is_told(rt, alloc, hub, *conn, text, told)?,
         }
     }
     Ok(())
