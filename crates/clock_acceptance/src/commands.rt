@@ -1,6 +1,6 @@
 //! Runs of the program on bytes in memory. What it answers to each kind of document and words is
 //! compared by the gate on the built program.
-use crate::comparing::assert_is;
+use crate::comparing::assert_is_at;
 use clock_commands::command;
 use clock_device::{ListSink, ListSource, NoMemory, Stop};
 use clock_setup::fixtures::ONE_PRODUCT;
@@ -56,14 +56,7 @@ fn run(
     })
 }
 
-/// Asserts that a run ends with this status, this output and this fault.
-fn assert_ends(rt: &impl Abort, run: &Ending, status: u8, output: &str, fault: &str) {
-    assert_is(rt, run.output.bytes(), output.as_bytes());
-    assert_is(rt, run.faults.bytes(), fault.as_bytes());
-    assert_is(rt, run.status, status);
-}
-
-/// A run of these words on a document has this status, this output and this fault.
+/// Asserts how a run ends: its status, its output and its fault.
 fn ends(
     rt: &impl Abort,
     alloc: Global,
@@ -71,58 +64,53 @@ fn ends(
     document: &str,
     streams: &Streams,
     expected: (u8, &str, &str),
-) -> Result<(), Fail> {
+) -> Result<(), NoMemory> {
     let run = run(alloc, words, document, streams)?;
-    assert_ends(rt, &run, expected.0, expected.1, expected.2);
+    let told = (run.status, run.output.bytes(), run.faults.bytes());
+    let (status, output, fault) = expected;
+    assert_is_at(
+        rt,
+        words,
+        told,
+        (status, output.as_bytes(), fault.as_bytes()),
+    );
     drop(run);
     Ok(())
 }
 
+/// The set-up of one product with three blocks asked in round 1, at an increment of 10.
+const OPENING: &str = r#"{"setup":{"version":1,"requirement":95,"operator":"OPERATOROPERATOR",
+"products":[{"name":"A","units":1,"supply":2,"cap":2,"opening":100}],
+"bidders":[{"name":"X","token":"XXXXXXXXXXXXXXXX","eligibility":10},
+{"name":"Y","token":"YYYYYYYYYYYYYYYY","eligibility":10}]},"demands":[[2],[1]],"increment":10}"#;
+
+/// A replay of which the set-up is none.
+const NO_SETUP: &str = r#"{"setup":{},"scripts":[],"closings":[]}"#;
+
+/// The words and the document of a run whose streams never fail, and its status, output and fault.
+const SOUND_RUNS: &[(&[&str], &str, (u8, &str, &str))] = &[
+    (&[], ONE_PRODUCT, (0, "A 100 110\n", "")),
+    (&["prices"], ONE_PRODUCT, (0, "A 100 110\n", "")),
+    (
+        &["prices", "--increment=1"],
+        ONE_PRODUCT,
+        (0, "A 100 101\n", ""),
+    ),
+    (
+        &["opening"],
+        OPENING,
+        (0, "round 1\nA 100 100 100 3 110\n", ""),
+    ),
+    (&["prices"], "", (1, "", "fault: setup_not_json\n")),
+    (&["prices"], "{", (1, "", "fault: setup_not_json\n")),
+    (&["opening"], "[]", (1, "", "fault: shape\n")),
+    (&["replay"], NO_SETUP, (1, "", "fault: setup_shape\n")),
+];
+
 #[test]
 fn words_ask_for_the_lines_of_a_document(rt: HostRuntime) -> Result<(), Fail> {
-    let prices = "A 100 110\n";
-    for (words, output) in [
-        ([].as_slice(), prices),
-        (["prices"].as_slice(), prices),
-        (["prices", "--increment=1"].as_slice(), "A 100 101\n"),
-    ] {
-        ends(&rt, rt.alloc(), words, ONE_PRODUCT, &SOUND, (0, output, ""))?;
-    }
-    Ok(())
-}
-
-/// The set-up of one product with three blocks asked in round 1, at an increment of 10.
-fn opening_document(alloc: Global) -> Result<String, AllocError> {
-    format!(in alloc; "{{\"setup\":{ONE_PRODUCT},\"demands\":[[2],[1]],\"increment\":10}}")
-}
-
-#[test]
-fn an_opening_has_a_first_round(rt: HostRuntime) -> Result<(), Fail> {
-    let document = opening_document(rt.alloc())?;
-    let expected = (0, "round 1\nA 100 100 100 3 110\n", "");
-    ends(
-        &rt,
-        rt.alloc(),
-        &["opening"],
-        document.as_str(),
-        &SOUND,
-        expected,
-    )
-}
-
-#[test]
-fn a_document_has_a_fault(rt: HostRuntime) -> Result<(), Fail> {
-    for (words, document, fault) in [
-        (["prices"].as_slice(), "", "fault: setup_not_json\n"),
-        (["prices"].as_slice(), "{", "fault: setup_not_json\n"),
-        (["opening"].as_slice(), "[]", "fault: shape\n"),
-        (
-            ["replay"].as_slice(),
-            r#"{"setup":{},"scripts":[],"closings":[]}"#,
-            "fault: setup_shape\n",
-        ),
-    ] {
-        ends(&rt, rt.alloc(), words, document, &SOUND, (1, "", fault))?;
+    for &(words, document, expected) in SOUND_RUNS {
+        ends(&rt, rt.alloc(), words, document, &SOUND, expected)?;
     }
     Ok(())
 }
@@ -146,154 +134,174 @@ const CLOSINGS: &str =
 const REPORT: &str =
     "round 1\nA 100 100 100 3 110\nround 2\nA 100 110 110 3 121\nround 3\nA 110 121 115 - -\nwon X 1 115\nwon Y 1 115\n";
 
-/// Scripts and closings, and the fault that they have.
-const REPLAY_FAULTS: [(&str, &str, &str); 8] = [
-    ("{", CLOSINGS, "fault: not_json\n"),
-    ("1", CLOSINGS, "fault: shape\n"),
+/// Scripts and closings, and the status, the output and the fault of their replay.
+const REPLAYS: &[(&str, &str, (u8, &str, &str))] = &[
+    (SINCERE, CLOSINGS, (0, REPORT, "")),
+    ("{", CLOSINGS, (1, "", "fault: not_json\n")),
+    ("1", CLOSINGS, (1, "", "fault: shape\n")),
     (
         r#"{"kind":"literal","sheets":[]}"#,
         CLOSINGS,
-        "fault: scripts\n",
+        (1, "", "fault: scripts\n"),
     ),
     (
         r#"{"kind":"sincere","limits":[[115,120]]},{"kind":"literal","sheets":[]}"#,
         CLOSINGS,
-        "fault: limits 0 0\n",
+        (1, "", "fault: limits 0 0\n"),
     ),
     (
         r#"{"kind":"literal","sheets":[[{"price":100,"product":0,"quantity":3}]]},{"kind":"literal","sheets":[]}"#,
         CLOSINGS,
-        "fault: refused 0 1 over_cap\n",
+        (1, "", "fault: refused 0 1 over_cap\n"),
     ),
     (
         SINCERE,
         r#"{"increment":51,"ties":[]}"#,
-        "fault: closing 1 increment\n",
+        (1, "", "fault: closing 1 increment\n"),
     ),
     (
         SINCERE,
         r#"{"increment":10,"ties":[]},{"increment":10,"ties":[]}"#,
-        "fault: closings_spent\n",
+        (1, "", "fault: closings_spent\n"),
     ),
     (
         SINCERE,
         r#"{"increments":[10],"ties":[]}"#,
-        "fault: shape\n",
+        (1, "", "fault: shape\n"),
     ),
 ];
 
-/// The replay of these scripts and closings has this status, this output and this fault.
-fn replay_ends(
-    rt: &impl Abort,
-    alloc: Global,
-    scripts: &str,
-    closings: &str,
-    expected: (u8, &str, &str),
-) -> Result<(), Fail> {
-    let document = replay_document(alloc, scripts, closings)?;
-    ends(rt, alloc, &["replay"], document.as_str(), &SOUND, expected)
-}
-
 #[test]
-fn a_replay_has_a_report(rt: HostRuntime) -> Result<(), Fail> {
-    replay_ends(&rt, rt.alloc(), SINCERE, CLOSINGS, (0, REPORT, ""))
-}
-
-#[test]
-fn a_replay_has_a_fault(rt: HostRuntime) -> Result<(), Fail> {
-    for &(scripts, closings, fault) in REPLAY_FAULTS.iter() {
-        replay_ends(&rt, rt.alloc(), scripts, closings, (1, "", fault))?;
+fn a_replay_has_a_report_or_a_fault(rt: HostRuntime) -> Result<(), Fail> {
+    for &(scripts, closings, expected) in REPLAYS {
+        let document = replay_document(rt.alloc(), scripts, closings)?;
+        ends(
+            &rt,
+            rt.alloc(),
+            &["replay"],
+            document.as_str(),
+            &SOUND,
+            expected,
+        )?;
     }
     Ok(())
 }
 
-/// Words are refused with a line that clap writes, whatever it says.
-fn are_refused(rt: &impl Abort, alloc: Global, words: &[&str]) -> Result<(), Fail> {
+/// Words that are refused with a line that clap writes, whatever it says.
+const OTHER_WORDS: &[&[&str]] = &[
+    &["prices", "--increment", "0"],
+    &["prices", "--increment", "51"],
+    &["repla"],
+    &["serve", "--setup", "a", "--port", "1", "--connections", "1"],
+    &["--help"],
+    &["--version"],
+];
+
+/// Asserts that words are refused.
+fn are_refused(rt: &impl Abort, alloc: Global, words: &[&str]) -> Result<(), NoMemory> {
     let run = run(alloc, words, ONE_PRODUCT, &SOUND)?;
-    assert_is(rt, run.status, 2);
-    assert!(rt; run.output.bytes().is_empty());
-    assert!(rt; !run.faults.bytes().is_empty());
+    let told = (
+        run.status,
+        run.output.bytes().len(),
+        run.faults.bytes().is_empty(),
+    );
+    assert_is_at(rt, words, told, (2, 0, false));
     drop(run);
     Ok(())
 }
 
 #[test]
-fn other_words_are_refused(rt: HostRuntime) -> Result<(), Fail> {
-    for words in [
-        ["prices", "--increment", "0"].as_slice(),
-        ["prices", "--increment", "51"].as_slice(),
-        ["repla"].as_slice(),
-        ["serve", "--setup", "a", "--port", "1", "--connections", "1"].as_slice(),
-        ["--help"].as_slice(),
-        ["--version"].as_slice(),
-    ] {
+fn other_words_are_refused(rt: HostRuntime) -> Result<(), NoMemory> {
+    for words in OTHER_WORDS {
         are_refused(&rt, rt.alloc(), words)?;
     }
     Ok(())
 }
 
-#[test]
-fn an_interrupted_read_is_tried_again_and_a_failed_one_is_a_fault(
-    rt: HostRuntime,
-) -> Result<(), Fail> {
-    for (stop, status, output, fault) in [
-        (Stop::Interrupted, 0, "A 100 110\n", ""),
-        (Stop::Failed, 1, "", "fault: input\n"),
-    ] {
-        let streams = Streams {
-            read_stop: Some((2, stop)),
+/// A read that is interrupted is tried again, and one that fails is a fault; so is a writer that fails or is full. A
+/// line that cannot be shown leaves the status.
+const OTHER_STREAMS: &[(&[&str], &str, Streams, (u8, &str, &str))] = &[
+    (
+        &["prices"],
+        ONE_PRODUCT,
+        Streams {
+            read_stop: Some((2, Stop::Interrupted)),
             ..SOUND
-        };
-        let expected = (status, output, fault);
-        ends(
-            &rt,
-            rt.alloc(),
-            &["prices"],
-            ONE_PRODUCT,
-            &streams,
-            expected,
-        )?;
-    }
-    Ok(())
-}
+        },
+        (0, "A 100 110\n", ""),
+    ),
+    (
+        &["prices"],
+        ONE_PRODUCT,
+        Streams {
+            read_stop: Some((2, Stop::Failed)),
+            ..SOUND
+        },
+        (1, "", "fault: input\n"),
+    ),
+    (
+        &["prices"],
+        ONE_PRODUCT,
+        Streams {
+            room: 100,
+            output_stop: Some(0),
+            ..SOUND
+        },
+        (1, "", "fault: output\n"),
+    ),
+    (
+        &["prices"],
+        ONE_PRODUCT,
+        Streams {
+            room: 100,
+            output_stop: Some(1),
+            ..SOUND
+        },
+        (1, "A 100", "fault: output\n"),
+    ),
+    (
+        &["prices"],
+        ONE_PRODUCT,
+        Streams {
+            room: 7,
+            output_stop: None,
+            ..SOUND
+        },
+        (1, "A 100 1", "fault: output\n"),
+    ),
+    (
+        &["prices"],
+        "{",
+        Streams {
+            fault_stop: Some(0),
+            ..SOUND
+        },
+        (1, "", ""),
+    ),
+    (
+        &["prices"],
+        "{",
+        Streams {
+            fault_stop: Some(1),
+            ..SOUND
+        },
+        (1, "", "fault: "),
+    ),
+    (
+        &["none"],
+        "{",
+        Streams {
+            fault_stop: Some(0),
+            ..SOUND
+        },
+        (2, "", ""),
+    ),
+];
 
 #[test]
-fn a_writer_that_fails_or_is_full_is_a_fault(rt: HostRuntime) -> Result<(), Fail> {
-    for (room, output_stop, output) in [
-        (100, Some(0), ""),
-        (100, Some(1), "A 100"),
-        (7, None, "A 100 1"),
-    ] {
-        let streams = Streams {
-            room,
-            output_stop,
-            ..SOUND
-        };
-        let expected = (1, output, "fault: output\n");
-        ends(
-            &rt,
-            rt.alloc(),
-            &["prices"],
-            ONE_PRODUCT,
-            &streams,
-            expected,
-        )?;
-    }
-    Ok(())
-}
-
-#[test]
-fn a_line_that_cannot_be_shown_leaves_the_status(rt: HostRuntime) -> Result<(), Fail> {
-    for (words, fault_stop, status, fault) in [
-        (["prices"].as_slice(), 0, 1, ""),
-        (["prices"].as_slice(), 1, 1, "fault: "),
-        (["none"].as_slice(), 0, 2, ""),
-    ] {
-        let streams = Streams {
-            fault_stop: Some(fault_stop),
-            ..SOUND
-        };
-        ends(&rt, rt.alloc(), words, "{", &streams, (status, "", fault))?;
+fn streams_fail_or_are_interrupted(rt: HostRuntime) -> Result<(), NoMemory> {
+    for &(words, document, streams, expected) in OTHER_STREAMS {
+        ends(&rt, rt.alloc(), words, document, &streams, expected)?;
     }
     Ok(())
 }

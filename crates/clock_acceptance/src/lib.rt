@@ -9,4 +9,6 @@ mod comparing;
 #[cfg(test)]
 mod front;
 #[cfg(test)]
+mod repeated;
+#[cfg(test)]
 mod replays;

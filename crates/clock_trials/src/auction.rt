@@ -1,7 +1,8 @@
 //! An auction as data: what is done to it and what is seen of it, step by step.
 
-use crate::comparing::assert_is;
+use crate::comparing::assert_is_at;
 use crate::settle::push_demands;
+use crate::views::{Page, page_of};
 use clock_bids::Bid;
 use clock_house::{CloseFault, House, PutFault};
 use clock_order::Tie;
@@ -57,13 +58,38 @@ pub enum Step<'a> {
     InForce(u32, Option<&'a [Offer]>),
     /// The current round, and whether the auction has ended.
     Stands(u64, bool),
+    /// A page of the auction is this text.
+    Reads(Page, &'a str),
 }
 
-/// Takes the steps one after the other, on an auction of this set-up: once with the rescanned list
-/// and once with the event queue.
-pub fn play(rt: &impl Abort, alloc: Global, document: &str, steps: &[Step]) -> Result<(), Fail> {
-    play_with(rt, alloc, document, Plain, steps)?;
-    play_with(rt, alloc, document, Woken, steps)
+/// What a play shows, the document of its set-up, and its steps.
+pub type Play<'a> = (&'a str, &'a str, &'a [Step<'a>]);
+
+/// The step at which something is seen: what its play shows, and its number.
+type At<'a> = (&'a str, usize);
+
+/// Takes the steps of each play on an auction of its own: once with the rescanned list and once with the event queue.
+pub fn play_all(rt: &impl Abort, alloc: Global, plays: &[Play]) -> Result<(), Fail> {
+    for play in plays {
+        play_with(rt, alloc, Plain, play)?;
+        play_with(rt, alloc, Woken, play)?;
+    }
+    Ok(())
+}
+
+/// Takes the steps of a play on an auction with this processor.
+fn play_with<P: Processor + Drop>(
+    rt: &impl Abort,
+    alloc: Global,
+    processor: P,
+    play: &Play,
+) -> Result<(), Fail> {
+    let &(shows, document, steps) = play;
+    let setup = read_setup(alloc, document.as_bytes())?;
+    let mut house = House::new(alloc, setup, processor)?;
+    let taken = take_all(rt, alloc, &mut house, shows, steps);
+    drop(house);
+    taken
 }
 
 /// Takes the steps one after the other.
@@ -71,27 +97,13 @@ fn take_all<P: Processor>(
     rt: &impl Abort,
     alloc: Global,
     house: &mut House<P>,
+    shows: &str,
     steps: &[Step],
 ) -> Result<(), Fail> {
-    for step in steps {
-        take(rt, alloc, house, step)?;
+    for (number, step) in steps.iter().enumerate() {
+        take(rt, alloc, house, (shows, number), step)?;
     }
     Ok(())
-}
-
-/// Does so on an auction of this set-up with this processor.
-fn play_with<P: Processor + Drop>(
-    rt: &impl Abort,
-    alloc: Global,
-    document: &str,
-    processor: P,
-    steps: &[Step],
-) -> Result<(), Fail> {
-    let setup = read_setup(alloc, document.as_bytes())?;
-    let mut house = House::new(alloc, setup, processor)?;
-    let taken = take_all(rt, alloc, &mut house, steps);
-    drop(house);
-    taken
 }
 
 /// Takes one step.
@@ -99,39 +111,50 @@ fn take<P: Processor>(
     rt: &impl Abort,
     alloc: Global,
     house: &mut House<P>,
+    at: At,
     step: &Step,
 ) -> Result<(), Fail> {
     let round = house.round();
     match *step {
-        Step::Put(bidder, offers) => put(rt, alloc, house, round, (bidder, offers), Ok(())),
-        Step::PutEach(sheets) => put_each(rt, alloc, house, sheets),
+        Step::Put(bidder, offers) => put(rt, alloc, house, at, round, (bidder, offers), Ok(())),
+        Step::PutEach(sheets) => put_each(rt, alloc, house, at, sheets),
         Step::RefusedPut(bidder, round, offers, fault) => {
-            put(rt, alloc, house, round, (bidder, offers), Err(fault))
+            put(rt, alloc, house, at, round, (bidder, offers), Err(fault))
         }
         Step::Close(increment, draws) => {
             let increments = Increments::Single(increment);
-            close(rt, alloc, house, round, increments, draws, Ok(()))
+            close(rt, alloc, house, at, round, increments, draws, Ok(()))
         }
-        Step::CloseEach(increments) => close_each(rt, alloc, house, round, increments, Ok(())),
+        Step::CloseEach(increments) => close_each(rt, alloc, house, at, increments, Ok(())),
         Step::RefusedClose(round, increment, draws, fault) => {
             let increments = Increments::Single(increment);
-            close(rt, alloc, house, round, increments, draws, Err(fault))
+            close(rt, alloc, house, at, round, increments, draws, Err(fault))
         }
         Step::RefusedCloseEach(increments, fault) => {
-            close_each(rt, alloc, house, round, increments, Err(fault))
+            close_each(rt, alloc, house, at, increments, Err(fault))
         }
-        Step::Lines(round, lines) => see_lines(rt, alloc, house, round, lines),
-        Step::Hold(eligibilities, demands) => see_held(rt, alloc, house, eligibilities, demands),
+        Step::Lines(round, lines) => see_lines(rt, alloc, house, at, round, lines),
+        Step::Hold(eligibilities, demands) => {
+            see_held(rt, alloc, house, at, eligibilities, demands)
+        }
         Step::Slip(bidder, round, activity, eligibility, demands) => {
-            see_slip(rt, house, bidder, round, (activity, eligibility), demands)
+            see_slip(
+                rt,
+                house,
+                at,
+                bidder,
+                (round, activity, eligibility),
+                demands,
+            )
         }
-        Step::InForce(bidder, offers) => see_in_force(rt, alloc, house, bidder, offers),
-        Step::Stands(round, ended) => see_round(rt, house, round, ended),
+        Step::InForce(bidder, offers) => see_in_force(rt, alloc, house, at, bidder, offers),
+        Step::Stands(round, ended) => see_round(rt, house, at, round, ended),
+        Step::Reads(page, expected) => see_page(rt, alloc, house, at, page, expected),
     }
 }
 
 /// The bid of an offer.
-fn bid_of(&(product, quantity, price): &Offer) -> Bid {
+pub fn bid_of(&(product, quantity, price): &Offer) -> Bid {
     Bid {
         product,
         quantity,
@@ -140,7 +163,7 @@ fn bid_of(&(product, quantity, price): &Offer) -> Bid {
 }
 
 /// The tie number of a draw.
-fn tie_of(&(bidder, product, number): &Draw) -> Tie {
+pub fn tie_of(&(bidder, product, number): &Draw) -> Tie {
     Tie {
         bidder,
         product,
@@ -149,7 +172,7 @@ fn tie_of(&(bidder, product, number): &Draw) -> Tie {
 }
 
 /// What is made of each row.
-fn list_of<T: Drop, F: Fn(&(u64, u64, u64)) -> T>(
+pub fn list_of<T: Drop, F: Fn(&(u64, u64, u64)) -> T>(
     alloc: Global,
     rows: &[(u64, u64, u64)],
     make: F,
@@ -180,6 +203,7 @@ fn put<P: Processor>(
     rt: &impl Abort,
     alloc: Global,
     house: &mut House<P>,
+    at: At,
     round: u64,
     sheet: (u32, &[Offer]),
     expected: Result<(), PutFault>,
@@ -187,7 +211,7 @@ fn put<P: Processor>(
     let (bidder, offers) = sheet;
     let bids = list_of(alloc, offers, bid_of)?;
     let answer = put_bids(rt, house, bidder, round, bids.as_slice());
-    assert_is(rt, answer, expected);
+    assert_is_at(rt, at, answer, expected);
     Ok(())
 }
 
@@ -196,10 +220,12 @@ fn put_each<P: Processor>(
     rt: &impl Abort,
     alloc: Global,
     house: &mut House<P>,
+    at: At,
     sheets: &[Single],
 ) -> Result<(), Fail> {
     for &(bidder, offer) in sheets {
-        put(rt, alloc, house, house.round(), (bidder, &[offer]), Ok(()))?;
+        let round = house.round();
+        put(rt, alloc, house, at, round, (bidder, &[offer]), Ok(()))?;
     }
     Ok(())
 }
@@ -209,6 +235,7 @@ fn close<P: Processor>(
     rt: &impl Abort,
     alloc: Global,
     house: &mut House<P>,
+    at: At,
     round: u64,
     increments: Increments,
     draws: &[Draw],
@@ -216,21 +243,22 @@ fn close<P: Processor>(
 ) -> Result<(), Fail> {
     let ties = list_of(alloc, draws, tie_of)?;
     let answer = house.close(round, &increments, ties.as_slice());
-    assert_is(rt, answer, expected);
+    assert_is_at(rt, at, answer, expected);
     Ok(())
 }
 
-/// Closes a round with an increment for each product.
+/// Closes the current round with an increment for each product.
 fn close_each<P: Processor>(
     rt: &impl Abort,
     alloc: Global,
     house: &mut House<P>,
-    round: u64,
+    at: At,
     increments: &[u64],
     expected: Result<(), CloseFault>,
 ) -> Result<(), Fail> {
+    let round = house.round();
     let increments = Increments::PerProduct(Amounts::from_slice(alloc, increments)?);
-    close(rt, alloc, house, round, increments, &[], expected)
+    close(rt, alloc, house, at, round, increments, &[], expected)
 }
 
 /// Asserts the lines of a closed round.
@@ -238,13 +266,14 @@ fn see_lines<P: Processor>(
     rt: &impl Abort,
     alloc: Global,
     house: &House<P>,
+    at: At,
     round: u64,
     expected: &[u8],
 ) -> Result<(), Fail> {
     let sheet = house.sheet(round).ok_or("the round is not closed")?;
     assert!(rt; sheet.lines.as_slice().len() == house.setup().products.as_slice().len());
     let text = sheet_lines(alloc, house.setup(), sheet)?;
-    assert_is(rt, text.as_slice(), expected);
+    assert_is_at(rt, at, text.as_slice(), expected);
     Ok(())
 }
 
@@ -253,6 +282,7 @@ fn see_held<P: Processor>(
     rt: &impl Abort,
     alloc: Global,
     house: &House<P>,
+    at: At,
     eligibilities: &[u64],
     demands: &[u64],
 ) -> Result<(), Fail> {
@@ -261,11 +291,11 @@ fn see_held<P: Processor>(
     for eligibility in eligibilities {
         assert!(rt; (bidder as usize) < house.setup().bidders.as_slice().len());
         let own = house.own(bidder);
-        assert_is(rt, own.eligibility, *eligibility);
+        assert_is_at(rt, at, own.eligibility, *eligibility);
         push_demands(&mut all, own.demands)?;
         bidder = bidder.saturating_add(1);
     }
-    assert_is(rt, all.as_slice(), demands);
+    assert_is_at(rt, at, all.as_slice(), demands);
     Ok(())
 }
 
@@ -282,24 +312,19 @@ fn is_kept(row: &KeptRow, numbers: &[u64]) -> bool {
     true
 }
 
-/// Asserts what the slip of a round tells a bidder: activity and eligibility, and demands.
+/// Asserts what the slip of a round tells a bidder: round, activity and eligibility, and demands.
 fn see_slip<P: Processor>(
     rt: &impl Abort,
     house: &House<P>,
+    at: At,
     bidder: u32,
-    round: u64,
-    activity_and_eligibility: (u64, u64),
+    told: (u64, u64, u64),
     demands: &[u64],
 ) -> Result<(), Fail> {
     assert!(rt; (bidder as usize) < house.setup().bidders.as_slice().len());
-    let slip = house.slip(bidder, round).ok_or("no slip")?;
-    assert_is(rt, slip.round, round);
-    assert_is(
-        rt,
-        (slip.activity, slip.eligibility),
-        activity_and_eligibility,
-    );
-    assert!(rt; is_kept(&slip.demands, demands));
+    let slip = house.slip(bidder, told.0).ok_or("no slip")?;
+    assert_is_at(rt, at, (slip.round, slip.activity, slip.eligibility), told);
+    assert_is_at(rt, at, is_kept(&slip.demands, demands), true);
     Ok(())
 }
 
@@ -307,15 +332,16 @@ fn see_slip<P: Processor>(
 fn is_in_force<P: Processor>(
     rt: &impl Abort,
     house: &House<P>,
+    at: At,
     bidder: u32,
     is_put: bool,
     bids: &[Bid],
 ) {
     assert!(rt; (bidder as usize) < house.setup().bidders.as_slice().len());
     let sheet = house.bids(bidder);
-    assert_is(rt, sheet.is_some(), is_put);
+    assert_is_at(rt, at, sheet.is_some(), is_put);
     if let Some(sheet) = sheet {
-        assert_is(rt, sheet.bids(), bids);
+        assert_is_at(rt, at, sheet.bids(), bids);
     }
 }
 
@@ -324,11 +350,12 @@ fn see_in_force<P: Processor>(
     rt: &impl Abort,
     alloc: Global,
     house: &House<P>,
+    at: At,
     bidder: u32,
     offers: Option<&[Offer]>,
 ) -> Result<(), Fail> {
     let bids = list_of(alloc, offers.unwrap_or(&[]), bid_of)?;
-    is_in_force(rt, house, bidder, offers.is_some(), bids.as_slice());
+    is_in_force(rt, house, at, bidder, offers.is_some(), bids.as_slice());
     Ok(())
 }
 
@@ -336,12 +363,26 @@ fn see_in_force<P: Processor>(
 fn see_round<P: Processor>(
     rt: &impl Abort,
     house: &House<P>,
+    at: At,
     round: u64,
     ended: bool,
 ) -> Result<(), Fail> {
-    assert_is(rt, house.round(), round);
-    assert_is(rt, house.ended(), ended);
-    assert_is(rt, house.sheet(round).is_some(), ended);
-    assert!(rt; house.sheet(0).is_none());
+    assert_is_at(rt, at, (house.round(), house.ended()), (round, ended));
+    let closed = (house.sheet(0).is_some(), house.sheet(round).is_some());
+    assert_is_at(rt, at, closed, (false, ended));
+    Ok(())
+}
+
+/// Asserts the text of a page of the auction as it stands.
+fn see_page<P: Processor>(
+    rt: &impl Abort,
+    alloc: Global,
+    house: &House<P>,
+    at: At,
+    page: Page,
+    expected: &str,
+) -> Result<(), Fail> {
+    let text = page_of(rt, alloc, house, page)?;
+    assert_is_at(rt, at, text.as_slice(), expected.as_bytes());
     Ok(())
 }

@@ -3,83 +3,32 @@
 ghost use Rattle.std.specs.Prelude.{◌≡◌, ◌≤◌, ◌<◌, length, All, IsTrue, IfOk};
 ghost use Rattle.clock_terms.specs.Limits.{IsRow};
 
-use crate::comparing::assert_is;
-use clock_bids::{
-    Bid, BidFault, Change, Changes, Kind, Own, asked_demands, changes_of, check_sheet,
-};
+use crate::auction::{Offer, bid_of, list_of};
+use crate::comparing::{assert_is, assert_is_at};
+use crate::settle::{Asked, change_of};
+use clock_bids::{Bid, BidFault, Changes, Kind, Own, asked_demands, changes_of, check_sheet};
 use clock_device::NoMemory;
-use clock_money::{Point, Price};
+use clock_money::Price;
 use clock_setup::fixtures::{ONE_PRODUCT, TWO_PRODUCTS};
-use clock_setup::{PricePair, Prices, Product, Row, Setup, read_setup};
+use clock_setup::{Amounts, PricePair, Prices, Product, Row, Setup, read_setup};
 use std::alloc::Global;
 use std::process::Abort;
 use std::test::Fail;
 
-/// The second round of an auction, in which each product's prices go from 100 to 110, and what a bidder holds.
-#[derive(Clone, Copy)]
-struct Round<'a> {
-    document: &'a str,
-    eligibility: u64,
-    demands: &'a [u64],
-}
-
-/// A bidder with this eligibility and these demands.
-fn second<'a>(document: &'a str, eligibility: u64, demands: &'a [u64]) -> Round<'a> {
-    Round {
-        document,
-        eligibility,
-        demands,
-    }
-}
-
-fn bid(product: u64, quantity: u64, price: u64) -> Bid {
-    Bid {
-        product,
-        quantity,
-        price,
-    }
-}
-
-/// A change of the first bidder in a round from 100 to 110.
-fn change(product: u32, place: u32, kind: Kind, amount: u64, price: u64) -> Change
-    requires low { 100 ≤ price }
-    requires high { price ≤ 110 }
-{
-    Change {
-        bidder: 0,
-        product,
-        place,
-        kind,
-        amount,
-        price,
-        point: Point {
-            above: price - 100,
-            span: 10,
-        },
-    }
-}
-
-/// A product's prices.
-fn pair() -> Option<PricePair> {
-    Some(PricePair {
-        start: Price::new(100)?,
-        clock: Price::new(110)?,
-    })
-}
-
-/// So many products' prices.
-fn repeated(alloc: Global, pair: &PricePair, count: usize) -> Result<Prices, NoMemory> {
-    let mut prices = Prices::new(alloc);
-    for _ in 0..count {
-        prices.push(*pair)?;
-    }
-    Ok(prices)
-}
+/// The second round of an auction, in which each product's prices go from 100 to 110: its set-up document, and the
+/// first bidder's eligibility and demands.
+type Round<'a> = (&'a str, u64, &'a [u64]);
 
 /// The prices of each product of a set-up.
 fn prices_of(alloc: Global, setup: &Setup) -> Result<Prices, Fail> {
-    let pair = pair().ok_or("prices")?;
-    Ok(repeated(alloc, &pair, setup.products.as_slice().len())?)
+    let (Some(start), Some(clock)) = (Price::new(100), Price::new(110)) else {
+        return Err("no prices")?;
+    };
+    let mut prices = Prices::new(alloc);
+    for _ in setup.products.as_slice() {
+        prices.push(PricePair { start, clock })?;
+    }
+    Ok(prices)
 }
 
 /// Whether there is a demand for each product, none above its cap.
@@ -131,12 +80,12 @@ fn row_of(rt: &impl Abort, alloc: Global, setup: &Setup, demands: &[u64]) -> Res
 }
 
 /// What a bidder holds in the second round.
-fn held<'a>(round: &Round, row: &'a Row) -> Own<'a>
+fn held(eligibility: u64, row: &Row) -> Own<'_>
     ensures { result.demands.now ≡ row.now }
 {
     Own {
         round: 2,
-        eligibility: round.eligibility,
+        eligibility,
         demands: row,
     }
 }
@@ -162,7 +111,7 @@ fn asked(
     Ok(changes_of(alloc, setup, prices, own, 0, Some(&sheet))?)
 }
 
-/// The same of what a bidder holds in the second round.
+/// The same of what it holds in the second round.
 fn asked_in(
     rt: &impl Abort,
     alloc: Global,
@@ -171,81 +120,138 @@ fn asked_in(
     bids: Option<&[Bid]>,
 ) -> Result<Changes, Fail> {
     let prices = prices_of(alloc, setup)?;
-    let row = row_of(rt, alloc, setup, round.demands)?;
-    Ok(asked(rt, alloc, setup, &prices, held(round, &row), bids)?)
+    let row = row_of(rt, alloc, setup, round.2)?;
+    Ok(asked(rt, alloc, setup, &prices, held(round.1, &row), bids)?)
 }
 
-/// Asserts that the first bidder asks for these changes, by a sheet of bids or without one.
-fn asks_for(
+/// The bids of a sheet, where it is put.
+fn sheet_of(bids: &[Bid], is_put: bool) -> Option<&[Bid]> {
+    if is_put { Some(bids) } else { None }
+}
+
+/// The same in the auction of a set-up document, by offers.
+fn asked_by(
     rt: &impl Abort,
     alloc: Global,
     round: &Round,
-    bids: Option<&[Bid]>,
-    wanted: &[Change],
-) -> Result<(), Fail> {
-    let setup = read_setup(alloc, round.document.as_bytes())?;
-    let changes = asked_in(rt, alloc, &setup, round, bids);
+    offers: Option<&[Offer]>,
+) -> Result<Changes, Fail> {
+    let bids = list_of(alloc, offers.unwrap_or(&[]), bid_of)?;
+    let setup = read_setup(alloc, round.0.as_bytes())?;
+    let sheet = sheet_of(bids.as_slice(), offers.is_some());
+    let changes = asked_in(rt, alloc, &setup, round, sheet);
     drop(setup);
-    assert_is(rt, changes?.as_slice(), wanted);
+    changes
+}
+
+/// A change that is asked for, and the place of its bid.
+type Wanted = (Asked, u32);
+
+/// The changes of rows.
+fn wanted_changes(alloc: Global, rows: &[Wanted]) -> Result<Changes, Fail> {
+    let mut changes = Changes::new(alloc);
+    for (asked, place) in rows {
+        changes.push(change_of(asked, *place)?)?;
+    }
+    Ok(changes)
+}
+
+/// What a row shows, the round, the offers of a sheet or that there is none, and the changes that are asked for.
+type Ask<'a> = (&'a str, Round<'a>, Option<&'a [Offer]>, &'a [Wanted]);
+
+/// The offers of a sheet, or that there is none, in a round come to the changes.
+const ASKS: &[Ask<'static>] = &[
+    (
+        "a falling chain asks for a change at each bid",
+        (ONE_PRODUCT, 3, &[2]),
+        Some(&[(0, 1, 103), (0, 0, 107)]),
+        &[
+            ((Kind::Reduction, 0, 0, 1, 103), 0),
+            ((Kind::Reduction, 0, 0, 1, 107), 1),
+        ],
+    ),
+    (
+        "so does a climbing one",
+        (ONE_PRODUCT, 3, &[0]),
+        Some(&[(0, 1, 104), (0, 2, 110)]),
+        &[
+            ((Kind::Increase, 0, 0, 1, 104), 0),
+            ((Kind::Increase, 0, 0, 1, 110), 1),
+        ],
+    ),
+    (
+        "a missing bid gives up the demand at the start price",
+        (ONE_PRODUCT, 3, &[2]),
+        Some(&[]),
+        &[((Kind::Reduction, 0, 0, 2, 100), 0)],
+    ),
+    (
+        "so does a missing sheet",
+        (ONE_PRODUCT, 3, &[2]),
+        None,
+        &[((Kind::Reduction, 0, 0, 2, 100), 0)],
+    ),
+    (
+        "a bid for what is held asks for nothing",
+        (ONE_PRODUCT, 3, &[2]),
+        Some(&[(0, 2, 110)]),
+        &[],
+    ),
+    (
+        "chains of two products may be interleaved",
+        (TWO_PRODUCTS, 3, &[0, 2]),
+        Some(&[(1, 1, 106), (0, 1, 104), (1, 0, 108)]),
+        &[
+            ((Kind::Increase, 0, 0, 1, 104), 0),
+            ((Kind::Reduction, 0, 1, 1, 106), 0),
+            ((Kind::Reduction, 0, 1, 1, 108), 1),
+        ],
+    ),
+];
+
+/// Asserts that the first bidder asks for the changes of a row.
+fn asks_for(rt: &impl Abort, alloc: Global, row: &Ask) -> Result<(), Fail> {
+    let &(shows, round, offers, wanted) = row;
+    let changes = asked_by(rt, alloc, &round, offers)?;
+    let wanted = wanted_changes(alloc, wanted)?;
+    assert_is_at(rt, shows, changes.as_slice(), wanted.as_slice());
     Ok(())
 }
 
 #[test]
-fn a_chain_asks_for_a_change_at_each_bid(rt: HostRuntime) -> Result<(), Fail> {
-    let falling = [bid(0, 1, 103), bid(0, 0, 107)];
-    let reductions = [
-        change(0, 0, Kind::Reduction, 1, 103),
-        change(0, 1, Kind::Reduction, 1, 107),
-    ];
-    let round = second(ONE_PRODUCT, 3, &[2]);
-    asks_for(&rt, rt.alloc(), &round, Some(&falling), &reductions)?;
-    let climbing = [bid(0, 1, 104), bid(0, 2, 110)];
-    let increases = [
-        change(0, 0, Kind::Increase, 1, 104),
-        change(0, 1, Kind::Increase, 1, 110),
-    ];
-    let round = second(ONE_PRODUCT, 3, &[0]);
-    asks_for(&rt, rt.alloc(), &round, Some(&climbing), &increases)
+fn a_sheet_asks_for_changes(rt: HostRuntime) -> Result<(), Fail> {
+    for row in ASKS {
+        asks_for(&rt, rt.alloc(), row)?;
+    }
+    Ok(())
 }
 
-#[test]
-fn a_missing_bid_gives_up_the_demand_at_the_start_price(rt: HostRuntime) -> Result<(), Fail> {
-    let round = second(ONE_PRODUCT, 3, &[2]);
-    let given_up = [change(0, 0, Kind::Reduction, 2, 100)];
-    asks_for(&rt, rt.alloc(), &round, Some(&[]), &given_up)?;
-    asks_for(&rt, rt.alloc(), &round, None, &given_up)?;
-    asks_for(&rt, rt.alloc(), &round, Some(&[bid(0, 2, 110)]), &[])
-}
+/// Two bids of a chain for the second product.
+const CHAIN: [Bid; 2] = [
+    Bid {
+        product: 1,
+        quantity: 1,
+        price: 104,
+    },
+    Bid {
+        product: 1,
+        quantity: 2,
+        price: 110,
+    },
+];
 
-#[test]
-fn chains_of_two_products_may_be_interleaved(rt: HostRuntime) -> Result<(), Fail> {
-    let round = second(TWO_PRODUCTS, 3, &[0, 2]);
-    let bids = [bid(1, 1, 106), bid(0, 1, 104), bid(1, 0, 108)];
-    let by_product = [
-        change(0, 0, Kind::Increase, 1, 104),
-        change(1, 0, Kind::Reduction, 1, 106),
-        change(1, 1, Kind::Reduction, 1, 108),
-    ];
-    asks_for(&rt, rt.alloc(), &round, Some(&bids), &by_product)
-}
-
-/// Whether bids ask for these demands.
-fn asks_for_demands(
-    rt: &impl Abort,
-    alloc: Global,
-    bids: &[Bid],
-    wanted: &[u64],
-) -> Result<bool, Fail> {
+/// The demands that bids ask for.
+fn demands_of(rt: &impl Abort, alloc: Global, bids: &[Bid]) -> Result<Amounts, Fail> {
     let setup = read_setup(alloc, TWO_PRODUCTS.as_bytes())?;
     assert!(rt; are_known(&setup, bids));
     let demands = asked_demands(alloc, &setup, bids);
     drop(setup);
-    Ok(demands?.as_slice() == wanted)
+    Ok(demands?)
 }
 
 #[test]
 fn the_last_quantity_is_the_demand_asked_for(rt: HostRuntime) -> Result<(), Fail> {
-    let bids = [bid(1, 1, 104), bid(1, 2, 110)];
-    assert!(rt; asks_for_demands(&rt, rt.alloc(), &bids, &[0, 2])?);
+    let demands = demands_of(&rt, rt.alloc(), &CHAIN)?;
+    assert_is(&rt, demands.as_slice(), [0, 2].as_slice());
     Ok(())
 }

@@ -10,7 +10,7 @@ use std::process::Abort;
 use std::test::Fail;
 
 /// So many blocks of the product at a price.
-pub(crate) fn blocks(quantity: u64, price: u64) -> Bid {
+fn blocks(quantity: u64, price: u64) -> Bid {
     Bid {
         product: 0,
         quantity,
@@ -46,5 +46,7 @@ fn play_and_read(rt: &impl Abort, house: &mut House<Plain>) -> Result<(), Fail> 
 fn a_round_of_a_house(rt: HostRuntime) -> Result<(), Fail> {
     let setup = read_setup(rt.alloc(), ONE_PRODUCT.as_bytes())?;
     let mut house = House::new(rt.alloc(), setup, Plain)?;
-    play_and_read(&rt, &mut house)
+    let played = play_and_read(&rt, &mut house);
+    drop(house);
+    played
 }

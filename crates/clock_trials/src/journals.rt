@@ -1,3 +1,7 @@
+//! A journal in memory and in a file: its fronts, damaged bytes, and how it goes on.
+
+ghost use Rattle.std.specs.Prelude.{◌≡◌, IsTrue, false};
+
 use crate::comparing::{assert_is, assert_is_at};
 use clock_journal::{
     Durable, FileDisk, Journal, JournalFault, Link, Machine, MemoryDisk, Untaken, recover,
@@ -5,6 +9,7 @@ use clock_journal::{
 use std::alloc::Global;
 use std::fs::{self, File, OpenOptions};
 use std::io::{self, Write};
+use std::process::Abort;
 use std::test::Fail;
 
 /// A machine that counts its texts.
@@ -37,137 +42,164 @@ fn taken(bytes: &[u8], setup: &Link) -> Result<(u64, usize), JournalFault> {
     Ok((count.texts, recovered.end))
 }
 
-/// A journal of three texts of 5, 3 and 4 bytes, on a disk with so much room.
-fn three(alloc: Global, room: usize) -> Option<Journal<MemoryDisk>> {
-    let Ok(mut journal) = Journal::begin(MemoryDisk::new(alloc, room, 100), SETUP) else {
-        return None;
-    };
-    if journal.append(b"first").is_err() {
-        return None;
-    }
-    if journal.append(b"two").is_err() {
-        return None;
-    }
-    if journal.append(b"last").is_err() {
-        return None;
-    }
-    Some(journal)
+/// Whether a journal takes two texts, of 5 and 3 bytes.
+fn takes_two<D: Durable>(journal: &mut Journal<D>) -> bool
+    requires { journal.old.has_failed ≡ false }
+    ensures { IsTrue result → journal.new.has_failed ≡ false }
+{
+    journal.append(b"first").is_ok() && journal.append(b"two").is_ok()
 }
 
-/// The bytes of it: 56 of the head, and 45, 43 and 44 of records.
-fn file(alloc: Global) -> Result<Vec<u8>, Fail> {
-    let Some(journal) = three(alloc, 1000) else {
-        return Ok(Vec::new(alloc));
+/// The bytes of a journal, or none where a text was not taken.
+fn bytes_if(alloc: Global, journal: &Journal<MemoryDisk>, is_taken: bool) -> Vec<u8> {
+    let bytes = if is_taken {
+        journal.disk().bytes()
+    } else {
+        b""
     };
-    Ok(journal.disk().bytes().to_vec(alloc)?)
+    match bytes.to_vec(alloc) {
+        Ok(bytes) => bytes,
+        Err(_) => Vec::new(alloc),
+    }
+}
+
+/// The bytes of a journal of three texts of 5, 3 and 4 bytes on a disk with so much room: 56 of the head, and 45, 43
+/// and 44 of records. There are none where not all are taken.
+fn file(alloc: Global, room: usize) -> Vec<u8> {
+    let Ok(mut journal) = Journal::begin(MemoryDisk::new(alloc, room, 100), SETUP) else {
+        return Vec::new(alloc);
+    };
+    let is_taken = takes_two(&mut journal) && journal.append(b"last").is_ok();
+    let bytes = bytes_if(alloc, &journal, is_taken);
+    drop(journal);
+    bytes
 }
 
 #[test]
-fn a_journal_is_read(rt: HostRuntime) -> Result<(), Fail> {
-    let bytes = file(rt.alloc())?;
+fn a_journal_is_read(rt: HostRuntime) {
+    let bytes = file(rt.alloc(), 1000);
     assert_is(&rt, bytes.len(), 188);
     assert_is(&rt, taken(&bytes, &SETUP), Ok((3, 188)));
     assert_is(&rt, taken(&bytes, &OTHER), Err(JournalFault::Setup));
+}
+
+#[test]
+fn a_file_of_another_kind_is_told(rt: HostRuntime) {
     let other = b"clock_auction jourmal 1\n";
     assert_is(&rt, taken(other, &SETUP), Err(JournalFault::Unknown));
     assert_is(&rt, taken(b"", &SETUP), Ok((0, 0)));
-    Ok(())
 }
 
-#[test]
-fn each_front_is_read(rt: HostRuntime) -> Result<(), Fail> {
-    let bytes = file(rt.alloc())?;
+/// How many texts a front of the file has, and where they end.
+fn whole_in(length: usize) -> (u64, usize) {
+    match length {
+        0..56 => (0, 0),
+        56..101 => (0, 56),
+        101..144 => (1, 101),
+        144..188 => (2, 144),
+        _ => (3, 188),
+    }
+}
+
+/// Asserts how each front of the file is read.
+fn fronts_are_read(rt: &impl Abort, bytes: &[u8]) {
     for length in 0..=188usize {
         let front = bytes.get(..length).unwrap_or(b"a shorter file");
-        let whole = match length {
-            0..56 => (0, 0),
-            56..101 => (0, 56),
-            101..144 => (1, 101),
-            144..188 => (2, 144),
-            _ => (3, 188),
-        };
-        assert_is_at(&rt, length, taken(front, &SETUP), Ok(whole));
+        assert_is_at(rt, length, taken(front, &SETUP), Ok(whole_in(length)));
     }
-    Ok(())
 }
 
 #[test]
-fn each_damaged_byte_is_told(rt: HostRuntime) -> Result<(), Fail> {
-    let mut bytes = file(rt.alloc())?;
+fn each_front_is_read(rt: HostRuntime) {
+    let bytes = file(rt.alloc(), 1000);
+    fronts_are_read(&rt, bytes.as_slice());
+}
+
+/// What is told where the byte at a place is damaged.
+fn told_at(place: usize) -> Result<(u64, usize), JournalFault> {
+    match place {
+        0..24 => Err(JournalFault::Unknown),
+        24..56 => Err(JournalFault::Setup),
+        56..101 => Err(JournalFault::Damaged(56)),
+        101..144 => Err(JournalFault::Damaged(101)),
+        144..152 => Err(JournalFault::Damaged(144)),
+        // the last record, behind which nothing stands, counts as torn
+        _ => Ok((2, 144)),
+    }
+}
+
+/// Turns a bit of the byte at a place.
+fn turn(bytes: &mut [u8], place: usize) {
+    if let Some(byte) = bytes.get_mut(place) {
+        *byte ^= 1;
+    }
+}
+
+/// Asserts what is told of each damaged byte of the file.
+fn damage_is_told(rt: &impl Abort, bytes: &mut [u8]) {
     for place in 0..188usize {
-        let Some(byte) = bytes.get_mut(place) else {
-            return Ok(());
-        };
-        *byte ^= 1;
-        let found = taken(&bytes, &SETUP);
-        let told = match place {
-            0..24 => Err(JournalFault::Unknown),
-            24..56 => Err(JournalFault::Setup),
-            56..101 => Err(JournalFault::Damaged(56)),
-            101..144 => Err(JournalFault::Damaged(101)),
-            144..152 => Err(JournalFault::Damaged(144)),
-            // the last record, behind which nothing stands, counts as torn
-            _ => Ok((2, 144)),
-        };
-        assert_is_at(&rt, place, found, told);
-        let Some(byte) = bytes.get_mut(place) else {
-            return Ok(());
-        };
-        *byte ^= 1;
+        turn(bytes, place);
+        assert_is_at(rt, place, taken(bytes, &SETUP), told_at(place));
+        turn(bytes, place);
     }
-    Ok(())
 }
 
 #[test]
-fn a_full_disk_is_told(rt: HostRuntime) -> Result<(), Fail> {
-    assert!(rt; three(rt.alloc(), 188).is_some());
-    assert!(rt; three(rt.alloc(), 187).is_none());
-    assert!(rt; three(rt.alloc(), 55).is_none());
-    Ok(())
+fn each_damaged_byte_is_told(rt: HostRuntime) {
+    let mut bytes = file(rt.alloc(), 1000);
+    damage_is_told(&rt, bytes.as_mut_slice());
 }
 
-/// Takes over the bytes, goes on with them on a disk of their own, and adds a text.
-fn resumed(alloc: Global, bytes: &[u8]) -> Option<Journal<MemoryDisk>> {
+#[test]
+fn a_full_disk_is_told(rt: HostRuntime) {
+    for (room, length) in [(188, 188), (187, 0), (55, 0)] {
+        assert_is(&rt, file(rt.alloc(), room).len(), length);
+    }
+}
+
+/// Takes over the bytes, goes on with them on a disk of their own, and adds a text. There are none where it is not
+/// taken.
+fn resumed(alloc: Global, bytes: &[u8]) -> Vec<u8> {
     let mut count = Count { texts: 0 };
     let Ok(recovered) = recover(&mut count, &SETUP, bytes) else {
-        return None;
+        return Vec::new(alloc);
     };
     let mut disk = MemoryDisk::new(alloc, 1000, 100);
     if disk.append(bytes).is_err() {
-        return None;
+        return Vec::new(alloc);
     }
     let Ok(mut journal) = Journal::resume(disk, SETUP, recovered) else {
-        return None;
+        return Vec::new(alloc);
     };
-    if journal.append(b"more").is_err() {
-        return None;
-    }
-    Some(journal)
+    let is_taken = journal.append(b"more").is_ok();
+    let bytes = bytes_if(alloc, &journal, is_taken);
+    drop(journal);
+    bytes
 }
 
-/// The bytes of the journal that goes on.
-fn bytes_resumed(alloc: Global, bytes: &[u8]) -> Result<Vec<u8>, Fail> {
-    let Some(journal) = resumed(alloc, bytes) else {
-        return Ok(Vec::new(alloc));
-    };
-    Ok(journal.disk().bytes().to_vec(alloc)?)
+/// How many texts there are once a front of the file has gone on, and where they end.
+fn whole_after(length: usize) -> (u64, usize) {
+    match length {
+        0..101 => (1, 100),
+        101..144 => (2, 145),
+        144..188 => (3, 188),
+        _ => (4, 232),
+    }
+}
+
+/// Asserts that each front of the file goes on.
+fn fronts_go_on(rt: &impl Abort, alloc: Global, bytes: &[u8]) {
+    for length in 0..=188usize {
+        let front = bytes.get(..length).unwrap_or(b"a shorter file");
+        let more = resumed(alloc, front);
+        assert_is_at(rt, length, taken(&more, &SETUP), Ok(whole_after(length)));
+    }
 }
 
 #[test]
-fn each_front_goes_on(rt: HostRuntime) -> Result<(), Fail> {
-    let bytes = file(rt.alloc())?;
-    for length in 0..=188usize {
-        let front = bytes.get(..length).unwrap_or(b"a shorter file");
-        let more = bytes_resumed(rt.alloc(), front)?;
-        let whole = match length {
-            0..101 => (1, 100),
-            101..144 => (2, 145),
-            144..188 => (3, 188),
-            _ => (4, 232),
-        };
-        assert_is_at(&rt, length, taken(&more, &SETUP), Ok(whole));
-    }
-    Ok(())
+fn each_front_goes_on(rt: HostRuntime) {
+    let bytes = file(rt.alloc(), 1000);
+    fronts_go_on(&rt, rt.alloc(), bytes.as_slice());
 }
 
 const PATH: &str = "clock_journal.trial";
@@ -184,10 +216,9 @@ fn two_in_file(file: File) -> bool {
     let Ok(mut journal) = Journal::begin(FileDisk::new(file), SETUP) else {
         return false;
     };
-    if journal.append(b"first").is_err() {
-        return false;
-    }
-    journal.append(b"two").is_ok()
+    let is_taken = takes_two(&mut journal);
+    drop(journal);
+    is_taken
 }
 
 /// How many texts the file is taken over with.
@@ -217,17 +248,17 @@ fn is_torn(rt: &HostRuntime, file: &mut File) -> io::Result<bool> {
 }
 
 /// Whether both hold of the file.
-fn is_locked_and_torn(rt: &HostRuntime) -> Result<bool, Fail> {
+fn is_locked_and_torn(rt: &HostRuntime) -> Result<(bool, bool), Fail> {
     let mut file = opened(rt)?;
-    Ok(is_locked(rt, &file)? && is_torn(rt, &mut file)?)
+    Ok((is_locked(rt, &file)?, is_torn(rt, &mut file)?))
 }
 
 #[test]
 fn a_file_is_taken_over(rt: HostRuntime) -> Result<(), Fail> {
     let _ = fs::remove_file(&rt, PATH);
-    assert!(rt; two_in_file(opened(&rt)?));
-    assert!(rt; has_two(&rt)?);
-    assert!(rt; is_locked_and_torn(&rt)?);
+    let is_written = two_in_file(opened(&rt)?);
+    assert_is(&rt, (is_written, has_two(&rt)?), (true, true));
+    assert_is(&rt, is_locked_and_torn(&rt)?, (true, true));
     fs::remove_file(&rt, PATH)?;
     Ok(())
 }

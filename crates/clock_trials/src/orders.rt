@@ -3,55 +3,33 @@
 ghost use Rattle.std.specs.Prelude.{◌≡◌, ◌≢◌, AllPairs, IfOk};
 ghost use Rattle.clock_terms.specs.Requests.{AreApart};
 
-use crate::comparing::assert_is;
+use crate::auction::{Draw, list_of, tie_of};
+use crate::comparing::{assert_is, assert_is_at};
 use clock_device::NoMemory;
 use clock_money::Point;
-use clock_order::{Tie, TieFault, Ties, ordered};
+use clock_order::{TieFault, Ties, ordered};
 use clock_setup::fixtures::{ONE_PRODUCT, TWO_PRODUCTS};
 use clock_setup::read_setup;
 use clock_terms::{Change, Changes, Kind};
 use std::alloc::Global;
-use std::process::Abort;
 use std::test::Fail;
 
-/// A step of demand for a product, at a price between a start price and a clock price.
-#[derive(Clone, Copy)]
-struct Step {
-    product: u32,
-    start: u64,
-    price: u64,
-    clock: u64,
-}
+/// A reduction by a block: of a product, at a price between a start price and a clock price.
+type Reduction = (u32, u64, u64, u64);
 
-fn reduction(product: u32, start: u64, price: u64, clock: u64) -> Step {
-    Step {
-        product,
-        start,
-        price,
-        clock,
-    }
-}
-
-fn tie(bidder: u64, product: u64, number: u64) -> Tie {
-    Tie {
-        bidder,
-        product,
-        number,
-    }
-}
-
-/// The change that a bidder's reduction by a block asks for.
-fn change(bidder: u32, step: &Step) -> Result<Change, Fail>
+/// The change that a bidder's reduction asks for.
+fn change(bidder: u32, reduction: &Reduction) -> Result<Change, Fail>
     ensures { IfOk result (λ change. change.bidder ≡ bidder) }
 {
-    let point = Point::of(step.start, step.price, step.clock).ok_or("price")?;
+    let &(product, start, price, clock) = reduction;
+    let point = Point::of(start, price, clock).ok_or("price")?;
     Ok(Change {
         bidder,
-        product: step.product,
+        product,
         place: 0,
         kind: Kind::Reduction,
         amount: 1,
-        price: step.price,
+        price,
         point,
     })
 }
@@ -68,87 +46,79 @@ fn both(alloc: Global, first: &Change, second: &Change) -> Result<Changes, NoMem
 }
 
 /// The tie numbers of a list, in the auction of a set-up document, or their fault.
-fn ties_of(alloc: Global, document: &str, ties: &[Tie]) -> Result<Result<Ties, TieFault>, Fail> {
+fn ties_of(alloc: Global, document: &str, draws: &[Draw]) -> Result<Result<Ties, TieFault>, Fail> {
+    let draws = list_of(alloc, draws, tie_of)?;
     let setup = read_setup(alloc, document.as_bytes())?;
-    let ties = Ties::new(alloc, &setup, ties);
+    let ties = Ties::new(alloc, &setup, draws.as_slice());
     drop(setup);
     Ok(ties)
 }
 
 /// The bidder of the first of some changes.
 fn first_bidder(changes: &[Change]) -> Option<u32> {
-    changes.first().map(|change| change.bidder)
+    Some(changes.first()?.bidder)
 }
 
 /// Which of two reductions, of bidder 0 and bidder 1, is processed first.
-fn first_of(alloc: Global, ties: &Ties, x: &Step, y: &Step) -> Result<Option<u32>, Fail> {
+fn first_of(alloc: Global, ties: &Ties, x: &Reduction, y: &Reduction) -> Result<Option<u32>, Fail> {
     let changes = both(alloc, &change(0, x)?, &change(1, y)?)?;
     let list = ordered(alloc, &changes, ties)?;
     Ok(first_bidder(list.as_slice()))
 }
 
-/// The same, with the tie numbers of a list.
+/// The same with the tie numbers of a list.
 fn first_in(
     alloc: Global,
     document: &str,
-    ties: &[Tie],
-    x: &Step,
-    y: &Step,
+    draws: &[Draw],
+    reductions: &(Reduction, Reduction),
 ) -> Result<Option<u32>, Fail> {
-    let ties = ties_of(alloc, document, ties)??;
-    first_of(alloc, &ties, x, y)
+    let ties = ties_of(alloc, document, draws)??;
+    let first = first_of(alloc, &ties, &reductions.0, &reductions.1);
+    drop(ties);
+    first
 }
 
-/// The fault of a list of tie numbers, or none.
-fn fault_of(alloc: Global, document: &str, ties: &[Tie]) -> Result<Option<TieFault>, Fail> {
-    Ok(ties_of(alloc, document, ties)?.err())
-}
+/// Reductions of bidder 0 and bidder 1 at the same point: of products with other prices, and of one product.
+const OF_TWO: (Reduction, Reduction) = ((0, 100, 105, 110), (1, 1000, 1050, 1100));
 
-/// The reduction of this bidder is processed first.
-fn goes_first(
-    rt: &impl Abort,
-    alloc: Global,
-    document: &str,
-    ties: &[Tie],
-    steps: (&Step, &Step),
-    bidder: u32,
-) -> Result<(), Fail> {
-    let first = first_in(alloc, document, ties, steps.0, steps.1)?;
-    assert_is(rt, first, Some(bidder));
-    Ok(())
-}
+const OF_ONE: (Reduction, Reduction) = ((0, 100, 104, 110), (0, 100, 104, 110));
+
+/// A set-up document, the tie numbers of a list, the reductions, and whose is processed first.
+const ORDERS: &[(&str, &[Draw], (Reduction, Reduction), u32)] = &[
+    (TWO_PRODUCTS, &[(0, 0, 2), (1, 1, 1)], OF_TWO, 1),
+    (TWO_PRODUCTS, &[], OF_TWO, 0),
+    (ONE_PRODUCT, &[(0, 0, 9), (1, 0, 3)], OF_ONE, 1),
+    (ONE_PRODUCT, &[], OF_ONE, 0),
+];
 
 #[test]
 fn changes_go_by_point_and_then_by_tie_number_and_bidder(rt: HostRuntime) -> Result<(), Fail> {
-    let alloc = rt.alloc();
-    let (x, y) = (reduction(0, 100, 105, 110), reduction(1, 1000, 1050, 1100));
-    let numbered = [tie(0, 0, 2), tie(1, 1, 1)];
-    goes_first(&rt, alloc, TWO_PRODUCTS, &numbered, (&x, &y), 1)?;
-    goes_first(&rt, alloc, TWO_PRODUCTS, &[], (&x, &y), 0)?;
-    let same = reduction(0, 100, 104, 110);
-    let numbered = [tie(0, 0, 9), tie(1, 0, 3)];
-    goes_first(&rt, alloc, ONE_PRODUCT, &numbered, (&same, &same), 1)?;
-    goes_first(&rt, alloc, ONE_PRODUCT, &[], (&same, &same), 0)
+    for (document, draws, reductions, bidder) in ORDERS {
+        let first = first_in(rt.alloc(), document, draws, reductions)?;
+        assert_is_at(&rt, *draws, first, Some(*bidder));
+    }
+    Ok(())
 }
 
-/// A list of tie numbers is refused in the auction of one product.
-fn is_refused(
-    rt: &impl Abort,
-    alloc: Global,
-    ties: &[Tie],
-    expected: TieFault,
-) -> Result<(), Fail> {
-    let fault = fault_of(alloc, ONE_PRODUCT, ties)?;
-    assert_is(rt, fault, Some(expected));
-    Ok(())
+/// Lists of tie numbers, and their faults in the auction of one product.
+const FAULTY: &[(&[Draw], TieFault)] = &[
+    (&[(0, 1, 5)], TieFault::Range(0)),
+    (&[(0, 0, 1), (0, 0, 2)], TieFault::Repeated(1)),
+];
+
+/// The fault of a list of tie numbers, or none.
+fn fault_of(alloc: Global, draws: &[Draw]) -> Result<Option<TieFault>, Fail> {
+    Ok(ties_of(alloc, ONE_PRODUCT, draws)?.err())
 }
 
 #[test]
 fn a_tie_list_is_refused_for_its_first_fault(rt: HostRuntime) -> Result<(), Fail> {
-    let alloc = rt.alloc();
-    is_refused(&rt, alloc, &[tie(0, 1, 5)], TieFault::Range(0))?;
-    let repeated = [tie(0, 0, 1), tie(0, 0, 2)];
-    is_refused(&rt, alloc, &repeated, TieFault::Repeated(1))?;
-    let many = vec![in alloc; tie(0, 1, 5); 16_385]?;
-    is_refused(&rt, alloc, many.as_slice(), TieFault::TooMany)
+    for &(draws, fault) in FAULTY {
+        assert_is(&rt, fault_of(rt.alloc(), draws)?, Some(fault));
+    }
+    let many = vec![in rt.alloc(); (0, 1, 5); 16_385]?;
+    let fault = fault_of(rt.alloc(), many.as_slice())?;
+    assert_is(&rt, fault, Some(TieFault::TooMany));
+    Ok(())
 }

@@ -4,6 +4,11 @@ use crate::comparing::assert_is;
 use clock_money::{LEAST_INCREMENT, MOST_GRANULE, MOST_INCREMENT, Price, clock_price};
 use std::test::Fail;
 
+/// The dollars of a price, where there is one.
+fn dollars_of(price: Option<Price>) -> Option<u64> {
+    Some(price?.get())
+}
+
 /// The clock price over a start price, where there is such a price, increment and granule.
 fn raised(start: u64, percent: u64, granule: u64) -> Option<Option<u64>> {
     let start = Price::new(start)?;
@@ -12,36 +17,41 @@ fn raised(start: u64, percent: u64, granule: u64) -> Option<Option<u64>> {
     {
         return None;
     }
-    Some(clock_price(start, percent, granule).map(|price| price.get()))
+    Some(dollars_of(clock_price(start, percent, granule)))
 }
+
+/// Dollars, and whether they are a price.
+const DOLLARS: &[(u64, Option<u64>)] = &[
+    (0, None),
+    (1, Some(1)),
+    (Price::HIGHEST, Some(Price::HIGHEST)),
+    (Price::HIGHEST + 1, None),
+];
 
 #[test]
 fn a_price_is_from_one_dollar_to_the_highest(rt: HostRuntime) {
-    assert_is(&rt, Price::new(0), None);
-    assert_is(&rt, Price::new(Price::HIGHEST + 1), None);
-    for dollars in [1, Price::HIGHEST] {
-        assert_is(
-            &rt,
-            Price::new(dollars).map(|price| price.get()),
-            Some(dollars),
-        );
+    for &(dollars, price) in DOLLARS {
+        assert_is(&rt, dollars_of(Price::new(dollars)), price);
     }
 }
 
+/// Start prices, percents and granules, and the clock prices.
+const RAISED: &[(u64, u64, u64, Option<u64>)] = &[
+    (101, 10, 1, Some(112)),
+    (110, 10, 1, Some(121)),
+    (1, 1, 1, Some(2)),
+    (990_099_009_900, 1, 1, Some(999_999_999_999)),
+    (101, 10, 25, Some(125)),
+    (990_099_009_900, 1, 999_999, Some(999_999_999_999)),
+    (990_099_009_900, 1, MOST_GRANULE, Some(Price::HIGHEST)),
+    (990_099_009_900, 1, 17, None),
+    (990_099_009_901, 1, 1, None),
+    (Price::HIGHEST, 1, 1, None),
+];
+
 #[test]
 fn clock_prices_round_up_to_whole_granules(rt: HostRuntime) {
-    for (start, percent, granule, clock) in [
-        (101, 10, 1, Some(112)),
-        (110, 10, 1, Some(121)),
-        (1, 1, 1, Some(2)),
-        (990_099_009_900, 1, 1, Some(999_999_999_999)),
-        (101, 10, 25, Some(125)),
-        (990_099_009_900, 1, 999_999, Some(999_999_999_999)),
-        (990_099_009_900, 1, MOST_GRANULE, Some(Price::HIGHEST)),
-        (990_099_009_900, 1, 17, None),
-        (990_099_009_901, 1, 1, None),
-        (Price::HIGHEST, 1, 1, None),
-    ] {
+    for &(start, percent, granule, clock) in RAISED {
         assert_is(&rt, raised(start, percent, granule), Some(clock));
     }
 }

@@ -1,7 +1,6 @@
-use crate::comparing::assert_is;
+use crate::comparing::assert_is_at;
 use clock_json::{Scan, ScanStop, is_blank};
 use std::alloc::Global;
-use std::test::Fail;
 
 /// The number of the rows, the sum of their numbers, and whether the rows have three numbers each; or 9 and what
 /// stopped the reading.
@@ -41,57 +40,49 @@ fn member_of(text: &[u8]) -> Option<(usize, usize)> {
     Some((key, value))
 }
 
-#[test]
-fn rows_in_one_list(rt: HostRuntime) -> Result<(), Fail> {
-    let alloc = rt.alloc();
-    let rows: [(&[u8], (usize, u64, bool)); 13] = [
-        (b"[[1,2],[ 3 ]\n,[]]", (3, 6, false)),
-        (b"[[1,2,3],[4,5,6]]", (2, 21, true)),
-        (b"[[1,2,3],[4,5]]", (2, 15, false)),
-        (b"[[65535,65536],[1]]", (2, 131_072, false)),
-        (b" [ ] ", (0, 0, true)),
-        (
-            b"[[9999999999999999999]]",
-            (1, 9_999_999_999_999_999_999, false),
-        ),
-        (b"[[10000000000000000000]]", (9, 0, false)),
-        (b"[[01]]", (9, 0, false)),
-        (b"[[1.0]]", (9, 0, false)),
-        (b"[[-1]]", (9, 0, false)),
-        (b"[[1,],[2]]", (9, 0, false)),
-        (b"[[1][2]]", (9, 0, false)),
-        (b"[1]", (9, 0, false)),
-    ];
-    for (text, shown) in rows.iter() {
-        assert_is(&rt, flat_rows_of(alloc, text), *shown);
-    }
-    Ok(())
-}
+/// Texts, and what their rows come to.
+const ROWS: &[(&[u8], (usize, u64, bool))] = &[
+    (b"[[1,2],[ 3 ]\n,[]]", (3, 6, false)),
+    (b"[[1,2,3],[4,5,6]]", (2, 21, true)),
+    (b"[[1,2,3],[4,5]]", (2, 15, false)),
+    (b"[[65535,65536],[1]]", (2, 131_072, false)),
+    (b" [ ] ", (0, 0, true)),
+    (
+        b"[[9999999999999999999]]",
+        (1, 9_999_999_999_999_999_999, false),
+    ),
+    (b"[[10000000000000000000]]", (9, 0, false)),
+    (b"[[01]]", (9, 0, false)),
+    (b"[[1.0]]", (9, 0, false)),
+    (b"[[-1]]", (9, 0, false)),
+    (b"[[1,],[2]]", (9, 0, false)),
+    (b"[[1][2]]", (9, 0, false)),
+    (b"[1]", (9, 0, false)),
+];
 
 #[test]
-fn members_with_texts(rt: HostRuntime) -> Result<(), Fail> {
-    let rows: [(&[u8], Option<(usize, usize)>); 7] = [
-        (b"{\"name\":\"P1\"}", Some((4, 2))),
-        (b" {\"\" : \"a b\" }\t", Some((0, 3))),
-        (b"{\"name\":\"P\\n\"}", None),
-        (b"{\"na\\u006de\":\"P\"}", None),
-        (b"{\"name\":\"P\"} 1", None),
-        (b"{\"name\":\"P\":1}", None),
-        (b"{\"name\" \"P\"}", None),
-    ];
-    for (text, shown) in rows.iter() {
-        assert_is(&rt, member_of(text), *shown);
+fn rows_in_one_list(rt: HostRuntime) {
+    for &(text, shown) in ROWS {
+        assert_is_at(&rt, text, flat_rows_of(rt.alloc(), text), shown);
     }
-    Ok(())
 }
 
+/// Texts, and the member of each that is an object with one.
+const MEMBERS: &[(&[u8], Option<(usize, usize)>)] = &[
+    (b"{\"name\":\"P1\"}", Some((4, 2))),
+    (b" {\"\" : \"a b\" }\t", Some((0, 3))),
+    (b"{\"name\":\"P\\n\"}", None),
+    (b"{\"na\\u006de\":\"P\"}", None),
+    (b"{\"name\":\"P\"} 1", None),
+    (b"{\"name\":\"P\":1}", None),
+    (b"{\"name\" \"P\"}", None),
+];
+
 #[test]
-fn blank_texts(rt: HostRuntime) -> Result<(), Fail> {
-    assert!(rt; is_blank(b""));
-    assert!(rt; is_blank(b" \n\t\r "));
-    assert!(rt; !is_blank(b"  0"));
-    assert!(rt; !is_blank(b"\x0b"));
-    Ok(())
+fn members_with_texts(rt: HostRuntime) {
+    for &(text, shown) in MEMBERS {
+        assert_is_at(&rt, text, member_of(text), shown);
+    }
 }
 
 /// Whether a text is a list of one `null`.
@@ -100,18 +91,28 @@ fn is_one_null(text: &[u8]) -> bool {
     scan.opens_array() && scan.null() && scan.closes_array() && scan.ends()
 }
 
+/// Texts, whether each is blank, and whether it is a list of one `null`.
+const WORDS: &[(&[u8], bool, bool)] = &[
+    (b"", true, false),
+    (b" \n\t\r ", true, false),
+    (b"  0", false, false),
+    (b"\x0b", false, false),
+    (b"[null]", false, true),
+    (b" [ null\n]", false, true),
+    (b"[null,1]", false, false),
+    (b"[nul]", false, false),
+    (b"[nullx]", false, false),
+    (b"[null", false, false),
+];
+
 #[test]
-fn the_word_null(rt: HostRuntime) -> Result<(), Fail> {
-    let texts: [(&[u8], bool); 6] = [
-        (b"[null]", true),
-        (b" [ null\n]", true),
-        (b"[null,1]", false),
-        (b"[nul]", false),
-        (b"[nullx]", false),
-        (b"[null", false),
-    ];
-    for (text, is_one) in texts {
-        assert_is(&rt, is_one_null(text), is_one);
+fn blank_texts_and_the_word_null(rt: HostRuntime) {
+    for &(text, is_empty, is_null) in WORDS {
+        assert_is_at(
+            &rt,
+            text,
+            (is_blank(text), is_one_null(text)),
+            (is_empty, is_null),
+        );
     }
-    Ok(())
 }

@@ -7,31 +7,41 @@ ghost use Rattle.clock_terms.specs.Requests.{KeepWithinCap, asked_of, is_request
 ghost use Rattle.clock_processor.specs.Board.{IsWithinEligibility};
 ghost use Rattle.clock_processor.specs.Requests.{AskWithinCaps, IsRequest};
 
+use crate::comparing::assert_is;
 use clock_device::NoMemory;
 use clock_money::Point;
 use clock_processor::{Board, Processor, Settled};
 use clock_setup::{Amounts, Grid, Product, Setup, read_setup};
 use clock_terms::{Change, Changes, Kind, Row};
 use std::alloc::Global;
+use std::process::Abort;
 use std::test::Fail;
 
 /// A request: its kind, bidder, product, blocks and price.
 pub type Asked = (Kind, u32, u32, u64, u64);
 
-/// The requests in order, in a round from 100 to 110.
+/// The change that a request asks for by the bid at a place of its chain, in a round from 100 to 110.
+pub fn change_of(
+    &(kind, bidder, product, amount, price): &Asked,
+    place: u32,
+) -> Result<Change, Fail> {
+    let point = Point::of(100, price, 110).ok_or("no price of the round")?;
+    Ok(Change {
+        bidder,
+        product,
+        place,
+        kind,
+        amount,
+        price,
+        point,
+    })
+}
+
+/// The requests in order.
 fn requests(alloc: Global, asked: &[Asked]) -> Result<Changes, Fail> {
     let mut changes = Changes::new(alloc);
-    for &(kind, bidder, product, amount, price) in asked {
-        let point = Point::of(100, price, 110).ok_or("no price of the round")?;
-        changes.push(Change {
-            bidder,
-            product,
-            place: 0,
-            kind,
-            amount,
-            price,
-            point,
-        })?;
+    for request in asked {
+        changes.push(change_of(request, 0)?)?;
     }
     Ok(changes)
 }
@@ -210,27 +220,51 @@ fn settle_from_none<P: Processor>(
     settle_in_turn(alloc, processor, setup, &eligibilities, &none, requests)
 }
 
-/// The same with the demands at the end, row by row.
-fn demands_and_end<P: Processor>(
+/// What a settling comes to: the demands row by row, what each request has left, and the applications.
+pub type End<'a> = (&'a [u64], &'a [u64], u64);
+
+/// Asserts what a settling comes to. The answer is how often a room was looked at.
+fn compare(
+    rt: &impl Abort,
+    alloc: Global,
+    settled: &Settled,
+    bidders: usize,
+    end: End,
+) -> Result<u64, NoMemory>
+    requires { bidders ≤ length settled.now.grid }
+{
+    let demands = demands_of(alloc, settled.grid(), bidders)?;
+    assert_is(rt, demands.as_slice(), end.0);
+    assert_is(rt, (settled.left(), settled.applied()), (end.1, end.2));
+    Ok(settled.tests())
+}
+
+/// Settles requests after first ones, and asserts what they come to.
+fn settles_to<P: Processor>(
+    rt: &impl Abort,
     alloc: Global,
     processor: &P,
     setup: &Setup,
     requests: (&[Asked], &[Asked]),
-) -> Result<(Amounts, Settled), Fail> {
-    let end = settle_from_none(alloc, processor, setup, requests)?;
-    let demands = demands_of(alloc, end.grid(), setup.bidders.as_slice().len())?;
-    Ok((demands, end))
+    end: End,
+) -> Result<u64, Fail> {
+    let settled = settle_from_none(alloc, processor, setup, requests)?;
+    let tests = compare(rt, alloc, &settled, setup.bidders.as_slice().len(), end);
+    drop(settled);
+    Ok(tests?)
 }
 
 /// The same in the auction of a set-up document.
 pub fn settle_twice<P: Processor>(
+    rt: &impl Abort,
     alloc: Global,
     processor: &P,
     document: &str,
     requests: (&[Asked], &[Asked]),
-) -> Result<(Amounts, Settled), Fail> {
+    end: End,
+) -> Result<u64, Fail> {
     let setup = read_setup(alloc, document.as_bytes())?;
-    let end = demands_and_end(alloc, processor, &setup, requests);
+    let tests = settles_to(rt, alloc, processor, &setup, requests, end);
     drop(setup);
-    end
+    tests
 }

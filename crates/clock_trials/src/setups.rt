@@ -8,11 +8,9 @@ use clock_setup::fixtures::{ACTIVITY_LIMIT, GRANULES_AND_INCREMENTS, ONE_PRODUCT
 use clock_setup::{
     OpeningFault, Place, Product, Setup, SetupFault, read_opening, read_setup, setup_of,
 };
-use clock_terms::products_copy;
 use serde_json::Value;
 use std::alloc::Global;
 use std::process::Abort;
-use std::test::Fail;
 
 const NO_PRODUCTS: &str = r#"{
   "version": 1, "requirement": 95, "operator": "OPERATOROPERATOR",
@@ -54,27 +52,39 @@ fn limits(product: &Product) -> Limits {
     ]
 }
 
-fn limits_of_first(products: &[Product]) -> Option<Limits> {
-    Some(limits(products.first()?))
+/// What a document is read as: its numbers, and its first product's.
+type Told = (Numbers, Option<Limits>);
+
+fn told(setup: &Setup) -> Told {
+    let first = match setup.products.as_slice().first() {
+        Some(product) => Some(limits(product)),
+        None => None,
+    };
+    (numbers(setup), first)
 }
 
 /// What a document is read as, told of a copy of what was read.
-fn read(alloc: Global, text: &str) -> Result<Numbers, SetupFault> {
+fn read(alloc: Global, text: &str) -> Result<Told, SetupFault> {
     let setup = read_setup(alloc, text.as_bytes())?;
     let copy = setup.copy(alloc);
     drop(setup);
     let copy = copy?;
-    let told = numbers(&copy);
+    let told = told(&copy);
     drop(copy);
     Ok(told)
 }
 
-/// What a document's first product is read as, told of a copy of what was read.
-fn first_product(alloc: Global, text: &str) -> Result<Option<Limits>, SetupFault> {
-    let setup = read_setup(alloc, text.as_bytes())?;
-    let products = products_copy(alloc, setup.products.as_slice());
+/// What the value of a text is read as.
+fn read_value(alloc: Global, text: &str) -> Result<Told, SetupFault> {
+    let Ok(value) = Value::from_str(alloc, text) else {
+        return Err(SetupFault::NotJson);
+    };
+    let setup = setup_of(alloc, &value);
+    drop(value);
+    let setup = setup?;
+    let told = told(&setup);
     drop(setup);
-    Ok(limits_of_first(products?.as_slice()))
+    Ok(told)
 }
 
 /// The last bidder's name, token and eligibility are these.
@@ -94,86 +104,43 @@ fn has_z_last(alloc: Global, text: &str) -> Result<bool, SetupFault> {
     Ok(has_z)
 }
 
-/// What the value of a text is read as.
-fn read_value(alloc: Global, text: &str) -> Result<Numbers, Fail> {
-    let value = Value::from_str(alloc, text)?;
-    let setup = setup_of(alloc, &value);
-    drop(value);
-    let setup = setup?;
-    let told = numbers(&setup);
-    drop(setup);
-    Ok(told)
-}
-
 fn setup_fault(alloc: Global, text: &str) -> Option<SetupFault> {
     read_setup(alloc, text.as_bytes()).err()
 }
 
-fn opening_fault(alloc: Global, text: &str) -> Option<OpeningFault> {
-    read_opening(alloc, text.as_bytes()).err()
+/// The fault of a document with one place changed, if it has the place.
+fn changed_fault(alloc: Global, text: &str, from: &str, to: &str) -> Option<Option<SetupFault>> {
+    let (before, after) = text.split_once(from)?;
+    let Ok(text) = format!(in alloc; "{before}{to}{after}") else {
+        return None;
+    };
+    Some(setup_fault(alloc, text.as_str()))
 }
 
-/// A document with one place changed.
-fn changed(alloc: Global, text: &str, from: &str, to: &str) -> Result<String, Fail> {
-    let (before, after) = text.split_once(from).ok_or("not in the document")?;
-    Ok(format!(in alloc; "{before}{to}{after}")?)
-}
-
-/// An opening document of a set-up.
-fn opening_text(
-    alloc: Global,
-    demands: &str,
-    increment: &str,
-    setup: &str,
-) -> Result<String, Fail> {
-    Ok(format!(in alloc; "{{\"demands\":{demands},\"increment\":{increment},\"setup\":{setup}}}")?)
-}
-
-/// The fault of the opening document of a set-up.
-fn opened_fault(
-    alloc: Global,
-    demands: &str,
-    increment: &str,
-    setup: &str,
-) -> Result<Option<OpeningFault>, Fail> {
-    let text = opening_text(alloc, demands, increment, setup)?;
-    Ok(opening_fault(alloc, text.as_str()))
-}
-
-/// A document is read with these numbers, and its first product with these limits.
-fn is_read(
-    rt: &impl Abort,
-    alloc: Global,
-    text: &str,
-    numbers: Numbers,
-    product: Limits,
-) -> Result<(), Fail> {
-    assert_is(rt, read(alloc, text)?, numbers);
-    assert_is(rt, first_product(alloc, text)?, Some(product));
-    assert_is(rt, read_value(alloc, text)?, numbers);
-    Ok(())
-}
+/// Documents of both versions, with their numbers and those of their first products.
+const SETUPS: &[(&str, Numbers, Limits)] = &[
+    (ONE_PRODUCT, [1, 100, 95, 1, 2], [1, 2, 2, 100, 1]),
+    (TWO_PRODUCTS, [1, 100, 100, 2, 3], [1, 2, 2, 100, 1]),
+    (
+        GRANULES_AND_INCREMENTS,
+        [2, 100, 100, 2, 3],
+        [1, 2, 2, 100, 25],
+    ),
+    (ACTIVITY_LIMIT, [2, 125, 100, 2, 2], [2, 4, 4, 100, 1]),
+];
 
 #[test]
-fn reads_both_versions(rt: HostRuntime) -> Result<(), Fail> {
-    for (text, numbers, product) in [
-        (ONE_PRODUCT, [1, 100, 95, 1, 2], [1, 2, 2, 100, 1]),
-        (TWO_PRODUCTS, [1, 100, 100, 2, 3], [1, 2, 2, 100, 1]),
-        (
-            GRANULES_AND_INCREMENTS,
-            [2, 100, 100, 2, 3],
-            [1, 2, 2, 100, 25],
-        ),
-        (ACTIVITY_LIMIT, [2, 125, 100, 2, 2], [2, 4, 4, 100, 1]),
-    ] {
-        is_read(&rt, rt.alloc(), text, numbers, product)?;
+fn reads_both_versions(rt: HostRuntime) {
+    for &(text, numbers, product) in SETUPS {
+        let told = Ok((numbers, Some(product)));
+        assert_is_at(&rt, text, read(rt.alloc(), text), told);
+        assert_is_at(&rt, text, read_value(rt.alloc(), text), told);
     }
-    assert!(rt; has_z_last(rt.alloc(), TWO_PRODUCTS)?);
-    Ok(())
+    assert_is(&rt, has_z_last(rt.alloc(), TWO_PRODUCTS), Ok(true));
 }
 
 /// Texts that are no set-up, and their faults.
-const NO_SETUPS: [(&str, SetupFault); 16] = [
+const NO_SETUPS: &[(&str, SetupFault)] = &[
     ("{", SetupFault::NotJson),
     ("", SetupFault::NotJson),
     ("\u{feff}{}", SetupFault::NotJson),
@@ -194,7 +161,7 @@ const NO_SETUPS: [(&str, SetupFault); 16] = [
 
 #[test]
 fn refuses_what_is_no_setup(rt: HostRuntime) {
-    for &(text, fault) in NO_SETUPS.iter() {
+    for &(text, fault) in NO_SETUPS {
         assert_is_at(&rt, text, setup_fault(rt.alloc(), text), Some(fault));
     }
 }
@@ -203,21 +170,15 @@ fn refuses_what_is_no_setup(rt: HostRuntime) {
 type Changed<'a> = (&'a str, &'a str, Option<SetupFault>);
 
 /// A document with one place changed has the fault of the row.
-fn has_faults(
-    rt: &impl Abort,
-    alloc: Global,
-    document: &str,
-    rows: &[Changed],
-) -> Result<(), Fail> {
-    for (from, to, fault) in rows {
-        let text = changed(alloc, document, from, to)?;
-        assert_is_at(rt, to, setup_fault(alloc, text.as_str()), *fault);
+fn has_faults(rt: &impl Abort, alloc: Global, document: &str, rows: &[Changed]) {
+    for &(from, to, fault) in rows {
+        let found = changed_fault(alloc, document, from, to);
+        assert_is_at(rt, to, found, Some(fault));
     }
-    Ok(())
 }
 
 /// One fault after the other of the one product.
-const FAULTS: [Changed<'static>; 22] = [
+const FAULTS: &[Changed<'static>] = &[
     ("\"cap\": 2", "\"cap\": 2.0", Some(Shape)),
     ("\"cap\": 2", "\"cap\": 2, \"granule\": 1", Some(Shape)),
     ("\"units\": 1", "\"unit\": 1", Some(Shape)),
@@ -246,13 +207,8 @@ const FAULTS: [Changed<'static>; 22] = [
     ("\"A\"", "\"X\"", None),
 ];
 
-#[test]
-fn refuses_each_fault_of_a_setup(rt: HostRuntime) -> Result<(), Fail> {
-    has_faults(&rt, rt.alloc(), ONE_PRODUCT, &FAULTS)
-}
-
 /// The same of the second version, some of them beside a later one.
-const FAULTS_OF_VERSION_2: [Changed<'static>; 14] = [
+const FAULTS_OF_VERSION_2: &[Changed<'static>] = &[
     ("\"limit\": 100,", "", Some(Shape)),
     (", \"granule\": 1}", "}", Some(Shape)),
     ("100,", "99,", Some(Range(Limit))),
@@ -286,84 +242,86 @@ const FAULTS_OF_VERSION_2: [Changed<'static>; 14] = [
 ];
 
 #[test]
-fn refuses_each_fault_of_version_2(rt: HostRuntime) -> Result<(), Fail> {
-    has_faults(
-        &rt,
-        rt.alloc(),
-        GRANULES_AND_INCREMENTS,
-        &FAULTS_OF_VERSION_2,
-    )
+fn refuses_each_fault_of_a_setup(rt: HostRuntime) {
+    let alloc = rt.alloc();
+    has_faults(&rt, alloc, ONE_PRODUCT, FAULTS);
+    has_faults(&rt, alloc, GRANULES_AND_INCREMENTS, FAULTS_OF_VERSION_2);
 }
 
-/// The total demand for an opening's first product, and the increment.
-fn opening_read(alloc: Global, text: &str) -> Result<(u64, u64), OpeningFault> {
+/// The total demand for an opening's first product, and the increment, or its fault.
+type Opened = Result<(u64, u64), OpeningFault>;
+
+fn opened(alloc: Global, text: &str) -> Opened {
     let opening = read_opening(alloc, text.as_bytes())?;
     Ok((opening.grid.total(0), opening.increment))
 }
 
-#[test]
-fn reads_an_opening(rt: HostRuntime) -> Result<(), Fail> {
-    for (demands, setup, total) in [
-        ("[[2],[1]]", ONE_PRODUCT, 3),
-        ("[[0,2],[2,0],[0,1]]", GRANULES_AND_INCREMENTS, 2),
-    ] {
-        let text = opening_text(rt.alloc(), demands, "10", setup)?;
-        assert_is(&rt, opening_read(rt.alloc(), text.as_str())?, (total, 10));
-    }
-    Ok(())
+/// The same of an opening document of a set-up.
+fn opened_of(alloc: Global, demands: &str, increment: &str, setup: &str) -> Opened {
+    let Ok(text) = format!(in alloc;
+        "{{\"demands\":{demands},\"increment\":{increment},\"setup\":{setup}}}"
+    ) else {
+        return Err(OpeningFault::NoMemory);
+    };
+    opened(alloc, text.as_str())
 }
 
-/// The demands and the increment of an opening, and its fault.
-type OpeningRow<'a> = (&'a str, &'a str, OpeningFault);
+/// The one product where X may have only one block.
+const WEAK: &str = r#"{"version":1,"requirement":95,"operator":"OPERATOROPERATOR",
+"products":[{"name":"A","units":1,"supply":2,"cap":2,"opening":100}],
+"bidders":[{"name":"X","token":"XXXXXXXXXXXXXXXX","eligibility":1},
+{"name":"Y","token":"YYYYYYYYYYYYYYYY","eligibility":10}]}"#;
 
-/// Openings of a set-up have the faults of the rows.
-fn openings_have_faults(
-    rt: &impl Abort,
-    alloc: Global,
-    setup: &str,
-    rows: &[OpeningRow],
-) -> Result<(), Fail> {
-    for &(demands, increment, fault) in rows {
-        let found = opened_fault(alloc, demands, increment, setup)?;
-        assert_is_at(rt, demands, found, Some(fault));
-    }
-    Ok(())
-}
+/// A set-up of no version.
+const NO_VERSION: &str = r#"{"version":3}"#;
 
-/// Openings of the one product.
-const OPENINGS: [OpeningRow<'static>; 10] = [
-    ("[", "10", OpeningFault::NotJson),
-    ("[[1],[1]]", "1.0", OpeningFault::Shape),
-    ("[[1],\"1\"]", "10", OpeningFault::Shape),
-    ("[[1]]", "51", OpeningFault::Shape),
-    ("[[3],[1,1]]", "10", OpeningFault::Shape),
-    ("[[3],[1]]", "10", OpeningFault::Demand(0, 0)),
-    ("[[2],[3]]", "51", OpeningFault::Demand(1, 0)),
-    ("[[1],[1]]", "0", OpeningFault::Increment),
-    ("[[1],[1]]", "51", OpeningFault::Increment),
-    ("[[1],[1]]", "[10]", OpeningFault::Shape),
-];
-
-/// Openings where X may have only one block.
-const WEAK_OPENINGS: [OpeningRow<'static>; 3] = [
-    ("[[3],[1]]", "10", OpeningFault::Demand(0, 0)),
-    ("[[2],[3]]", "10", OpeningFault::Activity(0)),
-    ("[[2],[1]]", "51", OpeningFault::Activity(0)),
-];
-
-/// Openings of a set-up of no version.
-const OPENINGS_OF_NO_VERSION: [OpeningRow<'static>; 2] = [
-    ("[]", "0", OpeningFault::Setup(SetupFault::Version)),
-    ("[7]", "0", OpeningFault::Shape),
+/// The demands, the increment and the set-up of an opening, and what is read of it.
+const OPENINGS: &[(&str, &str, &str, Opened)] = &[
+    ("[[2],[1]]", "10", ONE_PRODUCT, Ok((3, 10))),
+    (
+        "[[0,2],[2,0],[0,1]]",
+        "10",
+        GRANULES_AND_INCREMENTS,
+        Ok((2, 10)),
+    ),
+    ("[", "10", ONE_PRODUCT, Err(OpeningFault::NotJson)),
+    ("[[1],[1]]", "1.0", ONE_PRODUCT, Err(OpeningFault::Shape)),
+    ("[[1],\"1\"]", "10", ONE_PRODUCT, Err(OpeningFault::Shape)),
+    ("[[1]]", "51", ONE_PRODUCT, Err(OpeningFault::Shape)),
+    ("[[3],[1,1]]", "10", ONE_PRODUCT, Err(OpeningFault::Shape)),
+    (
+        "[[3],[1]]",
+        "10",
+        ONE_PRODUCT,
+        Err(OpeningFault::Demand(0, 0)),
+    ),
+    (
+        "[[2],[3]]",
+        "51",
+        ONE_PRODUCT,
+        Err(OpeningFault::Demand(1, 0)),
+    ),
+    ("[[1],[1]]", "0", ONE_PRODUCT, Err(OpeningFault::Increment)),
+    ("[[1],[1]]", "51", ONE_PRODUCT, Err(OpeningFault::Increment)),
+    ("[[1],[1]]", "[10]", ONE_PRODUCT, Err(OpeningFault::Shape)),
+    (
+        "[]",
+        "0",
+        NO_VERSION,
+        Err(OpeningFault::Setup(SetupFault::Version)),
+    ),
+    ("[7]", "0", NO_VERSION, Err(OpeningFault::Shape)),
+    ("[[3],[1]]", "10", WEAK, Err(OpeningFault::Demand(0, 0))),
+    ("[[2],[3]]", "10", WEAK, Err(OpeningFault::Activity(0))),
+    ("[[2],[1]]", "51", WEAK, Err(OpeningFault::Activity(0))),
 ];
 
 #[test]
-fn refuses_each_fault_of_an_opening(rt: HostRuntime) -> Result<(), Fail> {
-    openings_have_faults(&rt, rt.alloc(), ONE_PRODUCT, &OPENINGS)?;
-    let no_version = "{\"version\":3}";
-    openings_have_faults(&rt, rt.alloc(), no_version, &OPENINGS_OF_NO_VERSION)?;
-    let bare = opening_fault(rt.alloc(), "{\"demands\":[],\"increment\":10}");
-    assert_is(&rt, bare, Some(OpeningFault::Shape));
-    let weak = changed(rt.alloc(), ONE_PRODUCT, ": 10}", ": 1}")?;
-    openings_have_faults(&rt, rt.alloc(), weak.as_str(), &WEAK_OPENINGS)
+fn reads_an_opening_or_refuses_it(rt: HostRuntime) {
+    for &(demands, increment, setup, told) in OPENINGS {
+        let found = opened_of(rt.alloc(), demands, increment, setup);
+        assert_is_at(&rt, (demands, increment), found, told);
+    }
+    let bare = opened(rt.alloc(), "{\"demands\":[],\"increment\":10}");
+    assert_is(&rt, bare, Err(OpeningFault::Shape));
 }

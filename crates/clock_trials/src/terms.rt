@@ -1,13 +1,13 @@
 //! What set-ups open with: prices, grids of demands, and increments.
 
-ghost use Rattle.std.specs.Prelude.{◌≤◌, IfOk};
+ghost use Rattle.std.specs.Prelude.{◌≤◌};
 ghost use Rattle.clock_terms.specs.Demands.{IsGrid};
 
-use crate::comparing::assert_is;
+use crate::comparing::{assert_is, assert_is_at};
 use clock_device::NoMemory;
 use clock_money::Price;
 use clock_setup::fixtures::{ONE_PRODUCT, PRICE_EDGES};
-use clock_setup::{SetupFault, read_setup};
+use clock_setup::{Setup, SetupFault, read_setup};
 use clock_terms::{Amounts, Grid, Increments, OpeningPrices, Prices};
 use std::alloc::Global;
 use std::test::Fail;
@@ -25,25 +25,14 @@ fn last_prices(alloc: Global, text: &str) -> Result<Option<(u64, u64)>, SetupFau
 }
 
 #[test]
-fn opens_at_the_opening_prices(rt: HostRuntime) -> Result<(), Fail> {
+fn opens_at_the_opening_prices(rt: HostRuntime) {
     for (text, price) in [(ONE_PRODUCT, 100), (PRICE_EDGES, Price::HIGHEST)] {
-        assert_is(&rt, last_prices(rt.alloc(), text)?, Some((price, price)));
+        assert_is(&rt, last_prices(rt.alloc(), text), Ok(Some((price, price))));
     }
-    Ok(())
 }
 
-/// The grid of two bidders and one product in which nobody demands anything.
-fn zero_grid(alloc: Global, text: &str) -> Result<Grid, Fail>
-    ensures { IfOk result (IsGrid 2 1) }
-{
-    let setup = read_setup(alloc, text.as_bytes())?;
-    if setup.bidders.as_slice().len() != 2 || setup.products.as_slice().len() != 1 {
-        Err("not two bidders and one product")?;
-    }
-    Ok(Grid::zero(alloc, &setup)?)
-}
-
-/// Sets the demands of both bidders, and answers their total in the grid and in a copy that the first left.
+/// Sets the demands of both bidders for the one product, and answers their total in the grid and in a copy that the
+/// first left.
 fn totals(alloc: Global, grid: &mut Grid, first: u64, second: u64) -> Result<(u64, u64), NoMemory>
     requires grid { IsGrid 2 1 grid.old }
     requires first { first ≤ 2 }
@@ -56,10 +45,29 @@ fn totals(alloc: Global, grid: &mut Grid, first: u64, second: u64) -> Result<(u6
     Ok((grid.total(0), copy.total(0)))
 }
 
+/// The same of a set-up in which nobody demands anything at first.
+fn totals_of(alloc: Global, setup: &Setup, first: u64, second: u64) -> Result<(u64, u64), Fail>
+    requires first { first ≤ 2 }
+    requires second { second ≤ 2 }
+{
+    if setup.bidders.as_slice().len() != 2 || setup.products.as_slice().len() != 1 {
+        return Err("not two bidders and one product")?;
+    }
+    let mut grid = Grid::zero(alloc, setup)?;
+    Ok(totals(alloc, &mut grid, first, second)?)
+}
+
+/// The same of the one product.
+fn totals_of_one(alloc: Global) -> Result<(u64, u64), Fail> {
+    let setup = read_setup(alloc, ONE_PRODUCT.as_bytes())?;
+    let totals = totals_of(alloc, &setup, 2, 1);
+    drop(setup);
+    totals
+}
+
 #[test]
 fn a_copy_of_a_grid_is_its_own(rt: HostRuntime) -> Result<(), Fail> {
-    let mut grid = zero_grid(rt.alloc(), ONE_PRODUCT)?;
-    assert_is(&rt, totals(rt.alloc(), &mut grid, 2, 1)?, (3, 1));
+    assert_is(&rt, totals_of_one(rt.alloc())?, (3, 1));
     Ok(())
 }
 
@@ -69,10 +77,13 @@ fn are_for_two(alloc: Global, increments: &[u64]) -> Result<bool, NoMemory> {
     Ok(increments.are_within(2))
 }
 
+/// Increments for each product, and whether there are two within the limits.
+const INCREMENTS: &[(&[u64], bool)] = &[(&[10, 20], true), (&[10], false), (&[10, 51], false)];
+
 #[test]
-fn increments_are_one_for_each_product_within_limits(rt: HostRuntime) -> Result<(), Fail> {
-    assert!(rt; are_for_two(rt.alloc(), &[10, 20])?);
-    assert!(rt; !are_for_two(rt.alloc(), &[10])?);
-    assert!(rt; !are_for_two(rt.alloc(), &[10, 51])?);
-    Ok(())
+fn increments_are_one_for_each_product_within_limits(rt: HostRuntime) {
+    for &(increments, are_within) in INCREMENTS {
+        let told = are_for_two(rt.alloc(), increments);
+        assert_is_at(&rt, increments, told, Ok(are_within));
+    }
 }

@@ -1,9 +1,9 @@
 //! What requests are answered with, one after the other.
-use super::requests::{compare, reply_of, setup_of, text_of};
-use super::rows::{fields_of, replaced, whole_rows};
+use super::requests::{compare, fields_of, reply_of, setup_of, text_of};
 use super::texts::{ACCEPTED, PUT};
 use crate::comparing::assert_is;
 use crate::front::example::{on_front, on_one_product};
+use crate::repeated::{Repeated, repeated};
 use clock_device::{Items, Text};
 use clock_front::{Front, run};
 use clock_http::Code;
@@ -41,16 +41,10 @@ fn send_rows(
     front: &mut Front<Plain>,
     rows: &str,
 ) -> Result<(), Fail> {
-    let rows = whole_rows(alloc, rows)?;
-    for row in rows.as_str().split('\n') {
+    for row in rows.split('\n') {
         send(rt, alloc, front, row)?;
     }
     Ok(())
-}
-
-/// Sends the requests of all rows to a front of a set-up.
-fn send_all(rt: &impl Abort, alloc: Global, document: &str, rows: &str) -> Result<(), Fail> {
-    on_front(alloc, document, |front| send_rows(rt, alloc, front, rows))
 }
 
 /// Requests in turn: the request line, whose token it has, its body, and the status and page of its reply. So are the
@@ -95,11 +89,6 @@ PUT /v1/me/bids|X|{"bids":[]}|422 Unprocessable Entity|{"code":"shape","status":
 POST /v1/close|O|{"increment":10,"round":1,"ties":[]}|409 Conflict|{"code":"ended","status":409}
 POST /v1/close|O|{"increments":[10],"round":2,"ties":[]}|422 Unprocessable Entity|{"code":"shape","status":422}"#;
 
-#[test]
-fn a_drop_is_applied_in_part(rt: HostRuntime) -> Result<(), Fail> {
-    send_all(&rt, rt.alloc(), ONE_PRODUCT, DROP_IN_PART)
-}
-
 /// Each request has two faults or more, of which the earlier one answers.
 const REFUSALS: &str = r#"DELETE /v1/none|||404 Not Found|{"code":"no_page","status":404}
 DELETE /v1/me/bids|||405 Method Not Allowed|{"code":"method","status":405}
@@ -120,11 +109,6 @@ POST /v1/close|O|{"increment":10,"round":1,"ties":[[0,0,1],[0,0,2]]}|422 Unproce
 GET /v1/rounds/01|||404 Not Found|{"code":"no_round","status":404}
 GET /v1/products|||200 OK|{"products":[{"cap":2,"name":"A","opening":100,"supply":2,"units":1}],"requirement":95,"version":1}"#;
 
-#[test]
-fn an_earlier_line_refuses_first(rt: HostRuntime) -> Result<(), Fail> {
-    send_all(&rt, rt.alloc(), ONE_PRODUCT, REFUSALS)
-}
-
 /// Each request has one fault.
 const FAULTS: &str = r#"GET /v1/me|||401 Unauthorized|{"code":"token","status":401}
 GET /v1/me|O||403 Forbidden|{"code":"role","status":403}
@@ -134,34 +118,20 @@ POST /v1/close|O|{"increment":51,"round":1,"ties":[]}|422 Unprocessable Entity|{
 POST /v1/close|O|{"increment":10,"round":1,"ties":[[0,1,5]]}|422 Unprocessable Entity|{"code":"tie_range","place":0,"status":422}
 PUT /v1/me/bids|X|{"bids":[{"price":101,"product":0,"quantity":1}],"round":1}|422 Unprocessable Entity|{"code":"price_range","place":0,"status":422}
 PUT /v1/me/bids|X|{"bids":[{"price":100,"product":0,"quantity":3}],"round":1}|422 Unprocessable Entity|{"code":"over_cap","place":0,"status":422}
-PUT /v1/me/bids|X|{"bids":[{"price":100,"product":0,"quantity":1},{"price":100,"product":0,"quantity":2}],"round":1}
-|422 Unprocessable Entity|{"code":"price_order","place":1,"status":422}
+PUT /v1/me/bids|X|{"bids":[{"price":100,"product":0,"quantity":1},{"price":100,"product":0,"quantity":2}],"round":1}|422 Unprocessable Entity|{"code":"price_order","place":1,"status":422}
 PUT /v1/me/bids|X|{"bids":[{"price":100,"product":0,"quantity":2}],"round":1}|200 OK|{"accepted":true,"bids":1,"round":1}
 PUT /v1/me/bids|Y|{"bids":[{"price":100,"product":0,"quantity":1}],"round":1}|200 OK|{"accepted":true,"bids":1,"round":1}
 POST /v1/close|O|{"increment":10,"round":1,"ties":[]}|200 OK|{"closed":1,"ended":false}
-PUT /v1/me/bids|X|{"bids":[{"price":103,"product":0,"quantity":1},{"price":105,"product":0,"quantity":2}],"round":2}
-|422 Unprocessable Entity|{"code":"mixed_direction","place":1,"status":422}
+PUT /v1/me/bids|X|{"bids":[{"price":103,"product":0,"quantity":1},{"price":105,"product":0,"quantity":2}],"round":2}|422 Unprocessable Entity|{"code":"mixed_direction","place":1,"status":422}
 PUT /v1/me/bids|X|{"bids":[{"price":105,"product":0,"quantity":2}],"round":2}|422 Unprocessable Entity|{"code":"keep_price","place":0,"status":422}"#;
-
-#[test]
-fn a_fault_is_told_by_its_page(rt: HostRuntime) -> Result<(), Fail> {
-    send_all(&rt, rt.alloc(), ONE_PRODUCT, FAULTS)
-}
 
 /// More activity than a bidder is eligible for.
 const ACTIVE: &str =
-    r#"PUT /v1/me/bids|X|{"bids":[{"price":100,"product":0,"quantity":4},{"price":100,"product":1,"quantity":1}],"round":1}
-|422 Unprocessable Entity|{"code":"over_activity","status":422}"#;
-
-#[test]
-fn activity_is_within_eligibility(rt: HostRuntime) -> Result<(), Fail> {
-    send_all(&rt, rt.alloc(), ACTIVITY_LIMIT, ACTIVE)
-}
+    r#"PUT /v1/me/bids|X|{"bids":[{"price":100,"product":0,"quantity":4},{"price":100,"product":1,"quantity":1}],"round":1}|422 Unprocessable Entity|{"code":"over_activity","status":422}"#;
 
 /// A round that cannot be closed at its demand keeps its sheets, and can be closed once it has less.
 const PRICE_LIMIT: &str =
-    r#"PUT /v1/me/bids|X|{"bids":[{"price":1000000000000,"product":0,"quantity":2}],"round":1}
-|200 OK|{"accepted":true,"bids":1,"round":1}
+    r#"PUT /v1/me/bids|X|{"bids":[{"price":1000000000000,"product":0,"quantity":2}],"round":1}|200 OK|{"accepted":true,"bids":1,"round":1}
 PUT /v1/me/bids|Y|{"bids":[{"price":1000000000000,"product":0,"quantity":1}],"round":1}|200 OK|{"accepted":true,"bids":1,"round":1}
 POST /v1/close|O|{"increment":1,"round":1,"ties":[[0,1,5]]}|422 Unprocessable Entity|{"code":"tie_range","place":0,"status":422}
 POST /v1/close|O|{"increment":1,"round":1,"ties":[]}|422 Unprocessable Entity|{"code":"price_limit","place":0,"status":422}
@@ -170,12 +140,6 @@ GET /v1/me/bids|X||200 OK|{"bids":[{"price":1000000000000,"product":0,"quantity"
 GET /v1/me/bids|Y||200 OK|{"bids":[{"price":1000000000000,"product":0,"quantity":1}],"round":1}
 PUT /v1/me/bids|X|{"bids":[{"price":1000000000000,"product":0,"quantity":1}],"round":1}|200 OK|{"accepted":true,"bids":1,"round":1}
 POST /v1/close|O|{"increment":1,"round":1,"ties":[]}|200 OK|{"closed":1,"ended":true}"#;
-
-#[test]
-fn a_refused_closing_keeps_the_sheets(rt: HostRuntime) -> Result<(), Fail> {
-    let document = replaced(rt.alloc(), ONE_PRODUCT, "100", "1000000000000")?;
-    send_all(&rt, rt.alloc(), document.as_str(), PRICE_LIMIT)
-}
 
 /// A closing has an increment for each product.
 const VERSION_2: &str =
@@ -186,53 +150,70 @@ POST /v1/close|O|{"increments":[10,51],"round":1,"ties":[]}|422 Unprocessable En
 POST /v1/close|O|{"increments":[10,20],"round":1,"ties":[]}|200 OK|{"closed":1,"ended":true}
 GET /v1/status|||200 OK|{"ended":true,"round":1,"version":2}"#;
 
-#[test]
-fn version_2_has_an_increment_for_each_product(rt: HostRuntime) -> Result<(), Fail> {
-    send_all(&rt, rt.alloc(), GRANULES_AND_INCREMENTS, VERSION_2)
-}
+/// The one product at the highest price.
+const AT_THE_HIGHEST: &str = r#"{"version":1,"requirement":95,"operator":"OPERATOROPERATOR",
+"products":[{"name":"A","units":1,"supply":2,"cap":2,"opening":1000000000000}],
+"bidders":[{"name":"X","token":"XXXXXXXXXXXXXXXX","eligibility":10},
+{"name":"Y","token":"YYYYYYYYYYYYYYYY","eligibility":10}]}"#;
 
-/// A body of so many items, one like the other.
-fn body_of(alloc: Global, front: &str, item: &str, count: u32, back: &str) -> Result<String, Fail> {
-    let mut body = String::from_str(alloc, front)?;
-    body.push_str(item)?;
-    for _ in 1..count {
-        body.push_str(",")?;
-        body.push_str(item)?;
+/// The set-ups of auctions, and the requests that are sent to each.
+const AUCTIONS: &[(&str, &str)] = &[
+    (ONE_PRODUCT, DROP_IN_PART),
+    (ONE_PRODUCT, REFUSALS),
+    (ONE_PRODUCT, FAULTS),
+    (ACTIVITY_LIMIT, ACTIVE),
+    (AT_THE_HIGHEST, PRICE_LIMIT),
+    (GRANULES_AND_INCREMENTS, VERSION_2),
+];
+
+#[test]
+fn requests_are_answered_in_turn(rt: HostRuntime) -> Result<(), Fail> {
+    for &(document, rows) in AUCTIONS {
+        on_front(rt.alloc(), document, |front| {
+            send_rows(&rt, rt.alloc(), front, rows)
+        })?;
     }
-    body.push_str(back)?;
-    Ok(body)
+    Ok(())
 }
 
-/// A body is refused for how many items it has.
-fn has_too_many(
-    rt: &impl Abort,
-    alloc: Global,
-    line: &str,
-    who: &str,
-    body: &str,
-    page: &str,
-) -> Result<(), Fail> {
-    let text = text_of(alloc, line, who, body)?;
-    let status = "422 Unprocessable Entity";
-    on_one_product(alloc, |front| {
-        compare(rt, alloc, front, text.as_str(), status, page)
-    })
-}
+/// Request lines and whose token they have, bodies of one item more than the most, one like the other, and the page of
+/// the reply: a sheet has at most 8,192 bids, and a closing at most 16,384 ties.
+const TOO_MANY: &[(&str, &str, Repeated<'static>, &str)] = &[
+    (
+        "PUT /v1/me/bids",
+        "X",
+        (
+            r#"{"bids":[{"price":100,"product":0,"quantity":1}"#,
+            r#",{"price":100,"product":0,"quantity":1}"#,
+            8_192,
+            r#"],"round":1}"#,
+        ),
+        r#"{"code":"too_many","status":422}"#,
+    ),
+    (
+        "POST /v1/close",
+        "O",
+        (
+            r#"{"increment":10,"round":1,"ties":[[0,1,5]"#,
+            ",[0,1,5]",
+            16_384,
+            "]}",
+        ),
+        r#"{"code":"too_many_ties","status":422}"#,
+    ),
+];
 
 #[test]
-fn a_sheet_has_at_most_8192_bids(rt: HostRuntime) -> Result<(), Fail> {
-    let bid = r#"{"price":100,"product":0,"quantity":1}"#;
-    let body = body_of(rt.alloc(), "{\"bids\":[", bid, 8_193, "],\"round\":1}")?;
-    let page = r#"{"code":"too_many","status":422}"#;
-    has_too_many(&rt, rt.alloc(), "PUT /v1/me/bids", "X", body.as_str(), page)
-}
-
-#[test]
-fn a_closing_has_at_most_16384_ties(rt: HostRuntime) -> Result<(), Fail> {
-    let front = "{\"increment\":10,\"round\":1,\"ties\":[";
-    let body = body_of(rt.alloc(), front, "[0,1,5]", 16_385, "]}")?;
-    let page = r#"{"code":"too_many_ties","status":422}"#;
-    has_too_many(&rt, rt.alloc(), "POST /v1/close", "O", body.as_str(), page)
+fn a_body_has_at_most_so_many_items(rt: HostRuntime) -> Result<(), Fail> {
+    for &(line, who, parts, page) in TOO_MANY {
+        let body = repeated(rt.alloc(), parts)?;
+        let request = (line, who, body.as_str());
+        on_one_product(rt.alloc(), |front| {
+            let told = ("422 Unprocessable Entity", page);
+            send_request(&rt, rt.alloc(), front, request, told)
+        })?;
+    }
+    Ok(())
 }
 
 /// The texts of rows.

@@ -65,18 +65,27 @@ fn is_served(
     Ok(())
 }
 
-#[test]
-fn spaces_without_end_are_too_long_a_head(rt: HostRuntime) -> Result<(), Fail> {
-    let answer = Ok(Code::LongHead);
-    on_one_product(rt.alloc(), |front| {
-        is_served(&rt, rt.alloc(), front, false, answer, LONG_HEAD, 16_384)
-    })
-}
+/// Whether the reads of a source are interrupted, and how it is served: by spaces its head is too long, and
+/// interruptions use all reads up.
+const SERVED: &[(bool, Result<Code, StreamFault>, &str, u64)] = &[
+    (false, Ok(Code::LongHead), LONG_HEAD, 16_384),
+    (true, Err(StreamFault::Read), "", 2_000_000),
+];
 
 #[test]
-fn interruptions_without_end_use_all_reads_up(rt: HostRuntime) -> Result<(), Fail> {
-    let answer = Err(StreamFault::Read);
-    on_one_product(rt.alloc(), |front| {
-        is_served(&rt, rt.alloc(), front, true, answer, "", 2_000_000)
-    })
+fn a_source_without_end_is_served(rt: HostRuntime) -> Result<(), Fail> {
+    for &(is_interrupted, answer, written, calls) in SERVED {
+        on_one_product(rt.alloc(), |front| {
+            is_served(
+                &rt,
+                rt.alloc(),
+                front,
+                is_interrupted,
+                answer,
+                written,
+                calls,
+            )
+        })?;
+    }
+    Ok(())
 }

@@ -2,104 +2,129 @@
 ghost use Rattle.std.specs.Prelude.{◌≤◌, length};
 ghost use Rattle.clock_http.specs.Shown.{Knows};
 
-use super::rows::with_line_ends;
 use crate::comparing::assert_is_at;
 use crate::front::example::on_one_product;
-use clock_front::{Framing, Front, Head, Progress, frame};
+use clock_front::{Framing, Front, Progress, frame};
+use clock_http::Code;
 use clock_processor::Plain;
 use std::alloc::Global;
 use std::process::Abort;
 use std::test::Fail;
 
-/// Texts, and what they are: `more` is needed, a code refuses them, or they have a method, a path, a token or `-`, and a
-/// body.
-const TEXTS: &str = "|more
-^|more
-$$|more
-GET / HTTP/1.1$$|more
-GET / HTTP/1.1~^|more
-GET / HTTP/1.1~content-length: 2~~1|more
-GET / HTTP/1.1~content-length: 01048576~~|more
-GET / HTTP/1.0~~|GET / - []
-GET / HTTP/1.1~Content-Length: \t 0001 ~~$x|GET / - [$]
-PUT /v1/me/bids?x HTTP/1.1~authorization: Bearer abc~content-length: 3~~{} and more|PUT /v1/me/bids abc [{} ]
-~~|BadHead
-~GET / HTTP/1.1~~|BadHead
-$GET / HTTP/1.1~~|BadHead
-GET / HTTP/1.1~a: b$c: d~~|BadHead
-GET / HTTP/1.1$a: b~~|BadHead
-GET  / HTTP/1.1~~|BadHead
-GET / HTTP/1.2~~|BadHead
-GET / HTTP/1.1 ~~|BadHead
-GET / HTTP/1.1~a : b~~|BadHead
-GET / HTTP/1.1~a: b~ c~~|BadHead
-GET / HTTP/1.1~: b~~|BadHead
-GET / HTTP/1.1~content-length: +5~~|BadLength
-GET / HTTP/1.1~content-length:~~|BadLength
-GET / HTTP/1.1~content-length: 5 5~~|BadLength
-GET / HTTP/1.1~content-length: 0x5~~|BadLength
-GET / HTTP/1.1~content-length: 1~CONTENT-LENGTH: 1~~|BadLength
-GET / HTTP/1.1~content-length: 1048577~~|LongBody
-GET / HTTP/1.1~content-length: 18446744073709551617~~|LongBody
-GET / HTTP/1.1~Transfer-Encoding: chunked~content-length: x~~|Coding
-GET / HTTP/1.1~transfer-encoding:~~|Coding
-GET / HTTP/1.1~Authorization:\tbEARER   a bc ~~|GET / a bc []
-GET / HTTP/1.1~authorization: Bearer\tabc~~|GET / - []
-GET / HTTP/1.1~authorization: Bearer ~~|GET / - []
-GET / HTTP/1.1~authorization: Basic abc~~|GET / - []
-GET / HTTP/1.1~authorization: Bearer abc~authorization: Bearer abc~~|GET / - []";
+/// The parts of a request: its method, its path, its token and its body.
+type Parts<'a> = (&'a [u8], &'a [u8], Option<&'a [u8]>, &'a [u8]);
+
+/// Texts, and what they are: a request of these parts, or one that needs more, or the code that refuses it.
+const TEXTS: &[(&[u8], Result<Option<Parts<'static>>, Code>)] = &[
+    (b"", Ok(None)),
+    (b"\r", Ok(None)),
+    (b"\n\n", Ok(None)),
+    (b"GET / HTTP/1.1\n\n", Ok(None)),
+    (b"GET / HTTP/1.1\r\n\r", Ok(None)),
+    (b"GET / HTTP/1.1\r\ncontent-length: 2\r\n\r\n1", Ok(None)),
+    (
+        b"GET / HTTP/1.1\r\ncontent-length: 01048576\r\n\r\n",
+        Ok(None),
+    ),
+    (
+        b"GET / HTTP/1.0\r\n\r\n",
+        Ok(Some((b"GET", b"/", None, b""))),
+    ),
+    (
+        b"GET / HTTP/1.1\r\nContent-Length: \t 0001 \r\n\r\n\nx",
+        Ok(Some((b"GET", b"/", None, b"\n"))),
+    ),
+    (
+        b"PUT /v1/me/bids?x HTTP/1.1\r\nauthorization: Bearer abc\r\ncontent-length: 3\r\n\r\n{} and more",
+        Ok(Some((b"PUT", b"/v1/me/bids", Some(b"abc"), b"{} "))),
+    ),
+    (b"\r\n\r\n", Err(Code::BadHead)),
+    (b"\r\nGET / HTTP/1.1\r\n\r\n", Err(Code::BadHead)),
+    (b"\nGET / HTTP/1.1\r\n\r\n", Err(Code::BadHead)),
+    (b"GET / HTTP/1.1\r\na: b\nc: d\r\n\r\n", Err(Code::BadHead)),
+    (b"GET / HTTP/1.1\na: b\r\n\r\n", Err(Code::BadHead)),
+    (b"GET  / HTTP/1.1\r\n\r\n", Err(Code::BadHead)),
+    (b"GET / HTTP/1.2\r\n\r\n", Err(Code::BadHead)),
+    (b"GET / HTTP/1.1 \r\n\r\n", Err(Code::BadHead)),
+    (b"GET / HTTP/1.1\r\na : b\r\n\r\n", Err(Code::BadHead)),
+    (b"GET / HTTP/1.1\r\na: b\r\n c\r\n\r\n", Err(Code::BadHead)),
+    (b"GET / HTTP/1.1\r\n: b\r\n\r\n", Err(Code::BadHead)),
+    (
+        b"GET / HTTP/1.1\r\ncontent-length: +5\r\n\r\n",
+        Err(Code::BadLength),
+    ),
+    (
+        b"GET / HTTP/1.1\r\ncontent-length:\r\n\r\n",
+        Err(Code::BadLength),
+    ),
+    (
+        b"GET / HTTP/1.1\r\ncontent-length: 5 5\r\n\r\n",
+        Err(Code::BadLength),
+    ),
+    (
+        b"GET / HTTP/1.1\r\ncontent-length: 0x5\r\n\r\n",
+        Err(Code::BadLength),
+    ),
+    (
+        b"GET / HTTP/1.1\r\ncontent-length: 1\r\nCONTENT-LENGTH: 1\r\n\r\n",
+        Err(Code::BadLength),
+    ),
+    (
+        b"GET / HTTP/1.1\r\ncontent-length: 1048577\r\n\r\n",
+        Err(Code::LongBody),
+    ),
+    (
+        b"GET / HTTP/1.1\r\ncontent-length: 18446744073709551617\r\n\r\n",
+        Err(Code::LongBody),
+    ),
+    (
+        b"GET / HTTP/1.1\r\nTransfer-Encoding: chunked\r\ncontent-length: x\r\n\r\n",
+        Err(Code::Coding),
+    ),
+    (
+        b"GET / HTTP/1.1\r\ntransfer-encoding:\r\n\r\n",
+        Err(Code::Coding),
+    ),
+    (
+        b"GET / HTTP/1.1\r\nAuthorization:\tbEARER   a bc \r\n\r\n",
+        Ok(Some((b"GET", b"/", Some(b"a bc"), b""))),
+    ),
+    (
+        b"GET / HTTP/1.1\r\nauthorization: Bearer\tabc\r\n\r\n",
+        Ok(Some((b"GET", b"/", None, b""))),
+    ),
+    (
+        b"GET / HTTP/1.1\r\nauthorization: Bearer \r\n\r\n",
+        Ok(Some((b"GET", b"/", None, b""))),
+    ),
+    (
+        b"GET / HTTP/1.1\r\nauthorization: Basic abc\r\n\r\n",
+        Ok(Some((b"GET", b"/", None, b""))),
+    ),
+    (
+        b"GET / HTTP/1.1\r\nauthorization: Bearer abc\r\nauthorization: Bearer abc\r\n\r\n",
+        Ok(Some((b"GET", b"/", None, b""))),
+    ),
+];
 
 /// A request with the token of X, and the head of another behind it.
 const STATUS: &str =
     "GET /v1/status HTTP/1.1\r\nauthorization: Bearer XXXXXXXXXXXXXXXX\r\ncontent-length: 3\r\n\r\n{} GET /";
 
-/// Adds bytes, and what stands behind them.
-fn push_part(alloc: Global, told: &mut String, bytes: &[u8], end: &str) -> Result<(), Fail> {
-    let part = String::from_utf8_lossy(alloc, bytes)?;
-    told.push_str(part.as_str())?;
-    told.push_str(end)?;
-    Ok(())
-}
-
-/// Adds the parts of a request.
-fn push_parts(alloc: Global, told: &mut String, head: &Head<'_>, body: &[u8]) -> Result<(), Fail> {
-    push_part(alloc, told, head.method, " ")?;
-    push_part(alloc, told, head.path, " ")?;
-    push_part(alloc, told, head.token.unwrap_or(b"-"), " [")?;
-    push_part(alloc, told, body, "]")
-}
-
-/// The parts of a request.
-fn told_parts(alloc: Global, head: &Head<'_>, body: &[u8]) -> Result<String, Fail> {
-    let mut told = String::new(alloc);
-    push_parts(alloc, &mut told, head, body)?;
-    Ok(told)
-}
-
 /// What a text is.
-fn told(alloc: Global, text: &[u8]) -> Result<String, Fail> {
+fn parts_of(text: &[u8]) -> Result<Option<Parts<'_>>, Code> {
     match frame(text) {
-        Framing::NeedMore => Ok(String::from_str(alloc, "more")?),
-        Framing::Refused(code) => Ok(format!(in alloc; "{code:?}")?),
-        Framing::Whole { head, body } => told_parts(alloc, &head, body),
+        Framing::NeedMore => Ok(None),
+        Framing::Refused(code) => Err(code),
+        Framing::Whole { head, body } => Ok(Some((head.method, head.path, head.token, body))),
     }
-}
-
-/// The text of a row is what the row says.
-fn is_told(rt: &impl Abort, alloc: Global, row: &str) -> Result<(), Fail> {
-    let (text, meaning) = row.rsplit_once('|').unwrap_or(("", ""));
-    let is = told(alloc, text.as_bytes())?;
-    assert_is_at(rt, text, is.as_str(), meaning);
-    Ok(())
 }
 
 #[test]
-fn a_text_is_a_request_or_refused_or_needs_more(rt: HostRuntime) -> Result<(), Fail> {
-    for row in TEXTS.split('\n') {
-        let row = with_line_ends(rt.alloc(), row)?;
-        is_told(&rt, rt.alloc(), row.as_str())?;
+fn a_text_is_a_request_or_refused_or_needs_more(rt: HostRuntime) {
+    for &(text, parts) in TEXTS {
+        assert_is_at(&rt, text, parts_of(text), parts);
     }
-    Ok(())
 }
 
 /// What is known of a text that comes in two pieces.

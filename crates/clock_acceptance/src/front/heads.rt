@@ -1,8 +1,8 @@
 //! What is answered where a head is at a limit or past it, or is none.
 use super::requests::compare;
-use super::rows::{fields_of, with_line_ends};
 use crate::comparing::assert_is;
 use crate::front::example::on_one_product;
+use crate::repeated::{Repeated, repeated};
 use std::alloc::Global;
 use std::process::Abort;
 use std::test::Fail;
@@ -19,36 +19,53 @@ const LONG_HEAD: Told<'static> = (
     r#"{"code":"long_head","status":431}"#,
 );
 
-/// Header lines of a request, and the status and page of its reply. Where there are two faults the earlier one answers.
-const HEADER_LINES: &str = r#"content-length: +5|400 Bad Request|{"code":"bad_length","status":400}
-content-length: 1048577|413 Payload Too Large|{"code":"long_body","status":413}
-content-length: 1048576|400 Bad Request|{"code":"cut_short","status":400}
-transfer-encoding: chunked|501 Not Implemented|{"code":"coding","status":501}
-transfer-encoding: chunked~a : b|400 Bad Request|{"code":"bad_head","status":400}
-content-length: x~transfer-encoding: chunked|501 Not Implemented|{"code":"coding","status":501}
-content-length: 1048577~content-length: 1048577|400 Bad Request|{"code":"bad_length","status":400}
-a : b|400 Bad Request|{"code":"bad_head","status":400}
-a: b|404 Not Found|{"code":"no_page","status":404}"#;
+const BAD_HEAD: Told<'static> = ("400 Bad Request", r#"{"code":"bad_head","status":400}"#);
 
-/// A head of so many header lines.
-fn head_of_lines(alloc: Global, count: usize) -> Result<String, Fail> {
-    let mut text = String::from_str(alloc, "GET / HTTP/1.1\r\n")?;
-    for _ in 0..count {
-        text.push_str("a: b\r\n")?;
-    }
-    text.push_str("\r\n")?;
-    Ok(text)
-}
+const BAD_LENGTH: Told<'static> = ("400 Bad Request", r#"{"code":"bad_length","status":400}"#);
 
-/// A head of 19 bytes, the filling of its one line's value, and its end.
-fn head_filled(alloc: Global, filling: usize, end: &str) -> Result<String, Fail> {
-    let mut text = String::from_str(alloc, "GET / HTTP/1.1\r\na: ")?;
-    for _ in 0..filling {
-        text.push_str("x")?;
-    }
-    text.push_str(end)?;
-    Ok(text)
-}
+const CUT_SHORT: Told<'static> = ("400 Bad Request", r#"{"code":"cut_short","status":400}"#);
+
+const LONG_BODY: Told<'static> = (
+    "413 Payload Too Large",
+    r#"{"code":"long_body","status":413}"#,
+);
+
+const CODING: Told<'static> = ("501 Not Implemented", r#"{"code":"coding","status":501}"#);
+
+/// Requests, and the replies to them. Where there are two faults the earlier one answers.
+const TEXTS: &[(&str, Told<'static>)] = &[
+    (
+        "GET /v1/none HTTP/1.1\r\ncontent-length: +5\r\n\r\n",
+        BAD_LENGTH,
+    ),
+    (
+        "GET /v1/none HTTP/1.1\r\ncontent-length: 1048577\r\n\r\n",
+        LONG_BODY,
+    ),
+    (
+        "GET /v1/none HTTP/1.1\r\ncontent-length: 1048576\r\n\r\n",
+        CUT_SHORT,
+    ),
+    (
+        "GET /v1/none HTTP/1.1\r\ntransfer-encoding: chunked\r\n\r\n",
+        CODING,
+    ),
+    (
+        "GET /v1/none HTTP/1.1\r\ntransfer-encoding: chunked\r\na : b\r\n\r\n",
+        BAD_HEAD,
+    ),
+    (
+        "GET /v1/none HTTP/1.1\r\ncontent-length: x\r\ntransfer-encoding: chunked\r\n\r\n",
+        CODING,
+    ),
+    (
+        "GET /v1/none HTTP/1.1\r\ncontent-length: 1048577\r\ncontent-length: 1048577\r\n\r\n",
+        BAD_LENGTH,
+    ),
+    ("GET /v1/none HTTP/1.1\r\na : b\r\n\r\n", BAD_HEAD),
+    ("GET /v1/none HTTP/1.1\r\na: b\r\n\r\n", NO_PAGE),
+    ("GET /v1/status HTTP/1.1\r\na: b\nc: d\r\n\r\n", BAD_HEAD),
+];
 
 /// A text by itself is answered with a status and a page.
 fn answers(rt: &impl Abort, alloc: Global, text: &str, told: Told<'_>) -> Result<(), Fail> {
@@ -57,73 +74,50 @@ fn answers(rt: &impl Abort, alloc: Global, text: &str, told: Told<'_>) -> Result
     })
 }
 
-/// A request with these header lines.
-fn text_with(alloc: Global, lines: &str) -> Result<String, Fail> {
-    let lines = with_line_ends(alloc, lines)?;
-    Ok(format!(in alloc; "GET /v1/none HTTP/1.1\r\n{}\r\n\r\n", lines.as_str())?)
-}
-
-/// It is answered with a status and a page.
-fn lines_answer(rt: &impl Abort, alloc: Global, lines: &str, told: Told<'_>) -> Result<(), Fail> {
-    let text = text_with(alloc, lines)?;
-    answers(rt, alloc, text.as_str(), told)
-}
-
-/// A request with the header lines of a row is answered as the row says.
-fn answers_row(rt: &impl Abort, alloc: Global, row: &str) -> Result<(), Fail> {
-    let fields = fields_of(alloc, row)?;
-    let &[lines, status, page] = fields.as_slice() else {
-        return Err("a row has three fields")?;
-    };
-    lines_answer(rt, alloc, lines, (status, page))
-}
-
-/// A head of so many lines behind a beginning is told this.
-fn has_lines(
-    rt: &impl Abort,
-    alloc: Global,
-    front: &str,
-    count: usize,
-    told: Told<'_>,
-) -> Result<(), Fail> {
-    let head = head_of_lines(alloc, count)?;
-    let text = format!(in alloc; "{front}{}", head.as_str())?;
-    answers(rt, alloc, text.as_str(), told)
-}
-
-#[test]
-fn a_head_has_at_most_64_lines(rt: HostRuntime) -> Result<(), Fail> {
-    has_lines(&rt, rt.alloc(), "", 64, NO_PAGE)?;
-    has_lines(&rt, rt.alloc(), "", 65, LONG_HEAD)?;
-    has_lines(&rt, rt.alloc(), "\n", 65, LONG_HEAD)
-}
-
-/// A head with such a filling and end has so many bytes, and is told this.
-fn has_bytes(
-    rt: &impl Abort,
-    alloc: Global,
-    filling: (usize, &str),
-    length: usize,
-    told: Told<'_>,
-) -> Result<(), Fail> {
-    let text = head_filled(alloc, filling.0, filling.1)?;
-    assert_is(rt, text.len(), length);
-    answers(rt, alloc, text.as_str(), told)
-}
-
-#[test]
-fn a_head_has_at_most_16384_bytes(rt: HostRuntime) -> Result<(), Fail> {
-    has_bytes(&rt, rt.alloc(), (16_361, "\r\n\r\n"), 16_384, NO_PAGE)?;
-    has_bytes(&rt, rt.alloc(), (16_362, "\r\n\r\n"), 16_385, LONG_HEAD)?;
-    has_bytes(&rt, rt.alloc(), (16_365, ""), 16_384, LONG_HEAD)
-}
-
 #[test]
 fn header_lines_are_answered_by_their_faults(rt: HostRuntime) -> Result<(), Fail> {
-    for row in HEADER_LINES.split('\n') {
-        answers_row(&rt, rt.alloc(), row)?;
+    for &(text, told) in TEXTS {
+        answers(&rt, rt.alloc(), text, told)?;
     }
-    let text = "GET /v1/status HTTP/1.1\r\na: b\nc: d\r\n\r\n";
-    let page = r#"{"code":"bad_head","status":400}"#;
-    answers(&rt, rt.alloc(), text, ("400 Bad Request", page))
+    Ok(())
+}
+
+/// Heads of at most 64 lines and of at most 16,384 bytes, or of more: the parts, how many bytes they are, and the reply.
+const LIMITS: &[(Repeated<'static>, usize, Told<'static>)] = &[
+    (("GET / HTTP/1.1\r\n", "a: b\r\n", 64, "\r\n"), 402, NO_PAGE),
+    (
+        ("GET / HTTP/1.1\r\n", "a: b\r\n", 65, "\r\n"),
+        408,
+        LONG_HEAD,
+    ),
+    (
+        ("\nGET / HTTP/1.1\r\n", "a: b\r\n", 65, "\r\n"),
+        409,
+        LONG_HEAD,
+    ),
+    (
+        ("GET / HTTP/1.1\r\na: ", "x", 16_361, "\r\n\r\n"),
+        16_384,
+        NO_PAGE,
+    ),
+    (
+        ("GET / HTTP/1.1\r\na: ", "x", 16_362, "\r\n\r\n"),
+        16_385,
+        LONG_HEAD,
+    ),
+    (
+        ("GET / HTTP/1.1\r\na: ", "x", 16_365, ""),
+        16_384,
+        LONG_HEAD,
+    ),
+];
+
+#[test]
+fn a_head_has_at_most_64_lines_and_16384_bytes(rt: HostRuntime) -> Result<(), Fail> {
+    for &(parts, length, told) in LIMITS {
+        let text = repeated(rt.alloc(), parts)?;
+        assert_is(&rt, text.len(), length);
+        answers(&rt, rt.alloc(), text.as_str(), told)?;
+    }
+    Ok(())
 }

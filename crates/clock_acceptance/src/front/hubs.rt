@@ -1,5 +1,6 @@
-//! What a hub tells of pieces, as words.
+//! What a hub tells of pieces.
 use crate::front::example::opened;
+use clock_device::{NoMemory, Text};
 use clock_front::{Conn, Fed, Hub, HubFault, Reply};
 use clock_processor::Plain;
 use clock_setup::fixtures::ONE_PRODUCT;
@@ -30,31 +31,28 @@ pub(super) fn connected(hub: &mut Hub<Plain>) -> Result<Conn, HubFault> {
     hub.connect()
 }
 
-/// The status of a reply, and its page.
-pub(super) fn shown(alloc: Global, reply: &Reply) -> Result<String, Fail> {
-    let text = String::from_utf8_lossy(alloc, reply.bytes())?;
-    let page = text.as_str().split('\n').last().unwrap_or("");
-    Ok(format!(in alloc; "{} {page}", reply.code().status())?)
+/// The bytes of a reply.
+pub(super) fn bytes_of(alloc: Global, reply: Reply) -> Result<Text, NoMemory> {
+    let bytes = Text::from_slice(alloc, reply.bytes());
+    drop(reply);
+    bytes
 }
 
-/// What a piece has led to: the reply, `more`, or the fault.
+/// The reply to which a piece has led, or that more is needed.
 pub(super) fn fed(
     alloc: Global,
     hub: &mut Hub<Plain>,
     conn: Conn,
     piece: &[u8],
-) -> Result<String, Fail> {
-    match hub.feed(conn, piece) {
-        Ok(Fed::More) => Ok(String::from_str(alloc, "more")?),
-        Ok(Fed::Reply(reply)) => shown(alloc, &reply),
-        Err(fault) => Ok(format!(in alloc; "{fault}")?),
+) -> Result<Option<Text>, HubFault> {
+    match hub.feed(conn, piece)? {
+        Fed::More => Ok(None),
+        Fed::Reply(reply) => Ok(Some(bytes_of(alloc, reply)?)),
     }
 }
 
-/// What the end of the input has led to: the reply, or the fault.
-pub(super) fn finished(alloc: Global, hub: &mut Hub<Plain>, conn: Conn) -> Result<String, Fail> {
-    match hub.finish(conn) {
-        Ok(reply) => shown(alloc, &reply),
-        Err(fault) => Ok(format!(in alloc; "{fault}")?),
-    }
+/// The reply to which the end of the input has led.
+pub(super) fn finished(alloc: Global, hub: &mut Hub<Plain>, conn: Conn) -> Result<Text, HubFault> {
+    let reply = hub.finish(conn)?;
+    Ok(bytes_of(alloc, reply)?)
 }

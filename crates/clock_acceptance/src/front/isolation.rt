@@ -1,13 +1,12 @@
 //! One bidder's replies in two runs in which it sees the same.
 mod in_pieces;
 
-use super::requests::{reply_of, text_of};
-use super::rows::{fields_of, replaced};
-use crate::comparing::assert_is;
+use super::requests::{fields_of, text_of};
+use crate::comparing::assert_is_at;
 use crate::front::example::on_front;
-use clock_front::Front;
+use clock_front::{Front, Reply};
 use clock_processor::Plain;
-use std::alloc::Global;
+use std::alloc::{AllocError, Global};
 use std::process::Abort;
 use std::test::Fail;
 
@@ -19,7 +18,8 @@ const PUBLIC: &str =
 const X_AND_Y: &str =
     r#"{"name":"X","token":"XXXXXXXXXXXXXXXX","eligibility":10},{"name":"Y","token":"YYYYYYYYYYYYYYYY","eligibility":10}"#;
 
-/// X's own requests: the request line, whose token it has, and its body. The others send theirs in turn.
+/// X's own requests: the request line, whose token it has, and its body. The others send theirs in turn: a line of `~`
+/// alone stands between two turns.
 const OWN: &str = r#"GET /v1/me/bids|X|
 PUT /v1/me/bids|X|{"bids":[{"price":100,"product":0,"quantity":3}],"round":1}
 PUT /v1/me/bids|X|{"bids":[{"price":100,"product":0,"quantity":2}],"round":1}
@@ -52,85 +52,97 @@ const PAGES: &str =
 {"activity":1,"demands":[1],"eligibility":2,"round":2}
 {"ended":true,"products":[{"clock":110,"demand":null,"name":"A","next":null,"posted":103,"start":100}],"round":2}"#;
 
-/// The text of the request of a row.
-fn text_of_row(alloc: Global, row: &str) -> Result<String, Fail> {
+/// A request of a run, and whether it is X's.
+#[derive(Drop)]
+struct Request {
+    is_own: bool,
+    text: String,
+}
+
+/// The request of a row.
+fn request_of(alloc: Global, row: &str, is_own: bool) -> Result<Request, Fail> {
     let fields = fields_of(alloc, row)?;
     let &[line, who, body] = fields.as_slice() else {
         return Err("a row has three fields")?;
     };
-    text_of(alloc, line, who, body)
+    let text = text_of(alloc, line, who, body)?;
+    Ok(Request { is_own, text })
 }
 
-/// The reply to the request of a row.
-fn reply_to(alloc: Global, front: &mut Front<Plain>, row: &str) -> Result<String, Fail> {
-    let text = text_of_row(alloc, row)?;
-    reply_of(alloc, front, text.as_str())
-}
-
-/// The replies to the requests of all rows.
-fn replies_to(alloc: Global, front: &mut Front<Plain>, rows: &str) -> Result<String, Fail> {
-    let mut replies = String::new(alloc);
+/// The requests of rows.
+fn push_rows(
+    alloc: Global,
+    requests: &mut Vec<Request>,
+    rows: &str,
+    is_own: bool,
+) -> Result<(), Fail> {
     for row in rows.split('\n') {
         if !row.is_empty() {
-            let reply = reply_to(alloc, front, row)?;
-            replies.push_str(reply.as_str())?;
+            requests.push(request_of(alloc, row, is_own)?)?;
         }
     }
-    Ok(replies)
-}
-
-/// Adds them to what was told.
-fn push_replies(
-    alloc: Global,
-    front: &mut Front<Plain>,
-    told: &mut String,
-    rows: &str,
-) -> Result<(), Fail> {
-    let replies = replies_to(alloc, front, rows)?;
-    told.push_str(replies.as_str())?;
     Ok(())
 }
 
-/// All replies to X's own requests, between which the others send theirs.
-fn replies_between(alloc: Global, front: &mut Front<Plain>, others: &str) -> Result<String, Fail> {
+/// The requests of a run in their order: X's of each turn, and then those of the others.
+fn requests_of(alloc: Global, others: &str) -> Result<Vec<Request>, Fail> {
+    let mut requests = Vec::new(alloc);
     let mut others = others.split('~');
-    let mut told = String::new(alloc);
     for own in OWN.split('~') {
-        push_replies(alloc, front, &mut told, own)?;
-        replies_to(alloc, front, others.next().unwrap_or(""))?;
+        push_rows(alloc, &mut requests, own, true)?;
+        push_rows(alloc, &mut requests, others.next().unwrap_or(""), false)?;
+    }
+    Ok(requests)
+}
+
+/// Adds the reply to a request of X.
+fn push_reply(
+    alloc: Global,
+    told: &mut String,
+    request: &Request,
+    reply: &Reply,
+) -> Result<(), Fail> {
+    if request.is_own {
+        let reply = String::from_utf8_lossy(alloc, reply.bytes())?;
+        told.push_str(reply.as_str())?;
+    }
+    Ok(())
+}
+
+/// What X is told by a front that answers the requests in turn.
+fn told_in_turn(
+    alloc: Global,
+    front: &mut Front<Plain>,
+    requests: &[Request],
+) -> Result<String, Fail> {
+    let mut told = String::new(alloc);
+    for request in requests {
+        let reply = front.answer(request.text.as_str().as_bytes());
+        push_reply(alloc, &mut told, request, &reply)?;
     }
     Ok(told)
 }
 
-/// The same with a front of what is public and of bidders.
-fn told_x(alloc: Global, public: &str, bidders: &str, others: &str) -> Result<String, Fail> {
-    let document = format!(in alloc; "{{{public},\"bidders\":[{bidders}]}}")?;
+/// The document of what is public and of bidders.
+fn document_of(alloc: Global, public: &str, bidders: &str) -> Result<String, AllocError> {
+    format!(in alloc; "{{{public},\"bidders\":[{bidders}]}}")
+}
+
+/// A run: its bidders, and what the others send.
+type Run<'a> = (&'a str, &'a str);
+
+/// What X is told in a run of what is public.
+fn told_x(alloc: Global, public: &str, run: Run<'_>) -> Result<String, Fail> {
+    let document = document_of(alloc, public, run.0)?;
+    let requests = requests_of(alloc, run.1)?;
     on_front(alloc, document.as_str(), |front| {
-        replies_between(alloc, front, others)
+        told_in_turn(alloc, front, requests.as_slice())
     })
 }
 
 /// Whether each of X's pages stands among its replies.
 fn has_pages(told: &str) -> bool {
     PAGES.split('\n').all(|page| told.contains(page))
-}
-
-/// A run: its bidders, and what the others send.
-type Run<'a> = (&'a str, &'a str);
-
-/// X is told the same in both runs of what is public, its pages among it.
-fn is_told_alike(
-    rt: &impl Abort,
-    alloc: Global,
-    public: &str,
-    one: Run<'_>,
-    two: Run<'_>,
-) -> Result<(), Fail> {
-    let one = told_x(alloc, public, one.0, one.1)?;
-    assert!(rt; has_pages(one.as_str()), "{}", one.as_str());
-    let two = told_x(alloc, public, two.0, two.1)?;
-    assert_is(rt, one.as_str(), two.as_str());
-    Ok(())
 }
 
 /// Y wants one block in both rounds.
@@ -158,11 +170,6 @@ PUT /v1/me/bids|W|{"bids":[{"price":110,"product":0,"quantity":1}],"round":2}
 ~
 POST /v1/close|O|{"increment":10,"round":2,"ties":[]}"#;
 
-#[test]
-fn rivals_show_in_no_reply(rt: HostRuntime) -> Result<(), Fail> {
-    is_told_alike(&rt, rt.alloc(), PUBLIC, (X_AND_Y, BY_Y), (V_X_AND_W, BY_W))
-}
-
 /// Three further requests, each of them refused: a closing, a sheet of nobody's, and what is no head.
 const BY_Y_AND_STRANGERS: &str =
     r#"PUT /v1/me/bids|Y|{"bids":[{"price":100,"product":0,"quantity":1}],"round":1}
@@ -176,42 +183,34 @@ PUT /v1/me/bids|Y|{"bids":[{"price":110,"product":0,"quantity":1}],"round":2}
 ~
 POST /v1/close|O|{"increment":10,"round":2,"ties":[]}"#;
 
-#[test]
-fn refused_requests_show_in_no_reply(rt: HostRuntime) -> Result<(), Fail> {
-    is_told_alike(
-        &rt,
-        rt.alloc(),
-        PUBLIC,
-        (X_AND_Y, BY_Y_AND_STRANGERS),
-        (V_X_AND_W, BY_W),
-    )
-}
-
 /// The same in the second version.
 const PUBLIC_2: &str = r#""version":2,"limit":125,"requirement":95,"operator":"OPERATOROPERATOR",
 "products":[{"name":"A","units":1,"supply":2,"cap":2,"opening":100,"granule":1}]"#;
 
-/// Rows of closings in the second version.
-fn in_version_2(alloc: Global, rows: &str) -> Result<String, Fail> {
-    replaced(alloc, rows, r#""increment":10"#, r#""increments":[10]"#)
-}
+/// In it a closing has an increment for each product.
+const BY_Y_2: &str =
+    r#"PUT /v1/me/bids|Y|{"bids":[{"price":100,"product":0,"quantity":1}],"round":1}
+~
+POST /v1/close|O|{"increments":[10],"round":1,"ties":[]}
+~
+PUT /v1/me/bids|Y|{"bids":[{"price":110,"product":0,"quantity":1}],"round":2}
+~
+POST /v1/close|O|{"increments":[10],"round":2,"ties":[]}"#;
 
-#[test]
-fn rivals_show_in_no_reply_of_version_2(rt: HostRuntime) -> Result<(), Fail> {
-    let by_y = in_version_2(rt.alloc(), BY_Y)?;
-    let by_w = in_version_2(rt.alloc(), BY_W)?;
-    let one = (X_AND_Y, by_y.as_str());
-    is_told_alike(&rt, rt.alloc(), PUBLIC_2, one, (V_X_AND_W, by_w.as_str()))
-}
+const BY_W_2: &str =
+    r#"PUT /v1/me/bids|W|{"bids":[{"price":100,"product":0,"quantity":2}],"round":1}
+PUT /v1/me/bids|W|{"bids":[{"price":100,"product":0,"quantity":1}],"round":1}
+PUT /v1/me/bids|W|{"bids":[{"price":100,"product":0,"quantity":3}],"round":1}
+~
+POST /v1/close|O|{"increments":[10],"round":1,"ties":[]}
+~
+PUT /v1/me/bids|W|{"bids":[{"price":110,"product":0,"quantity":1}],"round":2}
+~
+POST /v1/close|O|{"increments":[10],"round":2,"ties":[]}"#;
 
 /// The same bidders by other numbers.
 const Y_AND_X: &str =
     r#"{"name":"Y","token":"YYYYYYYYYYYYYYYY","eligibility":10},{"name":"X","token":"XXXXXXXXXXXXXXXX","eligibility":10}"#;
-
-#[test]
-fn its_number_shows_in_no_reply(rt: HostRuntime) -> Result<(), Fail> {
-    is_told_alike(&rt, rt.alloc(), PUBLIC, (X_AND_Y, BY_Y), (Y_AND_X, BY_Y))
-}
 
 /// Y's wrong sheets and the operator's refused closings, in another order at each place, and ties by other numbers.
 const BY_Y_WITH_FAULTS: &str = r#"POST /v1/close|O|{"increment":51,"round":1,"ties":[]}
@@ -246,9 +245,49 @@ PUT /v1/me/bids|Y|{"bids":[{"price":110,"product":0,"quantity":1}],"round":2}
 PUT /v1/me/bids|Y|{"bids":[{"price":111,"product":0,"quantity":1}],"round":2}
 POST /v1/close|O|{"increment":10,"round":2,"ties":[[0,0,8]]}"#;
 
+/// What does not show in X's replies, what is public, and two runs that differ in it alone.
+const RUNS: &[(&str, &str, Run<'static>, Run<'static>)] = &[
+    ("rivals", PUBLIC, (X_AND_Y, BY_Y), (V_X_AND_W, BY_W)),
+    (
+        "refused requests",
+        PUBLIC,
+        (X_AND_Y, BY_Y_AND_STRANGERS),
+        (V_X_AND_W, BY_W),
+    ),
+    (
+        "rivals in version 2",
+        PUBLIC_2,
+        (X_AND_Y, BY_Y_2),
+        (V_X_AND_W, BY_W_2),
+    ),
+    ("its number", PUBLIC, (X_AND_Y, BY_Y), (Y_AND_X, BY_Y)),
+    (
+        "faults and ties of others",
+        PUBLIC,
+        (X_AND_Y, BY_Y_WITH_FAULTS),
+        (X_AND_Y, BY_Y_WITH_OTHER_FAULTS),
+    ),
+];
+
+/// X is told the same in both runs of what is public, its pages among it.
+fn is_told_alike(
+    rt: &impl Abort,
+    alloc: Global,
+    hidden: &str,
+    public: &str,
+    runs: (Run<'_>, Run<'_>),
+) -> Result<(), Fail> {
+    let one = told_x(alloc, public, runs.0)?;
+    assert_is_at(rt, hidden, has_pages(one.as_str()), true);
+    let two = told_x(alloc, public, runs.1)?;
+    assert_is_at(rt, hidden, one.as_str(), two.as_str());
+    Ok(())
+}
+
 #[test]
-fn faults_and_ties_of_others_show_in_no_reply(rt: HostRuntime) -> Result<(), Fail> {
-    let one = (X_AND_Y, BY_Y_WITH_FAULTS);
-    let two = (X_AND_Y, BY_Y_WITH_OTHER_FAULTS);
-    is_told_alike(&rt, rt.alloc(), PUBLIC, one, two)
+fn what_a_bidder_may_not_see_shows_in_no_reply(rt: HostRuntime) -> Result<(), Fail> {
+    for &(hidden, public, one, two) in RUNS {
+        is_told_alike(&rt, rt.alloc(), hidden, public, (one, two))?;
+    }
+    Ok(())
 }

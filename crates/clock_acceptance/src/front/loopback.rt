@@ -76,49 +76,29 @@ fn left_client(rt: &HostRuntime, address: SocketAddr) -> io::Result<TcpStream> {
     client(rt, address, STATUS)
 }
 
-/// Serves so many connections of an auction of one product, and answers whether each could be taken.
-fn all_are_served(alloc: Global, listener: &TcpListener, connections: u64) -> Result<bool, Fail> {
+/// Whether three connections of a port are served by an auction of one product.
+fn three_are_served(alloc: Global, listener: &TcpListener) -> Result<bool, Fail> {
     on_one_product(alloc, |front| {
-        Ok(serve_on(alloc, front, listener, connections).is_ok())
+        Ok(serve_on(alloc, front, listener, 3).is_ok())
     })
-}
-
-/// The clients of a port, each of which is served.
-fn served_clients(
-    rt: &HostRuntime,
-    alloc: Global,
-    listener: &TcpListener,
-) -> Result<Clients, Fail> {
-    let clients = three_clients(rt, listener.local_addr()?)?;
-    if !all_are_served(alloc, listener, 3)? {
-        return Err("a connection is not taken")?;
-    }
-    Ok(clients)
 }
 
 #[test]
 fn connections_are_served_in_turn(rt: HostRuntime) -> Result<(), Fail> {
     let listener = any_port(&rt)?;
-    let clients = served_clients(&rt, rt.alloc(), &listener);
+    let clients = three_clients(&rt, listener.local_addr()?)?;
+    let is_served = three_are_served(rt.alloc(), &listener);
     drop(listener);
-    assert_each_hears(&rt, clients?)?;
-    Ok(())
-}
-
-/// The last of three clients of a port, each of which is served.
-fn served_last(rt: &HostRuntime, alloc: Global, listener: &TcpListener) -> Result<TcpStream, Fail> {
-    let status = left_client(rt, listener.local_addr()?)?;
-    if !all_are_served(alloc, listener, 3)? {
-        return Err("a connection is not taken")?;
-    }
-    Ok(status)
+    assert_is(&rt, is_served?, true);
+    Ok(assert_each_hears(&rt, clients)?)
 }
 
 #[test]
 fn a_client_that_is_gone_ends_alone(rt: HostRuntime) -> Result<(), Fail> {
     let listener = any_port(&rt)?;
-    let status = served_last(&rt, rt.alloc(), &listener);
+    let status = left_client(&rt, listener.local_addr()?)?;
+    let is_served = three_are_served(rt.alloc(), &listener);
     drop(listener);
-    assert_hears(&rt, status?, FIRST_ROUND)?;
-    Ok(())
+    assert_is(&rt, is_served?, true);
+    Ok(assert_hears(&rt, status, FIRST_ROUND)?)
 }

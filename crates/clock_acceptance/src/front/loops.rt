@@ -88,27 +88,38 @@ fn compare_kept(
     compared
 }
 
+/// The same without a journal, or with one whose syncs fail from one on.
+fn compare_either(
+    rt: &impl Abort,
+    alloc: Global,
+    front: &mut Front<Plain>,
+    syncs: Option<u64>,
+    ended: Result<(), ServeFault>,
+    written: &[&str],
+) -> Result<(), Fail> {
+    match syncs {
+        None => compare(rt, alloc, front, &mut Unkept, ended, written),
+        Some(syncs) => compare_kept(rt, alloc, front, syncs, ended, written),
+    }
+}
+
 /// What is written where nothing fails but what the clients do.
-const WRITTEN: [&str; 5] = [ACCEPTED, CUT_SHORT, "", "HTTP/1.1 200 OK\r\nc", FIRST_ROUND];
+const WRITTEN: &[&str] = &[ACCEPTED, CUT_SHORT, "", "HTTP/1.1 200 OK\r\nc", FIRST_ROUND];
+
+/// How many syncs a journal has, how the loop ends, and what is written. Where the sync of the first text fails, its
+/// client hears nothing, and no other connection is taken.
+const LOOPS: &[(Option<u64>, Result<(), ServeFault>, &[&str])] = &[
+    (None, Ok(()), WRITTEN),
+    (Some(2), Ok(()), WRITTEN),
+    (Some(1), Err(ServeFault::Journal), &[""]),
+];
 
 #[test]
-fn each_connection_gets_its_own_reply(rt: HostRuntime) -> Result<(), Fail> {
-    on_one_product(rt.alloc(), |front| {
-        compare(&rt, rt.alloc(), front, &mut Unkept, Ok(()), &WRITTEN)
-    })
-}
-
-#[test]
-fn an_accepted_text_is_kept(rt: HostRuntime) -> Result<(), Fail> {
-    on_one_product(rt.alloc(), |front| {
-        compare_kept(&rt, rt.alloc(), front, 2, Ok(()), &WRITTEN)
-    })
-}
-
-/// The sync of the first text fails: its client hears nothing, and no other connection is taken.
-#[test]
-fn a_text_that_is_not_kept_ends_the_loop(rt: HostRuntime) -> Result<(), Fail> {
-    on_one_product(rt.alloc(), |front| {
-        compare_kept(&rt, rt.alloc(), front, 1, Err(ServeFault::Journal), &[""])
-    })
+fn each_connection_gets_its_own_reply_once_it_is_kept(rt: HostRuntime) -> Result<(), Fail> {
+    for &(syncs, ended, written) in LOOPS {
+        on_one_product(rt.alloc(), |front| {
+            compare_either(&rt, rt.alloc(), front, syncs, ended, written)
+        })?;
+    }
+    Ok(())
 }

@@ -14,6 +14,5 @@ mod loops;
 mod pieces;
 mod requests;
 mod routes;
-mod rows;
 mod streams;
 mod texts;

@@ -1,9 +1,9 @@
 //! Requests in pieces over connections that stand at once.
 use super::events::{connected, piece, push_byte};
 use super::hubs;
-use super::hubs::{fed, finished, on_hub, shown};
+use super::hubs::{fed, finished, on_hub};
 use super::requests::setup_of;
-use super::texts::{BIDS_OF_Y, PUT, STATUS};
+use super::texts::{ACCEPTED, BIDS_OF_Y, CUT_SHORT, FIRST_ROUND, NO_BIDS, PUT, STATUS};
 use crate::comparing::{assert_is, assert_is_at};
 use clock_front::{Conn, Event, EventReplies, EventReply, Hub, HubFault, run_events};
 use clock_processor::Plain;
@@ -12,21 +12,17 @@ use std::alloc::Global;
 use std::process::Abort;
 use std::test::Fail;
 
-const STATUS_PAGE: &str = r#"200 {"ended":false,"round":1,"version":1}"#;
-
-const CUT_SHORT: &str = r#"400 {"code":"cut_short","status":400}"#;
-
-const UNKNOWN: &str = "no such connection";
-
 /// The texts of three connections.
 const TEXTS: [&str; 3] = [PUT, STATUS, "PUT /v1/me"];
 
-/// The replies to them, and to Y's request for its bids, which is whole in one piece.
-const IN_ORDER_OF_COMPLETION: &str = r#"1 200 {"ended":false,"round":1,"version":1}
-0 200 {"accepted":true,"bids":1,"round":1}
-2 400 {"code":"cut_short","status":400}
-3 200 {"bids":null,"round":1}
-"#;
+/// The replies to them, and to Y's request for its bids, which is whole in one piece, with the numbers of their
+/// connections.
+const IN_ORDER_OF_COMPLETION: &[(u64, &str)] = &[
+    (1, FIRST_ROUND),
+    (0, ACCEPTED),
+    (2, CUT_SHORT),
+    (3, NO_BIDS),
+];
 
 /// The byte of each text at a place, in turn.
 fn push_bytes(alloc: Global, events: &mut Vec<Event>, place: usize) -> Result<(), Fail> {
@@ -59,37 +55,21 @@ fn replies_to(alloc: Global, events: &[Event]) -> Result<EventReplies, Fail> {
     Ok(run_events(alloc, setup_of(alloc, ONE_PRODUCT)?, Plain, events)?)
 }
 
-/// Adds the number of a reply, its status and its page.
-fn push_shown(alloc: Global, all: &mut String, one: &EventReply) -> Result<(), Fail> {
-    let reply = shown(alloc, &one.reply)?;
-    let line = format!(in alloc; "{} {}\n", one.number, reply.as_str())?;
-    all.push_str(line.as_str())?;
-    Ok(())
-}
-
-/// The same of each reply.
-fn all_shown(alloc: Global, replies: &EventReplies) -> Result<String, Fail> {
-    let mut all = String::new(alloc);
-    for one in replies.as_slice() {
-        push_shown(alloc, &mut all, one)?;
+/// Asserts the replies and their order.
+fn are_told(rt: &impl Abort, replies: &[EventReply], expected: &[(u64, &str)]) {
+    assert_is(rt, replies.len(), expected.len());
+    for (one, (number, reply)) in replies.iter().zip(expected) {
+        assert_is_at(rt, *number, one.number, *number);
+        assert_is_at(rt, *number, one.reply.bytes(), reply.as_bytes());
     }
-    Ok(all)
-}
-
-/// The same of the replies to events.
-fn all_told(alloc: Global, events: &[Event]) -> Result<String, Fail> {
-    let replies = replies_to(alloc, events)?;
-    let told = all_shown(alloc, &replies);
-    drop(replies);
-    told
 }
 
 #[test]
 fn three_connections_in_single_bytes(rt: HostRuntime) -> Result<(), Fail> {
     let events = in_single_bytes(rt.alloc())?;
-    let told = all_told(rt.alloc(), events.as_slice());
+    let replies = replies_to(rt.alloc(), events.as_slice());
     drop(events);
-    assert_is(&rt, told?.as_str(), IN_ORDER_OF_COMPLETION);
+    are_told(&rt, replies?.as_slice(), IN_ORDER_OF_COMPLETION);
     Ok(())
 }
 
@@ -113,61 +93,59 @@ fn no_more_than_256_stand(rt: HostRuntime) -> Result<(), Fail> {
     on_hub(rt.alloc(), |hub| is_full_at(&rt, hub, 256))
 }
 
+/// What a connection is told at a step: a reply, or that more is needed, or a fault in words.
+type Told<'a> = Result<Option<&'a str>, &'a str>;
+
+const UNKNOWN: Told<'static> = Err("no such connection");
+
 /// What the connections are told that are asked for in turn, as one after the other gets a text or its input ends.
-const STEPS: [(usize, &str, &str); 11] = [
-    (0, "connect", "connected"),
-    (0, STATUS, STATUS_PAGE),
+const STEPS: &[(usize, &str, Told<'static>)] = &[
+    (0, "connect", Ok(None)),
+    (0, STATUS, Ok(Some(FIRST_ROUND))),
     (0, STATUS, UNKNOWN),
-    (1, "connect", "connected"),
-    (1, "", "more"),
-    (1, "GET", "more"),
-    (1, "end", CUT_SHORT),
+    (1, "connect", Ok(None)),
+    (1, "", Ok(None)),
+    (1, "GET", Ok(None)),
+    (1, "end", Ok(Some(CUT_SHORT))),
     (1, "end", UNKNOWN),
-    (2, "connect", "connected"),
+    (2, "connect", Ok(None)),
     (1, STATUS, UNKNOWN),
-    (2, STATUS, STATUS_PAGE),
+    (2, STATUS, Ok(Some(FIRST_ROUND))),
 ];
 
-/// One more connection, which is kept.
-fn kept(alloc: Global, hub: &mut Hub<Plain>, conns: &mut Vec<Conn>) -> Result<String, Fail> {
-    conns.push(hubs::connected(hub)?)?;
-    Ok(String::from_str(alloc, "connected")?)
-}
-
-/// What a connection is told at a step.
-fn told_at(
-    alloc: Global,
-    hub: &mut Hub<Plain>,
-    conns: &mut Vec<Conn>,
-    number: usize,
-    step: &str,
-) -> Result<String, Fail> {
-    match (conns.as_slice().get(number), step) {
-        (None, _) => kept(alloc, hub, conns),
-        (Some(conn), "end") => finished(alloc, hub, *conn),
-        (Some(conn), text) => fed(alloc, hub, *conn, text.as_bytes()),
-    }
-}
-
-/// Takes a step.
-fn take_step(
+/// Asserts what a connection is told at a step.
+fn is_told(
     rt: &impl Abort,
     alloc: Global,
     hub: &mut Hub<Plain>,
-    conns: &mut Vec<Conn>,
-    step: (usize, &str, &str),
+    conn: Conn,
+    text: &str,
+    told: Told<'_>,
 ) -> Result<(), Fail> {
-    let (number, text, expected) = step;
-    let told = told_at(alloc, hub, conns, number, text)?;
-    assert_is_at(rt, (number, text), told.as_str(), expected);
+    let reply = match text {
+        "end" => finished(alloc, hub, conn).map(Some),
+        text => fed(alloc, hub, conn, text.as_bytes()),
+    };
+    let told = told.map(|reply| reply.map(|reply| reply.as_bytes()));
+    match reply {
+        Ok(Some(reply)) => assert_is_at(rt, text, Ok(Some(reply.as_slice())), told),
+        Ok(None) => assert_is_at(rt, text, Ok(None), told),
+        Err(fault) => {
+            let words = format!(in alloc; "{fault}")?;
+            assert_is_at(rt, text, Err(words.as_str()), told);
+        }
+    }
     Ok(())
 }
 
 /// Takes all steps.
 fn take_steps(rt: &impl Abort, alloc: Global, hub: &mut Hub<Plain>) -> Result<(), Fail> {
     let mut conns = Vec::new(alloc);
-    for step in STEPS.iter() {
-        take_step(rt, alloc, hub, &mut conns, *step)?;
+    for &(number, text, told) in STEPS {
+        match conns.as_slice().get(number) {
+            None => conns.push(hubs::connected(hub)?)?,
+            Some(conn) => is_told(rt, alloc, hub, *conn, text, told)?,
+        }
     }
     Ok(())
 }

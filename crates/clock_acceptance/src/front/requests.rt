@@ -1,4 +1,5 @@
-//! Requests as rows of text, and their replies.
+//! Requests as rows of text, and their replies. A table is a text, of which each line is a row, with `|` between two
+//! fields.
 use crate::comparing::assert_is;
 use clock_front::Front;
 use clock_processor::Plain;
@@ -10,6 +11,11 @@ use std::test::Fail;
 /// The set-up of a document.
 pub(super) fn setup_of(alloc: Global, document: &str) -> Result<Setup, Fail> {
     Ok(read_setup(alloc, document.as_bytes())?)
+}
+
+/// The fields of a row.
+pub(super) fn fields_of(alloc: Global, row: &str) -> Result<Vec<&str>, Fail> {
+    Ok(row.split('|').collect(alloc)?)
 }
 
 /// The header line of a token, by whose it is: a bidder's letter, the operator's, or `N` for nobody's.

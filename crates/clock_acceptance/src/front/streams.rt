@@ -5,7 +5,7 @@ use super::requests::reply_of;
 use super::texts::{ACCEPTED, BIDS_OF_X, NO_SHEET, PUT, SHEET};
 use crate::comparing::assert_is;
 use crate::front::example::on_one_product;
-use clock_device::{ListSink, ListSource, Stop, Text};
+use clock_device::{ListSink, ListSource, NoMemory, Stop, Text};
 use clock_front::{Front, StreamFault, serve_stream};
 use clock_http::Code;
 use clock_processor::Plain;
@@ -27,14 +27,19 @@ struct Row<'a> {
     ghost some: { 1 ≤ piece },
 }
 
-/// Serves the text of a row, and tells what was written.
-fn serve(
+/// Serves a text by reads and writes of so many bytes at most, one of which may stop: what is answered, and written.
+pub(super) fn serve(
     alloc: Global,
     front: &mut Front<Plain>,
-    row: &Row<'_>,
-) -> Result<(Result<Code, StreamFault>, Text), Fail> {
-    let mut source = ListSource::new(row.text, row.piece, row.read);
-    let mut sink = ListSink::new(alloc, 1024, row.piece, row.write)?;
+    text: &[u8],
+    piece: usize,
+    read: Option<(u64, Stop)>,
+    write: Option<u64>,
+) -> Result<(Result<Code, StreamFault>, Text), NoMemory>
+    requires { 1 ≤ piece }
+{
+    let mut source = ListSource::new(text, piece, read);
+    let mut sink = ListSink::new(alloc, 1024, piece, write)?;
     let answer = serve_stream(alloc, front, &mut source, &mut sink);
     let written = Text::from_slice(alloc, sink.bytes());
     drop(sink);
@@ -57,9 +62,8 @@ fn served_as(
     front: &mut Front<Plain>,
     row: &Row<'_>,
 ) -> Result<(), Fail> {
-    let (answer, written) = serve(alloc, front, row)?;
-    assert_is(rt, answer, row.answer);
-    assert_is(rt, written.as_slice(), row.written);
+    let (answer, written) = serve(alloc, front, row.text, row.piece, row.read, row.write)?;
+    assert_is(rt, (answer, written.as_slice()), (row.answer, row.written));
     drop(written);
     assert_is(rt, has_sheet(alloc, front)?, row.has_sheet);
     Ok(())

@@ -31,6 +31,10 @@ pub(super) const NO_SHEET: &str = r#"{"bids":null,"round":1}"#;
 pub(super) const BIDS_OF_Y: &str =
     "GET /v1/me/bids HTTP/1.1\r\nauthorization: Bearer YYYYYYYYYYYYYYYY\r\n\r\n";
 
+/// The reply to it while none is in force.
+pub(super) const NO_BIDS: &str = "HTTP/1.1 200 OK\r\nconnection: close\r\n\
+    content-length: 23\r\ncontent-type: application/json\r\n\r\n{\"bids\":null,\"round\":1}";
+
 pub(super) const STATUS: &str = "GET /v1/status HTTP/1.1\r\n\r\n";
 
 /// The reply to a question for the status of an auction in its first round.

@@ -52,7 +52,7 @@ const REQUIREMENT: Option<ScriptFault> = Some(ScriptFault::Setup(SetupFault::Ran
 const SHAPE: Option<ScriptFault> = Some(ScriptFault::Shape);
 
 /// The closings, the scripts and the set-up of a document, and its first fault.
-const ROWS: [(&str, &str, &str, Option<ScriptFault>); 14] = [
+const ROWS: &[(&str, &str, &str, Option<ScriptFault>)] = &[
     (SINGLE, GOOD, ONE_PRODUCT, None),
     (SINGLE, EACH_ROUND, ONE_PRODUCT, None),
     (PER_PRODUCT, SILENT, GRANULES_AND_INCREMENTS, None),
@@ -79,12 +79,7 @@ pub(super) fn joined(alloc: Global, pieces: &[&str]) -> Result<Text, NoMemory> {
 }
 
 /// A document with these closings, scripts and set-up.
-pub(super) fn document(
-    alloc: Global,
-    closings: &str,
-    scripts: &str,
-    setup: &str,
-) -> Result<Text, NoMemory> {
+fn document(alloc: Global, closings: &str, scripts: &str, setup: &str) -> Result<Text, NoMemory> {
     joined(
         alloc,
         &[
@@ -111,9 +106,9 @@ fn bytes_that_are_no_value(rt: HostRuntime) {
 
 #[test]
 fn the_first_fault_is_told(rt: HostRuntime) -> Result<(), Fail> {
-    for (closings, scripts, setup, fault) in ROWS.iter() {
+    for &(closings, scripts, setup, fault) in ROWS {
         let text = document(rt.alloc(), closings, scripts, setup)?;
-        assert_is(&rt, fault_of(rt.alloc(), text.as_slice()), *fault);
+        assert_is(&rt, fault_of(rt.alloc(), text.as_slice()), fault);
     }
     Ok(())
 }

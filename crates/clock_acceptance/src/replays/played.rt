@@ -1,7 +1,8 @@
 //! A replay is played, and its report or its first fault is told.
 
-use super::documents::{document, joined};
+use super::documents::joined;
 use crate::comparing::assert_is;
+use crate::repeated::repeated;
 use clock_device::{NoMemory, Text};
 use clock_http::Code;
 use clock_processor::Plain;
@@ -9,7 +10,7 @@ use clock_setup::fixtures::ONE_PRODUCT;
 use clock_sim::{
     Replay, Report, SimFault, read_replay, replay_text, report_text, simulate, simulate_with,
 };
-use std::alloc::Global;
+use std::alloc::{AllocError, Global};
 use std::process::Abort;
 use std::test::Fail;
 
@@ -51,7 +52,7 @@ enum Settled {
     Written,
 }
 
-const ALL_WAYS: [Settled; 3] = [Settled::Woken, Settled::Rescanned, Settled::Written];
+const ALL_WAYS: &[Settled] = &[Settled::Woken, Settled::Rescanned, Settled::Written];
 
 /// What a replay comes to.
 fn played(alloc: Global, replay: Replay, settled: Settled) -> Result<Text, SimFault> {
@@ -82,199 +83,175 @@ fn with_scripts(
     first: &str,
     second: &str,
 ) -> Result<Text, NoMemory> {
-    let scripts = joined(alloc, &["[", first, ",", second, "]"])?;
-    let Ok(scripts) = str::from_utf8(scripts.as_slice()) else {
-        return Err(NoMemory);
-    };
-    document(alloc, closings, scripts, ONE_PRODUCT)
+    joined(
+        alloc,
+        &[
+            "{\"closings\":",
+            closings,
+            ",\"scripts\":[",
+            first,
+            ",",
+            second,
+            "],\"setup\":",
+            ONE_PRODUCT,
+            "}",
+        ],
+    )
 }
 
-/// A document comes to this report in each way.
-fn has_report(rt: &impl Abort, alloc: Global, document: &[u8], report: &str) -> Result<(), Fail> {
-    for settled in ALL_WAYS.iter() {
-        let text = outcome(alloc, document, *settled)?;
-        assert_is(rt, text.as_slice(), report.as_bytes());
-    }
-    Ok(())
-}
-
-#[test]
-fn sincere_bidders_leave_at_their_limits(rt: HostRuntime) -> Result<(), Fail> {
-    let document = with_scripts(rt.alloc(), THREE_CLOSINGS, FALLING_LIMITS, ONE_BLOCK)?;
-    has_report(&rt, rt.alloc(), document.as_slice(), REPORT)
-}
-
-/// A script of X, the closings, and the fault.
-const FAULTS: [(&str, &str, SimFault); 3] = [
-    (FALLING_LIMITS, TWO_CLOSINGS, SimFault::ClosingsSpent),
+/// A script of X beside Y's, the closings, and the report or the fault: sincere bidders leave at their limits.
+const PLAYED: &[(&str, &str, Result<&str, SimFault>)] = &[
+    (FALLING_LIMITS, THREE_CLOSINGS, Ok(REPORT)),
+    (FALLING_LIMITS, TWO_CLOSINGS, Err(SimFault::ClosingsSpent)),
     (
         OVER_CAP,
         THREE_CLOSINGS,
-        SimFault::Refused(0, 1, Code::OverCap),
+        Err(SimFault::Refused(0, 1, Code::OverCap)),
     ),
     (
         FALLING_LIMITS,
         STEEP_CLOSING,
-        SimFault::Closing(1, Code::Increment),
+        Err(SimFault::Closing(1, Code::Increment)),
     ),
 ];
 
-/// A document has this fault in each way.
-fn has_fault(rt: &impl Abort, alloc: Global, document: &[u8], fault: SimFault) {
-    for settled in ALL_WAYS.iter() {
-        let told = outcome(alloc, document, *settled);
-        assert_is(rt, told.err(), Some(fault));
+/// Asserts the report or the fault of a document that is played in one way.
+fn comes_to(rt: &impl Abort, told: Result<Text, SimFault>, expected: Result<&str, SimFault>) {
+    let expected = expected.map(|report| report.as_bytes());
+    match told {
+        Ok(text) => assert_is(rt, Ok(text.as_slice()), expected),
+        Err(fault) => assert_is(rt, Err(fault), expected),
+    }
+}
+
+/// Asserts them in each way.
+fn comes_to_in_all_ways(
+    rt: &impl Abort,
+    alloc: Global,
+    document: &[u8],
+    expected: Result<&str, SimFault>,
+) {
+    for settled in ALL_WAYS {
+        comes_to(rt, outcome(alloc, document, *settled), expected);
     }
 }
 
 #[test]
-fn the_first_fault_is_told(rt: HostRuntime) -> Result<(), Fail> {
-    for (script, closings, fault) in FAULTS.iter() {
+fn a_report_or_the_first_fault_is_told(rt: HostRuntime) -> Result<(), Fail> {
+    for &(script, closings, expected) in PLAYED {
         let document = with_scripts(rt.alloc(), closings, script, ONE_BLOCK)?;
-        has_fault(&rt, rt.alloc(), document.as_slice(), *fault);
+        comes_to_in_all_ways(&rt, rt.alloc(), document.as_slice(), expected);
     }
     Ok(())
 }
 
-/// How many bidders put a sheet: two groups of 64, and one of two.
-const MANY: u64 = 130;
+/// Scripts that put a block, and one block too many, as the first of a list and behind another.
+const ONE: &str = r#"{"kind":"literal","sheets":[[{"price":100,"product":0,"quantity":1}]]}"#;
 
-/// Adds an item with a number in it.
-fn push_item(text: &mut Text, before: &str, number: u64, after: &str) -> Result<(), NoMemory> {
-    text.extend_from_slice(before.as_bytes())?;
-    text.push_number(number)?;
-    text.extend_from_slice(after.as_bytes())?;
-    Ok(())
-}
+const TWO: &str = r#"{"kind":"literal","sheets":[[{"price":100,"product":0,"quantity":2}]]}"#;
 
-/// The comma before an item, where it is a later one than the first.
-fn comma_before(bidder: u64) -> &'static str {
-    if bidder == 0 { "" } else { "," }
-}
+const ONE_MORE: &str = r#",{"kind":"literal","sheets":[[{"price":100,"product":0,"quantity":1}]]}"#;
 
-/// The row of a bidder.
-fn push_bidder(text: &mut Text, bidder: u64) -> Result<(), NoMemory> {
-    text.extend_from_slice(comma_before(bidder).as_bytes())?;
-    push_item(
-        text,
-        "{\"eligibility\":1,\"name\":\"B",
-        bidder,
-        "\",\"token\":\"TOKENTOKENTOKENS",
-    )?;
-    push_item(text, "", bidder, "\"}")
-}
+const TWO_MORE: &str = r#",{"kind":"literal","sheets":[[{"price":100,"product":0,"quantity":2}]]}"#;
 
-/// The script of a bidder that puts so many blocks.
-fn push_script(text: &mut Text, bidder: u64, quantity: u64) -> Result<(), NoMemory> {
-    text.extend_from_slice(comma_before(bidder).as_bytes())?;
-    push_item(
-        text,
-        "{\"kind\":\"literal\",\"sheets\":[[{\"price\":100,\"product\":0,\"quantity\":",
-        quantity,
-        "}]]}",
-    )
-}
-
-/// The rows of many bidders.
-fn push_bidders(text: &mut Text) -> Result<(), NoMemory> {
-    for bidder in 0..MANY {
-        push_bidder(text, bidder)?;
-    }
-    Ok(())
-}
-
-/// Their scripts: each puts one block, and those from some number on one block too many.
-fn push_scripts(text: &mut Text, faulty: u64) -> Result<(), NoMemory> {
-    for bidder in 0..MANY {
-        push_script(text, bidder, if bidder < faulty { 1 } else { 2 })?;
-    }
-    Ok(())
-}
-
-const BEFORE_SCRIPTS: &str = "{\"closings\":[{\"increment\":10,\"ties\":[]}],\"scripts\":[";
-
-const BEFORE_PRODUCT: &str =
-    "],\"setup\":{\"version\":1,\"requirement\":95,\"operator\":\"OPERATOROPERATOR\",\"products\":[";
+const BEFORE_SCRIPTS: &str = r#"{"closings":[{"increment":10,"ties":[]}],"scripts":["#;
 
 const BEFORE_BIDDERS: &str =
-    "{\"name\":\"A\",\"units\":1,\"supply\":200,\"cap\":1,\"opening\":100}],\"bidders\":[";
+    r#"],"setup":{"version":1,"requirement":95,"operator":"OPERATOROPERATOR","products":[{"name":"A","units":1,"supply":200,"cap":1,"opening":100}],"bidders":[{"eligibility":1,"name":"B0","token":"TOKENTOKENTOKENS0"}"#;
 
-/// The parts of a document with their sheets.
-fn push_parts(text: &mut Text, faulty: u64) -> Result<(), NoMemory> {
-    text.extend_from_slice(BEFORE_SCRIPTS.as_bytes())?;
-    push_scripts(text, faulty)?;
-    text.extend_from_slice(BEFORE_PRODUCT.as_bytes())?;
-    text.extend_from_slice(BEFORE_BIDDERS.as_bytes())?;
-    push_bidders(text)?;
-    text.extend_from_slice(b"]}}")
+/// Adds a bidder behind another.
+fn push_bidder(alloc: Global, text: &mut String, number: u64) -> Result<(), AllocError> {
+    let bidder = format!(in alloc;
+        r#",{{"eligibility":1,"name":"B{number}","token":"TOKENTOKENTOKENS{number}"}}"#
+    )?;
+    text.push_str(bidder.as_str())
 }
 
-/// A document of a round with many sheets.
-fn many_sheets(alloc: Global, faulty: u64) -> Result<Text, NoMemory> {
-    let mut text = Text::new(alloc);
-    push_parts(&mut text, faulty)?;
+/// All bidders but the first.
+fn other_bidders(alloc: Global) -> Result<String, AllocError> {
+    let mut text = String::new(alloc);
+    for number in 1..130 {
+        push_bidder(alloc, &mut text, number)?;
+    }
     Ok(text)
 }
 
-/// From which bidder on sheets are refused, and the fault.
-const FAULTY: [(u64, Option<SimFault>); 6] = [
-    (0, Some(SimFault::Refused(0, 1, Code::OverCap))),
-    (1, Some(SimFault::Refused(1, 1, Code::OverCap))),
-    (63, Some(SimFault::Refused(63, 1, Code::OverCap))),
-    (64, Some(SimFault::Refused(64, 1, Code::OverCap))),
-    (129, Some(SimFault::Refused(129, 1, Code::OverCap))),
-    (MANY, None),
+/// Scripts of 130 bidders, two groups of 64 and one of two: the first one's, how many put a block, and how many behind
+/// them one too many.
+type Scripts<'a> = (&'a str, usize, usize);
+
+/// A document of a round with their sheets.
+fn many_sheets(alloc: Global, scripts: Scripts<'_>) -> Result<Text, NoMemory> {
+    let (first, good, faulty) = scripts;
+    let good = repeated(alloc, ("", ONE_MORE, good, ""))?;
+    let faulty = repeated(alloc, ("", TWO_MORE, faulty, ""))?;
+    let others = other_bidders(alloc)?;
+    joined(
+        alloc,
+        &[
+            BEFORE_SCRIPTS,
+            first,
+            good.as_str(),
+            faulty.as_str(),
+            BEFORE_BIDDERS,
+            others.as_str(),
+            "]}}",
+        ],
+    )
+}
+
+/// Scripts, and the fault of the first one that puts a block too many.
+const GROUPS: &[(Scripts<'static>, Option<SimFault>)] = &[
+    ((TWO, 0, 129), Some(SimFault::Refused(0, 1, Code::OverCap))),
+    ((ONE, 0, 129), Some(SimFault::Refused(1, 1, Code::OverCap))),
+    ((ONE, 62, 67), Some(SimFault::Refused(63, 1, Code::OverCap))),
+    ((ONE, 63, 66), Some(SimFault::Refused(64, 1, Code::OverCap))),
+    (
+        (ONE, 128, 1),
+        Some(SimFault::Refused(129, 1, Code::OverCap)),
+    ),
+    ((ONE, 129, 0), None),
 ];
 
 #[test]
 fn groups_are_answered_in_the_order_of_the_bidders(rt: HostRuntime) -> Result<(), Fail> {
-    for (faulty, fault) in FAULTY.iter() {
-        let document = many_sheets(rt.alloc(), *faulty)?;
-        assert_is(&rt, fault_of(rt.alloc(), document.as_slice()), *fault);
+    for &(scripts, fault) in GROUPS {
+        let document = many_sheets(rt.alloc(), scripts)?;
+        assert_is(&rt, fault_of(rt.alloc(), document.as_slice()), fault);
     }
     Ok(())
 }
 
-const BEFORE_LONG: &str =
-    ",{\"kind\":\"literal\",\"sheets\":[[{\"price\":100,\"product\":0,\"quantity\":1}";
+const BEFORE_LONG: &str = r#",{"kind":"literal","sheets":[[{"price":100,"product":0,"quantity":1}"#;
 
-/// Adds bids enough for a body that is too long.
-fn push_many_bids(text: &mut Text) -> Result<(), NoMemory> {
-    for _bid in 0..28_000 {
-        text.extend_from_slice(b",{\"price\":100,\"product\":0,\"quantity\":1}")?;
-    }
-    Ok(())
-}
-
-/// Adds them, and the set-up of one product.
-fn push_rest(text: &mut Text) -> Result<(), NoMemory> {
-    push_many_bids(text)?;
-    text.extend_from_slice(b"]]}],\"setup\":")?;
-    text.extend_from_slice(ONE_PRODUCT.as_bytes())?;
-    text.push(b'}')
-}
-
-/// A document with a script of X where Y's sheet is too long.
+/// A document with a script of X where Y's sheet has bids enough for a body that is too long.
 fn before_long(alloc: Global, script: &str) -> Result<Text, NoMemory> {
-    let mut text = joined(
+    let bid = r#",{"price":100,"product":0,"quantity":1}"#;
+    let bids = repeated(alloc, (BEFORE_LONG, bid, 28_000, "]]}"))?;
+    joined(
         alloc,
-        &["{\"closings\":[],\"scripts\":[", script, BEFORE_LONG],
-    )?;
-    push_rest(&mut text)?;
-    Ok(text)
+        &[
+            r#"{"closings":[],"scripts":["#,
+            script,
+            bids.as_str(),
+            r#"],"setup":"#,
+            ONE_PRODUCT,
+            "}",
+        ],
+    )
 }
 
 /// A script of X where Y's sheet is too long, and the fault.
-const BEFORE: [(&str, SimFault); 2] = [
+const BEFORE: &[(&str, SimFault)] = &[
     (FALLING_LIMITS, SimFault::Refused(1, 1, Code::LongBody)),
     (OVER_CAP, SimFault::Refused(0, 1, Code::OverCap)),
 ];
 
 #[test]
 fn a_sheet_that_is_too_long_waits_for_those_before_it(rt: HostRuntime) -> Result<(), Fail> {
-    for (script, fault) in BEFORE.iter() {
+    for &(script, fault) in BEFORE {
         let document = before_long(rt.alloc(), script)?;
-        assert_is(&rt, fault_of(rt.alloc(), document.as_slice()), Some(*fault));
+        assert_is(&rt, fault_of(rt.alloc(), document.as_slice()), Some(fault));
     }
     Ok(())
 }

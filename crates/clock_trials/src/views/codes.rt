@@ -1,90 +1,81 @@
 //! The codes of replies, each with its status, its reason and its text.
 
+use crate::comparing::assert_is_at;
 use clock_http::Code;
-use std::process::Abort;
 
-/// These codes have this status and this reason, and stand in pages by these texts.
-fn show(rt: &impl Abort, status: u16, reason: &str, lines: &[(Code, &str)]) {
-    for line in lines {
-        assert!(rt; line.0.status() == status);
-        assert!(rt; line.0.reason() == reason);
-        assert!(rt; line.0.text() == line.1);
-    }
-}
-
-#[test]
-fn a_request_is_done(rt: HostRuntime) {
-    show(&rt, 200, "OK", &[(Code::Done, "done")]);
-}
-
-#[test]
-fn heads_and_bodies_are_bad_requests(rt: HostRuntime) {
-    let lines = [
-        (Code::BadHead, "bad_head"),
-        (Code::BadLength, "bad_length"),
-        (Code::CutShort, "cut_short"),
-        (Code::BadJson, "bad_json"),
-    ];
-    show(&rt, 400, "Bad Request", &lines);
-}
-
-#[test]
-fn tokens_and_roles_are_looked_at(rt: HostRuntime) {
-    show(&rt, 401, "Unauthorized", &[(Code::Token, "token")]);
-    show(&rt, 403, "Forbidden", &[(Code::Role, "role")]);
-}
-
-#[test]
-fn pages_and_rounds_are_not_found(rt: HostRuntime) {
-    let lines = [(Code::NoPage, "no_page"), (Code::NoRound, "no_round")];
-    show(&rt, 404, "Not Found", &lines);
-    show(&rt, 405, "Method Not Allowed", &[(Code::Method, "method")]);
-}
-
-#[test]
-fn requests_come_too_late(rt: HostRuntime) {
-    let lines = [(Code::Ended, "ended"), (Code::WrongRound, "wrong_round")];
-    show(&rt, 409, "Conflict", &lines);
-}
-
-/// The codes of requests that are read and refused: nine of sheets, and then five of closings.
-const UNPROCESSABLE: [(Code, &str); 14] = [
-    (Code::Shape, "shape"),
-    (Code::TooMany, "too_many"),
-    (Code::UnknownProduct, "unknown_product"),
-    (Code::PriceRange, "price_range"),
-    (Code::OverCap, "over_cap"),
-    (Code::PriceOrder, "price_order"),
-    (Code::MixedDirection, "mixed_direction"),
-    (Code::KeepPrice, "keep_price"),
-    (Code::OverActivity, "over_activity"),
-    (Code::Increment, "increment"),
-    (Code::TieRange, "tie_range"),
-    (Code::TieRepeated, "tie_repeated"),
-    (Code::TooManyTies, "too_many_ties"),
-    (Code::PriceLimit, "price_limit"),
+/// Codes with their status and reason, and the text by which they stand in pages. Those with 422 are of requests that
+/// are read and refused: nine of sheets, and then five of closings.
+const CODES: &[(Code, u16, &str, &str)] = &[
+    (Code::Done, 200, "OK", "done"),
+    (Code::BadHead, 400, "Bad Request", "bad_head"),
+    (Code::BadLength, 400, "Bad Request", "bad_length"),
+    (Code::CutShort, 400, "Bad Request", "cut_short"),
+    (Code::BadJson, 400, "Bad Request", "bad_json"),
+    (Code::Token, 401, "Unauthorized", "token"),
+    (Code::Role, 403, "Forbidden", "role"),
+    (Code::NoPage, 404, "Not Found", "no_page"),
+    (Code::NoRound, 404, "Not Found", "no_round"),
+    (Code::Method, 405, "Method Not Allowed", "method"),
+    (Code::Ended, 409, "Conflict", "ended"),
+    (Code::WrongRound, 409, "Conflict", "wrong_round"),
+    (Code::LongBody, 413, "Payload Too Large", "long_body"),
+    (Code::Shape, 422, "Unprocessable Entity", "shape"),
+    (Code::TooMany, 422, "Unprocessable Entity", "too_many"),
+    (
+        Code::UnknownProduct,
+        422,
+        "Unprocessable Entity",
+        "unknown_product",
+    ),
+    (Code::PriceRange, 422, "Unprocessable Entity", "price_range"),
+    (Code::OverCap, 422, "Unprocessable Entity", "over_cap"),
+    (Code::PriceOrder, 422, "Unprocessable Entity", "price_order"),
+    (
+        Code::MixedDirection,
+        422,
+        "Unprocessable Entity",
+        "mixed_direction",
+    ),
+    (Code::KeepPrice, 422, "Unprocessable Entity", "keep_price"),
+    (
+        Code::OverActivity,
+        422,
+        "Unprocessable Entity",
+        "over_activity",
+    ),
+    (Code::Increment, 422, "Unprocessable Entity", "increment"),
+    (Code::TieRange, 422, "Unprocessable Entity", "tie_range"),
+    (
+        Code::TieRepeated,
+        422,
+        "Unprocessable Entity",
+        "tie_repeated",
+    ),
+    (
+        Code::TooManyTies,
+        422,
+        "Unprocessable Entity",
+        "too_many_ties",
+    ),
+    (Code::PriceLimit, 422, "Unprocessable Entity", "price_limit"),
+    (
+        Code::LongHead,
+        431,
+        "Request Header Fields Too Large",
+        "long_head",
+    ),
+    (Code::Coding, 501, "Not Implemented", "coding"),
+    (Code::Memory, 503, "Service Unavailable", "memory"),
 ];
 
-#[test]
-fn bids_are_refused(rt: HostRuntime) {
-    show(&rt, 422, "Unprocessable Entity", &UNPROCESSABLE[..9]);
+/// What a code has of these.
+fn parts_of(code: Code) -> (u16, &'static str, &'static str) {
+    (code.status(), code.reason(), code.text())
 }
 
 #[test]
-fn closings_are_refused(rt: HostRuntime) {
-    show(&rt, 422, "Unprocessable Entity", &UNPROCESSABLE[9..]);
-}
-
-#[test]
-fn requests_are_too_long(rt: HostRuntime) {
-    let body = [(Code::LongBody, "long_body")];
-    let head = [(Code::LongHead, "long_head")];
-    show(&rt, 413, "Payload Too Large", &body);
-    show(&rt, 431, "Request Header Fields Too Large", &head);
-}
-
-#[test]
-fn codings_and_want_of_memory_are_the_server_s(rt: HostRuntime) {
-    show(&rt, 501, "Not Implemented", &[(Code::Coding, "coding")]);
-    show(&rt, 503, "Service Unavailable", &[(Code::Memory, "memory")]);
+fn a_code_has_its_status_its_reason_and_its_text(rt: HostRuntime) {
+    for &(code, status, reason, text) in CODES {
+        assert_is_at(&rt, code, parts_of(code), (status, reason, text));
+    }
 }

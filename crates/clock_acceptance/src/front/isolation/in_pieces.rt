@@ -1,23 +1,18 @@
 //! The same where each request comes over a connection of its own, in single bytes.
-use super::{BY_W, BY_Y, OWN, PUBLIC, V_X_AND_W, X_AND_Y, text_of_row, told_x};
+use super::{
+    BY_W, BY_Y, PUBLIC, Request, Run, V_X_AND_W, X_AND_Y, document_of, push_reply, requests_of,
+    told_x,
+};
 use crate::comparing::assert_is;
 use crate::front::events::{connected, push_byte};
 use crate::front::requests::setup_of;
-use clock_front::{Event, EventReplies, run_events};
+use clock_front::{Event, EventReplies, EventReply, run_events};
 use clock_processor::Plain;
 use std::alloc::Global;
-use std::process::Abort;
 use std::test::Fail;
 
 /// No request has more bytes.
 const LONGEST: usize = 200;
-
-/// A request of a run, and whether it is X's.
-#[derive(Drop)]
-struct Request {
-    is_own: bool,
-    text: String,
-}
 
 /// How the bytes of a run's requests come. They are whole in their order, so that each last byte comes behind those
 /// before.
@@ -29,47 +24,6 @@ enum Way {
     InTurn,
     /// From the last request to the first all bytes but the last, and then their last ones.
     LastFirst,
-}
-
-/// The request of a row.
-fn push_row(
-    alloc: Global,
-    requests: &mut Vec<Request>,
-    row: &str,
-    is_own: bool,
-) -> Result<(), Fail> {
-    let text = text_of_row(alloc, row)?;
-    if text.len() > LONGEST {
-        return Err("a longer request")?;
-    }
-    requests.push(Request { is_own, text })?;
-    Ok(())
-}
-
-/// The requests of rows.
-fn push_rows(
-    alloc: Global,
-    requests: &mut Vec<Request>,
-    rows: &str,
-    is_own: bool,
-) -> Result<(), Fail> {
-    for row in rows.split('\n') {
-        if !row.is_empty() {
-            push_row(alloc, requests, row, is_own)?;
-        }
-    }
-    Ok(())
-}
-
-/// The requests of a run in their order: X's of each turn, and then those of the others.
-fn requests_of(alloc: Global, others: &str) -> Result<Vec<Request>, Fail> {
-    let mut requests = Vec::new(alloc);
-    let mut others = others.split('~');
-    for own in OWN.split('~') {
-        push_rows(alloc, &mut requests, own, true)?;
-        push_rows(alloc, &mut requests, others.next().unwrap_or(""), false)?;
-    }
-    Ok(requests)
 }
 
 /// Which bytes of a text come.
@@ -157,35 +111,12 @@ fn events_of(alloc: Global, requests: &[Request], way: Way) -> Result<Vec<Event>
 
 /// The replies to events where these are the bidders.
 fn replies_to(alloc: Global, bidders: &str, events: &[Event]) -> Result<EventReplies, Fail> {
-    let document = format!(in alloc; "{{{PUBLIC},\"bidders\":[{bidders}]}}")?;
-    Ok(run_events(alloc, setup_of(alloc, document.as_str())?, Plain, events)?)
+    let document = document_of(alloc, PUBLIC, bidders)?;
+    let setup = setup_of(alloc, document.as_str())?;
+    Ok(run_events(alloc, setup, Plain, events)?)
 }
 
-/// Whether a request is X's.
-fn is_own(requests: &[Request], number: u64) -> bool {
-    match requests.get(number as usize) {
-        Some(request) => request.is_own,
-        None => false,
-    }
-}
-
-/// The replies to X's own requests.
-fn own_replies(
-    alloc: Global,
-    requests: &[Request],
-    replies: &EventReplies,
-) -> Result<String, Fail> {
-    let mut told = String::new(alloc);
-    for one in replies.as_slice() {
-        if is_own(requests, one.number) {
-            let reply = String::from_utf8_lossy(alloc, one.reply.bytes())?;
-            told.push_str(reply.as_str())?;
-        }
-    }
-    Ok(told)
-}
-
-/// The replies to the requests of a run.
+/// The replies to requests that come in a way.
 fn replies_in(
     alloc: Global,
     bidders: &str,
@@ -197,46 +128,53 @@ fn replies_in(
 }
 
 /// The replies to X's own requests among them.
+fn own_replies(
+    alloc: Global,
+    requests: &[Request],
+    replies: &[EventReply],
+) -> Result<String, Fail> {
+    let mut told = String::new(alloc);
+    for one in replies {
+        if let Some(request) = requests.get(one.number as usize) {
+            push_reply(alloc, &mut told, request, &one.reply)?;
+        }
+    }
+    Ok(told)
+}
+
+/// What X is told where requests come in a way.
 fn told_in(alloc: Global, bidders: &str, requests: &[Request], way: Way) -> Result<String, Fail> {
     let replies = replies_in(alloc, bidders, requests, way)?;
-    let told = own_replies(alloc, requests, &replies);
+    let told = own_replies(alloc, requests, replies.as_slice());
     drop(replies);
     told
 }
 
-/// The same in a run of these bidders and others.
-fn told_x_in_pieces(alloc: Global, bidders: &str, others: &str, way: Way) -> Result<String, Fail> {
-    let requests = requests_of(alloc, others)?;
-    let told = told_in(alloc, bidders, requests.as_slice(), way);
+/// The same in a run.
+fn told_x_in_pieces(alloc: Global, run: Run<'_>, way: Way) -> Result<String, Fail> {
+    let requests = requests_of(alloc, run.1)?;
+    let told = told_in(alloc, run.0, requests.as_slice(), way);
     drop(requests);
     told
 }
 
-/// X is told the same in both runs whose bytes come in these ways, as where each request comes whole.
-fn is_told_alike(
-    rt: &impl Abort,
-    alloc: Global,
-    whole: &str,
-    one: Way,
-    two: Way,
-) -> Result<(), Fail> {
-    let one = told_x_in_pieces(alloc, X_AND_Y, BY_Y, one)?;
-    assert_is(rt, one.as_str(), whole);
-    drop(one);
-    let two = told_x_in_pieces(alloc, V_X_AND_W, BY_W, two)?;
-    assert_is(rt, two.as_str(), whole);
-    Ok(())
-}
+/// Runs in which X is told the same, and how their bytes come.
+const RUNS: &[(Run<'static>, Way)] = &[
+    ((X_AND_Y, BY_Y), Way::Apart),
+    ((V_X_AND_W, BY_W), Way::Apart),
+    ((X_AND_Y, BY_Y), Way::InTurn),
+    ((V_X_AND_W, BY_W), Way::LastFirst),
+    ((X_AND_Y, BY_Y), Way::LastFirst),
+    ((V_X_AND_W, BY_W), Way::InTurn),
+];
 
-/// So it is however the bytes come.
-fn is_told_alike_in_all_ways(rt: &impl Abort, alloc: Global, whole: &str) -> Result<(), Fail> {
-    is_told_alike(rt, alloc, whole, Way::Apart, Way::Apart)?;
-    is_told_alike(rt, alloc, whole, Way::InTurn, Way::LastFirst)?;
-    is_told_alike(rt, alloc, whole, Way::LastFirst, Way::InTurn)
-}
-
+/// However the bytes come, X is told what it is where each request comes whole.
 #[test]
 fn rivals_show_in_no_reply_to_pieces(rt: HostRuntime) -> Result<(), Fail> {
-    let whole = told_x(rt.alloc(), PUBLIC, X_AND_Y, BY_Y)?;
-    is_told_alike_in_all_ways(&rt, rt.alloc(), whole.as_str())
+    let whole = told_x(rt.alloc(), PUBLIC, (X_AND_Y, BY_Y))?;
+    for &(run, way) in RUNS {
+        let told = told_x_in_pieces(rt.alloc(), run, way)?;
+        assert_is(&rt, told.as_str(), whole.as_str());
+    }
+    Ok(())
 }
