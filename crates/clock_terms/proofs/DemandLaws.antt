@@ -1,13 +1,13 @@
 -- Laws of grids of demands and their totals.
 use Rattle.std.proofs.Common.{◌≡◌, ℕ, ◌+◌, ◌-◌, ◌*◌, ◌<◌, ◌≤◌, ◌≢◌, List, [], ◌∷◌, length, get_or, set, replicate}
 use Rattle.std.proofs.Common.{zip, zero, suc, All, refl, sym, ap, ◌∙◌, subst, arith, ⊎_elim}
-use Rattle.std.proofs.lemmas.List.{length-set, get_or-set_same}
+use Rattle.std.proofs.lemmas.List.{length-set, get_or_default, get_or-set_same}
 use Rattle.std.proofs.lemmas.List.{get_or-set_other, get_or_past, get_or-replicate, length-replicate}
 use Rattle.std.proofs.lemmas.List.Sums.{sum_by-set, sum_by-le, sum_by-cons, get_or-le-sum_by}
-use Rattle.std.proofs.lemmas.List.Elements.{All-set}
+use Rattle.std.proofs.lemmas.List.Elements.{All-set, All-weaker}
 use Rattle.std.proofs.lemmas.Bool.{cases_lt, cases_eq}
 use Rattle.clock_terms.specs.declared.setup.Product.{Product}
-use Rattle.clock_terms.specs.Limits.{IsRow, most_bidders, most_supply}
+use Rattle.clock_terms.specs.Limits.{IsProduct, IsRow, IsSetup, SetupFields, most_bidders, most_supply, no_product}
 use Rattle.clock_terms.specs.Eligibility.{activity}
 use Rattle.clock_terms.specs.Demands.{total_of, demand_at, row_of, with_demand}
 use Rattle.clock_terms.specs.inside.Demands.{IsKeptGrid}
@@ -92,3 +92,31 @@ zeros_row products = record {
   each = length-replicate {A = ℕ} (length products) 0;
   capped = λ product h. rw (get_or-replicate {A = ℕ} (length products) product 0 0 (omega (arith, length-replicate {A = ℕ} (length products) 0))) (omega arith);
 }
+
+-- what the type of grids keeps, of rows of a set-up and their totals
+module _ (products : List Product) (rows : List (List ℕ)) (are : All (IsRow products) rows) where
+  pub rows_each : All (λ row. length row ≡ length products) rows
+  rows_each = All-weaker (IsRow products) (λ row. length row ≡ length products) (λ row is. is.each) rows are
+
+  pub rows_small : All IsProduct products → All (λ row. All (λ demand. demand ≤ most_supply) row) rows
+  rows_small limits =
+      All-weaker (IsRow products) (λ row. All (λ demand. demand ≤ most_supply) row)
+      (λ row is k d within.
+      let good = limits k no_product (omega (arith, within, is.each)) in
+      omega (arith, get_or_default row k d 0 within, is.capped k within, good.cap.1, good.supply.1)) rows are
+
+  pub kept_of_rows : (setup : SetupFields) (totals : List ℕ) → IsSetup setup → setup.products ≡ products → length rows ≡ length setup.bidders
+      → length totals ≡ length products → ((product : ℕ) → product < length products → get_or totals product 0 ≡ total_of rows product)
+      → IsKeptGrid rows totals
+  kept_of_rows setup totals good same each long is =
+      let count : length setup.products ≡ length products = ap length same in
+      record {
+        small = record {
+          product_count = omega (arith, good.product_count.1, count, long);
+          bidder_count = omega (arith, good.bidder_count.1, each);
+          same_length = subst (λ n. All (λ row. length row ≡ n) rows) (sym long) rows_each;
+          small = rows_small (subst (λ list. All IsProduct list) same good.products);
+        };
+        has_bidder = omega (arith, good.bidder_count.0, each);
+        kept = λ product within. is product (omega (arith, within, long));
+      }

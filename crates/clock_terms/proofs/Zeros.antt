@@ -1,9 +1,9 @@
 -- Demands that are 0 are passed over.
-use Rattle.std.proofs.Common.{◌≡◌, ℕ, zero, suc, ◌+◌, ◌*◌, ◌<◌, ◌≤◌, ◌-◌, List, [], ◌∷◌, length, drop, get_or, refl, ap, sym, ◌∙◌, arith, All, ⊎_elim}
+use Rattle.std.proofs.Common.{◌≡◌, ◌≢◌, ℕ, zero, suc, ◌+◌, ◌*◌, ◌<◌, ◌≤◌, ◌-◌, List, [], ◌∷◌, length, drop, get_or, set, refl, ap, sym, subst, ◌∙◌, arith, All, ⊎_elim, inl, inr}
 use Rattle.std.specs.Prelude.{zip}
-use Rattle.std.proofs.lemmas.Bool.{cases_lt}
+use Rattle.std.proofs.lemmas.Bool.{cases_lt, cases_order}
 use Rattle.std.specs.List.{AllWithin}
-use Rattle.std.proofs.lemmas.List.{get_or_default, get_or-drop, drop-drop, drop_more, drop_all}
+use Rattle.std.proofs.lemmas.List.{get_or_default, get_or-drop, get_or-set_same, get_or-set_other, drop-drop, drop_more, drop_all}
 use Rattle.std.proofs.lemmas.List.Sums.{sum_by-cons}
 use Rattle.std.proofs.lemmas.Nat.{mul-le}
 use Rattle.clock_terms.specs.declared.setup.Product.{Product}
@@ -82,3 +82,44 @@ module _ (products : List Product) (row : List ℕ) (place : ℕ) (one : Product
       let few : get_or row place 0 ≤ 1000 = omega (arith, is.capped place held, good.cap.1, good.supply.1) in
       let taken : (get_or products place one).units * get_or row place 0 ≤ 1000000000 = mul-le _ _ 1000000 1000 units few in
       rw read (omega (arith, before, order, taken))
+
+-- where the demands of a row up to a place are added to totals, one more that is held, with those behind it that are not
+module _ (initial totals after row : List ℕ) (from place next demand value : ℕ) (order : from ≤ place) (behind : place < next)
+    (same : length totals ≡ length initial) (read : demand ≡ get_or row place 0) (passed : AllWithin (λ demand. demand ≡ 0) row from place)
+    (ahead : (product : ℕ) → from ≤ product → get_or totals product 0 ≡ get_or initial product 0)
+    (is : after ≡ set totals place value) (sum : value ≡ get_or totals place 0 + demand) where
+  set_here : place < length initial → get_or after place 0 ≡ get_or initial place 0 + get_or row place 0
+  set_here within =
+      ap (λ (list : List ℕ). get_or list place 0) is
+      ∙ get_or-set_same totals place value 0 (omega (arith, within, same))
+      ∙ omega (arith, sum, ahead place order, read)
+
+  set_there : (product : ℕ) → product ≢ place → get_or after product 0 ≡ get_or totals product 0
+  set_there product other =
+      ap (λ (list : List ℕ). get_or list product 0) is ∙ get_or-set_other totals place product value 0 other
+
+  pub added_more : ((product : ℕ) → product < from → product < length initial → get_or totals product 0 ≡ get_or initial product 0 + get_or row product 0)
+      → AllWithin (λ demand. demand ≡ 0) row (place + 1) next → (product : ℕ) → product < next → product < length initial
+      → get_or after product 0 ≡ get_or initial product 0 + get_or row product 0
+  added_more added none product below within =
+      elim (cases_order product place) [
+        | inl here ↦ subst (λ (n : ℕ). get_or after n 0 ≡ get_or initial n 0 + get_or row n 0) (sym here) (set_here (omega (arith, here, within)))
+        | inr (inr above) ↦ omega (
+          arith,
+          set_there product (λ here. omega (arith, here, above)),
+          ahead product (omega (arith, order, above)),
+          none product 0 (omega (arith, above)) below,
+        )
+        | inr (inl before) ↦ ⊎_elim
+            (λ (early : product < from). set_there product (λ here. omega (arith, here, before)) ∙ added product early within)
+            (λ (late : from ≤ product). omega (
+              arith,
+              set_there product (λ here. omega (arith, here, before)),
+              ahead product late,
+              passed product 0 late before,
+            ))
+            (cases_lt product from)
+      ]
+
+  pub ahead_more : (product : ℕ) → next ≤ product → get_or after product 0 ≡ get_or initial product 0
+  ahead_more product later = set_there product (λ here. omega (arith, here, later, behind)) ∙ ahead product (omega (arith, later, behind, order))

@@ -112,13 +112,8 @@ impl Grid {
     pub fn zero(alloc: Global, setup: &Setup) -> Result<Grid, NoMemory>
         ensures { IfOk result (λ grid. grid ≡ no_demands (length setup.now.bidders) (length setup.now.products)) }
     {
-        let bidders = setup.bidders.len();
-        let products = setup.products.len();
-        let rows = zero_rows(alloc, bidders, products)?;
-        Ok(Grid {
-            rows,
-            totals: Amounts::zeros(alloc, products)?,
-        })
+        let rows = zero_rows(alloc, setup.bidders.len(), setup.products.len())?;
+        Grid::of_rows(alloc, setup, rows)
     }
 
     /// An equal grid.
@@ -136,11 +131,7 @@ impl Grid {
     pub fn renewed(self, alloc: Global, other: &Grid) -> Result<Grid, NoMemory>
         ensures { IfOk result (λ grid. grid ≡ other.now) }
     {
-        let Grid {
-            rows: old,
-            totals: _,
-        } = self;
-        let rows = rows_like(alloc, old, other.rows.as_slice())?;
+        let rows = rows_like(alloc, self.rows, other.rows.as_slice())?;
         Ok(Grid {
             rows,
             totals: other.totals.copy(alloc)?,
@@ -170,7 +161,7 @@ impl Grid {
         requires { All (λ row. product < length row) self.now }
         ensures { result ≡ total_of self.now product }
     {
-        self.totals.as_slice()[product]
+        self.totals[product]
     }
 
     /// Changes one demand, and no other. Bidder and product are those of the grid, and the demand is at most 1,000

@@ -43,7 +43,7 @@ impl Increments {
     {
         match self {
             Increments::Single(increment) => *increment,
-            Increments::PerProduct(increments) => increments.as_slice()[product],
+            Increments::PerProduct(increments) => increments[product],
         }
     }
 
@@ -55,7 +55,6 @@ impl Increments {
         match self {
             Increments::Single(increment) => is_percentage(*increment),
             Increments::PerProduct(increments) => {
-                let increments = increments.as_slice();
                 increments.len() == products && are_percentages(increments)
             }
         }

@@ -1,21 +1,17 @@
-ghost use Rattle.std.specs.Prelude.{◌≡◌, ◌≤◌, ◌<◌, length, slice_index, IfOk};
+ghost use Rattle.std.specs.Prelude.{◌≡◌, ◌≤◌, ◌<◌, length, slice_index};
 ghost use Rattle.std.specs.List.{AllWithin};
 ghost use Rattle.clock_terms.specs.Limits.{most_products};
-ghost use Rattle.clock_terms.specs.inside.Rows.{AreHeld};
-ghost use Rattle.clock_terms.specs.HeldDemands.{demands_of};
 
 use crate::held_list::{HeldDemand, demand_at, place_of};
 use crate::held_products::HeldProducts;
-use clock_device::NoMemory;
-use std::alloc::Global;
 use std::marker::Model;
 
 /// A bidder's demands as a closed round keeps them: they are not changed any more, so there is room for those that are held
 /// alone. Contracts see the list of the demands, one for each product.
 #[derive(Drop)]
 pub struct KeptRow {
-    count: usize,
-    held: Vec<HeldDemand>,
+    pub(crate) count: usize,
+    pub(crate) held: Vec<HeldDemand>,
 }
 
 impl Model for KeptRow {
@@ -32,18 +28,6 @@ impl Model for KeptRow {
 }
 
 impl KeptRow {
-    /// Demands in order, of so many products.
-    pub(crate) fn of(alloc: Global, count: usize, held: &[HeldDemand]) -> Result<KeptRow, NoMemory>
-        requires order { AreHeld 0 held.now count }
-        requires few { count ≤ most_products }
-        ensures { IfOk result (λ kept. kept ≡ demands_of count held.now) }
-    {
-        Ok(KeptRow {
-            count,
-            held: Vec::from_slice(alloc, held)?,
-        })
-    }
-
     /// How many demands there are.
     pub fn len(&self) -> usize
         ensures is { result ≡ length self.now }

@@ -45,13 +45,10 @@ impl Row {
         requires { products ≤ most_products }
         ensures { IfOk result (λ row. row ≡ replicate products 0) }
     {
-        let held = Vec::with_capacity(alloc, products)?;
-        let mut starts = Vec::new(alloc);
-        starts.resize(products / GROUP_SIZE + 1, 0)?;
         Ok(Row {
             count: products,
-            held,
-            starts,
+            held: Vec::with_capacity(alloc, products)?,
+            starts: vec![in alloc; 0; products / GROUP_SIZE + 1]?,
         })
     }
 
@@ -75,12 +72,7 @@ impl Row {
     pub fn renewed(self, other: &Row) -> Result<Row, NoMemory>
         ensures { IfOk result (λ row. row ≡ other.now) }
     {
-        let Row {
-            count: _,
-            held,
-            starts,
-        } = self;
-        Row::like(held, starts, other)
+        Row::like(self.held, self.starts, other)
     }
 
     /// An equal row.
@@ -153,10 +145,8 @@ impl Row {
     {
         let held = self.held.as_slice();
         let place = place_in_group(held, self.starts[product / GROUP_SIZE] as usize, product);
-        match place {
-            Ok(place) => *near = place,
-            Err(place) => *near = place,
-        }
+        let (Ok(at) | Err(at)) = place;
+        *near = at;
         demand_at(held, place, product)
     }
 
@@ -183,7 +173,10 @@ impl Row {
     pub fn kept(&self, alloc: Global) -> Result<KeptRow, NoMemory>
         ensures { IfOk result (λ kept. kept ≡ self.now) }
     {
-        KeptRow::of(alloc, self.count, self.held.as_slice())
+        Ok(KeptRow {
+            count: self.count,
+            held: Vec::from_slice(alloc, self.held.as_slice())?,
+        })
     }
 
     /// The products of which a block is held.
