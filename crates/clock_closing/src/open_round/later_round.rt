@@ -44,9 +44,10 @@ impl OpenRound<'_> {
             &requests,
             &settled,
             increments,
-        )?;
+        );
+        drop(requests);
         let grid = settled.into_grid();
-        Ok(self.with_slips(alloc, posting, grid)?)
+        Ok(self.with_slips(alloc, posting?, grid)?)
     }
 
     /// All bidders' requests in the order of processing.

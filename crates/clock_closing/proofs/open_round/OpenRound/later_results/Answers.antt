@@ -9,8 +9,8 @@ use Rattle.clock_closing.proofs.Posts.{posts, posts-refused}
 use Rattle.clock_closing.proofs.OpenRounds.{priced_requests}
 use Rattle.clock_closing.proofs.open_round.OpenRound.later_results.Goals as goal
 
-pub post-requires-clause-changes : goal.post-requires-clause-changes
-post-requires-clause-changes g c =
+pub post-posting-requires-clause-changes : goal.post-posting-requires-clause-changes
+post-posting-requires-clause-changes g c =
     All-permutation (IsWithinPrices c.self.inside.prices.now) _ _ (rw (← c.self.view_is) at c.in_ok-requests.ensures.all)
     (priced_requests _ _ c.self.invariant.sound (rw (← c.self.view_is) at c.requires.later))
 
@@ -39,5 +39,5 @@ returns g c =
     let slips = rw (c.into_grid-grid.ensures, c.in_ok-settled.ensures.grid, c.in_ok-requests.ensures.ordered) at c.in_ok-with_slips.ensures.slips in
     posts (public_setup c.args.self.now.setup) c.args.self.now.before c.args.increments.now
     (later_result c.args.self.now.setup.products c.args.self.now.before (requests c.args.self.now.before c.args.ties.now))
-    c.in_ok-posting.posting c.in_ok-with_slips.field-0 is c.in_ok-posting.ensures.laws c.in_ok-with_slips.ensures.sheet
+    c.in_ok-posting.field-0 c.in_ok-with_slips.field-0 is c.in_ok-posting.ensures.laws c.in_ok-with_slips.ensures.sheet
     c.in_ok-with_slips.ensures.next slips c.in_ok-with_slips.ensures.demands
