@@ -5,6 +5,7 @@ use Rattle.std.proofs.lemmas.List.{get_or_default}
 use Rattle.clock_terms.specs.declared.setup.Product.{Product}
 use Rattle.clock_terms.specs.declared.prices.PricePair.{PricePair}
 use Rattle.clock_terms.specs.Faults.{first_fault}
+use Rattle.clock_terms.specs.Limits.{most_supply, most_units}
 use Rattle.clock_terms.proofs.FaultLaws.{turn_passed, turn_failed}
 use Rattle.clock_bids.specs.declared.sheet.Bid.{Bid}
 use Rattle.clock_bids.specs.declared.sheet.BidFault.{BidFault}
@@ -54,7 +55,7 @@ module _ (products : List Product) (prices : List PricePair) (demands : List ℕ
         held_least products bids i _ taken last known (units_read seen products here.product one same known) is.last_is so_far.taken_is
 
     pub judged_more : (next : ℕ) → next + (get_or seen here.product one).units * quantity_of last ≡ taken + (get_or seen here.product one).units * here.quantity
-        → next ≤ taken + 1000000000 → AreJudged products prices demands bids (i + 1) next
+        → next ≤ taken + most_units * most_supply → AreJudged products prices demands bids (i + 1) next
     judged_more next exact most =
         let is = judged_by products prices demands bids i so_far.good seen last fault same before judged in
         record {

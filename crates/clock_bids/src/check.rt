@@ -1,4 +1,4 @@
-ghost use Rattle.std.specs.Prelude.{◌≡◌, ◌≤◌, ◌+◌, ◌*◌, None, length, take, OnOk, IfOk, IfErr};
+ghost use Rattle.std.specs.Prelude.{◌≡◌, ◌≤◌, ◌+◌, ◌*◌, Some, None, length, take, OnOk, IfOk, IfErr};
 ghost use Rattle.std.specs.List.Sorted.{IsNonDecreasingBy};
 ghost use Rattle.clock_terms.specs.Limits.{IsRow, most_supply, most_units, public_setup, is_within};
 ghost use Rattle.clock_terms.specs.Faults.{first_fault, IsFirstFault};
@@ -46,7 +46,9 @@ pub fn check_sheet(
         (sheet_fault (public_setup setup.now) own.entry.round prices.now (holding_of own.entry) bids.now)) }
 {
     judge_sheet(alloc, setup, prices, own, bids)?;
-    Ok(Sheet::of(Items::from_slice(alloc, bids)?))
+    Ok(Sheet {
+        bids: Items::from_slice(alloc, bids)?,
+    })
 }
 
 /// Judges a sheet as [`check_sheet`] does, and takes its bids over: none is copied.
@@ -66,7 +68,7 @@ pub fn take_sheet(
         (sheet_fault (public_setup setup.now) own.entry.round prices.now (holding_of own.entry) bids)) }
 {
     judge_sheet(alloc, setup, prices, own, bids.as_slice())?;
-    Ok(Sheet::of(bids))
+    Ok(Sheet { bids })
 }
 
 /// Judges the bids of a sheet as [`check_sheet`] does.
@@ -165,8 +167,8 @@ fn judge_rising(
     ensures bound { IfOk result (λ risen. risen.count ≤ length bids.now) }
     ensures judged { IfOk result (λ risen. AreJudged setup.now.products prices.now demands.now bids.now risen.count risen.taken) }
     ensures rising { IfOk result (λ risen. IsNonDecreasingBy (λ bid. bid.product) (take risen.count bids.now)) }
-    ensures fault { IfErr result (IsFirstFault BidFault.NoMemory
-        (first_fault (checks_of_bids setup.now.products prices.now demands.now bids.now))) }
+    ensures fault { IfErr result (λ fault. first_fault (checks_of_bids setup.now.products prices.now demands.now bids.now)
+        ≡ Some fault) }
 {
     let products = setup.products.as_slice();
     let mut near = 0;

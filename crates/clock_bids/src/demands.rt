@@ -14,10 +14,9 @@ pub fn asked_demands(alloc: Global, setup: &Setup, bids: &[Bid]) -> Result<Amoun
     requires { All (λ bid. bid.product < length setup.now.products) bids.now }
     ensures { IfOk result (λ asked. asked ≡ sheet.asked_demands (length setup.now.products) bids.now) }
 {
-    let mut asked = Vec::new(alloc);
-    asked.resize(setup.products.as_slice().len(), 0)?;
+    let mut asked = Amounts::zeros(alloc, setup.products.len())?;
     for bid in bids {
-        asked[bid.product as usize] = bid.quantity;
+        asked.set(bid.product as usize, bid.quantity);
     }
-    Ok(Amounts::from_vec(asked))
+    Ok(asked)
 }

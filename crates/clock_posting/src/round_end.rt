@@ -3,8 +3,8 @@ ghost use Rattle.clock_terms.specs.Faults.{IsFirstFault};
 ghost use Rattle.clock_terms.specs.Increments.{AreIncrements};
 ghost use Rattle.clock_terms.specs.Limits.{IsProduct};
 ghost use Rattle.clock_posting.specs.Posting as rules;
-ghost use Rattle.clock_posting.specs.inside.RoundEnd.{IsRoundEnd, HasClocks};
-ghost use Rattle.clock_posting.specs.inside.Parts.{first_at_limit, lines_of_round};
+ghost use Rattle.clock_posting.specs.inside.RoundEnd.{FitsTogether, HasClocks, HasClocksOf, IsPostingOf, limit_of, lines_of, next_of};
+ghost use Rattle.clock_posting.specs.inside.Parts.{first_at_limit};
 
 use crate::fault::PostFault;
 use crate::posting::Posting;
@@ -33,13 +33,11 @@ pub(crate) struct RoundEnd<'a> {
 impl RoundEnd<'_> {
     /// What the closing of the round posts.
     pub fn posting(&self, alloc: Global) -> Result<Posting, PostFault>
-        requires { IsRoundEnd self.now.products.now self.now.prices.now self.now.grid.now self.now.posted.now self.now.increments.now }
+        requires { FitsTogether self.now }
 
-        ensures ok { IfOk result (rules.IsPosting self.now.round self.now.products.now self.now.prices.now self.now.grid.now
-            self.now.posted.now self.now.increments.now) }
+        ensures ok { IfOk result (IsPostingOf self.now) }
         ensures lines { IfOk result (λ posting. length posting.sheet.lines ≡ length self.now.products.now) }
-        ensures err { IfErr result (IsFirstFault PostFault.NoMemory (rules.post_fault
-            (rules.price_limit_fault self.now.products.now self.now.grid.now self.now.posted.now self.now.increments.now))) }
+        ensures err { IfErr result (IsFirstFault PostFault.NoMemory (rules.post_fault (limit_of self.now))) }
         ensures laws { IfOk result rules.IsConsistent }
     {
         let next = self.prices_after(alloc)?;
@@ -54,14 +52,12 @@ impl RoundEnd<'_> {
 
     /// The prices of the next round, or none where the auction has ended.
     fn prices_after(&self, alloc: Global) -> Result<Option<Prices>, PostFault>
-        requires { IsRoundEnd self.now.products.now self.now.prices.now self.now.grid.now self.now.posted.now self.now.increments.now }
-        ensures ok { IfOk result (λ next. next ≡ rules.prices_after self.now.products.now self.now.grid.now self.now.posted.now self.now.increments.now) }
-        ensures clocks { IfOk result (λ next. IfSome next (HasClocks self.now.products.now self.now.increments.now self.now.posted.now)) }
+        requires { FitsTogether self.now }
+        ensures ok { IfOk result (λ next. next ≡ next_of self.now) }
+        ensures clocks { IfOk result (λ next. IfSome next (HasClocksOf self.now)) }
         ensures rising { IfOk result (λ next. IfSome next (All rules.IsRising)) }
-        ensures possible { IfOk result (λ _. rules.price_limit_fault self.now.products.now self.now.grid.now self.now.posted.now
-            self.now.increments.now ≡ None) }
-        ensures err { IfErr result (IsFirstFault PostFault.NoMemory (rules.post_fault
-            (rules.price_limit_fault self.now.products.now self.now.grid.now self.now.posted.now self.now.increments.now))) }
+        ensures possible { IfOk result (λ _. limit_of self.now ≡ None) }
+        ensures err { IfErr result (IsFirstFault PostFault.NoMemory (rules.post_fault (limit_of self.now))) }
     {
         if has_ended(self.products, self.grid) {
             Ok(None)
@@ -72,12 +68,11 @@ impl RoundEnd<'_> {
 
     /// The lines of the round's sheet, by the prices of the next round.
     fn lines(&self, alloc: Global, next: &Option<Prices>) -> Result<Lines, NoMemory>
-        requires end { IsRoundEnd self.now.products.now self.now.prices.now self.now.grid.now self.now.posted.now self.now.increments.now }
-        requires next { next.now ≡ rules.prices_after self.now.products.now self.now.grid.now self.now.posted.now self.now.increments.now }
-        requires clocks { IfSome next.now (HasClocks self.now.products.now self.now.increments.now self.now.posted.now) }
+        requires end { FitsTogether self.now }
+        requires next { next.now ≡ next_of self.now }
+        requires clocks { IfSome next.now (HasClocksOf self.now) }
         ensures count { IfOk result (λ lines. length lines ≡ length self.now.products.now) }
-        ensures exact { IfOk result (λ lines. lines ≡ lines_of_round self.now.products.now self.now.prices.now self.now.grid.now
-            self.now.posted.now self.now.increments.now) }
+        ensures exact { IfOk result (λ lines. lines ≡ lines_of self.now) }
     {
         // Each closed round keeps its lines, so they have no more room than they take.
         let mut lines = Lines::with_capacity(alloc, self.products.len())?;
@@ -90,9 +85,9 @@ impl RoundEnd<'_> {
     /// The line of a product.
     fn line(&self, product: usize, next: &Option<Prices>) -> Line
         requires product { product < length self.now.products.now }
-        requires end { IsRoundEnd self.now.products.now self.now.prices.now self.now.grid.now self.now.posted.now self.now.increments.now }
-        requires next { next.now ≡ rules.prices_after self.now.products.now self.now.grid.now self.now.posted.now self.now.increments.now }
-        requires clocks { IfSome next.now (HasClocks self.now.products.now self.now.increments.now self.now.posted.now) }
+        requires end { FitsTogether self.now }
+        requires next { next.now ≡ next_of self.now }
+        requires clocks { IfSome next.now (HasClocksOf self.now) }
         ensures { result ≡ rules.sheet_line self.now.products.now self.now.prices.now self.now.grid.now self.now.posted.now self.now.increments.now product }
     {
         let pair = self.prices[product];
@@ -110,8 +105,8 @@ impl RoundEnd<'_> {
     /// The clock price of a product in the next round, where there is one.
     fn next_at(&self, product: usize, next: &Option<Prices>) -> Option<u64>
         requires product { product < length self.now.products.now }
-        requires next { next.now ≡ rules.prices_after self.now.products.now self.now.grid.now self.now.posted.now self.now.increments.now }
-        requires clocks { IfSome next.now (HasClocks self.now.products.now self.now.increments.now self.now.posted.now) }
+        requires next { next.now ≡ next_of self.now }
+        requires clocks { IfSome next.now (HasClocksOf self.now) }
         ensures { result ≡ (if rules.has_ended self.now.products.now self.now.grid.now then None
             else rules.next_clock self.now.products.now self.now.increments.now self.now.posted.now product) }
     {

@@ -1,14 +1,19 @@
 -- What a round has come to, as its posting takes it.
 --     HasClocks products increments posted prices      the clock prices are the products' next ones
 --     IsRoundEnd products prices grid posted increments      the values that a posting is made of fit together
-use Rattle.std.specs.Prelude.{◌≡◌, ℕ, ◌<◌, List, Some, length, map, All}
+--     FitsTogether end, IsPostingOf end, next_of end, ..      what is said of these values, where they stand in one struct
+use Rattle.std.specs.Prelude.{◌≡◌, ℕ, ◌<◌, List, Option, Some, length, map, All}
 use Rattle.std.specs.List.{range_with_len}
 use Rattle.clock_terms.specs.declared.increments.Increments.{Increments}
 use Rattle.clock_terms.specs.declared.setup.Product.{Product}
 use Rattle.clock_terms.specs.declared.prices.PricePair.{PricePair}
 use Rattle.clock_terms.specs.Limits.{IsProduct}
 use Rattle.clock_terms.specs.Increments.{AreIncrements}
-use Rattle.clock_posting.specs.Posting.{next_clock, sheet_line, IsBetween}
+use Rattle.clock_posting.specs.declared.posting.Posting.{Posting}
+use Rattle.clock_posting.specs.declared.round_end.RoundEnd.{RoundEnd}
+use Rattle.clock_posting.specs.declared.sheet.Line.{Line}
+use Rattle.clock_posting.specs.Posting.{next_clock, sheet_line, price_limit_fault, prices_after, IsBetween, IsPosting}
+use Rattle.clock_posting.specs.inside.Parts.{lines_of_round}
 
 -- the products are those of a set-up; for each there are prices, a demand of each bidder, a posted price and an increment, and
 -- each posted price stands from the start price to the clock price
@@ -25,3 +30,22 @@ pub record IsRoundEnd (products : List Product) (prices : List PricePair) (grid 
 abbrev pub HasClocks : List Product → Increments → List ℕ → List PricePair → Type 0
 HasClocks products increments posted prices =
     map (next_clock products increments posted) (range_with_len 0 (length products)) ≡ map (λ pair. Some pair.clock) prices
+
+-- the same of the values of a round's end, and what is posted of them
+abbrev pub FitsTogether : RoundEnd → Type 0
+FitsTogether end = IsRoundEnd end.products.now end.prices.now end.grid.now end.posted.now end.increments.now
+
+abbrev pub HasClocksOf : RoundEnd → List PricePair → Type 0
+HasClocksOf end = HasClocks end.products.now end.increments.now end.posted.now
+
+abbrev pub IsPostingOf : RoundEnd → Posting → Type 0
+IsPostingOf end = IsPosting end.round end.products.now end.prices.now end.grid.now end.posted.now end.increments.now
+
+abbrev pub next_of : RoundEnd → Option (List PricePair)
+next_of end = prices_after end.products.now end.grid.now end.posted.now end.increments.now
+
+abbrev pub limit_of : RoundEnd → Option ℕ
+limit_of end = price_limit_fault end.products.now end.grid.now end.posted.now end.increments.now
+
+abbrev pub lines_of : RoundEnd → List Line
+lines_of end = lines_of_round end.products.now end.prices.now end.grid.now end.posted.now end.increments.now

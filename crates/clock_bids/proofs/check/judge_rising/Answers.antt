@@ -18,7 +18,7 @@ loop-i-init c = record {
 }
 
 pub returns-in-Some-clause-fault : goal.returns-in-Some-clause-fault
-returns-in-Some-clause-fault c _ =
+returns-in-Some-clause-fault c =
     let bids = c.args.bids.now in
     let i = c.loop-i.i in
     let seen = c.as_slice-products.result.now in

@@ -4,4 +4,4 @@ use Rattle.clock_bids.proofs.demands.asked_demands.Given as goal
 
 -- the demands that the bids so far ask for
 abbrev pub invariant-loop-bid : goal.invariant-loop-bid
-invariant-loop-bid l = l.asked.items ≡ asked_demands (length l.setup.products) (take l.bid-index l.bids)
+invariant-loop-bid l = l.asked ≡ asked_demands (length l.setup.products) (take l.bid-index l.bids)
