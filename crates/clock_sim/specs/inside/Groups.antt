@@ -11,7 +11,7 @@
 --     Waits connections group      those of a group do
 --     IsUnderWay hub group      they do, and the auction goes on
 --     ComesUnderWay steps old new group result      some steps were made but for the requests that wait
-use Rattle.std.specs.Prelude.{◌≡◌, ◌≤◌, ◌<◌, ℕ, List, [], ◌∷◌, ◌++◌, true, length, map, slice_index_or, Option, Some, None, Result, Ok, OnOk, All}
+use Rattle.std.specs.Prelude.{◌≡◌, ◌≤◌, ◌<◌, ℕ, List, [], ◌∷◌, ◌++◌, true, length, map, slice_index_or, Some, Result, Ok, OnOk, All}
 use Rattle.clock_terms.specs.Limits.{SetupFields}
 use Rattle.clock_terms.specs.Faults.{◌>>=◌}
 use Rattle.clock_http.specs.Framing.{needs_more}
