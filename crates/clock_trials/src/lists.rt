@@ -72,7 +72,7 @@ fn holds<T: Copy + Drop + PartialEq + Debug>(
 ) {
     match list {
         Ok(list) => assert_is(rt, list.as_slice(), expected),
-        Err(_) => assert_is(rt, &[], expected),
+        Err(_) => assert_is(rt, [].as_slice(), expected),
     }
 }
 

@@ -76,9 +76,7 @@ fn blocks(alloc: Global, count: usize) -> Result<Vec<Offer>, AllocError> {
 }
 
 #[test]
-fn a_sheet_has_at_most_two_bids_for_each_of_the_most_products(
-    rt: HostRuntime,
-) -> Result<(), AllocError> {
+fn a_sheet_has_at_most_two_bids_for_each_of_the_most_products(rt: HostRuntime) -> Result<(), Fail> {
     let many = blocks(rt.alloc(), 8193)?;
     let steps = [RefusedPut(X, 1, many.as_slice(), PutFault::Bid(BidFault::TooMany))];
     play_all(&rt, rt.alloc(), &[("8193 bids", ONE_PRODUCT, &steps)])
