@@ -59,13 +59,8 @@ fn advance(
             apply_at(board, changes, left, i);
             Some(admitted)
         }
-        None => {
-            if admitted < changes.len() {
-                Some(admitted + 1)
-            } else {
-                None
-            }
-        }
+        None if admitted < changes.len() => Some(admitted + 1),
+        None => None,
     }
 }
 
@@ -107,7 +102,7 @@ fn apply_at(board: &mut Board, changes: &[Change], left: &mut Amounts, place: us
     ensures terms { (board.new.products ≡ board.old.products) × (board.new.eligibilities ≡ board.old.eligibilities) }
 {
     let change = changes[place];
-    let amount = left.as_slice()[place];
+    let amount = left[place];
     let room = board.room(&change, amount);
     board.apply(&change, room);
     left.set(place, amount - room);

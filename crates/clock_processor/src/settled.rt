@@ -6,10 +6,10 @@ use std::marker::Model;
 /// What a settling ends with. Only [`Board::end`](crate::Board::end) makes one.
 #[derive(Drop)]
 pub struct Settled {
-    grid: Grid,
-    left: Amounts,
-    applied: u64,
-    tests: u64,
+    pub(crate) grid: Grid,
+    pub(crate) left: Amounts,
+    pub(crate) applied: u64,
+    pub(crate) tests: u64,
 }
 
 impl Model for Settled {
@@ -21,18 +21,6 @@ impl Model for Settled {
 }
 
 impl Settled {
-    /// The end of a board's settling.
-    pub(crate) fn of(grid: Grid, left: Amounts, applied: u64, tests: u64) -> Settled
-        ensures { result ≡ record { grid = grid; left = left; applied = applied; tests = tests } }
-    {
-        Settled {
-            grid,
-            left,
-            applied,
-            tests,
-        }
-    }
-
     /// The demands after the round: a row for each bidder, in blocks.
     pub fn grid(&self) -> &Grid
         ensures { result.now ≡ self.now.grid }

@@ -54,8 +54,7 @@ impl Lines {
         if slot == 0 {
             return self.begin(line, place);
         }
-        let places = &mut self.lists[slot];
-        places.push(place)
+        self.lists[slot].push(place)
     }
 
     /// Makes a list for a line, with its first place.
@@ -87,8 +86,7 @@ impl Lines {
     {
         let slot = self.slots[line];
         if slot > 0 {
-            let places = &mut self.lists[slot];
-            places.clear();
+            self.lists[slot].clear();
         }
     }
 }

@@ -169,13 +169,6 @@ impl<'a> Queue<'a> {
             ≡ record { grid = self.entry.board.grid; left = self.entry.left; applied = self.entry.board.applied; tests = self.entry.board.tests } }
         ensures kept { IsBoard self.entry.board.products self.entry.board.eligibilities self.entry.board.grid }
     {
-        let Queue {
-            board,
-            left,
-            admitted: _,
-            ready: _,
-            lines: _,
-        } = self;
-        board.end(left)
+        self.board.end(self.left)
     }
 }

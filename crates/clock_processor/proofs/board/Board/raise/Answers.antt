@@ -10,4 +10,4 @@ invariant_of-self c =
     c.args.amount _ _ _ _ _ c.self.invariant (rw (← c.self.view_is) at c.requires.bidder) product
     (rw (← c.self.view_is) at c.requires.capped) (rw (← c.self.view_is) at c.requires.paid)
     (units_read c.self.inside.products.now c.args.product c.index-self-product.result product c.index-self-product.is)
-    (ap (λ list. get_or list c.args.bidder 0) c.as_slice.ensures) refl c.set.ensures c.change.ensures
+    (ap (λ list. get_or list c.args.bidder 0) c.deref.ensures) refl c.set.ensures c.change.ensures

@@ -17,7 +17,7 @@ overflow_add-unused c =
       c.self.invariant.keeps_unused.fits c.args.bidder bidder,
       within,
       ap (λ n. n * c.args.amount) units,
-      ap (λ list. get_or list c.args.bidder 0) c.as_slice.ensures,
+      ap (λ list. get_or list c.args.bidder 0) c.deref.ensures,
     )
 
 pub invariant_of-self : goal.invariant_of-self
@@ -26,4 +26,4 @@ invariant_of-self c =
     kept_reduced c.self.inside.products.now c.self.inside.eligibilities.now c.self.inside.grid c.self.inside.unused c.args.bidder c.args.product
     c.args.amount _ _ _ _ _ c.self.invariant (rw (← c.self.view_is) at c.requires.bidder) product (rw (← c.self.view_is) at c.requires.most)
     (units_read c.self.inside.products.now c.args.product c.index-self-product.result product c.index-self-product.is)
-    (ap (λ list. get_or list c.args.bidder 0) c.as_slice.ensures) refl c.set.ensures c.change.ensures
+    (ap (λ list. get_or list c.args.bidder 0) c.deref.ensures) refl c.set.ensures c.change.ensures

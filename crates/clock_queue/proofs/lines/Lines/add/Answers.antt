@@ -10,9 +10,9 @@ returns c =
     let slots : List ℕ = c.self.inside.slots.items in
     let lists : List (List ℕ) = c.self.inside.lists.items in
     let slot : ℕ = c.index-slot.result.now in
-    let here : c.index_mut-places.result.now ≡ get_or now c.args.line [] =
+    let here : c.index_mut.result.now ≡ get_or now c.args.line [] =
     line_read slots lists now c.args.line c.requires c.self.invariant c.self.view_is slot c.index-slot.ensures
-    c.index_mut-places.result.now c.index_mut-places.ensures.value in
+    c.index_mut.result.now c.index_mut.ensures.value in
     on_ok_weaker c.push.result
     (λ pushed. written_to slots lists now c.args.line c.requires c.self.invariant c.self.view_is slot c.index-slot.ensures c.push.new.self
     (omega (arith, c.if-slot-eq0.false))
