@@ -10,7 +10,7 @@ use Rattle.httparse.specs.declared.spans.HeaderSpan.{HeaderSpan}
 use Rattle.httparse.specs.Spans.{header_bytes, span_bytes, IsWithin}
 use Rattle.clock_http.specs.Heads.{same_bytes}
 use Rattle.clock_http.specs.declared.headers.Lines.{Lines}
-use Rattle.clock_http.specs.HeaderLines.{is_named, values_of, bearer, token_from}
+use Rattle.clock_http.specs.HeaderLines.{is_named, values_of, length_from, within_limit, unless_coded, bearer, token_from}
 use Rattle.clock_http.specs.inside.HeadFields.{Pairs, AreLinesOf}
 
 pub named : (a b : List ℕ) (r : Bool) → IsTrue r ↔ (a ≡ b) → same_bytes a b ≡ r
@@ -82,6 +82,16 @@ header_taken text wanted name headers i d lines new lt is step inside are =
     let more : pairs ++ header_bytes text here ∷ [] ≡ map (header_bytes text) (take (i + 1) headers) =
     sym (ap (map (header_bytes text)) (take_more headers i d lt) ∙ map-append (header_bytes text) (take i headers) (here ∷ [])) in
     subst (λ (all : Pairs). AreLinesOf text wanted all new) (named ∙ more) (step text pairs are inside)
+
+-- ---- the length
+
+pub one_length : (codings values : List (List ℕ)) (value : List ℕ) → length codings ≤ 0 → length values ≡ 1
+    → ((one : List ℕ) → values ≡ one ∷ [] → value ≡ one)
+    → within_limit (length_from (value ∷ [])) ≡ unless_coded codings (within_limit (length_from values))
+one_length (coding ∷ more) values value none few only = absurd (omega arith)
+one_length [] [] value none few only = absurd (omega arith)
+one_length [] (one ∷ []) value none few only = ap (λ text. within_limit (length_from (text ∷ []))) (only one refl)
+one_length [] (one ∷ (other ∷ more)) value none few only = absurd (omega arith)
 
 -- ---- the token
 

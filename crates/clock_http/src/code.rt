@@ -13,93 +13,64 @@ use http::StatusCode;
 pub enum Code {
     /// The request was done. This code stands in no page.
     Done,
-
     /// The head is not one of HTTP.
     BadHead,
-
     /// The length of the body is told twice, or not by digits alone.
     BadLength,
-
     /// The input ended before the head or the body was whole.
     CutShort,
-
     /// The body is not JSON.
     BadJson,
-
     /// The token that the route asks for is missing, or it is nobody's.
     Token,
-
     /// The route is the operator's and the token a bidder's, or the reverse.
     Role,
-
     /// The path has no page.
     NoPage,
-
     /// The round has no sheet, since it is not closed or no round at all.
     NoRound,
-
     /// The page is not for this method.
     Method,
-
     /// The auction has ended.
     Ended,
-
     /// The request is for another round than the current one, which the page shows.
     WrongRound,
-
     /// The body is longer than may be sent.
     LongBody,
-
     /// The body is JSON of another shape than is asked for.
     Shape,
-
     /// There are more bids than a sheet may have.
     TooMany,
-
     /// A bid is for no product of the set-up. The page shows the bid's place in the list, from 0,
     /// as it does for the next five codes.
     UnknownProduct,
-
     /// A bid's price is below the start price or above the clock price.
     PriceRange,
-
     /// A bid's quantity is above the product's cap.
     OverCap,
-
     /// A bid's price is not above those of the bids before it for the product.
     PriceOrder,
-
     /// A bid goes the other way than the chain of bids before it for the product.
     MixedDirection,
-
     /// A bid keeps the demand held, at another price than the clock price.
     KeepPrice,
-
     /// The sheet asks for more activity than it may.
     OverActivity,
-
     /// The increments are not those that a closing may have.
     Increment,
-
     /// A tie number is for no bidder or no product of the set-up. The page shows its place in the
     /// list, from 0, as it does for the next code.
     TieRange,
-
     /// A tie number's bidder and product stand earlier in the list.
     TieRepeated,
-
     /// There are more tie numbers than a closing may have.
     TooManyTies,
-
     /// The next clock price of a product would be too high. The page shows the product's number.
     PriceLimit,
-
     /// The head is longer, or has more lines, than may be sent.
     LongHead,
-
     /// The body is sent in a transfer coding.
     Coding,
-
     /// There was no memory.
     Memory,
 }

@@ -18,7 +18,7 @@ use crate::decimal::{is_number, number};
 use httparse::spans::{HeaderSpan, Span};
 
 /// The most bytes of a body.
-const BODY_LIMIT: u64 = 1_048_576;
+pub const MOST_BODY: usize = 1_048_576;
 
 /// The word before a token, and the first of the spaces after it. Its letters may be of any case.
 const BEARER: &[u8] = b"bearer ";
@@ -93,7 +93,7 @@ fn parse_length(value: &[u8]) -> Result<usize, Code>
         return Err(Code::BadLength);
     }
     match number(value) {
-        Some(length) if length <= BODY_LIMIT => Ok(length as usize),
+        Some(length) if length <= MOST_BODY as u64 => Ok(length as usize),
         _ => Err(Code::LongBody),
     }
 }

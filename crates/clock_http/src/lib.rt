@@ -26,6 +26,7 @@ pub use decimal::plain_number;
 pub use framing::{Framing, Head, frame};
 pub use head::EndedHead;
 pub use head_room::{NoRoom, text_with_room};
+pub use headers::MOST_BODY;
 pub use laws::{law_decided_once, law_head_of_grammar, law_known_by_parts, law_one_head};
 pub use progress::Progress;
 pub use reply::Reply;

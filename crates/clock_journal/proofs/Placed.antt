@@ -1,7 +1,8 @@
 -- Going on with a file that was taken over.
-use Rattle.std.proofs.Common.{◌≡◌, inl, inr, ℕ, List, [], length, take, Option, Some, ap, ◌∙◌, subst, arith, length-append}
+use Rattle.std.proofs.Common.{◌≡◌, ◌≢◌, inl, inr, ℕ, List, [], length, take, Option, Some, ap, ◌∙◌, subst, arith, length-append}
 use Rattle.clock_journal.specs.Disks.{IsCut}
 use Rattle.clock_journal.specs.Format.{head, records}
+use Rattle.clock_journal.specs.Kept.{Keeps}
 use Rattle.clock_journal.specs.Recovering.{IsPlaced}
 use Rattle.clock_journal.specs.declared.recovered.Recovered.{Recovered}
 use Rattle.clock_journal.proofs.Moments.{length-head}
@@ -19,3 +20,15 @@ placed_empty digest bytes texts recovered long nowhere (inr begun) = begun.none
 
 pub cut_is : (old mid new : Option (List ℕ)) (bytes : List ℕ) (place : ℕ) → mid ≡ old → old ≡ Some bytes → IsCut mid new place → new ≡ Some (take place bytes)
 cut_is old mid new bytes place same is cut = subst (λ (known : Option (List ℕ)). IsCut known new place) (same ∙ is) cut
+
+-- cut off behind its texts, and with that on the disk, it has these texts
+pub kept_when_cut : (digest bytes : List ℕ) (texts : List (List ℕ)) (recovered : Recovered) (written synced : Option (List ℕ)) → recovered.end ≢ 0
+    → IsPlaced digest bytes texts recovered → written ≡ Some (take recovered.end bytes) → synced ≡ written
+    → Keeps digest texts written synced recovered.chain
+kept_when_cut digest bytes texts recovered written synced somewhere (inl headed) cut on_disk = record {
+  file = cut ∙ ap Some headed.file;
+  synced_is = on_disk;
+  chain_is = headed.chain_is;
+  fit = headed.fit;
+}
+kept_when_cut digest bytes texts recovered written synced somewhere (inr begun) cut on_disk = absurd (somewhere begun.end_is)
