@@ -35,29 +35,17 @@ fn by_hub(alloc: Global, hub: &mut Hub<Plain>, text: &[u8]) -> Result<Text, Fail
     Ok(finished(alloc, hub, conn)?)
 }
 
-/// What a text is told: the reply, and how the one to X's question for its bids ends then.
-type Told<'a> = (&'a str, &'a str);
-
-/// Compares the reply to a text, and the one to X's question for its bids, where both are sent so to a front or a hub.
-fn compare<S, F: Fn(Global, &mut S, &[u8]) -> Result<Text, Fail>>(
-    rt: &impl Abort,
-    alloc: Global,
-    server: &mut S,
-    send: F,
-    text: &[u8],
-    told: Told<'_>,
-) -> Result<(), Fail>
-    requires { F.IsAlwaysCallable send }
-{
-    let reply = send(alloc, server, text)?;
-    assert_is(rt, reply.as_slice(), told.0.as_bytes());
-    drop(reply);
-    let bids = send(alloc, server, BIDS_OF_X.as_bytes())?;
-    assert!(rt; bids.as_slice().ends_with(told.1.as_bytes()));
-    Ok(())
+/// Asserts the reply to a text.
+fn is_reply(rt: &impl Abort, reply: Text, expected: &str) {
+    assert_is(rt, reply.as_slice(), expected.as_bytes());
 }
 
-/// However a text comes, its reply and X's page of its bids are these.
+/// Asserts how X's page of its bids ends.
+fn ends_with(rt: &impl Abort, bids: Text, page: &str) {
+    assert_is(rt, bids.as_slice().ends_with(page.as_bytes()), true);
+}
+
+/// However a text comes, its reply is this, and how X's page of its bids ends then, for which it asks in the same way.
 fn is_told(
     rt: &impl Abort,
     alloc: Global,
@@ -65,14 +53,22 @@ fn is_told(
     reply: &str,
     page: &str,
 ) -> Result<(), Fail> {
-    let told = (reply, page);
+    let asked = BIDS_OF_X.as_bytes();
     on_one_product(alloc, |front| {
-        compare(rt, alloc, front, by_answer, text, told)
+        is_reply(rt, by_answer(alloc, front, text)?, reply);
+        ends_with(rt, by_answer(alloc, front, asked)?, page);
+        Ok(())
     })?;
     on_one_product(alloc, |front| {
-        compare(rt, alloc, front, by_stream, text, told)
+        is_reply(rt, by_stream(alloc, front, text)?, reply);
+        ends_with(rt, by_stream(alloc, front, asked)?, page);
+        Ok(())
     })?;
-    on_hub(alloc, |hub| compare(rt, alloc, hub, by_hub, text, told))
+    on_hub(alloc, |hub| {
+        is_reply(rt, by_hub(alloc, hub, text)?, reply);
+        ends_with(rt, by_hub(alloc, hub, asked)?, page);
+        Ok(())
+    })
 }
 
 /// A text is refused with a status and a page, and no sheet is in force.
