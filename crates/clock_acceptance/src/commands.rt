@@ -6,7 +6,6 @@ use clock_device::{ListSink, ListSource, NoMemory, Stop};
 use clock_setup::fixtures::ONE_PRODUCT;
 use std::alloc::{AllocError, Global};
 use std::process::Abort;
-use std::test::Fail;
 
 /// How the streams of a run behave.
 #[derive(Clone, Copy)]
@@ -108,11 +107,11 @@ const SOUND_RUNS: &[(&[&str], &str, (u8, &str, &str))] = &[
 ];
 
 #[test]
-fn words_ask_for_the_lines_of_a_document(rt: HostRuntime) -> Result<(), Fail> {
+fn words_ask_for_the_lines_of_a_document(rt: HostRuntime) {
     for &(words, document, expected) in SOUND_RUNS {
-        ends(&rt, rt.alloc(), words, document, &SOUND, expected)?;
+        let done = ends(&rt, rt.alloc(), words, document, &SOUND, expected);
+        assert_is_at(&rt, words, done, Ok(()));
     }
-    Ok(())
 }
 
 /// A replay of the set-up of one product with these scripts and closings.
@@ -171,20 +170,24 @@ const REPLAYS: &[(&str, &str, (u8, &str, &str))] = &[
     ),
 ];
 
+/// The replay of scripts and closings ends so.
+fn replay_ends(
+    rt: &impl Abort,
+    alloc: Global,
+    scripts: &str,
+    closings: &str,
+    expected: (u8, &str, &str),
+) -> Result<(), NoMemory> {
+    let document = replay_document(alloc, scripts, closings)?;
+    ends(rt, alloc, &["replay"], document.as_str(), &SOUND, expected)
+}
+
 #[test]
-fn a_replay_has_a_report_or_a_fault(rt: HostRuntime) -> Result<(), Fail> {
+fn a_replay_has_a_report_or_a_fault(rt: HostRuntime) {
     for &(scripts, closings, expected) in REPLAYS {
-        let document = replay_document(rt.alloc(), scripts, closings)?;
-        ends(
-            &rt,
-            rt.alloc(),
-            &["replay"],
-            document.as_str(),
-            &SOUND,
-            expected,
-        )?;
+        let done = replay_ends(&rt, rt.alloc(), scripts, closings, expected);
+        assert_is_at(&rt, scripts, done, Ok(()));
     }
-    Ok(())
 }
 
 /// Words that are refused with a line that clap writes, whatever it says.
@@ -211,11 +214,10 @@ fn are_refused(rt: &impl Abort, alloc: Global, words: &[&str]) -> Result<(), NoM
 }
 
 #[test]
-fn other_words_are_refused(rt: HostRuntime) -> Result<(), NoMemory> {
+fn other_words_are_refused(rt: HostRuntime) {
     for words in OTHER_WORDS {
-        are_refused(&rt, rt.alloc(), words)?;
+        assert_is_at(&rt, *words, are_refused(&rt, rt.alloc(), words), Ok(()));
     }
-    Ok(())
 }
 
 /// A read that is interrupted is tried again, and one that fails is a fault; so is a writer that fails or is full. A
@@ -299,9 +301,9 @@ const OTHER_STREAMS: &[(&[&str], &str, Streams, (u8, &str, &str))] = &[
 ];
 
 #[test]
-fn streams_fail_or_are_interrupted(rt: HostRuntime) -> Result<(), NoMemory> {
+fn streams_fail_or_are_interrupted(rt: HostRuntime) {
     for &(words, document, streams, expected) in OTHER_STREAMS {
-        ends(&rt, rt.alloc(), words, document, &streams, expected)?;
+        let done = ends(&rt, rt.alloc(), words, document, &streams, expected);
+        assert_is_at(&rt, words, done, Ok(()));
     }
-    Ok(())
 }

@@ -1,9 +1,10 @@
 //! An auction as data: what is done to it and what is seen of it, step by step.
 
-use crate::comparing::assert_is_at;
+use crate::comparing::{assert_is_at, assert_reads};
 use crate::settle::push_demands;
 use crate::views::{Page, page_of};
 use clock_bids::Bid;
+use clock_device::Text;
 use clock_house::{CloseFault, House, PutFault};
 use clock_order::Tie;
 use clock_posting::sheet_lines;
@@ -13,7 +14,6 @@ use clock_setup::{Amounts, Increments, read_setup};
 use clock_terms::KeptRow;
 use std::alloc::{AllocError, Global};
 use std::process::Abort;
-use std::test::Fail;
 
 /// A bid: the product's number, the quantity and the price.
 pub type Offer = (u64, u64, u64);
@@ -69,24 +69,23 @@ pub type Play<'a> = (&'a str, &'a str, &'a [Step<'a>]);
 type At<'a> = (&'a str, usize);
 
 /// Takes the steps of each play on an auction of its own: once with the rescanned list and once with the event queue.
-pub fn play_all(rt: &impl Abort, alloc: Global, plays: &[Play]) -> Result<(), Fail> {
+pub fn play_all(rt: &impl Abort, alloc: Global, plays: &[Play]) {
     for play in plays {
-        play_with(rt, alloc, Plain, play)?;
-        play_with(rt, alloc, Woken, play)?;
+        assert_is_at(rt, play.0, play_with(rt, alloc, Plain, play), Some(()));
+        assert_is_at(rt, play.0, play_with(rt, alloc, Woken, play), Some(()));
     }
-    Ok(())
 }
 
-/// Takes the steps of a play on an auction with this processor.
+/// Takes the steps of a play on an auction with this processor, if there is memory for it.
 fn play_with<P: Processor + Drop>(
     rt: &impl Abort,
     alloc: Global,
     processor: P,
     play: &Play,
-) -> Result<(), Fail> {
+) -> Option<()> {
     let &(shows, document, steps) = play;
-    let setup = read_setup(alloc, document.as_bytes())?;
-    let mut house = House::new(alloc, setup, processor)?;
+    let setup = read_setup(alloc, document.as_bytes()).ok()?;
+    let mut house = House::new(alloc, setup, processor).ok()?;
     let taken = take_all(rt, alloc, &mut house, shows, steps);
     drop(house);
     taken
@@ -99,11 +98,11 @@ fn take_all<P: Processor>(
     house: &mut House<P>,
     shows: &str,
     steps: &[Step],
-) -> Result<(), Fail> {
+) -> Option<()> {
     for (number, step) in steps.iter().enumerate() {
         take(rt, alloc, house, (shows, number), step)?;
     }
-    Ok(())
+    Some(())
 }
 
 /// Takes one step.
@@ -113,7 +112,7 @@ fn take<P: Processor>(
     house: &mut House<P>,
     at: At,
     step: &Step,
-) -> Result<(), Fail> {
+) -> Option<()> {
     let round = house.round();
     match *step {
         Step::Put(bidder, offers) => put(rt, alloc, house, at, round, (bidder, offers), Ok(())),
@@ -133,7 +132,10 @@ fn take<P: Processor>(
         Step::RefusedCloseEach(increments, fault) => {
             close_each(rt, alloc, house, at, increments, Err(fault))
         }
-        Step::Lines(round, lines) => see_lines(rt, alloc, house, at, round, lines),
+        Step::Lines(round, lines) => {
+            assert_reads(rt, at, lines_of(alloc, house, round), lines);
+            Some(())
+        }
         Step::Hold(eligibilities, demands) => {
             see_held(rt, alloc, house, at, eligibilities, demands)
         }
@@ -148,8 +150,14 @@ fn take<P: Processor>(
             )
         }
         Step::InForce(bidder, offers) => see_in_force(rt, alloc, house, at, bidder, offers),
-        Step::Stands(round, ended) => see_round(rt, house, at, round, ended),
-        Step::Reads(page, expected) => see_page(rt, alloc, house, at, page, expected),
+        Step::Stands(round, ended) => {
+            see_round(rt, house, at, round, ended);
+            Some(())
+        }
+        Step::Reads(page, expected) => {
+            assert_reads(rt, at, page_of(alloc, house, page), expected.as_bytes());
+            Some(())
+        }
     }
 }
 
@@ -207,12 +215,12 @@ fn put<P: Processor>(
     round: u64,
     sheet: (u32, &[Offer]),
     expected: Result<(), PutFault>,
-) -> Result<(), Fail> {
+) -> Option<()> {
     let (bidder, offers) = sheet;
-    let bids = list_of(alloc, offers, bid_of)?;
+    let bids = list_of(alloc, offers, bid_of).ok()?;
     let answer = put_bids(rt, house, bidder, round, bids.as_slice());
     assert_is_at(rt, at, answer, expected);
-    Ok(())
+    Some(())
 }
 
 /// Puts sheets of one bid for the current round.
@@ -222,12 +230,12 @@ fn put_each<P: Processor>(
     house: &mut House<P>,
     at: At,
     sheets: &[Single],
-) -> Result<(), Fail> {
+) -> Option<()> {
     for &(bidder, offer) in sheets {
         let round = house.round();
         put(rt, alloc, house, at, round, (bidder, &[offer]), Ok(()))?;
     }
-    Ok(())
+    Some(())
 }
 
 /// Closes a round, which is answered so.
@@ -240,11 +248,11 @@ fn close<P: Processor>(
     increments: Increments,
     draws: &[Draw],
     expected: Result<(), CloseFault>,
-) -> Result<(), Fail> {
-    let ties = list_of(alloc, draws, tie_of)?;
+) -> Option<()> {
+    let ties = list_of(alloc, draws, tie_of).ok()?;
     let answer = house.close(round, &increments, ties.as_slice());
     assert_is_at(rt, at, answer, expected);
-    Ok(())
+    Some(())
 }
 
 /// Closes the current round with an increment for each product.
@@ -255,26 +263,19 @@ fn close_each<P: Processor>(
     at: At,
     increments: &[u64],
     expected: Result<(), CloseFault>,
-) -> Result<(), Fail> {
+) -> Option<()> {
     let round = house.round();
-    let increments = Increments::PerProduct(Amounts::from_slice(alloc, increments)?);
+    let increments = Increments::PerProduct(Amounts::from_slice(alloc, increments).ok()?);
     close(rt, alloc, house, at, round, increments, &[], expected)
 }
 
-/// Asserts the lines of a closed round.
-fn see_lines<P: Processor>(
-    rt: &impl Abort,
-    alloc: Global,
-    house: &House<P>,
-    at: At,
-    round: u64,
-    expected: &[u8],
-) -> Result<(), Fail> {
-    let sheet = house.sheet(round).ok_or("the round is not closed")?;
-    assert!(rt; sheet.lines.as_slice().len() == house.setup().products.as_slice().len());
-    let text = sheet_lines(alloc, house.setup(), sheet)?;
-    assert_is_at(rt, at, text.as_slice(), expected);
-    Ok(())
+/// The lines of a closed round.
+fn lines_of<P: Processor>(alloc: Global, house: &House<P>, round: u64) -> Option<Text> {
+    let sheet = house.sheet(round)?;
+    if sheet.lines.as_slice().len() != house.setup().products.as_slice().len() {
+        return None;
+    }
+    sheet_lines(alloc, house.setup(), sheet).ok()
 }
 
 /// Asserts what bidders hold, from the first on: their eligibilities, and their demands, row by row.
@@ -285,18 +286,18 @@ fn see_held<P: Processor>(
     at: At,
     eligibilities: &[u64],
     demands: &[u64],
-) -> Result<(), Fail> {
+) -> Option<()> {
     let mut all = Amounts::new(alloc);
     let mut bidder = 0u32;
     for eligibility in eligibilities {
         assert!(rt; (bidder as usize) < house.setup().bidders.as_slice().len());
         let own = house.own(bidder);
         assert_is_at(rt, at, own.eligibility, *eligibility);
-        push_demands(&mut all, own.demands)?;
+        push_demands(&mut all, own.demands).ok()?;
         bidder = bidder.saturating_add(1);
     }
     assert_is_at(rt, at, all.as_slice(), demands);
-    Ok(())
+    Some(())
 }
 
 /// Whether these are the numbers that a closed round has kept.
@@ -320,12 +321,12 @@ fn see_slip<P: Processor>(
     bidder: u32,
     told: (u64, u64, u64),
     demands: &[u64],
-) -> Result<(), Fail> {
+) -> Option<()> {
     assert!(rt; (bidder as usize) < house.setup().bidders.as_slice().len());
-    let slip = house.slip(bidder, told.0).ok_or("no slip")?;
+    let slip = house.slip(bidder, told.0)?;
     assert_is_at(rt, at, (slip.round, slip.activity, slip.eligibility), told);
     assert_is_at(rt, at, is_kept(&slip.demands, demands), true);
-    Ok(())
+    Some(())
 }
 
 /// Asserts whether a bidder has a sheet in force, and its bids.
@@ -353,36 +354,15 @@ fn see_in_force<P: Processor>(
     at: At,
     bidder: u32,
     offers: Option<&[Offer]>,
-) -> Result<(), Fail> {
-    let bids = list_of(alloc, offers.unwrap_or(&[]), bid_of)?;
+) -> Option<()> {
+    let bids = list_of(alloc, offers.unwrap_or(&[]), bid_of).ok()?;
     is_in_force(rt, house, at, bidder, offers.is_some(), bids.as_slice());
-    Ok(())
+    Some(())
 }
 
 /// Asserts the current round and whether the auction has ended, and that no later round is closed.
-fn see_round<P: Processor>(
-    rt: &impl Abort,
-    house: &House<P>,
-    at: At,
-    round: u64,
-    ended: bool,
-) -> Result<(), Fail> {
+fn see_round<P: Processor>(rt: &impl Abort, house: &House<P>, at: At, round: u64, ended: bool) {
     assert_is_at(rt, at, (house.round(), house.ended()), (round, ended));
     let closed = (house.sheet(0).is_some(), house.sheet(round).is_some());
     assert_is_at(rt, at, closed, (false, ended));
-    Ok(())
-}
-
-/// Asserts the text of a page of the auction as it stands.
-fn see_page<P: Processor>(
-    rt: &impl Abort,
-    alloc: Global,
-    house: &House<P>,
-    at: At,
-    page: Page,
-    expected: &str,
-) -> Result<(), Fail> {
-    let text = page_of(rt, alloc, house, page)?;
-    assert_is_at(rt, at, text.as_slice(), expected.as_bytes());
-    Ok(())
 }

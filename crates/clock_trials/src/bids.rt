@@ -20,15 +20,16 @@ use std::test::Fail;
 type Round<'a> = (&'a str, u64, &'a [u64]);
 
 /// The prices of each product of a set-up.
-fn prices_of(alloc: Global, setup: &Setup) -> Result<Prices, Fail> {
-    let (Some(start), Some(clock)) = (Price::new(100), Price::new(110)) else {
-        return Err("no prices")?;
+fn prices_of(alloc: Global, setup: &Setup) -> Option<Prices> {
+    let pair = PricePair {
+        start: Price::new(100)?,
+        clock: Price::new(110)?,
     };
     let mut prices = Prices::new(alloc);
     for _ in setup.products.as_slice() {
-        prices.push(PricePair { start, clock })?;
+        prices.push(pair).ok()?;
     }
-    Ok(prices)
+    Some(prices)
 }
 
 /// Whether there is a demand for each product, none above its cap.
@@ -118,10 +119,12 @@ fn asked_in(
     setup: &Setup,
     round: &Round,
     bids: Option<&[Bid]>,
-) -> Result<Changes, Fail> {
+) -> Option<Changes> {
     let prices = prices_of(alloc, setup)?;
-    let row = row_of(rt, alloc, setup, round.2)?;
-    Ok(asked(rt, alloc, setup, &prices, held(round.1, &row), bids)?)
+    let Ok(row) = row_of(rt, alloc, setup, round.2) else {
+        return None;
+    };
+    asked(rt, alloc, setup, &prices, held(round.1, &row), bids).ok()
 }
 
 /// The bids of a sheet, where it is put.
@@ -135,9 +138,9 @@ fn asked_by(
     alloc: Global,
     round: &Round,
     offers: Option<&[Offer]>,
-) -> Result<Changes, Fail> {
-    let bids = list_of(alloc, offers.unwrap_or(&[]), bid_of)?;
-    let setup = read_setup(alloc, round.0.as_bytes())?;
+) -> Option<Changes> {
+    let bids = list_of(alloc, offers.unwrap_or(&[]), bid_of).ok()?;
+    let setup = read_setup(alloc, round.0.as_bytes()).ok()?;
     let sheet = sheet_of(bids.as_slice(), offers.is_some());
     let changes = asked_in(rt, alloc, &setup, round, sheet);
     drop(setup);
@@ -148,12 +151,12 @@ fn asked_by(
 type Wanted = (Asked, u32);
 
 /// The changes of rows.
-fn wanted_changes(alloc: Global, rows: &[Wanted]) -> Result<Changes, Fail> {
+fn wanted_changes(alloc: Global, rows: &[Wanted]) -> Option<Changes> {
     let mut changes = Changes::new(alloc);
     for (asked, place) in rows {
-        changes.push(change_of(asked, *place)?)?;
+        changes.push(change_of(asked, *place)?).ok()?;
     }
-    Ok(changes)
+    Some(changes)
 }
 
 /// What a row shows, the round, the offers of a sheet or that there is none, and the changes that are asked for.
@@ -210,20 +213,19 @@ const ASKS: &[Ask<'static>] = &[
 ];
 
 /// Asserts that the first bidder asks for the changes of a row.
-fn asks_for(rt: &impl Abort, alloc: Global, row: &Ask) -> Result<(), Fail> {
+fn asks_for(rt: &impl Abort, alloc: Global, row: &Ask) -> Option<()> {
     let &(shows, round, offers, wanted) = row;
     let changes = asked_by(rt, alloc, &round, offers)?;
     let wanted = wanted_changes(alloc, wanted)?;
     assert_is_at(rt, shows, changes.as_slice(), wanted.as_slice());
-    Ok(())
+    Some(())
 }
 
 #[test]
-fn a_sheet_asks_for_changes(rt: HostRuntime) -> Result<(), Fail> {
+fn a_sheet_asks_for_changes(rt: HostRuntime) {
     for row in ASKS {
-        asks_for(&rt, rt.alloc(), row)?;
+        assert_is_at(&rt, row.0, asks_for(&rt, rt.alloc(), row), Some(()));
     }
-    Ok(())
 }
 
 /// Two bids of a chain for the second product.

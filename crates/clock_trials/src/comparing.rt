@@ -1,6 +1,7 @@
 //! Assertions in functions of their own, each of which is proved once: written out where it is used, one takes as many
 //! states as a whole small test.
 
+use clock_device::Text;
 use std::fmt::Debug;
 use std::process::Abort;
 
@@ -17,4 +18,17 @@ pub fn assert_is_at<T: Copy + PartialEq + Debug, L: Copy + Debug>(
     expected: T,
 ) {
     assert_eq!(rt; value, expected, "at {label:?}");
+}
+
+/// Asserts that a text could be made, and is the one expected.
+pub fn assert_reads<L: Copy + Debug>(
+    rt: &impl Abort,
+    label: L,
+    text: Option<Text>,
+    expected: &[u8],
+) {
+    match text {
+        Some(text) => assert_is_at(rt, label, text.as_slice(), expected),
+        None => assert_is_at(rt, label, b"no text".as_slice(), expected),
+    }
 }

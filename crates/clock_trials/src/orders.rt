@@ -1,6 +1,6 @@
 //! Ties and the order of processing in two small auctions.
 
-ghost use Rattle.std.specs.Prelude.{◌≡◌, ◌≢◌, AllPairs, IfOk};
+ghost use Rattle.std.specs.Prelude.{◌≡◌, ◌≢◌, AllPairs, IfOk, IfSome};
 ghost use Rattle.clock_terms.specs.Requests.{AreApart};
 
 use crate::auction::{Draw, list_of, tie_of};
@@ -12,18 +12,17 @@ use clock_setup::fixtures::{ONE_PRODUCT, TWO_PRODUCTS};
 use clock_setup::read_setup;
 use clock_terms::{Change, Changes, Kind};
 use std::alloc::Global;
-use std::test::Fail;
 
 /// A reduction by a block: of a product, at a price between a start price and a clock price.
 type Reduction = (u32, u64, u64, u64);
 
 /// The change that a bidder's reduction asks for.
-fn change(bidder: u32, reduction: &Reduction) -> Result<Change, Fail>
-    ensures { IfOk result (λ change. change.bidder ≡ bidder) }
+fn change(bidder: u32, reduction: &Reduction) -> Option<Change>
+    ensures { IfSome result (λ change. change.bidder ≡ bidder) }
 {
     let &(product, start, price, clock) = reduction;
-    let point = Point::of(start, price, clock).ok_or("price")?;
-    Ok(Change {
+    let point = Point::of(start, price, clock)?;
+    Some(Change {
         bidder,
         product,
         place: 0,
@@ -46,12 +45,12 @@ fn both(alloc: Global, first: &Change, second: &Change) -> Result<Changes, NoMem
 }
 
 /// The tie numbers of a list, in the auction of a set-up document, or their fault.
-fn ties_of(alloc: Global, document: &str, draws: &[Draw]) -> Result<Result<Ties, TieFault>, Fail> {
-    let draws = list_of(alloc, draws, tie_of)?;
-    let setup = read_setup(alloc, document.as_bytes())?;
+fn ties_of(alloc: Global, document: &str, draws: &[Draw]) -> Option<Result<Ties, TieFault>> {
+    let draws = list_of(alloc, draws, tie_of).ok()?;
+    let setup = read_setup(alloc, document.as_bytes()).ok()?;
     let ties = Ties::new(alloc, &setup, draws.as_slice());
     drop(setup);
-    Ok(ties)
+    Some(ties)
 }
 
 /// The bidder of the first of some changes.
@@ -60,10 +59,12 @@ fn first_bidder(changes: &[Change]) -> Option<u32> {
 }
 
 /// Which of two reductions, of bidder 0 and bidder 1, is processed first.
-fn first_of(alloc: Global, ties: &Ties, x: &Reduction, y: &Reduction) -> Result<Option<u32>, Fail> {
-    let changes = both(alloc, &change(0, x)?, &change(1, y)?)?;
-    let list = ordered(alloc, &changes, ties)?;
-    Ok(first_bidder(list.as_slice()))
+fn first_of(alloc: Global, ties: &Ties, x: &Reduction, y: &Reduction) -> Option<u32> {
+    let Ok(changes) = both(alloc, &change(0, x)?, &change(1, y)?) else {
+        return None;
+    };
+    let list = ordered(alloc, &changes, ties).ok()?;
+    first_bidder(list.as_slice())
 }
 
 /// The same with the tie numbers of a list.
@@ -72,8 +73,8 @@ fn first_in(
     document: &str,
     draws: &[Draw],
     reductions: &(Reduction, Reduction),
-) -> Result<Option<u32>, Fail> {
-    let ties = ties_of(alloc, document, draws)??;
+) -> Option<u32> {
+    let ties = ties_of(alloc, document, draws)?.ok()?;
     let first = first_of(alloc, &ties, &reductions.0, &reductions.1);
     drop(ties);
     first
@@ -93,12 +94,11 @@ const ORDERS: &[(&str, &[Draw], (Reduction, Reduction), u32)] = &[
 ];
 
 #[test]
-fn changes_go_by_point_and_then_by_tie_number_and_bidder(rt: HostRuntime) -> Result<(), Fail> {
+fn changes_go_by_point_and_then_by_tie_number_and_bidder(rt: HostRuntime) {
     for (document, draws, reductions, bidder) in ORDERS {
-        let first = first_in(rt.alloc(), document, draws, reductions)?;
+        let first = first_in(rt.alloc(), document, draws, reductions);
         assert_is_at(&rt, *draws, first, Some(*bidder));
     }
-    Ok(())
 }
 
 /// Lists of tie numbers, and their faults in the auction of one product.
@@ -107,18 +107,24 @@ const FAULTY: &[(&[Draw], TieFault)] = &[
     (&[(0, 0, 1), (0, 0, 2)], TieFault::Repeated(1)),
 ];
 
-/// The fault of a list of tie numbers, or none.
-fn fault_of(alloc: Global, draws: &[Draw]) -> Result<Option<TieFault>, Fail> {
-    Ok(ties_of(alloc, ONE_PRODUCT, draws)?.err())
+/// The fault of a list of tie numbers, if it has one.
+fn fault_of(alloc: Global, draws: &[Draw]) -> Option<TieFault> {
+    ties_of(alloc, ONE_PRODUCT, draws)?.err()
+}
+
+/// The fault of a list of so many tie numbers, one like the other.
+fn fault_of_many(alloc: Global, count: usize) -> Option<TieFault> {
+    let Ok(many) = vec![in alloc; (0, 1, 5); count] else {
+        return None;
+    };
+    fault_of(alloc, many.as_slice())
 }
 
 #[test]
-fn a_tie_list_is_refused_for_its_first_fault(rt: HostRuntime) -> Result<(), Fail> {
+fn a_tie_list_is_refused_for_its_first_fault(rt: HostRuntime) {
     for &(draws, fault) in FAULTY {
-        assert_is(&rt, fault_of(rt.alloc(), draws)?, Some(fault));
+        assert_is(&rt, fault_of(rt.alloc(), draws), Some(fault));
     }
-    let many = vec![in rt.alloc(); (0, 1, 5); 16_385]?;
-    let fault = fault_of(rt.alloc(), many.as_slice())?;
+    let fault = fault_of_many(rt.alloc(), 16_385);
     assert_is(&rt, fault, Some(TieFault::TooMany));
-    Ok(())
 }

@@ -9,7 +9,6 @@ use clock_bids::BidFault;
 use clock_house::{CloseFault, PutFault};
 use clock_order::TieFault;
 use clock_setup::fixtures::ONE_PRODUCT;
-use std::test::Fail;
 
 /// The highest price.
 const HIGHEST: u64 = 1_000_000_000_000;
@@ -125,11 +124,11 @@ const AT_THE_LIMIT: &[Play<'static>] = &[
 ];
 
 #[test]
-fn a_refusal_changes_nothing(rt: HostRuntime) -> Result<(), Fail> {
-    play_all(&rt, rt.alloc(), IN_TURN)
+fn a_refusal_changes_nothing(rt: HostRuntime) {
+    play_all(&rt, rt.alloc(), IN_TURN);
 }
 
 #[test]
-fn the_price_limit_is_the_highest_price(rt: HostRuntime) -> Result<(), Fail> {
-    play_all(&rt, rt.alloc(), AT_THE_LIMIT)
+fn the_price_limit_is_the_highest_price(rt: HostRuntime) {
+    play_all(&rt, rt.alloc(), AT_THE_LIMIT);
 }

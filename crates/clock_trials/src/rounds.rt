@@ -8,7 +8,6 @@ use crate::documents::{NO_HIGHER_LIMIT, SEVEN_BLOCKS};
 use clock_bids::BidFault;
 use clock_house::{CloseFault, PutFault};
 use clock_setup::fixtures::{ACTIVITY_LIMIT, GRANULES_AND_INCREMENTS, ONE_PRODUCT, TWO_PRODUCTS};
-use std::test::Fail;
 
 /// The bidder Z, where there is no Y.
 const SECOND: u32 = 1;
@@ -204,11 +203,11 @@ const OF_TWO_PRODUCTS: &[Play<'static>] = &[
 ];
 
 #[test]
-fn rounds_of_one_product_are_played(rt: HostRuntime) -> Result<(), Fail> {
-    play_all(&rt, rt.alloc(), OF_ONE_PRODUCT)
+fn rounds_of_one_product_are_played(rt: HostRuntime) {
+    play_all(&rt, rt.alloc(), OF_ONE_PRODUCT);
 }
 
 #[test]
-fn rounds_of_two_products_are_played(rt: HostRuntime) -> Result<(), Fail> {
-    play_all(&rt, rt.alloc(), OF_TWO_PRODUCTS)
+fn rounds_of_two_products_are_played(rt: HostRuntime) {
+    play_all(&rt, rt.alloc(), OF_TWO_PRODUCTS);
 }

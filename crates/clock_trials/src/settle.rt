@@ -20,13 +20,10 @@ use std::test::Fail;
 /// A request: its kind, bidder, product, blocks and price.
 pub type Asked = (Kind, u32, u32, u64, u64);
 
-/// The change that a request asks for by the bid at a place of its chain, in a round from 100 to 110.
-pub fn change_of(
-    &(kind, bidder, product, amount, price): &Asked,
-    place: u32,
-) -> Result<Change, Fail> {
-    let point = Point::of(100, price, 110).ok_or("no price of the round")?;
-    Ok(Change {
+/// The change that a request asks for by the bid at a place of its chain, at a price of a round from 100 to 110.
+pub fn change_of(&(kind, bidder, product, amount, price): &Asked, place: u32) -> Option<Change> {
+    let point = Point::of(100, price, 110)?;
+    Some(Change {
         bidder,
         product,
         place,
@@ -41,7 +38,7 @@ pub fn change_of(
 fn requests(alloc: Global, asked: &[Asked]) -> Result<Changes, Fail> {
     let mut changes = Changes::new(alloc);
     for request in asked {
-        changes.push(change_of(request, 0)?)?;
+        changes.push(change_of(request, 0).ok_or("no price of the round")?)?;
     }
     Ok(changes)
 }

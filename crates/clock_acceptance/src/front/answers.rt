@@ -5,13 +5,12 @@ use crate::comparing::assert_is;
 use crate::front::example::{on_front, on_one_product};
 use crate::repeated::{Repeated, repeated};
 use clock_device::{Items, Text};
-use clock_front::{Front, run};
+use clock_front::{Front, Reply, run};
 use clock_http::Code;
 use clock_processor::Plain;
 use clock_setup::fixtures::{ACTIVITY_LIMIT, GRANULES_AND_INCREMENTS, ONE_PRODUCT};
 use std::alloc::Global;
 use std::process::Abort;
-use std::test::Fail;
 
 /// Sends a request, of its line, whose token it has and its body, and compares the status and page of its reply.
 fn send_request(
@@ -20,31 +19,26 @@ fn send_request(
     front: &mut Front<Plain>,
     request: (&str, &str, &str),
     told: (&str, &str),
-) -> Result<(), Fail> {
+) -> Option<()> {
     let text = text_of(alloc, request.0, request.1, request.2)?;
     compare(rt, alloc, front, text.as_str(), told.0, told.1)
 }
 
 /// Sends the request of a row, and compares its reply.
-fn send(rt: &impl Abort, alloc: Global, front: &mut Front<Plain>, row: &str) -> Result<(), Fail> {
+fn send(rt: &impl Abort, alloc: Global, front: &mut Front<Plain>, row: &str) -> Option<()> {
     let fields = fields_of(alloc, row)?;
     let &[line, who, body, status, page] = fields.as_slice() else {
-        return Err("a row has five fields")?;
+        return None;
     };
     send_request(rt, alloc, front, (line, who, body), (status, page))
 }
 
 /// Sends the requests of all rows in turn.
-fn send_rows(
-    rt: &impl Abort,
-    alloc: Global,
-    front: &mut Front<Plain>,
-    rows: &str,
-) -> Result<(), Fail> {
+fn send_rows(rt: &impl Abort, alloc: Global, front: &mut Front<Plain>, rows: &str) -> Option<()> {
     for row in rows.split('\n') {
         send(rt, alloc, front, row)?;
     }
-    Ok(())
+    Some(())
 }
 
 /// Requests in turn: the request line, whose token it has, its body, and the status and page of its reply. So are the
@@ -58,16 +52,17 @@ GET /v1/me/bids|X||200 OK|{"bids":[],"round":1}
 GET /v1/me/bids|Y||200 OK|{"bids":null,"round":1}"#;
 
 /// The 147 bytes of a sheet that X puts, byte for byte, and its reply; then the rows.
-fn put_and_told(rt: &impl Abort, alloc: Global, front: &mut Front<Plain>) -> Result<(), Fail> {
+fn put_and_told(rt: &impl Abort, alloc: Global, front: &mut Front<Plain>) -> Option<()> {
     let reply = reply_of(alloc, front, PUT)?;
     assert_is(rt, reply.as_str(), ACCEPTED);
     send_rows(rt, alloc, front, SHEETS)
 }
 
 #[test]
-fn a_sheet_is_put_and_told(rt: HostRuntime) -> Result<(), Fail> {
+fn a_sheet_is_put_and_told(rt: HostRuntime) {
     assert_is(&rt, PUT.len(), 147);
-    on_one_product(rt.alloc(), |front| put_and_told(&rt, rt.alloc(), front))
+    let done = on_one_product(rt.alloc(), |front| put_and_told(&rt, rt.alloc(), front));
+    assert_is(&rt, done, Some(()));
 }
 
 /// X drops two blocks, of which one is given up.
@@ -167,13 +162,13 @@ const AUCTIONS: &[(&str, &str)] = &[
 ];
 
 #[test]
-fn requests_are_answered_in_turn(rt: HostRuntime) -> Result<(), Fail> {
+fn requests_are_answered_in_turn(rt: HostRuntime) {
     for &(document, rows) in AUCTIONS {
-        on_front(rt.alloc(), document, |front| {
+        let done = on_front(rt.alloc(), document, |front| {
             send_rows(&rt, rt.alloc(), front, rows)
-        })?;
+        });
+        assert_is(&rt, done, Some(()));
     }
-    Ok(())
 }
 
 /// Request lines and whose token they have, bodies of one item more than the most, one like the other, and the page of
@@ -203,48 +198,67 @@ const TOO_MANY: &[(&str, &str, Repeated<'static>, &str)] = &[
     ),
 ];
 
+/// A body of these parts is refused with a page.
+fn has_too_many(
+    rt: &impl Abort,
+    alloc: Global,
+    front: &mut Front<Plain>,
+    asked: (&str, &str),
+    parts: Repeated<'_>,
+    page: &str,
+) -> Option<()> {
+    let body = repeated(alloc, parts).ok()?;
+    let request = (asked.0, asked.1, body.as_str());
+    send_request(
+        rt,
+        alloc,
+        front,
+        request,
+        ("422 Unprocessable Entity", page),
+    )
+}
+
 #[test]
-fn a_body_has_at_most_so_many_items(rt: HostRuntime) -> Result<(), Fail> {
+fn a_body_has_at_most_so_many_items(rt: HostRuntime) {
     for &(line, who, parts, page) in TOO_MANY {
-        let body = repeated(rt.alloc(), parts)?;
-        let request = (line, who, body.as_str());
-        on_one_product(rt.alloc(), |front| {
-            let told = ("422 Unprocessable Entity", page);
-            send_request(&rt, rt.alloc(), front, request, told)
-        })?;
+        let done = on_one_product(rt.alloc(), |front| {
+            has_too_many(&rt, rt.alloc(), front, (line, who), parts, page)
+        });
+        assert_is(&rt, done, Some(()));
     }
-    Ok(())
 }
 
 /// The texts of rows.
-fn texts_of(alloc: Global, rows: &str) -> Result<Items<Text>, Fail> {
+fn texts_of(alloc: Global, rows: &str) -> Option<Items<Text>> {
     let mut texts = Items::new(alloc);
     for row in rows.split('|') {
-        texts.push(Text::from_slice(alloc, row.as_bytes())?)?;
+        let text = Text::from_slice(alloc, row.as_bytes()).ok()?;
+        texts.push(text).ok()?;
     }
-    Ok(texts)
+    Some(texts)
 }
 
-/// The codes of the replies to texts.
-fn codes_of(alloc: Global, texts: &[Text]) -> Result<Items<Code>, Fail> {
-    let setup = setup_of(alloc, ONE_PRODUCT)?;
-    let replies = run(alloc, setup, Plain, texts)?;
-    let mut codes = Items::new(alloc);
-    for reply in replies.as_slice() {
-        codes.push(reply.code())?;
+/// The codes of replies are these.
+fn have_codes(rt: &impl Abort, replies: &[Reply], codes: &[Code]) {
+    assert_is(rt, replies.len(), codes.len());
+    for (reply, code) in replies.iter().zip(codes) {
+        assert_is(rt, reply.code(), *code);
     }
-    Ok(codes)
+}
+
+/// The codes of the replies to the texts of rows are these.
+fn run_has_codes(rt: &impl Abort, alloc: Global, rows: &str, codes: &[Code]) -> Option<()> {
+    let texts = texts_of(alloc, rows)?;
+    let setup = setup_of(alloc, ONE_PRODUCT)?;
+    let replies = run(alloc, setup, Plain, texts.as_slice()).ok()?;
+    have_codes(rt, replies.as_slice(), codes);
+    drop(replies);
+    Some(())
 }
 
 #[test]
-fn a_run_gives_a_reply_to_each_text(rt: HostRuntime) -> Result<(), Fail> {
+fn a_run_gives_a_reply_to_each_text(rt: HostRuntime) {
     let rows = "GET /v1/status HTTP/1.1\r\n\r\n|GET /v1/status";
-    let texts = texts_of(rt.alloc(), rows)?;
-    let codes = codes_of(rt.alloc(), texts.as_slice())?;
-    assert_is(
-        &rt,
-        codes.as_slice(),
-        [Code::Done, Code::CutShort].as_slice(),
-    );
-    Ok(())
+    let codes = [Code::Done, Code::CutShort];
+    assert_is(&rt, run_has_codes(&rt, rt.alloc(), rows, &codes), Some(()));
 }

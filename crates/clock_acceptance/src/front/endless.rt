@@ -10,7 +10,6 @@ use clock_http::Code;
 use clock_processor::Plain;
 use std::alloc::Global;
 use std::process::Abort;
-use std::test::Fail;
 
 /// A source that never ends: each read gives a space, or each is interrupted.
 #[derive(Drop)]
@@ -51,18 +50,18 @@ fn is_served(
     answer: Result<Code, StreamFault>,
     written: &str,
     calls: u64,
-) -> Result<(), Fail> {
+) -> Option<()> {
     let mut source = Endless {
         is_interrupted,
         calls: 0,
         interruptions: 0,
     };
-    let mut sink = ListSink::new(alloc, 1024, 1024, None)?;
+    let mut sink = ListSink::new(alloc, 1024, 1024, None).ok()?;
     let served = serve_stream(alloc, front, &mut source, &mut sink);
     assert_is(rt, served, answer);
     assert_is(rt, sink.bytes(), written.as_bytes());
     assert_is(rt, source.calls, calls);
-    Ok(())
+    Some(())
 }
 
 /// Whether the reads of a source are interrupted, and how it is served: by spaces its head is too long, and
@@ -73,9 +72,9 @@ const SERVED: &[(bool, Result<Code, StreamFault>, &str, u64)] = &[
 ];
 
 #[test]
-fn a_source_without_end_is_served(rt: HostRuntime) -> Result<(), Fail> {
+fn a_source_without_end_is_served(rt: HostRuntime) {
     for &(is_interrupted, answer, written, calls) in SERVED {
-        on_one_product(rt.alloc(), |front| {
+        let done = on_one_product(rt.alloc(), |front| {
             is_served(
                 &rt,
                 rt.alloc(),
@@ -85,7 +84,7 @@ fn a_source_without_end_is_served(rt: HostRuntime) -> Result<(), Fail> {
                 written,
                 calls,
             )
-        })?;
+        });
+        assert_is(&rt, done, Some(()));
     }
-    Ok(())
 }

@@ -1,11 +1,10 @@
 //! What is answered where a head is at a limit or past it, or is none.
 use super::requests::compare;
-use crate::comparing::assert_is;
+use crate::comparing::assert_is_at;
 use crate::front::example::on_one_product;
 use crate::repeated::{Repeated, repeated};
 use std::alloc::Global;
 use std::process::Abort;
-use std::test::Fail;
 
 /// The status and the page of a reply.
 type Told<'a> = (&'a str, &'a str);
@@ -68,18 +67,18 @@ const TEXTS: &[(&str, Told<'static>)] = &[
 ];
 
 /// A text by itself is answered with a status and a page.
-fn answers(rt: &impl Abort, alloc: Global, text: &str, told: Told<'_>) -> Result<(), Fail> {
+fn answers(rt: &impl Abort, alloc: Global, text: &str, told: Told<'_>) -> Option<()> {
     on_one_product(alloc, |front| {
         compare(rt, alloc, front, text, told.0, told.1)
     })
 }
 
 #[test]
-fn header_lines_are_answered_by_their_faults(rt: HostRuntime) -> Result<(), Fail> {
+fn header_lines_are_answered_by_their_faults(rt: HostRuntime) {
     for &(text, told) in TEXTS {
-        answers(&rt, rt.alloc(), text, told)?;
+        let done = answers(&rt, rt.alloc(), text, told);
+        assert_is_at(&rt, text, done, Some(()));
     }
-    Ok(())
 }
 
 /// Heads of at most 64 lines and of at most 16,384 bytes, or of more: the parts, how many bytes they are, and the reply.
@@ -112,12 +111,23 @@ const LIMITS: &[(Repeated<'static>, usize, Told<'static>)] = &[
     ),
 ];
 
+/// A long head has so many bytes, and is answered so.
+fn long_head_answers(
+    rt: &impl Abort,
+    alloc: Global,
+    parts: Repeated<'_>,
+    length: usize,
+    told: Told<'_>,
+) -> Option<()> {
+    let text = repeated(alloc, parts).ok()?;
+    assert_is_at(rt, parts.2, text.len(), length);
+    answers(rt, alloc, text.as_str(), told)
+}
+
 #[test]
-fn a_head_has_at_most_64_lines_and_16384_bytes(rt: HostRuntime) -> Result<(), Fail> {
+fn a_head_has_at_most_64_lines_and_16384_bytes(rt: HostRuntime) {
     for &(parts, length, told) in LIMITS {
-        let text = repeated(rt.alloc(), parts)?;
-        assert_is(&rt, text.len(), length);
-        answers(&rt, rt.alloc(), text.as_str(), told)?;
+        let done = long_head_answers(&rt, rt.alloc(), parts, length, told);
+        assert_is_at(&rt, length, done, Some(()));
     }
-    Ok(())
 }

@@ -3,7 +3,7 @@ use super::hubs::{bytes_of, connected, fed, finished, on_hub};
 use super::requests::reply_with;
 use super::streams::serve;
 use super::texts::{ACCEPTED, BIDS_OF_X, CUT_SHORT, LONG_HEAD, NO_SHEET, PUT, SHEET};
-use crate::comparing::assert_is;
+use crate::comparing::{assert_is, assert_is_at};
 use crate::front::example::on_one_product;
 use crate::repeated::{Repeated, repeated};
 use clock_device::Text;
@@ -11,78 +11,61 @@ use clock_front::{Front, Hub};
 use clock_processor::Plain;
 use std::alloc::{AllocError, Global};
 use std::process::Abort;
-use std::test::Fail;
 
 /// The reply to a text.
-fn by_answer(alloc: Global, front: &mut Front<Plain>, text: &[u8]) -> Result<Text, Fail> {
-    Ok(bytes_of(alloc, front.answer(text))?)
+fn by_answer(alloc: Global, front: &mut Front<Plain>, text: &[u8]) -> Option<Text> {
+    bytes_of(alloc, front.answer(text)).ok()
 }
 
 /// What is written for a text that comes over a stream.
-fn by_stream(alloc: Global, front: &mut Front<Plain>, text: &[u8]) -> Result<Text, Fail> {
-    let (_answer, written) = serve(alloc, front, text, 100, None, None)?;
-    Ok(written)
+fn by_stream(alloc: Global, front: &mut Front<Plain>, text: &[u8]) -> Option<Text> {
+    let (_answer, written) = serve(alloc, front, text, 100, None, None).ok()?;
+    Some(written)
 }
 
 /// The reply to a text that comes over a connection in single bytes, and ends then.
-fn by_hub(alloc: Global, hub: &mut Hub<Plain>, text: &[u8]) -> Result<Text, Fail> {
-    let conn = connected(hub)?;
+fn by_hub(alloc: Global, hub: &mut Hub<Plain>, text: &[u8]) -> Option<Text> {
+    let conn = connected(hub).ok()?;
     for byte in text {
-        if let Some(reply) = fed(alloc, hub, conn, &[*byte])? {
-            return Ok(reply);
+        if let Some(reply) = fed(alloc, hub, conn, &[*byte]).ok()? {
+            return Some(reply);
         }
     }
-    Ok(finished(alloc, hub, conn)?)
+    finished(alloc, hub, conn).ok()
 }
 
-/// What a text is told: the reply, and how the one to X's question for its bids ends then.
-type Told<'a> = (&'a str, &'a str);
-
-/// Compares the reply to a text, and the one to X's question for its bids, where both are sent so to a front or a hub.
-fn compare<S, F: Fn(Global, &mut S, &[u8]) -> Result<Text, Fail>>(
-    rt: &impl Abort,
-    alloc: Global,
-    server: &mut S,
-    send: F,
-    text: &[u8],
-    told: Told<'_>,
-) -> Result<(), Fail>
-    requires { F.IsAlwaysCallable send }
-{
-    let reply = send(alloc, server, text)?;
-    assert_is(rt, reply.as_slice(), told.0.as_bytes());
-    drop(reply);
-    let bids = send(alloc, server, BIDS_OF_X.as_bytes())?;
-    assert!(rt; bids.as_slice().ends_with(told.1.as_bytes()));
-    Ok(())
+/// Asserts the reply to a text.
+fn is_reply(rt: &impl Abort, reply: Text, expected: &str) {
+    assert_is(rt, reply.as_slice(), expected.as_bytes());
 }
 
-/// However a text comes, its reply and X's page of its bids are these.
-fn is_told(
-    rt: &impl Abort,
-    alloc: Global,
-    text: &[u8],
-    reply: &str,
-    page: &str,
-) -> Result<(), Fail> {
-    let told = (reply, page);
+/// Asserts how X's page of its bids ends.
+fn ends_with(rt: &impl Abort, bids: Text, page: &str) {
+    assert_is(rt, bids.as_slice().ends_with(page.as_bytes()), true);
+}
+
+/// However a text comes, its reply is this, and how X's page of its bids ends then, for which it asks in the same way.
+fn is_told(rt: &impl Abort, alloc: Global, text: &[u8], reply: &str, page: &str) -> Option<()> {
+    let asked = BIDS_OF_X.as_bytes();
     on_one_product(alloc, |front| {
-        compare(rt, alloc, front, by_answer, text, told)
+        is_reply(rt, by_answer(alloc, front, text)?, reply);
+        ends_with(rt, by_answer(alloc, front, asked)?, page);
+        Some(())
     })?;
     on_one_product(alloc, |front| {
-        compare(rt, alloc, front, by_stream, text, told)
+        is_reply(rt, by_stream(alloc, front, text)?, reply);
+        ends_with(rt, by_stream(alloc, front, asked)?, page);
+        Some(())
     })?;
-    on_hub(alloc, |hub| compare(rt, alloc, hub, by_hub, text, told))
+    on_hub(alloc, |hub| {
+        is_reply(rt, by_hub(alloc, hub, text)?, reply);
+        ends_with(rt, by_hub(alloc, hub, asked)?, page);
+        Some(())
+    })
 }
 
 /// A text is refused with a status and a page, and no sheet is in force.
-fn is_refused(
-    rt: &impl Abort,
-    alloc: Global,
-    text: &[u8],
-    status: &str,
-    page: &str,
-) -> Result<(), Fail> {
+fn is_refused(rt: &impl Abort, alloc: Global, text: &[u8], status: &str, page: &str) -> Option<()> {
     let reply = reply_with(alloc, status, page)?;
     is_told(rt, alloc, text, reply.as_str(), NO_SHEET)
 }
@@ -127,20 +110,20 @@ const MALICIOUS: &[(&[u8], &str, &str)] = &[
 ];
 
 #[test]
-fn malicious_texts_are_refused(rt: HostRuntime) -> Result<(), Fail> {
+fn malicious_texts_are_refused(rt: HostRuntime) {
     for &(text, status, page) in MALICIOUS {
-        is_refused(&rt, rt.alloc(), text, status, page)?;
+        let done = is_refused(&rt, rt.alloc(), text, status, page);
+        assert_is_at(&rt, text, done, Some(()));
     }
-    Ok(())
 }
 
 #[test]
-fn each_beginning_of_a_request_is_cut_short(rt: HostRuntime) -> Result<(), Fail> {
+fn each_beginning_of_a_request_is_cut_short(rt: HostRuntime) {
     for count in 0..147 {
         let text = PUT.as_bytes().get(..count).unwrap_or(b"more");
-        is_told(&rt, rt.alloc(), text, CUT_SHORT, NO_SHEET)?;
+        let done = is_told(&rt, rt.alloc(), text, CUT_SHORT, NO_SHEET);
+        assert_is_at(&rt, count, done, Some(()));
     }
-    Ok(())
 }
 
 /// Long texts, the reply, and how X's page of its bids ends then: what follows a request is ignored, and spaces are too
@@ -151,13 +134,24 @@ const LONG: &[(Repeated<'static>, &str, &str)] = &[
     (("", " ", 16_384, ""), LONG_HEAD, NO_SHEET),
 ];
 
+/// A long text is told so.
+fn long_text_is_told(
+    rt: &impl Abort,
+    alloc: Global,
+    parts: Repeated<'_>,
+    reply: &str,
+    page: &str,
+) -> Option<()> {
+    let text = repeated(alloc, parts).ok()?;
+    is_told(rt, alloc, text.as_str().as_bytes(), reply, page)
+}
+
 #[test]
-fn long_texts_are_answered_by_their_beginning(rt: HostRuntime) -> Result<(), Fail> {
+fn long_texts_are_answered_by_their_beginning(rt: HostRuntime) {
     for &(parts, reply, page) in LONG {
-        let text = repeated(rt.alloc(), parts)?;
-        is_told(&rt, rt.alloc(), text.as_str().as_bytes(), reply, page)?;
+        let done = long_text_is_told(&rt, rt.alloc(), parts, reply, page);
+        assert_is_at(&rt, reply, done, Some(()));
     }
-    Ok(())
 }
 
 /// The head of a sheet of 2,000 bytes.
@@ -170,15 +164,14 @@ fn nested(alloc: Global) -> Result<String, AllocError> {
     repeated(alloc, (HEAD_OF_2000, "[", 1_000, closing.as_str()))
 }
 
-#[test]
-fn deep_nesting_is_no_json(rt: HostRuntime) -> Result<(), Fail> {
-    let text = nested(rt.alloc())?;
+/// It is no JSON.
+fn nested_is_refused(rt: &impl Abort, alloc: Global) -> Option<()> {
+    let text = nested(alloc).ok()?;
     let page = r#"{"code":"bad_json","status":400}"#;
-    is_refused(
-        &rt,
-        rt.alloc(),
-        text.as_str().as_bytes(),
-        "400 Bad Request",
-        page,
-    )
+    is_refused(rt, alloc, text.as_str().as_bytes(), "400 Bad Request", page)
+}
+
+#[test]
+fn deep_nesting_is_no_json(rt: HostRuntime) {
+    assert_is(&rt, nested_is_refused(&rt, rt.alloc()), Some(()));
 }

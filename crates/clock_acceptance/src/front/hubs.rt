@@ -5,19 +5,15 @@ use clock_front::{Conn, Fed, Hub, HubFault, Reply};
 use clock_processor::Plain;
 use clock_setup::fixtures::ONE_PRODUCT;
 use std::alloc::Global;
-use std::test::Fail;
 
 /// A hub of the one product.
-fn hub_of(alloc: Global) -> Result<Hub<Plain>, Fail> {
-    let front = opened(alloc, ONE_PRODUCT)?;
-    Ok(Hub::new(alloc, front))
+fn hub_of(alloc: Global) -> Option<Hub<Plain>> {
+    let front = opened(alloc, ONE_PRODUCT).ok()?;
+    Some(Hub::new(alloc, front))
 }
 
 /// What is done with a hub of the one product, which has no connection. No other function of the tests lets a hub go.
-pub(super) fn on_hub<T, F: FnOnce(&mut Hub<Plain>) -> Result<T, Fail>>(
-    alloc: Global,
-    act: F,
-) -> Result<T, Fail>
+pub(super) fn on_hub<T, F: FnOnce(&mut Hub<Plain>) -> Option<T>>(alloc: Global, act: F) -> Option<T>
     requires { F.IsAlwaysCallable act }
 {
     let mut hub = hub_of(alloc)?;

@@ -10,7 +10,6 @@ use clock_processor::Plain;
 use clock_setup::fixtures::ONE_PRODUCT;
 use std::alloc::Global;
 use std::process::Abort;
-use std::test::Fail;
 
 /// The texts of three connections.
 const TEXTS: [&str; 3] = [PUT, STATUS, "PUT /v1/me"];
@@ -25,34 +24,35 @@ const IN_ORDER_OF_COMPLETION: &[(u64, &str)] = &[
 ];
 
 /// The byte of each text at a place, in turn.
-fn push_bytes(alloc: Global, events: &mut Vec<Event>, place: usize) -> Result<(), Fail> {
+fn push_bytes(alloc: Global, events: &mut Vec<Event>, place: usize) -> Option<()> {
     for (number, text) in TEXTS.iter().enumerate() {
         push_byte(alloc, events, number as u64, text.as_bytes(), place)?;
     }
-    Ok(())
+    Some(())
 }
 
 /// Three connections get their texts one byte at a time in turn, and the last one ends. Then Y asks for its bids.
-fn push_all(alloc: Global, events: &mut Vec<Event>) -> Result<(), Fail> {
+fn push_all(alloc: Global, events: &mut Vec<Event>) -> Option<()> {
     for place in 0..PUT.len() {
         push_bytes(alloc, events, place)?;
     }
-    events.push(Event::Finish(2))?;
-    events.push(Event::Connect)?;
-    events.push(piece(alloc, 3, BIDS_OF_Y.as_bytes())?)?;
-    Ok(())
+    events.push(Event::Finish(2)).ok()?;
+    events.push(Event::Connect).ok()?;
+    events.push(piece(alloc, 3, BIDS_OF_Y.as_bytes())?).ok()?;
+    Some(())
 }
 
 /// What comes of these connections.
-fn in_single_bytes(alloc: Global) -> Result<Vec<Event>, Fail> {
+fn in_single_bytes(alloc: Global) -> Option<Vec<Event>> {
     let mut events = connected(alloc, 3)?;
     push_all(alloc, &mut events)?;
-    Ok(events)
+    Some(events)
 }
 
 /// The replies to events.
-fn replies_to(alloc: Global, events: &[Event]) -> Result<EventReplies, Fail> {
-    Ok(run_events(alloc, setup_of(alloc, ONE_PRODUCT)?, Plain, events)?)
+fn replies_to(alloc: Global, events: &[Event]) -> Option<EventReplies> {
+    let setup = setup_of(alloc, ONE_PRODUCT)?;
+    run_events(alloc, setup, Plain, events).ok()
 }
 
 /// Asserts the replies and their order.
@@ -64,13 +64,20 @@ fn are_told(rt: &impl Abort, replies: &[EventReply], expected: &[(u64, &str)]) {
     }
 }
 
-#[test]
-fn three_connections_in_single_bytes(rt: HostRuntime) -> Result<(), Fail> {
-    let events = in_single_bytes(rt.alloc())?;
-    let replies = replies_to(rt.alloc(), events.as_slice());
+/// What comes of the three connections has its replies in order.
+fn are_told_in_order(rt: &impl Abort, alloc: Global) -> Option<()> {
+    let events = in_single_bytes(alloc)?;
+    let replies = replies_to(alloc, events.as_slice());
     drop(events);
-    are_told(&rt, replies?.as_slice(), IN_ORDER_OF_COMPLETION);
-    Ok(())
+    let replies = replies?;
+    are_told(rt, replies.as_slice(), IN_ORDER_OF_COMPLETION);
+    drop(replies);
+    Some(())
+}
+
+#[test]
+fn three_connections_in_single_bytes(rt: HostRuntime) {
+    assert_is(&rt, are_told_in_order(&rt, rt.alloc()), Some(()));
 }
 
 /// So many connections more.
@@ -82,15 +89,16 @@ fn connect_all(hub: &mut Hub<Plain>, count: usize) -> Result<(), HubFault> {
 }
 
 /// So many stand, and no further one.
-fn is_full_at(rt: &impl Abort, hub: &mut Hub<Plain>, count: usize) -> Result<(), Fail> {
-    connect_all(hub, count)?;
+fn is_full_at(rt: &impl Abort, hub: &mut Hub<Plain>, count: usize) -> Option<()> {
+    assert_is(rt, connect_all(hub, count), Ok(()));
     assert_is(rt, hubs::connected(hub), Err(HubFault::Full));
-    Ok(())
+    Some(())
 }
 
 #[test]
-fn no_more_than_256_stand(rt: HostRuntime) -> Result<(), Fail> {
-    on_hub(rt.alloc(), |hub| is_full_at(&rt, hub, 256))
+fn no_more_than_256_stand(rt: HostRuntime) {
+    let done = on_hub(rt.alloc(), |hub| is_full_at(&rt, hub, 256));
+    assert_is(&rt, done, Some(()));
 }
 
 /// What a connection is told at a step: a reply, or that more is needed, or a fault in words.
@@ -121,7 +129,7 @@ fn is_told(
     conn: Conn,
     text: &str,
     told: Told<'_>,
-) -> Result<(), Fail> {
+) -> Option<()> {
     let reply = match text {
         "end" => finished(alloc, hub, conn).map(Some),
         text => fed(alloc, hub, conn, text.as_bytes()),
@@ -131,26 +139,27 @@ fn is_told(
         Ok(Some(reply)) => assert_is_at(rt, text, Ok(Some(reply.as_slice())), told),
         Ok(None) => assert_is_at(rt, text, Ok(None), told),
         Err(fault) => {
-            let words = format!(in alloc; "{fault}")?;
+            let words = format!(in alloc; "{fault}").ok()?;
             assert_is_at(rt, text, Err(words.as_str()), told);
         }
     }
-    Ok(())
+    Some(())
 }
 
 /// Takes all steps.
-fn take_steps(rt: &impl Abort, alloc: Global, hub: &mut Hub<Plain>) -> Result<(), Fail> {
+fn take_steps(rt: &impl Abort, alloc: Global, hub: &mut Hub<Plain>) -> Option<()> {
     let mut conns = Vec::new(alloc);
     for &(number, text, told) in STEPS {
         match conns.as_slice().get(number) {
-            None => conns.push(hubs::connected(hub)?)?,
+            None => conns.push(hubs::connected(hub).ok()?).ok()?,
             Some(conn) => is_told(rt, alloc, hub, *conn, text, told)?,
         }
     }
-    Ok(())
+    Some(())
 }
 
 #[test]
-fn a_connection_is_gone_with_its_reply(rt: HostRuntime) -> Result<(), Fail> {
-    on_hub(rt.alloc(), |hub| take_steps(&rt, rt.alloc(), hub))
+fn a_connection_is_gone_with_its_reply(rt: HostRuntime) {
+    let done = on_hub(rt.alloc(), |hub| take_steps(&rt, rt.alloc(), hub));
+    assert_is(&rt, done, Some(()));
 }

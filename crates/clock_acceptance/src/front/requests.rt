@@ -6,16 +6,15 @@ use clock_processor::Plain;
 use clock_setup::{Setup, read_setup};
 use std::alloc::Global;
 use std::process::Abort;
-use std::test::Fail;
 
 /// The set-up of a document.
-pub(super) fn setup_of(alloc: Global, document: &str) -> Result<Setup, Fail> {
-    Ok(read_setup(alloc, document.as_bytes())?)
+pub(super) fn setup_of(alloc: Global, document: &str) -> Option<Setup> {
+    read_setup(alloc, document.as_bytes()).ok()
 }
 
 /// The fields of a row.
-pub(super) fn fields_of(alloc: Global, row: &str) -> Result<Vec<&str>, Fail> {
-    Ok(row.split('|').collect(alloc)?)
+pub(super) fn fields_of(alloc: Global, row: &str) -> Option<Vec<&str>> {
+    row.split('|').collect(alloc).ok()
 }
 
 /// The header line of a token, by whose it is: a bidder's letter, the operator's, or `N` for nobody's.
@@ -32,22 +31,19 @@ fn token_line(who: &str) -> &'static str {
 }
 
 /// The text of a request.
-pub(super) fn text_of(alloc: Global, line: &str, who: &str, body: &str) -> Result<String, Fail> {
+pub(super) fn text_of(alloc: Global, line: &str, who: &str, body: &str) -> Option<String> {
     let token = token_line(who);
-    Ok(format!(in alloc;
+    format!(in alloc;
         "{line} HTTP/1.1\r\n{token}content-length: {}\r\n\r\n{body}",
         body.len()
-    )?)
+    )
+    .ok()
 }
 
 /// The bytes of the reply to a text.
-pub(super) fn reply_of(
-    alloc: Global,
-    front: &mut Front<Plain>,
-    text: &str,
-) -> Result<String, Fail> {
+pub(super) fn reply_of(alloc: Global, front: &mut Front<Plain>, text: &str) -> Option<String> {
     let reply = front.answer(text.as_bytes());
-    Ok(String::from_utf8_lossy(alloc, reply.bytes())?)
+    String::from_utf8_lossy(alloc, reply.bytes()).ok()
 }
 
 /// The header lines that only some statuses have, before all others and after them.
@@ -60,12 +56,13 @@ fn lines_of(status: &str) -> (&'static str, &'static str) {
 }
 
 /// The bytes of a reply with a status and a page.
-pub(super) fn reply_with(alloc: Global, status: &str, page: &str) -> Result<String, Fail> {
+pub(super) fn reply_with(alloc: Global, status: &str, page: &str) -> Option<String> {
     let (first, last) = lines_of(status);
-    Ok(format!(in alloc;
+    format!(in alloc;
         "HTTP/1.1 {status}\r\n{first}connection: close\r\ncontent-length: {}\r\ncontent-type: application/json\r\n{last}\r\n{page}",
         page.len()
-    )?)
+    )
+    .ok()
 }
 
 /// Compares the reply to a text with a status and a page.
@@ -76,9 +73,9 @@ pub(super) fn compare(
     text: &str,
     status: &str,
     page: &str,
-) -> Result<(), Fail> {
+) -> Option<()> {
     let reply = reply_of(alloc, front, text)?;
     let expected = reply_with(alloc, status, page)?;
     assert_is(rt, reply.as_str(), expected.as_str());
-    Ok(())
+    Some(())
 }

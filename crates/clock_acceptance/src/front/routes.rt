@@ -3,7 +3,6 @@ use crate::comparing::assert_is_at;
 use crate::front::example::on_one_product;
 use clock_http::Code;
 use std::alloc::Global;
-use std::test::Fail;
 
 /// Paths, and what is answered where they are asked for without a token.
 const PATHS: &[(&str, Code)] = &[
@@ -30,18 +29,16 @@ const PATHS: &[(&str, Code)] = &[
 ];
 
 /// The code of the reply to who asks for a path without a token.
-fn code_of(alloc: Global, path: &str) -> Result<Code, Fail> {
-    let text = format!(in alloc; "GET {path} HTTP/1.1\r\n\r\n")?;
-    on_one_product(
-        alloc,
-        |front| Ok(front.answer(text.as_str().as_bytes()).code()),
-    )
+fn code_of(alloc: Global, path: &str) -> Option<Code> {
+    let text = format!(in alloc; "GET {path} HTTP/1.1\r\n\r\n").ok()?;
+    on_one_product(alloc, |front| {
+        Some(front.answer(text.as_str().as_bytes()).code())
+    })
 }
 
 #[test]
-fn a_path_names_a_page_or_none(rt: HostRuntime) -> Result<(), Fail> {
+fn a_path_names_a_page_or_none(rt: HostRuntime) {
     for &(path, code) in PATHS {
-        assert_is_at(&rt, path, code_of(rt.alloc(), path)?, code);
+        assert_is_at(&rt, path, code_of(rt.alloc(), path), Some(code));
     }
-    Ok(())
 }

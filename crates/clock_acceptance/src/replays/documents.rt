@@ -1,11 +1,10 @@
 //! What documents of replays mean.
-use crate::comparing::assert_is;
+use crate::comparing::{assert_is, assert_is_at};
 use clock_device::{NoMemory, Text};
 use clock_setup::fixtures::{GRANULES_AND_INCREMENTS, ONE_PRODUCT};
 use clock_setup::{Place, SetupFault};
 use clock_sim::{ScriptFault, read_replay};
 use std::alloc::Global;
-use std::test::Fail;
 
 /// Scripts of both kinds, as long as they may be.
 const GOOD: &str =
@@ -94,21 +93,27 @@ fn document(alloc: Global, closings: &str, scripts: &str, setup: &str) -> Result
     )
 }
 
-/// Why a document is refused, or nothing where it is not.
+/// Why bytes are no replay, or nothing where they are one.
 fn fault_of(alloc: Global, document: &[u8]) -> Option<ScriptFault> {
     read_replay(alloc, document).err()
 }
 
-#[test]
-fn bytes_that_are_no_value(rt: HostRuntime) {
-    assert_is(&rt, fault_of(rt.alloc(), b"{"), Some(ScriptFault::NotJson));
+/// Why a document is refused, or nothing where it is not.
+fn fault_of_parts(
+    alloc: Global,
+    closings: &str,
+    scripts: &str,
+    setup: &str,
+) -> Result<Option<ScriptFault>, NoMemory> {
+    let text = document(alloc, closings, scripts, setup)?;
+    Ok(fault_of(alloc, text.as_slice()))
 }
 
 #[test]
-fn the_first_fault_is_told(rt: HostRuntime) -> Result<(), Fail> {
+fn the_first_fault_is_told(rt: HostRuntime) {
     for &(closings, scripts, setup, fault) in ROWS {
-        let text = document(rt.alloc(), closings, scripts, setup)?;
-        assert_is(&rt, fault_of(rt.alloc(), text.as_slice()), fault);
+        let told = fault_of_parts(rt.alloc(), closings, scripts, setup);
+        assert_is_at(&rt, scripts, told, Ok(fault));
     }
-    Ok(())
+    assert_is(&rt, fault_of(rt.alloc(), b"{"), Some(ScriptFault::NotJson));
 }

@@ -1,7 +1,7 @@
 //! A replay is played, and its report or its first fault is told.
 
 use super::documents::joined;
-use crate::comparing::assert_is;
+use crate::comparing::{assert_is, assert_is_at};
 use crate::repeated::repeated;
 use clock_device::{NoMemory, Text};
 use clock_http::Code;
@@ -12,7 +12,6 @@ use clock_sim::{
 };
 use std::alloc::{AllocError, Global};
 use std::process::Abort;
-use std::test::Fail;
 
 const FALLING_LIMITS: &str = r#"{"kind":"sincere","limits":[[120,115]]}"#;
 
@@ -136,13 +135,25 @@ fn comes_to_in_all_ways(
     }
 }
 
-#[test]
-fn a_report_or_the_first_fault_is_told(rt: HostRuntime) -> Result<(), Fail> {
-    for &(script, closings, expected) in PLAYED {
-        let document = with_scripts(rt.alloc(), closings, script, ONE_BLOCK)?;
-        comes_to_in_all_ways(&rt, rt.alloc(), document.as_slice(), expected);
-    }
+/// Asserts them of a script of X beside Y's.
+fn script_comes_to(
+    rt: &impl Abort,
+    alloc: Global,
+    script: &str,
+    closings: &str,
+    expected: Result<&str, SimFault>,
+) -> Result<(), NoMemory> {
+    let document = with_scripts(alloc, closings, script, ONE_BLOCK)?;
+    comes_to_in_all_ways(rt, alloc, document.as_slice(), expected);
     Ok(())
+}
+
+#[test]
+fn a_report_or_the_first_fault_is_told(rt: HostRuntime) {
+    for &(script, closings, expected) in PLAYED {
+        let done = script_comes_to(&rt, rt.alloc(), script, closings, expected);
+        assert_is(&rt, done, Ok(()));
+    }
 }
 
 /// Scripts that put a block, and one block too many, as the first of a list and behind another.
@@ -213,13 +224,17 @@ const GROUPS: &[(Scripts<'static>, Option<SimFault>)] = &[
     ((ONE, 129, 0), None),
 ];
 
+/// The first fault of such a document, or none.
+fn fault_of_many(alloc: Global, scripts: Scripts<'_>) -> Result<Option<SimFault>, NoMemory> {
+    let document = many_sheets(alloc, scripts)?;
+    Ok(fault_of(alloc, document.as_slice()))
+}
+
 #[test]
-fn groups_are_answered_in_the_order_of_the_bidders(rt: HostRuntime) -> Result<(), Fail> {
+fn groups_are_answered_in_the_order_of_the_bidders(rt: HostRuntime) {
     for &(scripts, fault) in GROUPS {
-        let document = many_sheets(rt.alloc(), scripts)?;
-        assert_is(&rt, fault_of(rt.alloc(), document.as_slice()), fault);
+        assert_is_at(&rt, scripts, fault_of_many(rt.alloc(), scripts), Ok(fault));
     }
-    Ok(())
 }
 
 const BEFORE_LONG: &str = r#",{"kind":"literal","sheets":[[{"price":100,"product":0,"quantity":1}"#;
@@ -247,11 +262,16 @@ const BEFORE: &[(&str, SimFault)] = &[
     (OVER_CAP, SimFault::Refused(0, 1, Code::OverCap)),
 ];
 
+/// The first fault of such a document, or none.
+fn fault_before_long(alloc: Global, script: &str) -> Result<Option<SimFault>, NoMemory> {
+    let document = before_long(alloc, script)?;
+    Ok(fault_of(alloc, document.as_slice()))
+}
+
 #[test]
-fn a_sheet_that_is_too_long_waits_for_those_before_it(rt: HostRuntime) -> Result<(), Fail> {
+fn a_sheet_that_is_too_long_waits_for_those_before_it(rt: HostRuntime) {
     for &(script, fault) in BEFORE {
-        let document = before_long(rt.alloc(), script)?;
-        assert_is(&rt, fault_of(rt.alloc(), document.as_slice()), Some(fault));
+        let told = fault_before_long(rt.alloc(), script);
+        assert_is_at(&rt, script, told, Ok(Some(fault)));
     }
-    Ok(())
 }

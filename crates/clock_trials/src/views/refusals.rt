@@ -1,6 +1,6 @@
 //! Pages of refusals, with a place, with a round and with neither.
 
-use crate::comparing::{assert_is, assert_is_at};
+use crate::comparing::assert_reads;
 use clock_bids::BidFault;
 use clock_device::Text;
 use clock_house::{CloseFault, PutFault};
@@ -8,28 +8,24 @@ use clock_http::Code;
 use clock_order::TieFault;
 use clock_views::{REFUSAL_ROOM, Refusal, push_refusal_page, refusal_page};
 use std::alloc::Global;
-use std::process::Abort;
-use std::test::Fail;
 
 #[test]
-fn codes_that_stand_alone(rt: HostRuntime) -> Result<(), Fail> {
+fn codes_that_stand_alone(rt: HostRuntime) {
     for (code, expected) in [
         (Code::NoPage, r#"{"code":"no_page","status":404}"#),
         (Code::CutShort, r#"{"code":"cut_short","status":400}"#),
         (Code::Memory, r#"{"code":"memory","status":503}"#),
     ] {
-        let page = refusal_page(rt.alloc(), code, None, None)?;
-        assert_is_at(&rt, code, page.as_slice(), expected.as_bytes());
+        let page = refusal_page(rt.alloc(), code, None, None).ok();
+        assert_reads(&rt, code, page, expected.as_bytes());
     }
-    Ok(())
 }
 
-/// The page of a refusal is this text.
-fn is_told(rt: &impl Abort, alloc: Global, refusal: Refusal, expected: &str) -> Result<(), Fail> {
-    let mut page = Text::with_capacity(alloc, REFUSAL_ROOM as usize)?;
+/// The page of a refusal.
+fn page_of(alloc: Global, refusal: Refusal) -> Option<Text> {
+    let mut page = Text::with_capacity(alloc, REFUSAL_ROOM as usize).ok()?;
     push_refusal_page(&mut page, refusal);
-    assert_is(rt, page.as_slice(), expected.as_bytes());
-    Ok(())
+    Some(page.into_items())
 }
 
 /// Faults of sheets, and their pages: two of sheets that come too late.
@@ -50,11 +46,11 @@ const OF_SHEETS: &[(PutFault, &str)] = &[
 ];
 
 #[test]
-fn sheets_with_a_fault(rt: HostRuntime) -> Result<(), Fail> {
+fn sheets_with_a_fault(rt: HostRuntime) {
     for &(fault, expected) in OF_SHEETS {
-        is_told(&rt, rt.alloc(), Refusal::from(fault), expected)?;
+        let page = page_of(rt.alloc(), Refusal::from(fault));
+        assert_reads(&rt, fault, page, expected.as_bytes());
     }
-    Ok(())
 }
 
 /// Faults of closings, and their pages.
@@ -70,9 +66,9 @@ const OF_CLOSINGS: &[(CloseFault, &str)] = &[
 ];
 
 #[test]
-fn closings_with_a_fault(rt: HostRuntime) -> Result<(), Fail> {
+fn closings_with_a_fault(rt: HostRuntime) {
     for &(fault, expected) in OF_CLOSINGS {
-        is_told(&rt, rt.alloc(), Refusal::from(fault), expected)?;
+        let page = page_of(rt.alloc(), Refusal::from(fault));
+        assert_reads(&rt, fault, page, expected.as_bytes());
     }
-    Ok(())
 }

@@ -6,8 +6,6 @@ use clock_house::House;
 use clock_processor::Processor;
 use clock_views::{account_page, bids_page, results_page, sheet_page, slip_page};
 use std::alloc::Global;
-use std::process::Abort;
-use std::test::Fail;
 
 /// A page of an auction; where it is a bidder's, it is X's.
 #[derive(Clone, Copy)]
@@ -22,42 +20,32 @@ pub enum Page {
 }
 
 /// The slip page of X and a closed round.
-fn slip_of<P: Processor>(
-    rt: &impl Abort,
-    alloc: Global,
-    house: &House<P>,
-    round: u64,
-) -> Result<Text, Fail> {
-    assert!(rt; (X as usize) < house.setup().bidders.as_slice().len());
-    let slip = house.slip(X, round).ok_or("the round is not closed")?;
-    Ok(slip_page(alloc, slip)?)
+fn slip_of<P: Processor>(alloc: Global, house: &House<P>, round: u64) -> Option<Text> {
+    if (X as usize) >= house.setup().bidders.as_slice().len() {
+        return None;
+    }
+    slip_page(alloc, house.slip(X, round)?).ok()
 }
 
 /// The sheet page of a closed round.
-fn sheet_of<P: Processor>(
-    rt: &impl Abort,
-    alloc: Global,
-    house: &House<P>,
-    round: u64,
-) -> Result<Text, Fail> {
-    let sheet = house.sheet(round).ok_or("the round is not closed")?;
-    assert!(rt; sheet.lines.as_slice().len() == house.setup().products.as_slice().len());
-    Ok(sheet_page(alloc, house.setup(), sheet)?)
+fn sheet_of<P: Processor>(alloc: Global, house: &House<P>, round: u64) -> Option<Text> {
+    let sheet = house.sheet(round)?;
+    if sheet.lines.as_slice().len() != house.setup().products.as_slice().len() {
+        return None;
+    }
+    sheet_page(alloc, house.setup(), sheet).ok()
 }
 
-/// A page of an auction as it stands.
-pub fn page_of<P: Processor>(
-    rt: &impl Abort,
-    alloc: Global,
-    house: &House<P>,
-    page: Page,
-) -> Result<Text, Fail> {
-    assert!(rt; (X as usize) < house.setup().bidders.as_slice().len());
+/// A page of an auction as it stands, if there is one.
+pub fn page_of<P: Processor>(alloc: Global, house: &House<P>, page: Page) -> Option<Text> {
+    if (X as usize) >= house.setup().bidders.as_slice().len() {
+        return None;
+    }
     match page {
-        Page::Account => Ok(account_page(alloc, house.setup(), X, house.own(X), house.ended())?),
-        Page::Bids => Ok(bids_page(alloc, house.round(), house.bids(X))?),
-        Page::Slip(round) => slip_of(rt, alloc, house, round),
-        Page::Sheet(round) => sheet_of(rt, alloc, house, round),
-        Page::Results => Ok(results_page(alloc, house)?),
+        Page::Account => account_page(alloc, house.setup(), X, house.own(X), house.ended()).ok(),
+        Page::Bids => bids_page(alloc, house.round(), house.bids(X)).ok(),
+        Page::Slip(round) => slip_of(alloc, house, round),
+        Page::Sheet(round) => sheet_of(alloc, house, round),
+        Page::Results => results_page(alloc, house).ok(),
     }
 }
