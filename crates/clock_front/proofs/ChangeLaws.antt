@@ -9,7 +9,7 @@ use Rattle.clock_closing.specs.declared.closed_round.ClosedRound.{ClosedRound}
 use Rattle.clock_closing.specs.declared.fault.CloseFault.{CloseFault}
 use Rattle.clock_house.specs.House.{HouseFields, IsUnchanged, IsFollowedBy, StandsStill, closing_in}
 use Rattle.clock_house.specs.Prepared.{PreparedClosing, FitsClosing}
-use Rattle.std.specs.Prelude.{IfOk, OnOk}
+use Rattle.std.specs.Prelude.{IfOk, OnErr, OnOk}
 use Rattle.clock_closing.specs.declared.fault.CloseFault.TheVariants.{NoMemory}
 use Rattle.clock_views.specs.Refusals.{shown_close}
 use Rattle.clock_http.specs.Replies.{Answer}
@@ -61,3 +61,8 @@ pub refusal_told : {N : Type 0} (told : Result Answer N) (fault : CloseFault) (r
     → IfOk told (λ reply. reply ≡ answer_of (close_outcome round closing))
 refusal_told (Ok reply) fault round closing is known answer = is ∙ ap (λ c. answer_of (close_outcome round c)) (sym (answer known))
 refusal_told (Err e) fault round closing is known answer = tt
+
+-- what holds where nothing was told
+pub if_refused : {A N : Type 0} {P : Type 0} (told : Result A N) → P → OnErr told P
+if_refused (Ok reply) is = tt
+if_refused (Err e) is = is

@@ -9,7 +9,7 @@ ghost use Rattle.clock_front.specs.inside.ShownAsked.{shown_asked};
 use clock_http::{Head, Page, Routes, last_segment};
 
 /// What is asked to be told. It changes nothing.
-#[derive(Clone, Copy, Debug)]
+#[derive(Clone, Copy)]
 pub(crate) enum PageAsked<'a> {
     /// The path names no page.
     NoPage,
@@ -25,7 +25,7 @@ pub(crate) enum PageAsked<'a> {
 }
 
 /// What is asked for: to be told, or a change by a body that is not read yet.
-#[derive(Clone, Copy, Debug)]
+#[derive(Clone, Copy)]
 pub(crate) enum Asked<'a> {
     Read(PageAsked<'a>),
     Put(&'a [u8]),
