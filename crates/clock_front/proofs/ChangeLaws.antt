@@ -9,15 +9,11 @@ use Rattle.clock_closing.specs.declared.closed_round.ClosedRound.{ClosedRound}
 use Rattle.clock_closing.specs.declared.fault.CloseFault.{CloseFault}
 use Rattle.clock_house.specs.House.{HouseFields, IsUnchanged, IsFollowedBy, StandsStill, closing_in}
 use Rattle.clock_house.specs.Prepared.{PreparedClosing, FitsClosing}
-use Rattle.clock_house.specs.declared.fault.PutFault.{PutFault}
-use Rattle.clock_house.specs.declared.fault.PutFault.TheVariants as put_faults
-use Rattle.clock_terms.specs.Faults.{IsFirstFault}
-use Rattle.clock_bodies.specs.declared.put_body.PutBody.{PutBody}
 use Rattle.std.specs.Prelude.{IfOk, OnErr, OnOk}
 use Rattle.clock_closing.specs.declared.fault.CloseFault.TheVariants.{NoMemory}
-use Rattle.clock_views.specs.Refusals.{shown_close, shown_put}
+use Rattle.clock_views.specs.Refusals.{shown_close}
 use Rattle.clock_http.specs.Replies.{Answer}
-use Rattle.clock_front.specs.Outcomes.{close_outcome, done, put_outcome, refused, answer_of}
+use Rattle.clock_front.specs.Outcomes.{close_outcome, done, refused, answer_of}
 use Rattle.clock_views.specs.OperatorPages.{closed_value}
 
 abbrev closing_by : ℕ → Increments → List Tie → SetupFields → List ClosedRound → List (Option (List Bid)) → Result ClosedRound CloseFault
@@ -65,13 +61,6 @@ pub refusal_told : {N : Type 0} (told : Result Answer N) (fault : CloseFault) (r
     → IfOk told (λ reply. reply ≡ answer_of (close_outcome round closing))
 refusal_told (Ok reply) fault round closing is known answer = is ∙ ap (λ c. answer_of (close_outcome round c)) (sym (answer known))
 refusal_told (Err e) fault round closing is known answer = tt
-
--- the same of a sheet
-pub put_refusal_told : {N : Type 0} (told : Result Answer N) (fault : PutFault) (sent : PutBody) (first : Option PutFault)
-    → IfOk told (λ reply. reply ≡ answer_of (refused (shown_put fault))) → OnOk told (fault ≢ put_faults.NoMemory)
-    → IsFirstFault put_faults.NoMemory first fault → IfOk told (λ reply. reply ≡ answer_of (put_outcome sent first))
-put_refusal_told (Ok reply) fault sent first is known answer = is ∙ ap (λ told. answer_of (put_outcome sent told)) (sym (answer known))
-put_refusal_told (Err e) fault sent first is known answer = tt
 
 -- what holds where nothing was told
 pub if_refused : {A N : Type 0} {P : Type 0} (told : Result A N) → P → OnErr told P

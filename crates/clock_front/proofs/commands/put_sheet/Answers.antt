@@ -1,9 +1,8 @@
 use Rattle.std.proofs.Common.{ℕ, Option, length, ap, refl, sym, ◌∙◌, rules}
-use Rattle.clock_house.specs.House.{put_fault_in}
 use Rattle.clock_house.specs.declared.fault.PutFault.{PutFault}
 use Rattle.clock_views.specs.BidderPages.{accepted_value}
 use Rattle.clock_front.specs.Outcomes.{answer_of, done, put_outcome}
-use Rattle.clock_front.proofs.ChangeLaws.{if_refused, put_refusal_told}
+use Rattle.clock_front.proofs.ChangeLaws.{if_refused}
 use Rattle.clock_front.proofs.PrivateLaws.{accepted_by_view, refused_by_view}
 use Rattle.clock_front.proofs.commands.put_sheet.Goals as goal
 
@@ -23,12 +22,6 @@ returns-in_ok-reply-in-Ok-clause-private g c =
 pub returns-in_err-reply-in-Ok-clause-still : goal.returns-in_err-reply-in-Ok-clause-still
 returns-in_err-reply-in-Ok-clause-still g c =
     if_refused c.from_residual.result (record { setup = refl; stands = λ commands stood. stood })
-
-pub returns-in-Err-clause-reply : goal.returns-in-Err-clause-reply
-returns-in-Err-clause-reply g c =
-    let sheet = c.args.sheet in
-    put_refusal_told c.refused.result c.in-Err.fault sheet (put_fault_in c.args.house.now c.args.bidder sheet.round sheet.bids)
-    (rw c.from.ensures at c.refused.ensures) (search rules) c.in-Err.ensures.answer
 
 pub returns-in-Err-clause-private : goal.returns-in-Err-clause-private
 returns-in-Err-clause-private g c =

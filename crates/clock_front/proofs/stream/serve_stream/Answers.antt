@@ -30,6 +30,3 @@ returns-clause-served g c =
         failed = c.in-Err.ensures.failed ∙ rw c.requires.unused.unfailed refl;
       },
     )
-
-pub returns-clause-stands : goal.returns-clause-stands
-returns-clause-stands g c = c.in-Some.ensures.stands
