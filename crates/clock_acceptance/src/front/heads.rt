@@ -81,34 +81,18 @@ fn header_lines_are_answered_by_their_faults(rt: HostRuntime) {
     }
 }
 
-/// Heads of at most 64 lines and of at most 16,384 bytes, or of more: the parts, how many bytes they are, and the reply.
-const LIMITS: &[(Repeated<'static>, usize, Told<'static>)] = &[
-    (("GET / HTTP/1.1\r\n", "a: b\r\n", 64, "\r\n"), 402, NO_PAGE),
-    (
-        ("GET / HTTP/1.1\r\n", "a: b\r\n", 65, "\r\n"),
-        408,
-        LONG_HEAD,
-    ),
-    (
-        ("\nGET / HTTP/1.1\r\n", "a: b\r\n", 65, "\r\n"),
-        409,
-        LONG_HEAD,
-    ),
-    (
-        ("GET / HTTP/1.1\r\na: ", "x", 16_361, "\r\n\r\n"),
-        16_384,
-        NO_PAGE,
-    ),
-    (
-        ("GET / HTTP/1.1\r\na: ", "x", 16_362, "\r\n\r\n"),
-        16_385,
-        LONG_HEAD,
-    ),
-    (
-        ("GET / HTTP/1.1\r\na: ", "x", 16_365, ""),
-        16_384,
-        LONG_HEAD,
-    ),
+/// Heads of at most 64 lines and of at most 16,384 bytes: the parts, and how many bytes they are.
+const WITHIN: &[(Repeated<'static>, usize)] = &[
+    (("GET / HTTP/1.1\r\n", "a: b\r\n", 64, "\r\n"), 402),
+    (("GET / HTTP/1.1\r\na: ", "x", 16_361, "\r\n\r\n"), 16_384),
+];
+
+/// Heads of more, the last of which has not ended yet.
+const BEYOND: &[(Repeated<'static>, usize)] = &[
+    (("GET / HTTP/1.1\r\n", "a: b\r\n", 65, "\r\n"), 408),
+    (("\nGET / HTTP/1.1\r\n", "a: b\r\n", 65, "\r\n"), 409),
+    (("GET / HTTP/1.1\r\na: ", "x", 16_362, "\r\n\r\n"), 16_385),
+    (("GET / HTTP/1.1\r\na: ", "x", 16_365, ""), 16_384),
 ];
 
 /// A long head has so many bytes, and is answered so.
@@ -126,8 +110,16 @@ fn long_head_answers(
 
 #[test]
 fn a_head_has_at_most_64_lines_and_16384_bytes(rt: HostRuntime) {
-    for &(parts, length, told) in LIMITS {
-        let done = long_head_answers(&rt, rt.alloc(), parts, length, told);
+    for &(parts, length) in WITHIN {
+        let done = long_head_answers(&rt, rt.alloc(), parts, length, NO_PAGE);
+        assert_is_at(&rt, length, done, Some(()));
+    }
+}
+
+#[test]
+fn a_longer_head_is_refused(rt: HostRuntime) {
+    for &(parts, length) in BEYOND {
+        let done = long_head_answers(&rt, rt.alloc(), parts, length, LONG_HEAD);
         assert_is_at(&rt, length, done, Some(()));
     }
 }
