@@ -1,19 +1,24 @@
 -- What the value of a set-up means as a document.
-use Rattle.std.proofs.Common.{◌≡◌, ℕ, ◌⊎◌, inl, inr, Bool, true, false, ◌==◌, List, [], ◌∷◌, map, All, Option, Some, None, Ok}
-use Rattle.std.proofs.Common.{codes, refl, sym, ap, ◌∙◌, subst}
+use Rattle.std.proofs.Common.{◌≡◌, ℕ, ◌⊎◌, inl, inr, Bool, true, false, ◌==◌, List, [], ◌∷◌, map, All, Option, Some, None, Result, Ok, Err, IfOk}
+use Rattle.std.proofs.Common.{IfErr, codes, refl, sym, ap, ◌∙◌, subst}
 use Rattle.std.specs.Prelude.{⊤, if◌then◌else◌}
 use Rattle.std.proofs.lemmas.Bool.{eqb-true}
 use Rattle.std.proofs.lemmas.List.Elements.{All-nil, All-head, All-tail}
+use Rattle.std.specs.Str.{IsUtf8}
 use Rattle.serde_json.specs.Data.{Data, object}
+use Rattle.serde_json.specs.Read.{read}
 use Rattle.clock_json.specs.Reading.{items_of, members_of}
 use Rattle.clock_terms.specs.declared.setup.Product.{Product}
 use Rattle.clock_terms.specs.declared.setup.Bidder.{Bidder}
 use Rattle.clock_terms.specs.Limits.{SetupFields, IsWithin, IsOfFirstVersion, latest_version, first_granule}
-use Rattle.clock_terms.specs.Faults.{first_fault, unless}
+use Rattle.clock_setup.specs.declared.fault.SetupFault.{SetupFault}
+use Rattle.clock_setup.specs.declared.fault.SetupFault.TheVariants.{NoMemory}
+use Rattle.clock_terms.specs.Faults.{first_fault, unless, IsFirstFault, IsRefusal}
 use Rattle.clock_terms.proofs.WithinLaws.{test_of_within}
 use Rattle.clock_json.specs.Tree.{each, number_at, ◌>>=◌}
 use Rattle.clock_setup.specs.SetupShape.{product_of, bidder_of, fields_of}
-use Rattle.clock_setup.specs.SetupDocument.{setup_checks, setup_of}
+use Rattle.clock_setup.specs.SetupDocument.{setup_checks, setup_of, document_setup}
+use Rattle.clock_json.proofs.JsonLaws.{json_value}
 use Rattle.clock_setup.specs.SetupData.{added, product_data, products_data, bidder_data, bidders_data, setup_fields, setup_data}
 
 -- products of a version, where it is that of the next one
@@ -88,15 +93,29 @@ version_in setup None = refl
 version_in setup (Some limit) = refl
 
 -- the value of a set-up of a known version is judged by the limits alone
-setup_judged : (setup : SetupFields) → IsWithin 1 latest_version setup.version → (setup.version ≡ 1 → IsOfFirstVersion setup)
+pub setup_judged : (setup : SetupFields) → IsWithin 1 latest_version setup.version → (setup.version ≡ 1 → IsOfFirstVersion setup)
     → setup_of (setup_data setup) ≡ unless (first_fault (setup_checks setup)) setup
 unfolding setup_of
 setup_judged setup within first =
     let version : number_at (codes "version") (setup_data setup) ≡ Some setup.version = version_in setup (added setup.version setup.limit) in
     rw (version, test_of_within 1 latest_version setup.version within, setup_is setup first) refl
 
--- a set-up that has no fault is what its value means
-pub setup_accepted : (known setup : SetupFields) → IsWithin 1 latest_version setup.version → (setup.version ≡ 1 → IsOfFirstVersion setup)
-    → known ≡ setup → first_fault (setup_checks setup) ≡ None → setup_of (setup_data known) ≡ Ok known
-setup_accepted known setup within first same none =
-    subst (λ s. setup_of (setup_data s) ≡ Ok s) (sym same) (setup_judged setup within first ∙ ap (λ fault. unless fault setup) none)
+-- and so is a document that is this value
+pub document_is : (bytes : List ℕ) (setup : SetupFields) → IsUtf8 bytes → read bytes ≡ Some (setup_data setup)
+    → document_setup bytes ≡ setup_of (setup_data setup)
+unfolding document_setup
+document_is bytes setup text is = rw (json_value bytes (setup_data setup) text is) refl
+
+-- a set-up with no fault is what the value means
+pub judged_ok : (answer : Result SetupFields SetupFault) (setup : SetupFields) (result : Result SetupFields SetupFault)
+    → answer ≡ unless (first_fault (setup_checks setup)) setup → IfOk result (λ same. same ≡ setup) → IfOk result (λ _. first_fault (setup_checks setup) ≡ None)
+    → IfOk result (λ known. answer ≡ Ok known)
+judged_ok answer setup (Err fault) is same none = tt
+judged_ok answer setup (Ok known) is same none = is ∙ ap (λ fault. unless fault setup) none ∙ ap Ok (sym same)
+
+-- its first fault is what the value is refused for
+pub judged_err : (answer : Result SetupFields SetupFault) (setup : SetupFields) (result : Result SetupFields SetupFault)
+    → answer ≡ unless (first_fault (setup_checks setup)) setup → IfErr result (IsFirstFault NoMemory (first_fault (setup_checks setup)))
+    → IfErr result (IsRefusal NoMemory answer)
+judged_err answer setup (Ok known) is first = tt
+judged_err answer setup (Err fault) is first = λ known. is ∙ ap (λ fault. unless fault setup) (first known)

@@ -2,7 +2,7 @@
 --     setup_checks setup      the limits of a set-up in the order in which they are looked at
 --     setup_of value      what a JSON value means as a set-up
 --     document_setup bytes      what bytes mean as a set-up
-use Rattle.std.specs.Prelude.{ℕ, Bool, ◌&&◌, List, [], ◌∷◌, ◌++◌, map, length, nat_le, if◌then◌else◌, Option, None, Result, Ok, Err, codes}
+use Rattle.std.specs.Prelude.{ℕ, Bool, ◌&&◌, List, [], ◌∷◌, ◌++◌, map, length, nat_le, if◌then◌else◌, Result, Ok, Err, codes}
 use Rattle.serde_json.specs.Data.{Data}
 use Rattle.clock_money.specs.Price.{highest_price}
 use Rattle.clock_terms.specs.declared.setup.Product.{Product}

@@ -3,15 +3,16 @@ ghost use Rattle.serde_json.specs.View.{view};
 ghost use Rattle.clock_terms.specs.Faults.{IsFirstFault, IsRefusal, first_fault};
 ghost use Rattle.clock_terms.specs.Limits.{SetupFields, IsOfFirstVersion, IsSetup, IsWithin, latest_version};
 ghost use Rattle.clock_json.specs.Tree.{number_at};
+ghost use Rattle.clock_setup.specs.SetupData.{setup_data};
 ghost use Rattle.clock_setup.specs.SetupShape.{fields_of};
 ghost use Rattle.clock_setup.specs.SetupDocument as document;
 ghost use Rattle.clock_setup.specs.inside.SetupDocument.{distinct_checks, head_checks};
 
-use crate::entries::SetupEntries;
+use crate::entries::{ScannedSetup, SetupEntries};
 use crate::fault::{Place, SetupFault};
-use crate::held_setup::HeldSetup;
 use crate::names::{has_distinct_names, has_distinct_tokens};
 use crate::setup_checks::{each_within, is_token};
+use crate::setup_scan::FoundSetup;
 use crate::setup_tree::entries_of;
 use clock_device::Text;
 use clock_json::tree::{number_at, read_value};
@@ -58,7 +59,7 @@ fn check_distinct(alloc: Global, entries: &SetupEntries) -> Result<(), SetupFaul
 }
 
 /// The set-up, where it is within its limits, or the first fault.
-pub(crate) fn within_limits(alloc: Global, entries: &SetupEntries) -> Result<Setup, SetupFault>
+fn within_limits(alloc: Global, entries: &SetupEntries) -> Result<Setup, SetupFault>
     requires version { IsWithin 1 latest_version entries.now.version }
     requires first_version { entries.now.version ≡ 1 → IsOfFirstVersion entries.now }
     ensures same { IfOk result (λ setup. setup ≡ entries.now) }
@@ -83,6 +84,16 @@ pub(crate) fn within_limits(alloc: Global, entries: &SetupEntries) -> Result<Set
     })
 }
 
+/// The set-up that a value of these entries means, or its first fault.
+pub(crate) fn judged(alloc: Global, scanned: &ScannedSetup) -> Result<Setup, SetupFault>
+    ensures same { IfOk result (λ setup. setup ≡ scanned.now.entries) }
+    ensures ok { IfOk result (λ setup. document.setup_of (setup_data scanned.now.entries) ≡ Ok setup) }
+    ensures err { IfErr result
+        (IsRefusal SetupFault.NoMemory (document.setup_of (setup_data scanned.now.entries))) }
+{
+    within_limits(alloc, &scanned.entries)
+}
+
 /// The set-up that the bytes of a document mean, or the document's first fault.
 ///
 /// A document is one JSON value (RFC 8259), in any order of keys and with any white space:
@@ -91,14 +102,14 @@ pub(crate) fn within_limits(alloc: Global, entries: &SetupEntries) -> Result<Set
 /// in each product. Version 1 means a limit of 100 percent and granules of one dollar. Its objects have exactly these
 /// keys, and its numbers are whole numbers below 2^64. [`SetupFault`] has the faults in the order in which they are
 /// looked at, and [`Place`] the limits. Reading takes time and memory in proportion to the document's length. Nothing
-/// is kept of a document that is refused.
+/// is kept of a document that is refused. A tree of values is made only of a document that is not read by bytes.
 #[tactic(auto, using(clock_json::proofs::JsonLaws::json_value), unfolding(crate::specs::SetupDocument::document_setup))]
 pub fn read_setup(alloc: Global, bytes: &[u8]) -> Result<Setup, SetupFault>
     ensures ok { IfOk result (λ setup. document.document_setup bytes.now ≡ Ok setup) }
     ensures err { IfErr result (IsRefusal SetupFault.NoMemory (document.document_setup bytes.now)) }
 {
-    match scanned_text::<HeldSetup>(alloc, bytes) {
-        Ok(held) => Ok(held.setup),
+    match scanned_text::<FoundSetup>(alloc, bytes) {
+        Ok(scanned) => judged(alloc, &scanned),
         Err(ScanStop::Unusual) => {
             let value = read_value(alloc, bytes)?.ok_or(SetupFault::NotJson)?;
             setup_of(alloc, &value)

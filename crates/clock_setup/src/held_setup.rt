@@ -2,7 +2,7 @@ ghost use Rattle.std.specs.Prelude.{◌≡◌, Ok};
 ghost use Rattle.clock_setup.specs.SetupData.{setup_data};
 ghost use Rattle.clock_setup.specs.SetupDocument.{setup_of};
 
-use crate::document::within_limits;
+use crate::document::judged;
 use crate::fault::SetupFault;
 use crate::setup_scan::FoundSetup;
 use clock_json::{PartReader, Scan, ScanStop};
@@ -28,7 +28,7 @@ impl<'v> PartReader<'v> for HeldSetup {
 
     fn part(alloc: Global, scan: &mut Scan<'v>) -> Result<HeldSetup, ScanStop> {
         let scanned = FoundSetup::part(alloc, scan)?;
-        match within_limits(alloc, &scanned.entries) {
+        match judged(alloc, &scanned) {
             Ok(setup) => Ok(HeldSetup { setup }),
             Err(SetupFault::NoMemory) => Err(ScanStop::NoMemory),
             Err(_) => Err(ScanStop::Unusual),
