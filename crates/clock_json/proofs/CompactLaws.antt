@@ -24,46 +24,45 @@ pub one_then : (bytes : List ℕ) (at next x : ℕ) → at < length bytes → ge
 one_then bytes at next x lt is there = at_byte bytes at x lt is ∙ ap (λ n. x ∷ drop n bytes) (sym there)
 
 module _ (bytes : List ℕ) (at : ℕ) where
-  pub price_at : at + 9 ≤ length bytes → take 8 (drop at bytes) ≡ codes "{\"price\"" → get_or bytes (at + 8) 0 ≡ 58
-      → lex between (drop at bytes) ≡ token begin_object ∷ token (string (codes "price")) ∷ colon ∷ lex between (drop (at + 9) bytes)
-  unfolding lex content
-  price_at room is mark =
-      ap (lex between)
-      (eight_then bytes _ at is ∙ ap (λ rest. codes "{\"price\"" ++ rest) (one_then bytes (at + 8) (at + 9) 58 (omega (arith, room)) mark (omega arith)))
-
   -- a first part of eight known bytes, and eight that begin behind it
-  eights_then : (part : ℕ) (first second : List ℕ) → take 8 (drop at bytes) ≡ first → take 8 (drop (at + part) bytes) ≡ second
+  pub eights_then : (part : ℕ) (first second : List ℕ) → take 8 (drop at bytes) ≡ first → take 8 (drop (at + part) bytes) ≡ second
       → drop at bytes ≡ take part (first ++ drop (at + 8) bytes) ++ (second ++ drop (at + part + 8) bytes)
   eights_then part first second is more =
       sym (take-append-drop part (drop at bytes))
       ∙ ap₂ (λ front rest. front ++ rest) (ap (take part) (eight_then bytes first at is)) (drop-drop part at bytes ∙ eight_then bytes second (at + part) more)
 
-  pub product_bytes : take 8 (drop at bytes) ≡ codes ",\"produc" → take 8 (drop (at + 3) bytes) ≡ codes "roduct\":"
-      → drop at bytes ≡ codes ",\"product\":" ++ drop (at + 11) bytes
-  product_bytes is more =
-      eights_then 3 _ _ is more ∙ ap (λ n. codes ",\"product\":" ++ drop n bytes) (let same : at + 3 + 8 ≡ at + 11 = omega arith in same)
+  -- bytes that begin a bid, with the first key
+  pub price_stands : drop at bytes ≡ take 1 (codes "{\"price\"" ++ drop (at + 8) bytes) ++ (codes "\"price\":" ++ drop (at + 1 + 8) bytes)
+      → lex between (drop at bytes) ≡ token begin_object ∷ token (string (codes "price")) ∷ colon ∷ lex between (drop (at + 9) bytes)
+  unfolding lex content
+  price_stands is =
+      ap (lex between) is
+      ∙ ap (λ n. token begin_object ∷ token (string (codes "price")) ∷ colon ∷ lex between (drop n bytes)) (let same : at + 1 + 8 ≡ at + 9 = omega arith in same)
 
-  pub quantity_bytes : take 8 (drop at bytes) ≡ codes ",\"quanti" → take 8 (drop (at + 4) bytes) ≡ codes "antity\":"
-      → drop at bytes ≡ codes ",\"quantity\":" ++ drop (at + 12) bytes
-  quantity_bytes is more =
-      eights_then 4 _ _ is more ∙ ap (λ n. codes ",\"quantity\":" ++ drop n bytes) (let same : at + 4 + 8 ≡ at + 12 = omega arith in same)
+  -- bytes that begin with the second key
+  pub product_stands : drop at bytes ≡ take 3 (codes ",\"produc" ++ drop (at + 8) bytes) ++ (codes "roduct\":" ++ drop (at + 3 + 8) bytes)
+      → (ends_word (drop at bytes) ≡ true) × (lex between (drop at bytes) ≡ comma ∷ token (string (codes "product")) ∷ colon ∷ lex between (drop (at + 11) bytes))
+  unfolding lex content
+  product_stands is = (
+    ap ends_word is,
+    ap (lex between) is
+        ∙ ap (λ n. comma ∷ token (string (codes "product")) ∷ colon ∷ lex between (drop n bytes)) (let same : at + 3 + 8 ≡ at + 11 = omega arith in same),
+  )
+
+  -- bytes that begin with the third key
+  pub quantity_stands : drop at bytes ≡ take 4 (codes ",\"quanti" ++ drop (at + 8) bytes) ++ (codes "antity\":" ++ drop (at + 4 + 8) bytes)
+      → (ends_word (drop at bytes) ≡ true) × (lex between (drop at bytes) ≡ comma ∷ token (string (codes "quantity")) ∷ colon ∷ lex between (drop (at + 12) bytes))
+  unfolding lex content
+  quantity_stands is = (
+    ap ends_word is,
+    ap (lex between) is
+        ∙ ap (λ n. comma ∷ token (string (codes "quantity")) ∷ colon ∷ lex between (drop n bytes)) (let same : at + 4 + 8 ≡ at + 12 = omega arith in same),
+  )
 
   pub end_bytes : at + 2 ≤ length bytes → get_or bytes at 0 ≡ 125 → get_or bytes (at + 1) 0 ≡ 44 → drop at bytes ≡ 125 ∷ 44 ∷ drop (at + 2) bytes
   end_bytes room brace mark =
       one_then bytes at (at + 1) 125 (omega (arith, room)) brace (omega arith)
       ∙ ap (λ rest. 125 ∷ rest) (one_then bytes (at + 1) (at + 2) 44 (omega (arith, room)) mark (omega arith))
-
--- bytes that begin with the second key
-pub product_follows : (bytes rest : List ℕ) → bytes ≡ codes ",\"product\":" ++ rest
-    → (ends_word bytes ≡ true) × (lex between bytes ≡ comma ∷ token (string (codes "product")) ∷ colon ∷ lex between rest)
-unfolding lex content
-product_follows bytes rest is = (ap ends_word is, ap (lex between) is)
-
--- bytes that begin with the third key
-pub quantity_follows : (bytes rest : List ℕ) → bytes ≡ codes ",\"quantity\":" ++ rest
-    → (ends_word bytes ≡ true) × (lex between bytes ≡ comma ∷ token (string (codes "quantity")) ∷ colon ∷ lex between rest)
-unfolding lex content
-quantity_follows bytes rest is = (ap ends_word is, ap (lex between) is)
 
 -- bytes that begin with the end of a bid
 pub end_follows : (bytes rest : List ℕ) → bytes ≡ 125 ∷ 44 ∷ rest → (ends_word bytes ≡ true) × (lex between bytes ≡ token end_object ∷ comma ∷ lex between rest)

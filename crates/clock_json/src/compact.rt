@@ -1,6 +1,6 @@
 //! Bids as most programs write them: without white space, and their keys in one order. Eight bytes are compared at
 //! once.
-ghost use Rattle.std.specs.Prelude.{◌≡◌, true, false, ◌+◌, ◌≤◌, ◌<◌, ◌^◌, ◌∷◌, length, take, drop, codes, decimal};
+ghost use Rattle.std.specs.Prelude.{◌≡◌, true, false, ◌+◌, ◌≤◌, ◌<◌, ◌^◌, ◌∷◌, ◌++◌, length, take, drop, codes, decimal};
 ghost use Rattle.std.specs.Prelude.{IsTrue, IfSome};
 ghost use Rattle.std.specs.Int.{w64, to_le_bytes};
 ghost use Rattle.json.specs.Token.{begin_object, end_object, number, string};
@@ -38,39 +38,15 @@ pub(crate) fn has_room(bytes: &[u8], at: usize, count: usize) -> bool
     count <= bytes.len() && at <= bytes.len() - count
 }
 
-/// Whether a bid begins there, with its first key.
+/// Whether eight bytes stand there, and eight others that begin among these, behind a part of them.
 #[inline(always)]
-fn begins_bid(bytes: &[u8], at: usize) -> bool
-    requires { at + 9 ≤ length bytes.now }
-    ensures { IsTrue result → lex between (drop at bytes.now)
-        ≡ token begin_object ∷ token (string (codes "price")) ∷ colon ∷ lex between (drop (at + 9) bytes.now) }
+fn has_both(bytes: &[u8], at: usize, first: &[u8; 8], part: usize, second: &[u8; 8]) -> bool
+    requires first { at + 8 ≤ length bytes.now }
+    requires second { at + part + 8 ≤ length bytes.now }
+    ensures { IsTrue result → drop at bytes.now
+        ≡ take part (first.now ++ drop (at + 8) bytes.now) ++ (second.now ++ drop (at + part + 8) bytes.now) }
 {
-    if !has_eight(bytes, at, b"{\"price\"") {
-        return false;
-    }
-    bytes[at + 8] == b':'
-}
-
-/// Whether the second key stands there, behind its comma.
-#[inline(always)]
-fn has_product(bytes: &[u8], at: usize) -> bool
-    requires { at + 11 ≤ length bytes.now }
-    ensures ends { IsTrue result → ends_word (drop at bytes.now) ≡ true }
-    ensures value { IsTrue result → lex between (drop at bytes.now)
-        ≡ comma ∷ token (string (codes "product")) ∷ colon ∷ lex between (drop (at + 11) bytes.now) }
-{
-    has_eight(bytes, at, b",\"produc") && has_eight(bytes, at + 3, b"roduct\":")
-}
-
-/// Whether the third key stands there, behind its comma.
-#[inline(always)]
-fn has_quantity(bytes: &[u8], at: usize) -> bool
-    requires { at + 12 ≤ length bytes.now }
-    ensures ends { IsTrue result → ends_word (drop at bytes.now) ≡ true }
-    ensures value { IsTrue result → lex between (drop at bytes.now)
-        ≡ comma ∷ token (string (codes "quantity")) ∷ colon ∷ lex between (drop (at + 12) bytes.now) }
-{
-    has_eight(bytes, at, b",\"quanti") && has_eight(bytes, at + 4, b"antity\":")
+    has_eight(bytes, at, first) && has_eight(bytes, at + part, second)
 }
 
 /// Whether a bid ends there, with a comma behind it.
@@ -131,15 +107,15 @@ pub(crate) fn compact_bid_at(bytes: &[u8], start: usize) -> Option<(CompactBid, 
     if !has_room(bytes, start, MOST_BYTES) {
         return None;
     }
-    if !begins_bid(bytes, start) {
+    if !has_both(bytes, start, b"{\"price\"", 1, b"\"price\":") {
         return None;
     }
     let (price, behind_price) = uneven_digits_at(bytes, start + 9)?;
-    if !has_product(bytes, behind_price) {
+    if !has_both(bytes, behind_price, b",\"produc", 3, b"roduct\":") {
         return None;
     }
     let (product, behind_product) = digits_up_to(bytes, behind_price + 11, behind_price + 27)?;
-    if !has_quantity(bytes, behind_product) {
+    if !has_both(bytes, behind_product, b",\"quanti", 4, b"antity\":") {
         return None;
     }
     let (quantity, behind_quantity) = quantity_at(bytes, behind_product + 12)?;

@@ -49,10 +49,7 @@ fn number_and_comma(bytes: &[u8], at: usize) -> Option<(u64, usize)>
         return Some((n, at + 2));
     }
     let (n, end) = digits_up_to(bytes, at, at + 16)?;
-    if bytes[end] != b',' {
-        return None;
-    }
-    Some((n, end + 1))
+    (bytes[end] == b',').then_some((n, end + 1))
 }
 
 /// Reads the numbers that stand there with a comma right behind each, behind those of a list, and tells where the last

@@ -114,16 +114,7 @@ pub(crate) fn ends_text(byte: u8) -> bool
     ensures mark { IsTrue result → (rest : List ℕ) → begins_colon (lex between (byte ∷ rest)) ≡ false }
     ensures something { IsTrue result → 0 < byte }
 {
-    if byte == b',' {
-        return true;
-    }
-    if byte == b'}' {
-        return true;
-    }
-    if byte == b']' {
-        return true;
-    }
-    false
+    (byte == b',') | (byte == b'}') | (byte == b']')
 }
 
 /// Whether a byte ends a word or a number before it.

@@ -1,15 +1,16 @@
-use Rattle.std.proofs.Common.{ap, ◌∷◌}
+use Rattle.std.proofs.Common.{◌≡◌, ℕ, Bool, true, false, ◌||◌, List, ◌∷◌, eqb, refl, ap}
+use Rattle.std.proofs.lemmas.Bool.{eqb-true}
 use Rattle.json.specs.Lex.{lex, between, begins_colon}
 use Rattle.clock_json.proofs.words.ends_text.Goals as goal
 
-pub returns-then-byte-eq44-clause-mark : goal.returns-then-byte-eq44-clause-mark
+-- a byte that is one of three marks begins no colon
+no_colon : (byte : ℕ) (comma brace bracket : Bool) → eqb byte 44 ≡ comma → eqb byte 125 ≡ brace → eqb byte 93 ≡ bracket
+    → ((comma || brace) || bracket) ≡ true → (rest : List ℕ) → begins_colon (lex between (byte ∷ rest)) ≡ false
 unfolding lex
-returns-then-byte-eq44-clause-mark c = λ _ rest. ap (λ b. begins_colon (lex between (b ∷ rest))) c.if-byte-eq44.true
+no_colon byte true brace bracket is _ _ _ rest = ap (λ b. begins_colon (lex between (b ∷ rest))) (eqb-true byte 44 is)
+no_colon byte false true bracket _ is _ _ rest = ap (λ b. begins_colon (lex between (b ∷ rest))) (eqb-true byte 125 is)
+no_colon byte false false true _ _ is _ rest = ap (λ b. begins_colon (lex between (b ∷ rest))) (eqb-true byte 93 is)
+no_colon byte false false false _ _ _ none rest = absurd cc
 
-pub returns-then-byte-eq125-clause-mark : goal.returns-then-byte-eq125-clause-mark
-unfolding lex
-returns-then-byte-eq125-clause-mark c = λ _ rest. ap (λ b. begins_colon (lex between (b ∷ rest))) c.if-byte-eq125.true
-
-pub returns-then-byte-eq93-clause-mark : goal.returns-then-byte-eq93-clause-mark
-unfolding lex
-returns-then-byte-eq93-clause-mark c = λ _ rest. ap (λ b. begins_colon (lex between (b ∷ rest))) c.if-byte-eq93.true
+pub returns-clause-mark : goal.returns-clause-mark
+returns-clause-mark c = no_colon c.args.byte _ _ _ refl refl refl
