@@ -8,7 +8,7 @@ ghost use Rattle.json.specs.Lex.{lex, between, token, comma, colon};
 ghost use Rattle.json.specs.Word.{ends_word};
 ghost use Rattle.clock_json.specs.inside.Digits.{IsNumberUpTo};
 
-use crate::digits::{digits_up_to, uneven_digits_at};
+use crate::digits::{digit_before, digits_up_to, uneven_digits_at};
 
 /// Eight bytes as one number.
 #[inline(always)]
@@ -69,12 +69,8 @@ fn quantity_at(bytes: &[u8], start: usize) -> Option<(u64, usize)>
     requires { start + 16 ≤ length bytes.now }
     ensures { IfSome result (IsNumberUpTo bytes.now start (start + 16)) }
 {
-    let byte = bytes[start];
-    if byte < b'0' || byte > b'9' {
-        return None;
-    }
-    if bytes[start + 1] == b'}' {
-        return Some((byte as u64 - 48, start + 1));
+    if let Some(digit) = digit_before(bytes, start, b'}') {
+        return Some((digit, start + 1));
     }
     digits_up_to(bytes, start, start + 16)
 }

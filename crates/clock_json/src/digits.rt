@@ -1,5 +1,5 @@
 //! Numbers of digits alone, whose digits are counted sixteen at a time.
-ghost use Rattle.std.specs.Prelude.{◌≡◌, ◌+◌, ◌≤◌, ◌<◌, ◌^◌, false, drop, length, take, IfSome};
+ghost use Rattle.std.specs.Prelude.{◌≡◌, ◌+◌, ◌≤◌, ◌<◌, ◌^◌, false, drop, get_or, length, take, IfSome};
 ghost use Rattle.std.specs.Str.Parse.{AllDigits, digits_value};
 ghost use Rattle.clock_json.specs.inside.Digits.{AreDigits, IsNumberUpTo};
 
@@ -79,7 +79,21 @@ pub(crate) fn digits_up_to(bytes: &[u8], start: usize, stop: usize) -> Option<(u
     Some((value, end))
 }
 
-/// The same for at most sixteen digits, where numbers often have another count of digits than the one before.
+/// The number of one digit that stands there with a mark behind it.
+#[inline(always)]
+pub(crate) fn digit_before(bytes: &[u8], at: usize, mark: u8) -> Option<u64>
+    requires { at + 2 ≤ length bytes.now }
+    ensures number { IfSome result (λ n. IsNumberUpTo bytes.now at (at + 1) (n, at + 1)) }
+    ensures mark { IfSome result (λ _. get_or bytes.now (at + 1) 0 ≡ mark) }
+{
+    let byte = bytes[at];
+    if byte < b'0' || byte > b'9' || bytes[at + 1] != mark {
+        return None;
+    }
+    Some(byte as u64 - 48)
+}
+
+/// A number of at most sixteen digits, where numbers often have another count of digits than the one before.
 #[inline(always)]
 pub(crate) fn uneven_digits_at(bytes: &[u8], start: usize) -> Option<(u64, usize)>
     requires { start + 16 ≤ length bytes.now }

@@ -53,9 +53,6 @@ impl<'v, M: ScannedMembers<'v>> PartReader<'v> for M {
             let key = scan.key()?;
             found.read(alloc, key, scan)?;
         }
-        match found.whole() {
-            Some(whole) => Ok(whole),
-            None => Err(ScanStop::Unusual),
-        }
+        found.whole().ok_or(ScanStop::Unusual)
     }
 }

@@ -84,9 +84,7 @@ impl<'a> Scan<'a> {
         if byte_at(self.bytes, at) != mark {
             return false;
         }
-        let (place, at) = after_value(self.bytes, at + 1);
-        self.at = at;
-        self.place = place;
+        (self.place, self.at) = after_value(self.bytes, at + 1);
         true
     }
 
@@ -131,9 +129,7 @@ impl<'a> Scan<'a> {
         if !self.place.may_begin() {
             return Err(ScanStop::Unusual);
         }
-        let Some((key, at)) = quoted(self.bytes, at) else {
-            return Err(ScanStop::Unusual);
-        };
+        let (key, at) = quoted(self.bytes, at)?;
         let at = after_space(self.bytes, at);
         if byte_at(self.bytes, at) != b':' {
             return Err(ScanStop::Unusual);
@@ -153,12 +149,8 @@ impl<'a> Scan<'a> {
         if !self.place.may_begin() {
             return Err(ScanStop::Unusual);
         }
-        let Some((n, at)) = number_at(self.bytes, at) else {
-            return Err(ScanStop::Unusual);
-        };
-        let (place, at) = after_value(self.bytes, at);
-        self.at = at;
-        self.place = place;
+        let (n, at) = number_at(self.bytes, at)?;
+        (self.place, self.at) = after_value(self.bytes, at);
         Ok(n)
     }
 
@@ -218,9 +210,7 @@ impl<'a> Scan<'a> {
         let Some(at) = null_at(self.bytes, at) else {
             return false;
         };
-        let (place, at) = after_value(self.bytes, at);
-        self.at = at;
-        self.place = place;
+        (self.place, self.at) = after_value(self.bytes, at);
         true
     }
 
@@ -234,9 +224,7 @@ impl<'a> Scan<'a> {
         if !self.place.may_begin() {
             return Err(ScanStop::Unusual);
         }
-        let Some((bytes, at)) = quoted(self.bytes, at) else {
-            return Err(ScanStop::Unusual);
-        };
+        let (bytes, at) = quoted(self.bytes, at)?;
         let Ok(text) = str::from_utf8(bytes) else {
             return Err(ScanStop::Unusual);
         };
@@ -244,9 +232,7 @@ impl<'a> Scan<'a> {
         if !ends_text(byte_at(self.bytes, next)) {
             return Err(ScanStop::Unusual);
         }
-        let (place, at) = after_value(self.bytes, at);
-        self.at = at;
-        self.place = place;
+        (self.place, self.at) = after_value(self.bytes, at);
         Ok(text)
     }
 

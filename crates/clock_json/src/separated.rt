@@ -7,28 +7,10 @@ ghost use Rattle.clock_json.specs.Left.{left};
 ghost use Rattle.clock_json.specs.Reading.{whole, numbers, ReadsAll};
 
 use crate::compact::has_room;
-use crate::digits::digits_up_to;
+use crate::digits::{digit_before, digits_up_to};
 use crate::place::Place;
 use crate::room::push;
 use crate::stop::ScanStop;
-
-/// The number of one digit that stands there with a comma behind it.
-#[inline(always)]
-fn digit_at(bytes: &[u8], at: usize) -> Option<u64>
-    requires { at + 2 ≤ length bytes.now }
-    ensures small { IfSome result (λ n. n < 2 ^ 64) }
-    ensures value { IfSome result (λ n. lex between (drop at bytes.now)
-        ≡ token (number (decimal n)) ∷ comma ∷ lex between (drop (at + 2) bytes.now)) }
-{
-    let byte = bytes[at];
-    if byte < b'0' || byte > b'9' {
-        return None;
-    }
-    if bytes[at + 1] != b',' {
-        return None;
-    }
-    Some(byte as u64 - 48)
-}
 
 /// How many bytes a number has at most that is read so, with its comma.
 const MOST_NUMBER: usize = 17;
@@ -45,7 +27,7 @@ fn number_and_comma(bytes: &[u8], at: usize) -> Option<(u64, usize)>
     if !has_room(bytes, at, MOST_NUMBER) {
         return None;
     }
-    if let Some(n) = digit_at(bytes, at) {
+    if let Some(n) = digit_before(bytes, at, b',') {
         return Some((n, at + 2));
     }
     let (n, end) = digits_up_to(bytes, at, at + 16)?;

@@ -31,10 +31,10 @@ pub fn items_at<'v>(value: &'v Value, key: &str) -> Option<&'v [Value]>
     ensures { option_map (λ items. items_view items.now) result
         ≡ members.items_at key.now (view value.now) }
 {
-    match value.get(key).and_then(Value::as_array) {
-        Some(items) => Some(items.as_slice()),
-        None => None,
-    }
+    value
+        .get(key)
+        .and_then(Value::as_array)
+        .map(|items| items.as_slice())
 }
 
 /// Whether a value is an object of so many members.
@@ -144,12 +144,7 @@ pub fn read_value(alloc: Global, bytes: &[u8]) -> Result<Option<Value>, NoMemory
     }
     match Value::from_slice(alloc, bytes) {
         Ok(value) => Ok(Some(value)),
-        Err(error) => {
-            if error.is_memory() {
-                Err(NoMemory)
-            } else {
-                Ok(None)
-            }
-        }
+        Err(error) if error.is_memory() => Err(NoMemory),
+        Err(_) => Ok(None),
     }
 }

@@ -1,6 +1,6 @@
 //! Bytes of a text as lexemes: white space, commas, quoted words and numbers.
 ghost use Rattle.std.specs.Prelude.{◌≡◌, ℕ, List, ◌∷◌, [], ◌<◌, ◌^◌, ◌||◌, true, false, None, IsTrue, drop, length};
-ghost use Rattle.std.specs.Prelude.{get_or, decimal, IfSome};
+ghost use Rattle.std.specs.Prelude.{get_or, decimal, IfSome, IfOk};
 ghost use Rattle.std.specs.Str.{IsUtf8};
 ghost use Rattle.json.specs.Token.{null, number, string};
 ghost use Rattle.json.specs.Lex.{lex, between, token, class, begins_colon, after_value as past_value, punctuate};
@@ -12,6 +12,7 @@ ghost use Rattle.clock_json.specs.Left.{left};
 use crate::digits::digits_up_to;
 use crate::place::Place;
 use crate::plain::plain_end;
+use crate::stop::ScanStop;
 
 /// The byte there, or 0 past the end.
 #[inline(always)]
@@ -93,19 +94,19 @@ pub(crate) fn after_value(bytes: &[u8], start: usize) -> (Place, usize)
 
 /// The bytes that are quoted there, with no escape among them, and where they end.
 #[inline(always)]
-pub(crate) fn quoted(bytes: &[u8], at: usize) -> Option<(&[u8], usize)>
-    ensures { IfSome result (λ r. lex between (drop at bytes.now)
+pub(crate) fn quoted(bytes: &[u8], at: usize) -> Result<(&[u8], usize), ScanStop>
+    ensures { IfOk result (λ r. lex between (drop at bytes.now)
         ≡ token (string r.0.now) ∷ lex between (drop r.1 bytes.now)) }
 {
     if byte_at(bytes, at) != b'"' {
-        return None;
+        return Err(ScanStop::Unusual);
     }
     let start = at + 1;
     let end = plain_end(bytes, start);
     if byte_at(bytes, end) != b'"' {
-        return None;
+        return Err(ScanStop::Unusual);
     }
-    Some((&bytes[start..end], end + 1))
+    Ok((&bytes[start..end], end + 1))
 }
 
 /// Whether a byte behind a quoted text leaves it a text, and makes no key of it.
@@ -128,20 +129,22 @@ fn ends_word(byte: u8) -> bool
 /// The number there in its digits, with no zero before them, below 10^19, and where it ends. It stands apart: within a
 /// caller LLVM keeps the number in memory while its digits are read.
 #[inline(never)]
-pub(crate) fn number_at(bytes: &[u8], at: usize) -> Option<(u64, usize)>
-    ensures small { IfSome result (λ r. r.0 < 2 ^ 64) }
-    ensures value { IfSome result (λ r. lex between (drop at bytes.now)
+pub(crate) fn number_at(bytes: &[u8], at: usize) -> Result<(u64, usize), ScanStop>
+    ensures small { IfOk result (λ r. r.0 < 2 ^ 64) }
+    ensures value { IfOk result (λ r. lex between (drop at bytes.now)
         ≡ token (number (decimal r.0)) ∷ lex between (drop r.1 bytes.now)) }
 {
     if at >= bytes.len() {
-        return None;
+        return Err(ScanStop::Unusual);
     }
     let left = (bytes.len() - at).min(19);
-    let (n, end) = digits_up_to(bytes, at, at + left)?;
+    let Some((n, end)) = digits_up_to(bytes, at, at + left) else {
+        return Err(ScanStop::Unusual);
+    };
     if end == bytes.len() || !ends_word(bytes[end]) {
-        return None;
+        return Err(ScanStop::Unusual);
     }
-    Some((n, end))
+    Ok((n, end))
 }
 
 /// Where the word `null` ends that stands there.

@@ -1,4 +1,6 @@
-use Rattle.std.proofs.Common.{◌≡◌, ◌∷◌, suc, length, sym, ap, subst, arith}
+use Rattle.std.proofs.Common.{◌≡◌, ◌∷◌, ℕ, List, Option, Result, Ok, Err, IfSome, IfOk, suc, length, sym, ap, subst, arith}
+use Rattle.std.specs.Result.{result_ok}
+use Rattle.serde_json.specs.Data.{Data, object}
 use Rattle.clock_json.specs.Reading.{Token, Reads, members_of}
 use Rattle.clock_json.specs.inside.Reading.{HasMembers}
 use Rattle.clock_json.proofs.Steps.{members_start, adds_member, members_end}
@@ -21,12 +23,21 @@ members-preserved g c =
       omega (arith, l.invariant.1, c.in_ok-read.ensures.shorter, ap length c.in_ok-key.ensures, ap length same),
     )
 
-pub returns-in-Some-clause-value : goal.returns-in-Some-clause-value
-returns-in-Some-clause-value g c =
+-- what is whole is read
+whole_read : {A E : Type 0} (levels : ℕ) (old new : List Token) (value : Data) (shown : A → Data) (found : Option A) (result : Result A E)
+    → found ≡ result_ok result → IfSome found (λ whole. value ≡ shown whole) → Reads levels old value new
+    → IfOk result (λ whole. Reads levels old (shown whole) new)
+whole_read levels old new value shown found (Ok whole) same is reads =
+    subst (λ d. Reads levels old d new) (subst (λ f. IfSome f (λ w. value ≡ shown w)) same is) reads
+whole_read levels old new value shown found (Err stop) same is reads = tt
+
+pub returns-clause-value : goal.returns-clause-value
+returns-clause-value g c =
     let members = g.M.ScannedMembers in
     let l = c.members in
     let old = c.args.scan.now in
     let new = c.closes_object.new.self in
+    let found = members_of (members.fields l.found) in
     let closed : l.scan ≡ Token.end_object ∷ new = grind arith in
-    subst (λ value. Reads (suc members.levels) old value new) c.in-Some.ensures
-    (members_end members.levels old c.opens_object.new.self l.scan new (members_of (members.fields l.found)) (c.opens_object.ensures (grind arith)) l.invariant.0 closed)
+    whole_read (suc members.levels) old new (object found) members.shown c.whole.result c.ok_or.result c.ok_or.ensures.ok_part c.whole.ensures
+    (members_end members.levels old c.opens_object.new.self l.scan new found (c.opens_object.ensures (grind arith)) l.invariant.0 closed)

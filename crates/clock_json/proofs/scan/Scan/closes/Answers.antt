@@ -13,4 +13,4 @@ returns c = λ t reads.
     sym c.self.view_is
     ∙ mark_at may_close c.args.mark t (place_of s.place) after_value s.bytes.now s.at at reads may c.after_space-at.ensures
     (c.byte_at.ensures.within (omega (arith, is, c.requires))) (sym c.byte_at.ensures.value ∙ is)
-    ∙ ap (λ ts. t ∷ ts) (sym c.after_value-place.ensures)
+    ∙ ap (λ ts. t ∷ ts) (sym c.after_value.ensures)

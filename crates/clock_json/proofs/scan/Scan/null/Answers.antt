@@ -12,4 +12,4 @@ returns c =
     let may : may_begin (place_of s.place) ≡ true = sym c.may_begin.ensures ∙ c.if-not-may_begin.false in
     null_reads c.args.self.now _
     (sym c.self.view_is ∙ null_begins (place_of s.place) _ _ may (sym c.after_space-at.ensures ∙ c.in-Some.ensures)
-    ∙ ap (λ ts. null ∷ ts) (sym c.after_value-place.ensures))
+    ∙ ap (λ ts. null ∷ ts) (sym c.after_value.ensures))

@@ -11,9 +11,9 @@ pub returns-clause-value : goal.returns-clause-value
 returns-clause-value c =
     let s = c.self.inside in
     let may : may_begin (place_of s.place) ≡ true = sym c.may_begin.ensures ∙ c.if-not-may_begin.false in
-    number_reads c.in-Some.n c.args.self.now _ c.in-Some.ensures.small
-    (sym c.self.view_is ∙ number_begins (place_of s.place) _ _ _ may (sym c.after_space-at.ensures ∙ c.in-Some.ensures.value)
-    ∙ ap (λ ts. number (decimal c.in-Some.n) ∷ ts) (sym c.after_value-place.ensures))
+    number_reads c.in_ok-n.n c.args.self.now _ c.in_ok-n.ensures.small
+    (sym c.self.view_is ∙ number_begins (place_of s.place) _ _ _ may (sym c.after_space-at.ensures ∙ c.in_ok-n.ensures.value)
+    ∙ ap (λ ts. number (decimal c.in_ok-n.n) ∷ ts) (sym c.after_value.ensures))
 
 pub returns-clause-shorter : goal.returns-clause-shorter
-returns-clause-shorter c = reads_shorter 0 c.args.self.now (whole c.in-Some.n) _ (returns-clause-value c)
+returns-clause-shorter c = reads_shorter 0 c.args.self.now (whole c.in_ok-n.n) _ (returns-clause-value c)
