@@ -57,10 +57,7 @@ fn ends_bid(bytes: &[u8], at: usize) -> bool
     ensures value { IsTrue result
         → lex between (drop at bytes.now) ≡ token end_object ∷ comma ∷ lex between (drop (at + 2) bytes.now) }
 {
-    if bytes[at] != b'}' {
-        return false;
-    }
-    bytes[at + 1] == b','
+    (bytes[at] == b'}') & (bytes[at + 1] == b',')
 }
 
 /// The quantity of a bid that stands there: mostly a single digit, with the bid's end behind it.

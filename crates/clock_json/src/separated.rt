@@ -57,13 +57,8 @@ fn has_empty(bytes: &[u8], at: usize) -> bool
     ensures value { IsTrue result → lex between (drop at bytes.now)
         ≡ token begin_array ∷ token end_array ∷ comma ∷ lex between (drop (at + 3) bytes.now) }
 {
-    if !has_room(bytes, at, 3) || bytes[at] != b'[' {
-        return false;
-    }
-    if bytes[at + 1] != b']' {
-        return false;
-    }
-    bytes[at + 2] == b','
+    has_room(bytes, at, 3)
+        && (bytes[at] == b'[') & (bytes[at + 1] == b']') & (bytes[at + 2] == b',')
 }
 
 /// How many empty lists stand there with a comma right behind each, and where the last comma ends.
