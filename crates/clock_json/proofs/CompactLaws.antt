@@ -39,25 +39,27 @@ module _ (bytes : List ℕ) (at : ℕ) where
       ap (lex between) is
       ∙ ap (λ n. token begin_object ∷ token (string (codes "price")) ∷ colon ∷ lex between (drop n bytes)) (let same : at + 1 + 8 ≡ at + 9 = omega arith in same)
 
+  -- bytes that begin with a known text, which is read as these lexemes whatever follows it
+  known_first : (text : List ℕ) (found behind : ℕ) (read : List Lexeme → List Lexeme) → drop at bytes ≡ text ++ drop found bytes → found ≡ behind
+      → ((rest : List ℕ) → ends_word (text ++ rest) ≡ true) → ((rest : List ℕ) → lex between (text ++ rest) ≡ read (lex between rest))
+      → (ends_word (drop at bytes) ≡ true) × (lex between (drop at bytes) ≡ read (lex between (drop behind bytes)))
+  known_first text found behind read is same ends reads =
+      let all : drop at bytes ≡ text ++ drop behind bytes = is ∙ ap (λ n. text ++ drop n bytes) same in
+      (ap ends_word all ∙ ends (drop behind bytes), ap (lex between) all ∙ reads (drop behind bytes))
+
   -- bytes that begin with the second key
   pub product_stands : drop at bytes ≡ take 3 (codes ",\"produc" ++ drop (at + 8) bytes) ++ (codes "roduct\":" ++ drop (at + 3 + 8) bytes)
       → (ends_word (drop at bytes) ≡ true) × (lex between (drop at bytes) ≡ comma ∷ token (string (codes "product")) ∷ colon ∷ lex between (drop (at + 11) bytes))
   unfolding lex content
-  product_stands is = (
-    ap ends_word is,
-    ap (lex between) is
-        ∙ ap (λ n. comma ∷ token (string (codes "product")) ∷ colon ∷ lex between (drop n bytes)) (let same : at + 3 + 8 ≡ at + 11 = omega arith in same),
-  )
+  product_stands is =
+      known_first (codes ",\"product\":") (at + 3 + 8) (at + 11) (λ r. comma ∷ token (string (codes "product")) ∷ colon ∷ r) is (omega arith) (λ _. refl) (λ _. refl)
 
   -- bytes that begin with the third key
   pub quantity_stands : drop at bytes ≡ take 4 (codes ",\"quanti" ++ drop (at + 8) bytes) ++ (codes "antity\":" ++ drop (at + 4 + 8) bytes)
       → (ends_word (drop at bytes) ≡ true) × (lex between (drop at bytes) ≡ comma ∷ token (string (codes "quantity")) ∷ colon ∷ lex between (drop (at + 12) bytes))
   unfolding lex content
-  quantity_stands is = (
-    ap ends_word is,
-    ap (lex between) is
-        ∙ ap (λ n. comma ∷ token (string (codes "quantity")) ∷ colon ∷ lex between (drop n bytes)) (let same : at + 4 + 8 ≡ at + 12 = omega arith in same),
-  )
+  quantity_stands is =
+      known_first (codes ",\"quantity\":") (at + 4 + 8) (at + 12) (λ r. comma ∷ token (string (codes "quantity")) ∷ colon ∷ r) is (omega arith) (λ _. refl) (λ _. refl)
 
   pub end_bytes : at + 2 ≤ length bytes → get_or bytes at 0 ≡ 125 → get_or bytes (at + 1) 0 ≡ 44 → drop at bytes ≡ 125 ∷ 44 ∷ drop (at + 2) bytes
   end_bytes room brace mark =

@@ -79,21 +79,25 @@ lex-digits ds rest n digits is small some lead ended =
 
 -- ---- what a place lets begin or close
 
+-- what holds at each place that a test lets through
+at_place : (may : Place → Bool) (P : Place → Type 0) → (may lexer.fresh ≡ true → P lexer.fresh) → (may lexer.after_value ≡ true → P lexer.after_value)
+    → (may lexer.after_comma ≡ true → P lexer.after_comma) → (may lexer.after_key ≡ true → P lexer.after_key) → (p : Place) → may p ≡ true → P p
+at_place may P first second third fourth lexer.fresh h = first h
+at_place may P first second third fourth lexer.after_value h = second h
+at_place may P first second third fourth lexer.after_comma h = third h
+at_place may P first second third fourth lexer.after_key h = fourth h
+
 -- what begins a value is read alike wherever one may begin
 pub begun : (p : Place) (ls : List Lexeme) (read : List Token) → may_begin p ≡ true → punctuate lexer.fresh ls ≡ read → punctuate lexer.after_comma ls ≡ read
     → punctuate p ls ≡ read
-begun lexer.fresh ls read h fresh later = fresh
-begun lexer.after_value ls read h fresh later = absurd (false≢true h)
-begun lexer.after_comma ls read h fresh later = later
-begun lexer.after_key ls read h fresh later = absurd (false≢true h)
+begun p ls read h fresh later =
+    at_place may_begin (λ place. punctuate place ls ≡ read) (λ _. fresh) (λ off. absurd (false≢true off)) (λ _. later) (λ off. absurd (false≢true off)) p h
 
 -- and what closes a list wherever it may close
 closed : (p : Place) (ls : List Lexeme) (read : List Token) → may_close p ≡ true → punctuate lexer.fresh ls ≡ read → punctuate lexer.after_value ls ≡ read
     → punctuate p ls ≡ read
-closed lexer.fresh ls read h fresh behind = fresh
-closed lexer.after_value ls read h fresh behind = behind
-closed lexer.after_comma ls read h fresh behind = absurd (false≢true h)
-closed lexer.after_key ls read h fresh behind = absurd (false≢true h)
+closed p ls read h fresh behind =
+    at_place may_close (λ place. punctuate place ls ≡ read) (λ _. fresh) (λ _. behind) (λ off. absurd (false≢true off)) (λ off. absurd (false≢true off)) p h
 
 pub brace_opens : IsMark may_begin 123 begin_object lexer.fresh
 unfolding lex punctuate
