@@ -1,4 +1,5 @@
 pub mod Bodies
 pub mod CloseBodies
 pub mod QuickBodies
+pub mod QuickClosings
 pub mod inside

@@ -8,36 +8,38 @@ ghost use Rattle.clock_bodies.specs.Bodies.{meant_by};
 use crate::body_fault::BodyFault;
 use clock_device::NoMemory;
 use clock_json::tree::read_value;
-use clock_json::{ScanStop, ScannedMembers, scanned_text};
+use clock_json::{PartReader, ScanStop, scanned_text};
 use serde_json::Value;
 use std::alloc::Global;
 
-/// What is found of a body by bytes, and what the body is by a tree.
-pub(crate) trait Body<'v>: ScannedMembers<'v> {
+/// What a body is by a tree of values.
+pub(crate) trait Body: Sized + Drop {
     /// What a value of JSON means.
-    ghost meaning: { Data → Option Self.Whole };
+    ghost meaning: { Data → Option Self };
 
     /// The body that a value means, or none where it is of another shape.
-    fn of_value(alloc: Global, value: &Value) -> Result<Option<Self::Whole>, NoMemory>
+    fn of_value(alloc: Global, value: &Value) -> Result<Option<Self>, NoMemory>
         ensures { IfOk result (λ body. body ≡ meaning (view value.now)) };
 }
 
 /// What bytes mean as a body, or their first fault, where the value that is read as a body means this body.
-pub(crate) fn read_body<'v, B: Body<'v>>(
+pub(crate) fn read_body<'v, R: PartReader<'v>>(
     alloc: Global,
     bytes: &'v [u8],
-) -> Result<B::Whole, BodyFault>
-    requires { B.levels ≤ 126 }
-    ensures ok { ((body : _) → B.meaning (B.shown body) ≡ Some body)
-        → IfOk result (λ body. meant_by B.meaning (json bytes.now) ≡ Ok body) }
-    ensures err { IfErr result (λ fault. fault ≢ BodyFault.NoMemory → meant_by B.meaning (json bytes.now) ≡ Err fault) }
+) -> Result<R::Part, BodyFault>
+where
+    R::Part: Body,
+    requires { R.levels ≤ 127 }
+    ensures ok { ((body : _) → R.Part.meaning (R.shown body) ≡ Some body)
+        → IfOk result (λ body. meant_by R.Part.meaning (json bytes.now) ≡ Ok body) }
+    ensures err { IfErr result (λ fault. fault ≢ BodyFault.NoMemory → meant_by R.Part.meaning (json bytes.now) ≡ Err fault) }
 {
-    match scanned_text::<B>(alloc, bytes) {
+    match scanned_text::<R>(alloc, bytes) {
         Ok(body) => Ok(body),
         Err(ScanStop::NoMemory) => Err(BodyFault::NoMemory),
         Err(ScanStop::Unusual) => {
             let value = read_value(alloc, bytes)?.ok_or(BodyFault::NotJson)?;
-            let body = B::of_value(alloc, &value);
+            let body = <R::Part as Body>::of_value(alloc, &value);
             drop(value);
             body?.ok_or(BodyFault::Shape)
         }

@@ -4,7 +4,7 @@ ghost use Rattle.clock_bodies.specs.CloseBodies as bodies;
 
 use crate::body::{Body, read_body};
 use crate::body_fault::BodyFault;
-use crate::close_scan::{FoundClose, TieReader};
+use crate::close_scan::{CloseReader, TieReader};
 use clock_device::{Items, NoMemory};
 use clock_json::tree::{ValueReader, each_at, has_members, items_at, number_at, numbers_of};
 use clock_order::Tie;
@@ -63,7 +63,7 @@ pub fn increments_of(alloc: Global, value: &Value) -> Result<Option<Increments>,
 }
 
 #[tactic(auto, unfolding(crate::specs::CloseBodies::close_of))]
-impl<'v> Body<'v> for FoundClose {
+impl Body for CloseBody {
     ghost meaning = { bodies.close_of };
 
     fn of_value(alloc: Global, value: &Value) -> Result<Option<CloseBody>, NoMemory> {
@@ -90,7 +90,7 @@ pub fn read_close(alloc: Global, bytes: &[u8]) -> Result<CloseBody, BodyFault>
     ensures ok { IfOk result (λ body. bodies.close_body bytes.now ≡ Ok body) }
     ensures err { IfErr result (λ fault. fault ≢ BodyFault.NoMemory → bodies.close_body bytes.now ≡ Err fault) }
 {
-    read_body::<FoundClose>(alloc, bytes)
+    read_body::<CloseReader>(alloc, bytes)
 }
 
 /// Whether increments have the form of a set-up's version: one for all products in version 1, one for each later.

@@ -1,7 +1,8 @@
 //! The body of a closing read byte by byte, where it has the shape that is asked for.
 ghost use Rattle.std.specs.Prelude.{◌≡◌, IfSome};
 ghost use Rattle.clock_bodies.specs.QuickBodies.{tie_data, single_of, listed_of};
-ghost use Rattle.clock_bodies.specs.inside.QuickBodies.{close_fields, close_data};
+ghost use Rattle.clock_bodies.specs.QuickClosings.{close_fields, scanned_data};
+ghost use Rattle.clock_bodies.specs.inside.QuickBodies.{close_data};
 
 use crate::close_body::CloseBody;
 use clock_device::Items;
@@ -56,21 +57,32 @@ impl<'v> PartReader<'v> for TieReader {
 
 /// What was found of a closing so far.
 #[derive(Default, Drop)]
-pub(crate) struct FoundClose {
+pub struct FoundClose {
     increment: Option<u64>,
     increments: Option<Items<u64>>,
     round: Option<u64>,
     ties: Option<Items<Tie>>,
 }
 
+/// A closing that was read, which may name its round.
+#[derive(Drop)]
+pub struct ScannedClose {
+    /// The round that it closes, where it names one.
+    pub round: Option<u64>,
+    /// By how many percent prices rise.
+    pub increments: Increments,
+    /// Tie numbers, in the order given.
+    pub ties: Items<Tie>,
+}
+
 impl<'v> ScannedMembers<'v> for FoundClose {
-    type Whole = CloseBody;
+    type Whole = ScannedClose;
 
     ghost levels = { 2 };
 
     ghost fields = { close_fields };
 
-    ghost shown = { close_data };
+    ghost shown = { scanned_data };
 
     fn nothing() -> FoundClose {
         FoundClose::default()
@@ -92,12 +104,39 @@ impl<'v> ScannedMembers<'v> for FoundClose {
         Ok(())
     }
 
-    fn whole(self) -> Option<CloseBody> {
-        let increments = one_form(self.increment, self.increments)?;
-        Some(CloseBody {
-            round: self.round?,
+    fn whole(self) -> Option<ScannedClose> {
+        let increments = one_form(self.increment, self.increments);
+        let (Some(increments), Some(ties)) = (increments, self.ties) else {
+            return None;
+        };
+        Some(ScannedClose {
+            round: self.round,
             increments,
-            ties: self.ties?,
+            ties,
+        })
+    }
+}
+
+/// The body of a closing is read from one that names its round.
+#[derive(Drop)]
+pub(crate) struct CloseReader;
+
+impl<'v> PartReader<'v> for CloseReader {
+    type Part = CloseBody;
+
+    ghost levels = { 3 };
+
+    ghost shown = { close_data };
+
+    fn part(alloc: Global, scan: &mut Scan<'v>) -> Result<CloseBody, ScanStop> {
+        let close = FoundClose::part(alloc, scan)?;
+        let Some(round) = close.round else {
+            return Err(ScanStop::Unusual);
+        };
+        Ok(CloseBody {
+            round,
+            increments: close.increments,
+            ties: close.ties,
         })
     }
 }

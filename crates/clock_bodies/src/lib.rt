@@ -10,6 +10,6 @@ mod put_scan;
 
 pub use body_fault::BodyFault;
 pub use close_body::{CloseBody, increments_of, is_of_version, read_close};
-pub use close_scan::{TieReader, one_form};
+pub use close_scan::{FoundClose, ScannedClose, TieReader, one_form};
 pub use put_body::{PutBody, read_put};
 pub use put_scan::BidReader;

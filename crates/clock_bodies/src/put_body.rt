@@ -43,7 +43,7 @@ impl<'v> ValueReader<'v> for BidReader {
 }
 
 #[tactic(auto, unfolding(crate::specs::Bodies::put_of))]
-impl<'v> Body<'v> for FoundPut {
+impl Body for PutBody {
     ghost meaning = { bodies.put_of };
 
     fn of_value(alloc: Global, value: &Value) -> Result<Option<PutBody>, NoMemory> {

@@ -81,30 +81,34 @@ zip_at products limits i product prices same h first second =
     ap (λ x. (x, prices)) first ∙ ap (λ y. (get_or products i product, y)) second
     ∙ sym (get_or-zip products limits i (product, prices) within h)
 
+-- what is read of equal lists stands in these
+walked : (limits walk : List (List ℕ)) (i : ℕ) (prices : List ℕ) → i < length limits → walk ≡ limits → prices ≡ row_of walk i → prices ≡ get_or limits i prices
+walked limits walk i prices h whole listed = listed ∙ ap (λ (lists : List (List ℕ)). row_of lists i) whole ∙ get_or_default limits i [] prices h
+
 one_list : (bidder i : ℕ) (product : Product) (prices : List ℕ) (b : Bool) → are_limits product prices ≡ b
     → first_fault (limit_checks bidder i (product, prices)) ≡ (if b then None else Some (Limits bidder i))
 unfolding limit_checks
 one_list bidder i product prices b is = rw is refl
 
 -- the next limits are none
-pub limits_failed : (bidder : ℕ) (products : List Product) (limits : List (List ℕ)) (i : ℕ) (product : Product) (prices : List ℕ)
-    → length limits ≡ length products → i < length limits → product ≡ get_or products i product → prices ≡ get_or limits i prices
+pub limits_failed : (bidder : ℕ) (products : List Product) (limits walk : List (List ℕ)) (i : ℕ) (product : Product) (prices : List ℕ)
+    → length limits ≡ length products → i < length limits → product ≡ get_or products i product → walk ≡ limits → prices ≡ row_of walk i
     → are_limits product prices ≡ false
     → first_fault (in_turn (limit_checks bidder) i (drop i (zip products limits))) ≡ Some (Limits bidder i)
-limits_failed bidder products limits i product prices same h first second is =
+limits_failed bidder products limits walk i product prices same h first whole listed is =
     turn_failed (limit_checks bidder) (zip products limits) i (product, prices) (Limits bidder i)
-    (omega (arith, length-zip products limits)) (zip_at products limits i product prices same h first second)
+    (omega (arith, length-zip products limits)) (zip_at products limits i product prices same h first (walked limits walk i prices h whole listed))
     (one_list bidder i product prices false is)
 
 -- the next limits are good
-pub limits_passed : (bidder : ℕ) (products : List Product) (limits : List (List ℕ)) (i : ℕ) (product : Product) (prices : List ℕ)
-    → length limits ≡ length products → i < length limits → product ≡ get_or products i product → prices ≡ get_or limits i prices
+pub limits_passed : (bidder : ℕ) (products : List Product) (limits walk : List (List ℕ)) (i : ℕ) (product : Product) (prices : List ℕ)
+    → length limits ≡ length products → i < length limits → product ≡ get_or products i product → walk ≡ limits → prices ≡ row_of walk i
     → are_limits product prices ≡ true
     → first_fault (in_turn (limit_checks bidder) i (drop i (zip products limits)))
     ≡ first_fault (in_turn (limit_checks bidder) (i + 1) (drop (i + 1) (zip products limits)))
-limits_passed bidder products limits i product prices same h first second is =
+limits_passed bidder products limits walk i product prices same h first whole listed is =
     turn_passed (limit_checks bidder) (zip products limits) i (product, prices)
-    (omega (arith, length-zip products limits)) (zip_at products limits i product prices same h first second)
+    (omega (arith, length-zip products limits)) (zip_at products limits i product prices same h first (walked limits walk i prices h whole listed))
     (one_list bidder i product prices true is)
 
 -- no limits are left

@@ -1,6 +1,6 @@
 -- Laws of rows that stand in one list, each with the place where it ends.
-use Rattle.std.proofs.Common.{◌≡◌, ℕ, ◌+◌, ◌-◌, ◌<◌, ◌≤◌, zero, suc, List, [], ◌∷◌, ◌++◌, length, take, drop, get_or, replicate, refl, sym, ap, subst, ◌∙◌, arith}
-use Rattle.std.proofs.lemmas.List.{append-nil, append_assoc, take_all, drop_all, take-append-le, drop-append-le, length-append, length-drop}
+use Rattle.std.proofs.Common.{◌≡◌, ℕ, ◌+◌, ◌-◌, ◌<◌, ◌≤◌, zero, suc, List, [], ◌∷◌, ◌++◌, length, take, drop, get_or, refl, sym, ap, subst, ◌∙◌, arith}
+use Rattle.std.proofs.lemmas.List.{take_all, drop_all, take-append-le, drop-append-le, length-append, length-drop}
 use Rattle.clock_replays.specs.EndedRows.{rows_from}
 use Rattle.clock_replays.specs.inside.EndedRows.{AreEnds}
 
@@ -70,22 +70,4 @@ one_more ends numbers row after end are is last =
     let ending : end ≡ length (numbers ++ row) = last ∙ ap length is in (
       ap (λ n. rows_from 0 (ends ++ n ∷ []) after) ending ∙ ap (rows_from 0 (ends ++ length (numbers ++ row) ∷ [])) is ∙ rows_more 0 ends numbers row are,
       subst (λ n. AreEnds 0 (ends ++ n ∷ []) (length after)) (sym last) (ends_more 0 ends (length numbers) (length after) are (omega (arith, whole))),
-    )
-
--- of so many empty rows more
-pub empties_more : (ends numbers : List ℕ) (count : ℕ) → AreEnds 0 ends (length numbers)
-    → (rows_from 0 (ends ++ replicate count (length numbers)) numbers ≡ rows_from 0 ends numbers ++ replicate count [])
-    × AreEnds 0 (ends ++ replicate count (length numbers)) (length numbers)
-empties_more ends numbers zero are = (
-  ap (λ all. rows_from 0 all numbers) (append-nil ends) ∙ sym (append-nil (rows_from 0 ends numbers)),
-  subst (λ all. AreEnds 0 all (length numbers)) (sym (append-nil ends)) are,
-)
-empties_more ends numbers (suc count) are =
-    let end = length numbers in
-    let one = one_more ends numbers [] numbers end are (sym (append-nil numbers)) refl in
-    let rest = empties_more (ends ++ end ∷ []) numbers count one.1 in
-    let same : (ends ++ end ∷ []) ++ replicate count end ≡ ends ++ replicate (suc count) end = append_assoc ends (end ∷ []) (replicate count end) in (
-      ap (λ all. rows_from 0 all numbers) (sym same) ∙ rest.0 ∙ ap (λ rows. rows ++ replicate count []) one.0
-          ∙ append_assoc (rows_from 0 ends numbers) ([] ∷ []) (replicate count []),
-      subst (λ all. AreEnds 0 all (length numbers)) same rest.1,
     )

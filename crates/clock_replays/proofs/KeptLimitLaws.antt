@@ -4,7 +4,11 @@ use Rattle.std.proofs.lemmas.Bool.{ne_eqb, eq-eqb}
 use Rattle.std.proofs.lemmas.List.FromFn.{length-map-range_with_len, get_or-map-range_with_len, map-range_with_len_more, fill_by_all}
 use Rattle.std.specs.List.{range_with_len, AllWithin}
 use Rattle.clock_replays.specs.KeptLimits.{limits_for, limits_of}
+use Rattle.std.proofs.lemmas.List.{length-append}
+use Rattle.clock_replays.specs.EndedRows.{rows_from}
+use Rattle.clock_replays.specs.inside.EndedRows.{AreEnds}
 use Rattle.clock_replays.specs.inside.KeptLimits.{AreRising}
+use Rattle.clock_replays.proofs.EndedRowLaws.{length-rows, one_more}
 
 -- a product that comes first has the first row
 at_first : (limited : ℕ) (products row : List ℕ) (rows : List (List ℕ)) (product : ℕ) → limited ≡ product
@@ -95,7 +99,7 @@ own from (limited ∷ products) (first ∷ rows) count row rising each =
     ∙ own (limited + 1) products rows count row rising.1 (omega (arith, each))
 
 -- with a row for the next product there is a list more
-pub limits_more : (count : ℕ) (products : List ℕ) (rows : List (List ℕ)) (row : List ℕ) → AreRising 0 products count → length products ≡ length rows
+limits_more : (count : ℕ) (products : List ℕ) (rows : List (List ℕ)) (row : List ℕ) → AreRising 0 products count → length products ≡ length rows
     → limits_of (count + 1) (products ++ count ∷ []) (rows ++ row ∷ []) ≡ limits_of count products rows ++ row ∷ []
 limits_more count products rows row rising each =
     let old = limits_for products rows in
@@ -113,10 +117,37 @@ unfolding AreRising
 rising_more from [] count more rising above = omega (arith, rising, above)
 rising_more from (limited ∷ products) count more rising above = (rising.0, rising_more (limited + 1) products count more rising.1 above)
 
-pub rising_push : (from : ℕ) (products : List ℕ) (count : ℕ) → AreRising from products count → AreRising from (products ++ count ∷ []) (count + 1)
+rising_push : (from : ℕ) (products : List ℕ) (count : ℕ) → AreRising from products count → AreRising from (products ++ count ∷ []) (count + 1)
 unfolding AreRising
 rising_push from [] count rising = (rising, omega arith)
 rising_push from (limited ∷ products) count rising = (rising.0, rising_push (limited + 1) products count rising.1)
+
+-- the lists with those of a row that was added for the next product, and that all are kept in order still
+pub row_pushed : (count end product : ℕ) (products ends prices row products_after ends_after prices_after known : List ℕ)
+    → AreEnds 0 ends (length prices) × (length products ≡ length ends) × AreRising 0 products count
+    → prices_after ≡ prices ++ row → end ≡ length known → known ≡ prices_after → ends_after ≡ ends ++ end ∷ []
+    → products_after ≡ products ++ product ∷ [] → product ≡ count
+    → (limits_of (count + 1) products_after (rows_from 0 ends_after prices_after) ≡ limits_of count products (rows_from 0 ends prices) ++ row ∷ [])
+    × (AreEnds 0 ends_after (length prices_after) × (length products_after ≡ length ends_after) × AreRising 0 products_after (count + 1))
+row_pushed count end product products ends prices row products_after ends_after prices_after known kept priced last same ended added next =
+    let one = one_more ends prices row prices_after end kept.0 priced (last ∙ ap (λ (list : List ℕ). length list) same) in
+    let limited : products_after ≡ products ++ count ∷ [] = added ∙ ap (λ (n : ℕ). products ++ n ∷ []) next in
+    let rows : rows_from 0 ends_after prices_after ≡ rows_from 0 ends prices ++ row ∷ [] = ap (λ (all : List ℕ). rows_from 0 all prices_after) ended ∙ one.0 in (
+      ap₂ (λ (all : List ℕ) (lists : List (List ℕ)). limits_of (count + 1) all lists) limited rows
+          ∙ limits_more count products (rows_from 0 ends prices) row kept.2 (kept.1 ∙ sym (length-rows 0 ends prices)),
+      (
+        subst (λ (all : List ℕ). AreEnds 0 all (length prices_after)) (sym ended) one.1,
+        omega (
+          arith,
+          ap (λ (all : List ℕ). length all) ended,
+          ap (λ (all : List ℕ). length all) limited,
+          length-append ends (end ∷ []),
+          length-append products (count ∷ []),
+          kept.1,
+        ),
+        subst (λ (all : List ℕ). AreRising 0 all (count + 1)) (sym limited) (rising_push 0 products count kept.2),
+      ),
+    )
 
 pub limits_empty : (more count : ℕ) (products : List ℕ) (rows : List (List ℕ)) → AreRising 0 products count
     → limits_of (count + more) products rows ≡ limits_of count products rows ++ replicate more []

@@ -53,21 +53,6 @@ impl LimitRows {
         })
     }
 
-    /// Adds the row of the next product.
-    fn push_row(&mut self, limits: &[u64]) -> Result<(), NoMemory>
-        requires { AreKept self.old }
-        ensures limits { OnOk result (kept_limits self.new ≡ kept_limits self.old ++ limits.now ∷ []) }
-        ensures kept { OnOk result (AreKept self.new) }
-    {
-        let product = short_of(self.count)?;
-        self.prices.extend_from_slice(limits)?;
-        let end = short_of(self.prices.as_slice().len())?;
-        self.ends.push(end)?;
-        self.products.push(product)?;
-        self.count += 1;
-        Ok(())
-    }
-
     /// Adds that the next products, so many, have no limits.
     pub(crate) fn push_empty(&mut self, count: usize) -> Result<(), NoMemory>
         requires { AreKept self.old }
@@ -90,6 +75,12 @@ impl LimitRows {
         if limits.is_empty() {
             return self.push_empty(1);
         }
-        self.push_row(limits)
+        let product = short_of(self.count)?;
+        self.prices.extend_from_slice(limits)?;
+        let end = short_of(self.prices.as_slice().len())?;
+        self.ends.push(end)?;
+        self.products.push(product)?;
+        self.count += 1;
+        Ok(())
     }
 }

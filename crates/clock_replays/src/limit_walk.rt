@@ -44,25 +44,14 @@ fn start_of(ends: &[u32], place: usize) -> usize
     ends[place - 1] as usize
 }
 
-/// Where the row of a place begins and ends, among so many numbers.
-fn span_of(ends: &[u32], place: usize, whole: usize) -> (usize, usize)
-    requires place { place < length ends.now }
-    requires ends { AreEnds 0 ends.now whole }
-    ensures start { result.0 ≡ slice_index (0 ∷ ends.now) place }
-    ensures end { result.1 ≡ slice_index ends.now place }
-    ensures order { result.0 ≤ result.1 }
-    ensures within { result.1 ≤ whole }
-{
-    (start_of(ends, place), ends[place] as usize)
-}
-
 /// The row of a place.
 fn row_at<'a>(ends: &[u32], numbers: &'a [u64], place: usize) -> &'a [u64]
     requires place { place < length ends.now }
     requires ends { AreEnds 0 ends.now (length numbers.now) }
     ensures { result.now ≡ row_of (rows_from 0 ends.now numbers.now) place }
 {
-    let (start, end) = span_of(ends, place, numbers.len());
+    let start = start_of(ends, place);
+    let end = ends[place] as usize;
     &numbers[start..end]
 }
 

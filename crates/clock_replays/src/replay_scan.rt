@@ -2,7 +2,7 @@
 ghost use Rattle.clock_replays.specs.inside.ReplayData.{found_replay, found_data};
 
 use crate::closing::Closings;
-use crate::closing_scan::FoundClosing;
+use crate::closing_scan::ClosingReader;
 use crate::script::Scripts;
 use crate::script_scan::FoundScript;
 use clock_json::{PartReader, Scan, ScanStop, ScannedMembers, is_key, scanned_parts};
@@ -42,7 +42,7 @@ impl<'v> ScannedMembers<'v> for FoundReplay {
         if is_key(key, "scripts") {
             self.scripts = Some(scanned_parts::<FoundScript>(alloc, scan, 0)?);
         } else if is_key(key, "closings") {
-            self.closings = Some(scanned_parts::<FoundClosing>(alloc, scan, 0)?);
+            self.closings = Some(scanned_parts::<ClosingReader>(alloc, scan, 0)?);
         } else if is_key(key, "setup") {
             self.held = Some(HeldSetup::part(alloc, scan)?);
         } else {

@@ -4,6 +4,7 @@ ghost use Rattle.clock_json.specs.Tree.{each, items_at, row_of};
 ghost use Rattle.clock_replays.specs.ReplayShape as shape;
 
 use crate::closing::{Closing, Closings};
+use crate::closing_scan::ClosingReader;
 use crate::limit_lists::LimitLists;
 use crate::script::{BidList, Script, Scripts};
 use crate::script_scan::SheetReader;
@@ -31,10 +32,7 @@ impl<'v> ValueReader<'v> for SheetReader {
         let Some(items) = value.as_array() else {
             return Ok(None);
         };
-        match each_of(alloc, &BidReader, items.as_slice())? {
-            Some(bids) => Ok(Some(Some(bids))),
-            None => Ok(None),
-        }
+        Ok(each_of(alloc, &BidReader, items.as_slice())?.map(Some))
     }
 }
 
@@ -77,9 +75,6 @@ impl<'v> ValueReader<'v> for ScriptReader {
 }
 
 /// How a round is closed is read under two keys.
-#[derive(Drop)]
-struct ClosingReader;
-
 #[tactic(auto, unfolding(crate::specs::ReplayShape::closing_from))]
 impl<'v> ValueReader<'v> for ClosingReader {
     type Part = Closing;
@@ -93,11 +88,7 @@ impl<'v> ValueReader<'v> for ClosingReader {
         let Some(ties) = each_at(alloc, value, "ties", &TieReader)? else {
             return Ok(None);
         };
-        if has_members(value, 2) {
-            Ok(Some(Closing { increments, ties }))
-        } else {
-            Ok(None)
-        }
+        Ok(has_members(value, 2).then_some(Closing { increments, ties }))
     }
 }
 
@@ -127,13 +118,9 @@ pub(crate) fn replay_entries(
     let Some(closings) = each_at(alloc, value, "closings", &ClosingReader)? else {
         return Ok(None);
     };
-    if has_members(value, 3) {
-        Ok(Some(ReplayEntries {
-            setup,
-            scripts,
-            closings,
-        }))
-    } else {
-        Ok(None)
-    }
+    Ok(has_members(value, 3).then_some(ReplayEntries {
+        setup,
+        scripts,
+        closings,
+    }))
 }

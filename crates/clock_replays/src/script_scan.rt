@@ -22,8 +22,7 @@ impl<'v> PartReader<'v> for SheetReader {
         if scan.null() {
             return Ok(None);
         }
-        let bids = scanned_parts::<BidReader>(alloc, scan, 0)?;
-        Ok(Some(bids))
+        Ok(Some(scanned_parts::<BidReader>(alloc, scan, 0)?))
     }
 }
 

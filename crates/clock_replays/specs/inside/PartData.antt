@@ -1,17 +1,16 @@
 -- The values of JSON that the parts of a replay document are, in serde_json's terms.
---     script_fields, closing_fields      the keys of an object, each with what was found
+--     script_fields, found_script      the keys of a script, each with what was found
 --     sheet_data, script_data, closing_data      a whole one, as a value
 use Rattle.std.specs.Prelude.{ℕ, List, [], ◌∷◌, map, Option, Some, None, option_map, codes}
 use Rattle.serde_json.specs.Data.{Data, null, string, object, array}
-use Rattle.clock_json.specs.Reading.{whole, numbers, rows, items_of, Fields, members_of}
+use Rattle.clock_json.specs.Reading.{rows, items_of, Fields, members_of}
 use Rattle.clock_bids.specs.declared.sheet.Bid.{Bid}
-use Rattle.clock_bodies.specs.QuickBodies.{single_of, listed_of}
-use Rattle.clock_bodies.specs.inside.QuickBodies.{bids_data, ties_data}
+use Rattle.clock_bodies.specs.QuickClosings.{close_value}
+use Rattle.clock_bodies.specs.inside.QuickBodies.{bids_data}
 use Rattle.clock_replays.specs.declared.script.Script.{Script}
 use Rattle.clock_replays.specs.declared.script.Script.TheVariants.{Literal, Sincere}
 use Rattle.clock_replays.specs.declared.closing.Closing.{Closing}
 use Rattle.clock_replays.specs.declared.script_scan.FoundScript.{FoundScript}
-use Rattle.clock_replays.specs.declared.closing_scan.FoundClosing.{FoundClosing}
 
 -- a sheet of a literal script as a value
 abbrev pub sheet_data : Option (List Bid) → Data
@@ -39,18 +38,6 @@ abbrev pub script_data : Script → Data
 script_data (Literal sheets) = object (members_of (script_fields (Some (codes "literal")) None (Some sheets)))
 script_data (Sincere limits) = object (members_of (script_fields (Some (codes "sincere")) (Some limits) None))
 
--- a closing's keys, each with what was found
-abbrev pub closing_fields : FoundClosing → Fields
-closing_fields found =
-    (codes "increment", option_map whole found.increment)
-    ∷ (codes "increments", option_map numbers found.increments)
-    ∷ (codes "ties", option_map ties_data found.ties)
-    ∷ []
-
--- what is found of a whole closing
-abbrev pub found_closing : Closing → FoundClosing
-found_closing closing = record { increment = single_of closing.increments; increments = listed_of closing.increments; ties = Some closing.ties }
-
--- a closing as a value
+-- a closing as a value, which names no round
 abbrev pub closing_data : Closing → Data
-closing_data closing = object (members_of (closing_fields (found_closing closing)))
+closing_data closing = close_value closing.increments None closing.ties

@@ -9,5 +9,5 @@ pub returns-in-Ok-clause-ok : goal.returns-in-Ok-clause-ok
 returns-in-Ok-clause-ok g c = λ means.
     let body = c.in-Ok.body in
     let found = c.in-Ok.ensures in
-    ap (meant_by g.B.Body.meaning) (json_value c.args.bytes.now (g.B.ScannedMembers.shown body) found.text found.value)
+    ap (meant_by g.R.Part.Body.meaning) (json_value c.args.bytes.now (g.R.PartReader.shown body) found.text found.value)
     ∙ ap (or_fault Shape) (means body)
