@@ -38,12 +38,12 @@ passing ((fault, true) ∷ checks) h = (refl, passing checks h)
 passing ((fault, false) ∷ checks) h = cc
 
 -- where no item's checks fail, each item is as its checks say
-pub each_passes : {X F : Type 0} (checks : ℕ → X → List (F × Bool)) (P : X → Type 0) → ((i : ℕ) (x : X) → first_fault (checks i x) ≡ None → P x)
+pub each_passes : {X F : Type 0} (checks : ℕ → X → List (F × Bool)) (P : X → Type 0) → ((i : ℕ) (x : X) → Passing (checks i x) → P x)
     → (i : ℕ) (items : List X) → first_fault (in_turn checks i items) ≡ None → AllByRecursion P items
 each_passes checks P means i [] h = tt
 each_passes checks P means i (x ∷ xs) h =
     let both = both_pass (checks i x) (in_turn checks (i + 1) xs) h in
-    (means i x both.0, each_passes checks P means (i + 1) xs both.1)
+    (means i x (passing (checks i x) both.0), each_passes checks P means (i + 1) xs both.1)
 
 name_of_test : (text : List ℕ) → is_name text ≡ true → IsName text
 name_of_test text h =
@@ -75,28 +75,24 @@ distinct_by_test (text ∷ texts) h =
 distinct_of_test : (texts : List (List ℕ)) → is_distinct texts ≡ true → AreDistinct texts
 distinct_of_test texts h = AllPairs-from_IsDistinct bytes_eq-Decides texts (distinct_by_test texts h)
 
-product_of_checks : (i : ℕ) (product : Product) → first_fault (product_checks i product) ≡ None → IsProduct product
+product_of_checks : (i : ℕ) (product : Product) → Passing (product_checks i product) → IsProduct product
 unfolding product_checks
-product_of_checks i product h =
-    let pass = passing (product_checks i product) h in
-    record {
-      name = name_of_test product.name pass.0;
-      units = within_of_test 1 most_units product.units pass.1.0;
-      supply = within_of_test 1 most_supply product.supply pass.1.1.0;
-      cap = within_of_test 1 product.supply product.cap pass.1.1.1.0;
-      opening = within_of_test 1 highest_price product.opening pass.1.1.1.1.0;
-      granule = within_of_test 1 most_granule product.granule pass.1.1.1.1.1.0;
-    }
+product_of_checks i product pass = record {
+  name = name_of_test product.name pass.0;
+  units = within_of_test 1 most_units product.units pass.1.0;
+  supply = within_of_test 1 most_supply product.supply pass.1.1.0;
+  cap = within_of_test 1 product.supply product.cap pass.1.1.1.0;
+  opening = within_of_test 1 highest_price product.opening pass.1.1.1.1.0;
+  granule = within_of_test 1 most_granule product.granule pass.1.1.1.1.1.0;
+}
 
-bidder_of_checks : (i : ℕ) (bidder : Bidder) → first_fault (bidder_checks i bidder) ≡ None → IsBidder bidder
+bidder_of_checks : (i : ℕ) (bidder : Bidder) → Passing (bidder_checks i bidder) → IsBidder bidder
 unfolding bidder_checks
-bidder_of_checks i bidder h =
-    let pass = passing (bidder_checks i bidder) h in
-    record {
-      name = name_of_test bidder.name pass.0;
-      token = token_of_test bidder.token pass.1.0;
-      eligibility = leb-true bidder.eligibility most_eligibility pass.1.1.0;
-    }
+bidder_of_checks i bidder pass = record {
+  name = name_of_test bidder.name pass.0;
+  token = token_of_test bidder.token pass.1.0;
+  eligibility = leb-true bidder.eligibility most_eligibility pass.1.1.0;
+}
 
 module _ {A : Type 0} (fault : SetupFault) (most : ℕ) (checks : ℕ → A → List (SetupFault × Bool)) (items : List A) where
   -- where the count of a list is within its limits, its items decide
@@ -108,7 +104,7 @@ module _ {A : Type 0} (fault : SetupFault) (most : ℕ) (checks : ℕ → A → 
   pub uncounted : is_within 1 most (length items) ≡ false → first_fault (counted_checks fault most checks items) ≡ Some fault
   uncounted without = rw without refl
 
-  of_counted : (P : A → Type 0) → ((i : ℕ) (item : A) → first_fault (checks i item) ≡ None → P item)
+  of_counted : (P : A → Type 0) → ((i : ℕ) (item : A) → Passing (checks i item) → P item)
       → first_fault (counted_checks fault most checks items) ≡ None → IsWithin 1 most (length items) × All P items
   of_counted P means h =
       let count = (fault, is_within 1 most (length items)) ∷ [] in

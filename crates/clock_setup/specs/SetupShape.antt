@@ -26,14 +26,9 @@ product_of version value = do
   cap ← number_at (codes "cap") value
   opening ← number_at (codes "opening") value
   granule ← added_number version first_granule (codes "granule") value
-  if has_members (key_count version 5) value then Some (record {
-    name = name;
-    units = units;
-    supply = supply;
-    cap = cap;
-    opening = opening;
-    granule = granule;
-  }) else None
+  if has_members (key_count version 5) value
+      then Some (record { name = name; units = units; supply = supply; cap = cap; opening = opening; granule = granule })
+      else None
 
 -- {"name":T,"token":T,"eligibility":N}
 unfoldable pub bidder_of : Data → Option Bidder
@@ -53,11 +48,6 @@ fields_of value = do
   operator ← text_at (codes "operator") value
   products ← option_and_then (each (product_of version)) (items_at (codes "products") value)
   bidders ← option_and_then (each bidder_of) (items_at (codes "bidders") value)
-  if has_members (key_count version 5) value then Some (record {
-    version = version;
-    limit = limit;
-    requirement = requirement;
-    operator = operator;
-    products = products;
-    bidders = bidders;
-  }) else None
+  if has_members (key_count version 5) value
+      then Some (record { version = version; limit = limit; requirement = requirement; operator = operator; products = products; bidders = bidders })
+      else None

@@ -41,9 +41,10 @@ fn head_fault(entries: &SetupEntries) -> Option<SetupFault>
     None
 }
 
-/// Refuses names, and then tokens, that are not distinct.
+/// The operator's token, where no name, and then no token, stands twice.
 #[tactic(auto, unfolding(crate::specs::inside::SetupDocument::distinct_checks))]
-fn check_distinct(alloc: Global, entries: &SetupEntries) -> Result<(), SetupFault>
+fn distinct_operator(alloc: Global, entries: &SetupEntries) -> Result<Text, SetupFault>
+    ensures same { IfOk result (λ operator. operator ≡ entries.now.operator) }
     ensures ok { OnOk result (first_fault (distinct_checks entries.now) ≡ None) }
     ensures err { IfErr result (IsFirstFault SetupFault.NoMemory (first_fault (distinct_checks entries.now))) }
 {
@@ -55,7 +56,7 @@ fn check_distinct(alloc: Global, entries: &SetupEntries) -> Result<(), SetupFaul
     if !has_distinct_tokens(alloc, entries.operator, bidders)? {
         return Err(SetupFault::DuplicateToken);
     }
-    Ok(())
+    Ok(Text::from_slice(alloc, entries.operator.as_bytes())?)
 }
 
 /// The set-up, where it is within its limits, or the first fault.
@@ -72,16 +73,28 @@ fn within_limits(alloc: Global, entries: &SetupEntries) -> Result<Setup, SetupFa
     let products = entries.products.as_slice();
     let products = each_within(alloc, Place::Products, MOST_PRODUCTS, products)?;
     let bidders = entries.bidders.as_slice();
-    let bidders = each_within(alloc, Place::Bidders, MOST_BIDDERS, bidders)?;
-    check_distinct(alloc, entries)?;
-    Ok(Setup {
-        version: entries.version,
-        limit: entries.limit,
-        requirement: entries.requirement,
-        operator: Text::from_slice(alloc, entries.operator.as_bytes())?,
-        products,
-        bidders,
-    })
+    let bidders = match each_within(alloc, Place::Bidders, MOST_BIDDERS, bidders) {
+        Ok(bidders) => bidders,
+        Err(fault) => {
+            drop(products);
+            return Err(fault);
+        }
+    };
+    match distinct_operator(alloc, entries) {
+        Ok(operator) => Ok(Setup {
+            version: entries.version,
+            limit: entries.limit,
+            requirement: entries.requirement,
+            operator,
+            products,
+            bidders,
+        }),
+        Err(fault) => {
+            drop(products);
+            drop(bidders);
+            Err(fault)
+        }
+    }
 }
 
 /// The set-up that a value of these entries means, or its first fault.
@@ -109,10 +122,18 @@ pub fn read_setup(alloc: Global, bytes: &[u8]) -> Result<Setup, SetupFault>
     ensures err { IfErr result (IsRefusal SetupFault.NoMemory (document.document_setup bytes.now)) }
 {
     match scanned_text::<FoundSetup>(alloc, bytes) {
-        Ok(scanned) => judged(alloc, &scanned),
+        Ok(scanned) => {
+            let setup = judged(alloc, &scanned);
+            drop(scanned);
+            setup
+        }
         Err(ScanStop::Unusual) => {
-            let value = read_value(alloc, bytes)?.ok_or(SetupFault::NotJson)?;
-            setup_of(alloc, &value)
+            let Some(value) = read_value(alloc, bytes)? else {
+                return Err(SetupFault::NotJson);
+            };
+            let setup = setup_of(alloc, &value);
+            drop(value);
+            setup
         }
         Err(ScanStop::NoMemory) => Err(SetupFault::NoMemory),
     }
@@ -131,12 +152,16 @@ pub fn setup_of(alloc: Global, value: &Value) -> Result<Setup, SetupFault>
         → fields_of (view value.now) ≡ Some setup → IsSetup setup
         → document.setup_of (view value.now) ≡ Ok setup }
 {
-    let version = number_at(value, "version").ok_or(SetupFault::Shape)?;
+    let Some(version) = number_at(value, "version") else {
+        return Err(SetupFault::Shape);
+    };
     if !is_within(1, LATEST_VERSION, version) {
         return Err(SetupFault::Version);
     }
     let Some(entries) = entries_of(alloc, value)? else {
         return Err(SetupFault::Shape);
     };
-    within_limits(alloc, &entries)
+    let setup = within_limits(alloc, &entries);
+    drop(entries);
+    setup
 }

@@ -28,7 +28,9 @@ impl<'v> PartReader<'v> for HeldSetup {
 
     fn part(alloc: Global, scan: &mut Scan<'v>) -> Result<HeldSetup, ScanStop> {
         let scanned = FoundSetup::part(alloc, scan)?;
-        match judged(alloc, &scanned) {
+        let setup = judged(alloc, &scanned);
+        drop(scanned);
+        match setup {
             Ok(setup) => Ok(HeldSetup { setup }),
             Err(SetupFault::NoMemory) => Err(ScanStop::NoMemory),
             Err(_) => Err(ScanStop::Unusual),

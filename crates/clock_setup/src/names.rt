@@ -5,7 +5,7 @@ ghost use Rattle.clock_terms.specs.Limits as limits;
 
 use crate::entries::BidderEntry;
 use crate::setup_checks::LimitedEntry;
-use clock_device::NoMemory;
+use clock_device::{Items, NoMemory};
 use std::alloc::Global;
 use std::collections::HashSet;
 
@@ -34,9 +34,9 @@ pub(crate) fn has_distinct_names<E: LimitedEntry>(
 ) -> Result<bool, NoMemory>
     ensures { IfOk result (λ distinct. distinct ≡ limits.is_distinct (map E.text entries.now)) }
 {
-    let mut names = Vec::with_capacity(alloc, entries.len())?;
+    let mut names = Items::with_capacity(alloc, entries.len())?;
     for entry in entries {
-        names.push(entry.name())?;
+        names.push(entry.name());
     }
     is_distinct(alloc, names.as_slice())
 }
@@ -50,10 +50,10 @@ pub(crate) fn has_distinct_tokens(
     ensures { IfOk result (λ distinct. distinct
         ≡ limits.is_distinct (operator.now ∷ map (λ bidder. bidder.token) bidders.now)) }
 {
-    let mut tokens = Vec::with_capacity(alloc, bidders.len())?;
-    tokens.push(operator)?;
+    let mut tokens = Items::with_capacity(alloc, bidders.len() + 1)?;
+    tokens.push(operator);
     for bidder in bidders {
-        tokens.push(bidder.token)?;
+        tokens.push(bidder.token);
     }
     is_distinct(alloc, tokens.as_slice())
 }

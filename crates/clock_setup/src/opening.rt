@@ -122,8 +122,13 @@ fn opening_in(alloc: Global, value: &Value) -> Result<Opening, OpeningFault>
     let Some(entries) = opening_entries(alloc, value)? else {
         return Err(OpeningFault::Shape);
     };
-    let setup = held_setup(alloc, entries.setup)?;
-    compared(alloc, setup, entries.demands, entries.increment)
+    match held_setup(alloc, entries.setup) {
+        Ok(setup) => compared(alloc, setup, entries.demands, entries.increment),
+        Err(fault) => {
+            drop(entries);
+            Err(fault)
+        }
+    }
 }
 
 /// The opening that the bytes of a document mean, or the document's first fault.
@@ -144,8 +149,12 @@ pub fn read_opening(alloc: Global, bytes: &[u8]) -> Result<Opening, OpeningFault
         Ok(found) => compared(alloc, found.held.setup, found.demands, found.increment),
         Err(ScanStop::NoMemory) => Err(OpeningFault::NoMemory),
         Err(ScanStop::Unusual) => {
-            let value = read_value(alloc, bytes)?.ok_or(OpeningFault::NotJson)?;
-            opening_in(alloc, &value)
+            let Some(value) = read_value(alloc, bytes)? else {
+                return Err(OpeningFault::NotJson);
+            };
+            let opening = opening_in(alloc, &value);
+            drop(value);
+            opening
         }
     }
 }

@@ -89,6 +89,7 @@ fn grid_of_rows(alloc: Global, setup: &Setup, demands: &FlatRows) -> Result<Grid
         let row = row_within(alloc, number as u64, setup, bidder, numbers.as_slice())?;
         push(&mut rows, row)?;
     }
+    drop(numbers);
     Ok(Grid::of_rows(alloc, setup, rows)?)
 }
 

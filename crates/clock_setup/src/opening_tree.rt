@@ -25,22 +25,20 @@ pub(crate) fn opening_entries(
     ensures { IfOk result (λ entries. option_map (λ parts. record { setup = view parts.setup.now; demands = parts.demands; increment = parts.increment }) entries
         ≡ shape.parts_of (view value.now)) }
 {
-    let Some(setup) = value.get("setup") else {
-        return Ok(None);
-    };
-    let Some(rows) = each_at(alloc, value, "demands", &RowReader)? else {
-        return Ok(None);
-    };
-    let Some(increment) = number_at(value, "increment") else {
+    let (Some(setup), Some(increment)) = (value.get("setup"), number_at(value, "increment")) else {
         return Ok(None);
     };
     if !has_members(value, 3) {
         return Ok(None);
     }
-    let demands = FlatRows::from_lists(alloc, rows.as_slice())?;
+    let Some(rows) = each_at(alloc, value, "demands", &RowReader)? else {
+        return Ok(None);
+    };
+    let demands = FlatRows::from_lists(alloc, rows.as_slice());
+    drop(rows);
     Ok(Some(OpeningEntries {
         setup,
-        demands,
+        demands: demands?,
         increment,
     }))
 }

@@ -9,7 +9,6 @@ ghost use Rattle.clock_setup.specs.inside.SetupDocument.{counted_checks};
 use crate::entries::{BidderEntry, ProductEntry};
 use crate::fault::{Place, SetupFault};
 use clock_device::{Items, Text};
-use clock_json::{push, with_room};
 use clock_money::{MOST_GRANULE, Price};
 use clock_terms::{
     Bidder, LONGEST_NAME, LONGEST_TOKEN, MOST_ELIGIBILITY, MOST_SUPPLY, MOST_UNITS, Product,
@@ -178,10 +177,10 @@ pub(crate) fn each_within<E: LimitedEntry>(
     if !is_within(1, most, entries.len() as u64) {
         return Err(SetupFault::Range(place));
     }
-    let mut wholes = with_room(alloc, entries.len())?;
+    let mut wholes = Items::with_capacity(alloc, entries.len())?;
     for (i, entry) in entries.iter().enumerate() {
         let whole = entry.within(alloc, i as u64)?;
-        push(&mut wholes, whole)?;
+        wholes.push(whole);
     }
-    Ok(Items::from_vec(wholes))
+    Ok(wholes.into_items())
 }

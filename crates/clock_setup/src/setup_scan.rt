@@ -188,12 +188,17 @@ pub(crate) struct FoundSetup<'v> {
     version: Option<u64>,
 }
 
-/// The limit of a set-up of a version, where a document of this version may have such a member or none.
-fn limit_of(version: u64, limit: Option<u64>) -> Option<u64>
+/// The limit of a set-up of a version, where its products are of this version, and a document of it may have such a
+/// member or none.
+fn limit_of(version: u64, of_products: u64, limit: Option<u64>) -> Option<u64>
+    ensures same { IfSome result (λ _. of_products ≡ version) }
     ensures found { IfSome result (λ known. limit ≡ added version known) }
     ensures version { IfSome result (λ _. IsWithin 1 latest_version version) }
     ensures first_version { IfSome result (λ known. version ≡ 1 → known ≡ first_limit) }
 {
+    if of_products != version {
+        return None;
+    }
     match (version, limit) {
         (1, None) => Some(FIRST_LIMIT),
         (2, Some(limit)) => Some(limit),
@@ -217,16 +222,23 @@ impl<'v> ScannedMembers<'v> for FoundSetup<'v> {
     fn read(&mut self, alloc: Global, key: &[u8], scan: &mut Scan<'v>) -> Result<(), ScanStop> {
         if is_key(key, "products") {
             self.products = Some(products(alloc, scan)?);
-        } else if is_key(key, "bidders") {
+            return Ok(());
+        }
+        if is_key(key, "bidders") {
             self.bidders = Some(scanned_parts::<FoundBidder>(alloc, scan, 0)?);
-        } else if is_key(key, "operator") {
+            return Ok(());
+        }
+        if is_key(key, "operator") {
             self.operator = Some(scan.text()?);
-        } else if is_key(key, "version") {
-            self.version = Some(scan.number()?);
+            return Ok(());
+        }
+        let number = Some(scan.number()?);
+        if is_key(key, "version") {
+            self.version = number;
         } else if is_key(key, "requirement") {
-            self.requirement = Some(scan.number()?);
+            self.requirement = number;
         } else if is_key(key, "limit") {
-            self.limit = Some(scan.number()?);
+            self.limit = number;
         } else {
             return Err(ScanStop::Unusual);
         }
@@ -234,20 +246,21 @@ impl<'v> ScannedMembers<'v> for FoundSetup<'v> {
     }
 
     fn whole(self) -> Option<ScannedSetup<'v>> {
-        let (Some(version), Some(requirement), Some(operator)) = (
+        let (Some(version), Some(requirement), Some(operator), Some(products), Some(bidders)) = (
             self.version,
             self.requirement,
             self.operator,
+            self.products,
+            self.bidders,
         ) else {
             return None;
         };
-        let (Some(products), Some(bidders)) = (self.products, self.bidders) else {
+        let of_products = products.version;
+        let Some(limit) = limit_of(version, of_products, self.limit) else {
+            drop(products);
+            drop(bidders);
             return None;
         };
-        let limit = limit_of(version, self.limit)?;
-        if products.version != version {
-            return None;
-        }
         let entries = SetupEntries {
             version,
             limit,

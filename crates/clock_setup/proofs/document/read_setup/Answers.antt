@@ -6,5 +6,5 @@ use Rattle.clock_setup.proofs.document.read_setup.Goals as goal
 
 pub returns-in-Ok-clause-err : goal.returns-in-Ok-clause-err
 returns-in-Ok-clause-err c =
-    subst (λ answer. IfErr c.judged.result (IsRefusal NoMemory answer))
-    (sym (document_is c.args.bytes.now c.in-Ok.scanned.entries c.in-Ok.ensures.text c.in-Ok.ensures.value)) c.judged.ensures.err
+    subst (λ answer. IfErr c.judged-setup.result (IsRefusal NoMemory answer))
+    (sym (document_is c.args.bytes.now c.in-Ok.scanned.entries c.in-Ok.ensures.text c.in-Ok.ensures.value)) c.judged-setup.ensures.err

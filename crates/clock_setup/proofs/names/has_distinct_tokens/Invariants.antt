@@ -1,6 +1,9 @@
-use Rattle.std.proofs.Common.{◌≡◌, ◌∷◌, map, take}
+use Rattle.std.proofs.Common.{◌≡◌, ◌∷◌, ◌+◌, ◌≤◌, length, map, take}
 use Rattle.clock_setup.proofs.names.has_distinct_tokens.Given as goal
 
--- the tokens so far
+-- the tokens so far are collected, and there is room for the others
 abbrev pub invariant-loop-bidder : goal.invariant-loop-bidder
-invariant-loop-bidder l = map (λ token. token.now) l.tokens.items ≡ l.operator ∷ map (λ bidder. bidder.token) (take l.bidder-index l.bidders)
+invariant-loop-bidder l = record {
+  so_far : map (λ token. token.now) l.tokens.items ≡ l.operator ∷ map (λ bidder. bidder.token) (take l.bidder-index l.bidders);
+  room : length l.bidders ≤ l.bidder-index + l.tokens.room;
+}

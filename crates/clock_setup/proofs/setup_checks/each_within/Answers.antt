@@ -22,6 +22,7 @@ loop-i-preserved g c = record {
   same = grind (arith, common_steps);
   rest = sym (turn_passed g.E.LimitedEntry.checks c.args.entries.now c.loop-i.i _ c.loop-i-test.true c.index-entries-i.is c.in_ok-whole.ensures.ok)
       ∙ c.loop-i.invariant.rest;
+  room = omega (arith, c.push.ensures.room, c.loop-i.invariant.room);
 }
 
 pub returns-clause-ok : goal.returns-clause-ok
