@@ -1,10 +1,10 @@
 -- What is posted is the round of the closing.
 use Rattle.std.proofs.Common.{◌≡◌, ℕ, List, Bool, true, false, ◌==◌, refl, ap, sym, subst, ◌∙◌, eq-eqb}
-use Rattle.std.specs.Prelude.{◌↔◌, Option, Some, None, Result, Ok, length, map, IsNone, IsTrue, IfSome}
+use Rattle.std.specs.Prelude.{◌↔◌, Option, Some, None, Result, Ok, Err, length, map, IsNone, IsTrue, IfSome, IfOk, IfErr}
 use Rattle.std.proofs.lemmas.Option.{none-some}
 use Rattle.clock_terms.specs.declared.prices.PricePair.{PricePair}
 use Rattle.clock_terms.specs.declared.increments.Increments.{Increments}
-use Rattle.clock_terms.specs.Limits.{PublicSetup}
+use Rattle.clock_terms.specs.Limits.{PublicSetup, public_setup}
 use Rattle.clock_terms.specs.Increments.{are_increments}
 use Rattle.clock_terms.specs.Faults.{first_fault, unless, IsFirstFault, IsRefusal}
 use Rattle.clock_order.specs.declared.ties.Tie.{Tie}
@@ -21,10 +21,10 @@ use Rattle.clock_closing.specs.declared.fault.CloseFault.TheVariants as close_fa
 use Rattle.clock_closing.specs.declared.results.Results.{Results}
 use Rattle.clock_closing.specs.Faults.{fault_check}
 use Rattle.clock_closing.specs.ToldFaults.{told_of_post}
-use Rattle.clock_closing.specs.OpenRound.{OpenRound}
+use Rattle.clock_closing.specs.OpenRound.{OpenRound, OpenRoundFields}
 use Rattle.clock_closing.specs.Closing.{ClosedRound, RoundResult, round_result, closed_round, closing, slips_after}
 use Rattle.clock_closing.specs.Results.{AreConsistent, demands_of}
-use Rattle.clock_closing.specs.inside.Postings.{AreResults}
+use Rattle.clock_closing.specs.inside.Postings.{AreResults, IsRoundOf, Posts, posted}
 use Rattle.clock_closing.proofs.Closings.{checks}
 
 module _ (setup : PublicSetup) (now : OpenRound) (increments : Increments) (result : RoundResult) where
@@ -72,6 +72,38 @@ module _ (setup : PublicSetup) (now : OpenRound) (increments : Increments) (resu
       (post_fault (price_limit_fault setup.products result.grid result.posted increments)) fault →
       IsRefusal close_faults.NoMemory (by_limit (price_limit_fault setup.products result.grid result.posted increments)) (told_of_post fault)
   posts-refused fault is = posts_told (price_limit_fault setup.products result.grid result.posted increments) fault is
+
+-- a posting, by what is told of it
+pub posts_by : (round : OpenRoundFields) (increments : Increments) (result : RoundResult) (posting : Result Posting PostFault) →
+    IfOk posting (IsPosting round.before.standing.round round.setup.products round.before.standing.prices result.grid result.posted increments) →
+    IfOk posting IsConsistent →
+    IfErr posting (IsFirstFault post_faults.NoMemory (post_fault (price_limit_fault round.setup.products result.grid result.posted increments))) →
+    Posts round increments result posting
+posts_by round increments result (Ok one) is laws refused = (is, laws)
+posts_by round increments result (Err fault) is laws refused = refused
+
+-- the results of a posting of these demands
+module _ (round : OpenRoundFields) (demands : List (List ℕ)) (posting : Result Posting PostFault) where
+  pub round-made : (one : Posting) (slips : List Slip) → posting ≡ Ok one → slips ≡ slips_after (public_setup round.setup) round.before demands →
+      demands ≡ demands_of slips →
+      IsRoundOf round demands posting (Ok (record { closed = record { sheet = one.sheet; slips = slips }; next = one.next; demands = demands }))
+  round-made one slips same slips_are demands_are = λ increments list is.
+      let result : RoundResult = record { grid = demands; posted = list } in
+      let results : Results = record { closed = record { sheet = one.sheet; slips = slips }; next = one.next; demands = demands } in
+      let both = subst (λ (posted : Result Posting PostFault). Posts round increments result posted) same is in
+      posts (public_setup round.setup) round.before increments result one results both.0 both.1 refl refl slips_are demands_are
+
+  -- where nothing is posted
+  pub round-refused : (fault : PostFault) (told : CloseFault) → posting ≡ Err fault → told ≡ told_of_post fault →
+      IsRoundOf round demands posting (Err told)
+  round-refused fault told same is_told = λ increments list is.
+      let result : RoundResult = record { grid = demands; posted = list } in
+      subst (λ (one : CloseFault). IsRefusal close_faults.NoMemory (posted (public_setup round.setup) round.before increments result) one) (sym is_told)
+      (posts-refused (public_setup round.setup) round.before increments result fault
+      (subst (λ (posted : Result Posting PostFault). Posts round increments result posted) same is))
+
+  pub round-no_memory : (told : CloseFault) → told ≡ close_faults.NoMemory → IsRoundOf round demands posting (Err told)
+  round-no_memory told same = λ increments list is other. absurd (other same)
 
 module _ (setup : PublicSetup) (now : OpenRound) (round : ℕ) (increments : Increments) (ties : List Tie) where
   abbrev by_tests : Bool → Bool → Bool → Option TieFault → Result ClosedRound CloseFault

@@ -4,6 +4,7 @@
 //! no matter here: neither earlier rounds, nor who put which sheet when.
 #![tactic(auto)]
 
+mod asked;
 mod closed_round;
 mod fault;
 mod holdings;

@@ -1,22 +1,25 @@
-ghost use Rattle.std.specs.Prelude.{◌≡◌, ◌≢◌, ◌<◌, None, length, slice_index_or, option_copied, IfOk};
+ghost use Rattle.std.specs.Prelude.{◌≡◌, ◌≢◌, ◌<◌, None, length, slice_index_or, option_copied, IfOk, IfErr};
+ghost use Rattle.clock_terms.specs.Faults.{IsRefusal};
 ghost use Rattle.clock_terms.specs.Increments.{AreIncrements};
 ghost use Rattle.clock_bids.specs.Holding.{holding_of};
 ghost use Rattle.clock_order.specs.declared.ties.TieFault.TheVariants as tie_faults;
 ghost use Rattle.clock_closing.specs.OpenRound.{IsOpenRound, open_at, holding_at};
 ghost use Rattle.clock_closing.specs.Closing.{closing_now};
 ghost use Rattle.clock_closing.specs.Prepared.{Answers};
-ghost use Rattle.clock_closing.specs.inside.Postings.{ComesTo, posted_now};
+ghost use Rattle.clock_closing.specs.inside.Postings.{ComesTo, IsAsked, posted_now};
 
 mod first_round;
 mod later_round;
 mod slips;
 
+use crate::asked::{Asked, copy_of};
 use crate::fault::CloseFault;
 use crate::holdings::Holdings;
-use crate::prepared::{Prepared, copy_of};
+use crate::prepared::Prepared;
 use crate::results::Results;
 use clock_bids::{Own, Sheet};
 use clock_order::{Tie, Ties};
+use clock_posting::post;
 use clock_processor::Processor;
 use clock_terms::{Grid, Increments, Prices, Setup};
 use std::alloc::Global;
@@ -88,38 +91,84 @@ impl<'a> OpenRound<'a> {
         ensures answer { Answers (closing_now self.now increments.now ties.now) result }
         ensures memory { result ≢ Err (CloseFault.Tie tie_faults.NoMemory) }
     {
+        let asked = match self.asked(alloc, increments, ties) {
+            Ok(asked) => asked,
+            Err(fault) => {
+                drop(old);
+                return Err(fault);
+            }
+        };
+        match self.results(alloc, processor, &asked, old) {
+            Ok(results) => Ok(Prepared {
+                round: self.round,
+                asked,
+                results,
+            }),
+            Err(fault) => {
+                drop(asked);
+                Err(fault)
+            }
+        }
+    }
+
+    /// What the closing is asked for, where increments and tie numbers have no fault.
+    fn asked(
+        &self,
+        alloc: Global,
+        increments: &Increments,
+        ties: &[Tie],
+    ) -> Result<Asked, CloseFault>
+        ensures asked { IfOk result (IsAsked self.now increments.now ties.now) }
+        ensures refused { IfErr result (IsRefusal CloseFault.NoMemory (closing_now self.now increments.now ties.now)) }
+        ensures memory { result ≢ Err (CloseFault.Tie tie_faults.NoMemory) }
+    {
         let setup = self.setup;
         if !increments.are_within(setup.products.as_slice().len()) {
             return Err(CloseFault::Increment);
         }
         let copy = copy_of(alloc, increments)?;
         let ties = Ties::new(alloc, setup, ties)?;
-        let results = self.results(alloc, processor, increments, &ties, old)?;
-        Ok(Prepared {
-            round: self.round,
+        Ok(Asked {
             increments: copy,
             ties,
-            results,
         })
     }
 
-    /// What the round comes to.
+    /// What the round comes to. In the first round the sheets' quantities stand as demands, and in
+    /// a later one all bidders' requests are settled in their order.
     fn results<P: Processor>(
         &self,
         alloc: Global,
         processor: &P,
-        increments: &Increments,
-        ties: &Ties,
+        asked: &Asked,
         old: Option<Grid>,
     ) -> Result<Results, CloseFault>
-        requires { AreIncrements (length self.now.setup.products) increments.now }
-        ensures { ComesTo (posted_now self.now increments.now ties.now) result }
+        requires { AreIncrements (length self.now.setup.products) asked.now.increments }
+        ensures { ComesTo (posted_now self.now asked.now.increments asked.now.ties) result }
     {
         if self.round == 1 {
-            self.first_results(alloc, increments)
-        } else {
-            self.later_results(alloc, processor, increments, ties, old)
+            drop(old);
+            return self.first_results(alloc, &asked.increments);
         }
+        let requests = match self.requests(alloc, &asked.ties) {
+            Ok(requests) => requests,
+            Err(none) => {
+                drop(old);
+                return Err(CloseFault::from(none));
+            }
+        };
+        let settled = self.settled(alloc, processor, &requests, old)?;
+        let posting = post(
+            alloc,
+            self.setup,
+            self.round,
+            self.prices,
+            &requests,
+            &settled,
+            &asked.increments,
+        );
+        drop(requests);
+        self.with_slips(alloc, posting, settled.into_grid())
     }
 
     /// What a bidder holds.

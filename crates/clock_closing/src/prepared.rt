@@ -1,11 +1,8 @@
-ghost use Rattle.std.specs.Prelude.{◌≡◌, IfOk};
+ghost use Rattle.std.specs.Prelude.{◌≡◌};
 ghost use Rattle.clock_closing.specs.Results.{AreConsistent};
 
+use crate::asked::Asked;
 use crate::results::Results;
-use clock_device::NoMemory;
-use clock_order::Ties;
-use clock_terms::Increments;
-use std::alloc::Global;
 use std::marker::Model;
 
 /// A closing that is accepted and not made yet.
@@ -15,8 +12,7 @@ use std::marker::Model;
 #[derive(Drop)]
 pub struct Prepared {
     pub(crate) round: u64,
-    pub(crate) increments: Increments,
-    pub(crate) ties: Ties,
+    pub(crate) asked: Asked,
     pub(crate) results: Results,
 }
 
@@ -26,7 +22,7 @@ impl Model for Prepared {
 
     ghost Value = { PreparedClosing };
 
-    ghost view = { λ p. record { round = p.round; increments = p.increments; ties = p.ties; closed = p.results.closed } };
+    ghost view = { λ p. record { round = p.round; increments = p.asked.increments; ties = p.asked.ties; closed = p.results.closed } };
 
     ghost invariant = { λ p. AreConsistent p.results };
 }
@@ -45,15 +41,5 @@ impl Prepared {
         ensures consistent { AreConsistent result }
     {
         self.results
-    }
-}
-
-/// Equal increments.
-pub(crate) fn copy_of(alloc: Global, increments: &Increments) -> Result<Increments, NoMemory>
-    ensures { IfOk result (λ copy. copy ≡ increments.now) }
-{
-    match increments {
-        Increments::Single(increment) => Ok(Increments::Single(*increment)),
-        Increments::PerProduct(list) => Ok(Increments::PerProduct(list.copy(alloc)?)),
     }
 }

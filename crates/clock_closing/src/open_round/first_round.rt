@@ -29,8 +29,8 @@ impl OpenRound<'_> {
         ensures { ComesTo (first_posted self.now increments.now) result }
     {
         let grid = self.asked_grid(alloc)?;
-        let posting = post_first(alloc, self.setup, &grid, increments)?;
-        Ok(self.with_slips(alloc, posting, grid)?)
+        let posting = post_first(alloc, self.setup, &grid, increments);
+        self.with_slips(alloc, posting, grid)
     }
 
     /// The demands that the sheets in force ask for.

@@ -1,57 +1,24 @@
-//! The closing of a later round: all bidders' requests are settled in their order.
+//! The settling of a later round: all bidders' requests in their order.
 
 ghost use Rattle.std.specs.Prelude.{◌≡◌, ◌≤◌, length, flat_map, AllPairs, IfOk};
-ghost use Rattle.clock_terms.specs.Increments.{AreIncrements};
 ghost use Rattle.clock_terms.specs.Requests.{AreApart};
 ghost use Rattle.clock_processor.specs.Board.{IsWithinEligibility};
 ghost use Rattle.clock_closing.specs.OpenRound.{bidder_numbers};
 ghost use Rattle.clock_closing.specs.inside.OpenRound.{eligibilities_of};
 ghost use Rattle.clock_closing.specs.Closing as rules;
-ghost use Rattle.clock_closing.specs.inside.Postings.{AreRequests, ComesTo, later_posted};
+ghost use Rattle.clock_closing.specs.inside.Postings.{AreRequests};
 
-use crate::fault::CloseFault;
 use crate::open_round::OpenRound;
-use crate::results::Results;
 use clock_bids::{Changes, with_changes_of};
 use clock_device::NoMemory;
 use clock_order::{Ties, ordered};
-use clock_posting::post;
 use clock_processor::{Board, Processor, Settled};
-use clock_terms::{Grid, Increments};
+use clock_terms::Grid;
 use std::alloc::Global;
 
 impl OpenRound<'_> {
-    /// What a later round comes to.
-    pub(super) fn later_results<P: Processor>(
-        &self,
-        alloc: Global,
-        processor: &P,
-        increments: &Increments,
-        ties: &Ties,
-        old: Option<Grid>,
-    ) -> Result<Results, CloseFault>
-        requires later { 2 ≤ self.now.before.standing.round }
-        requires increments { AreIncrements (length self.now.setup.products) increments.now }
-        ensures { ComesTo (later_posted self.now increments.now ties.now) result }
-    {
-        let requests = self.requests(alloc, ties)?;
-        let settled = self.settled(alloc, processor, &requests, old)?;
-        let posting = post(
-            alloc,
-            self.setup,
-            self.round,
-            self.prices,
-            &requests,
-            &settled,
-            increments,
-        );
-        drop(requests);
-        let grid = settled.into_grid();
-        Ok(self.with_slips(alloc, posting?, grid)?)
-    }
-
     /// All bidders' requests in the order of processing.
-    fn requests(&self, alloc: Global, ties: &Ties) -> Result<Changes, NoMemory>
+    pub(super) fn requests(&self, alloc: Global, ties: &Ties) -> Result<Changes, NoMemory>
         requires { 2 ≤ self.now.before.standing.round }
         ensures ordered { IfOk result (λ list. list ≡ rules.requests self.now.before ties.now) }
         ensures all { IfOk result (AreRequests self.now.before) }
@@ -84,7 +51,7 @@ impl OpenRound<'_> {
 
     /// The demands that the settling of these requests leaves, and what is left of each. They are settled in the memory of a grid
     /// that is no longer needed, where there is one.
-    fn settled<P: Processor>(
+    pub(super) fn settled<P: Processor>(
         &self,
         alloc: Global,
         processor: &P,
@@ -101,7 +68,13 @@ impl OpenRound<'_> {
             (eligibilities_of self.now.before) settled.grid) }
         ensures each { IfOk result (λ settled. length settled.left ≡ length requests.now) }
     {
-        let eligibilities = self.holdings.eligibilities(alloc)?;
+        let eligibilities = match self.holdings.eligibilities(alloc) {
+            Ok(list) => list,
+            Err(none) => {
+                drop(old);
+                return Err(none);
+            }
+        };
         let grid = self.holdings.grid(alloc, old)?;
         let board = Board::on(alloc, self.setup, &eligibilities, grid)?;
         processor.settle(alloc, board, requests)

@@ -6,34 +6,46 @@ ghost use Rattle.clock_terms.specs.Eligibility as eligibilities;
 ghost use Rattle.clock_processor.specs.Board.{IsWithinEligibility};
 ghost use Rattle.clock_closing.specs.OpenRound.{holding_at};
 ghost use Rattle.clock_closing.specs.inside.OpenRound.{eligibilities_of};
+ghost use Rattle.clock_closing.specs.inside.Postings.{IsRoundOf};
 ghost use Rattle.clock_closing.specs.Closing as rules;
 ghost use Rattle.clock_closing.specs.Results.{demands_of};
 
 use crate::closed_round::ClosedRound;
+use crate::fault::CloseFault;
 use crate::open_round::OpenRound;
 use crate::results::Results;
 use crate::slip::{Slip, Slips};
 use clock_device::NoMemory;
-use clock_posting::Posting;
+use clock_posting::{PostFault, Posting};
 use clock_terms::{Grid, Row, next_eligibility, units_held};
 use std::alloc::Global;
 
 impl OpenRound<'_> {
-    /// What a posting and these demands make of the round.
+    /// What a posting and these demands make of the round, or why there is no posting.
     pub(super) fn with_slips(
         &self,
         alloc: Global,
-        posting: Posting,
+        posting: Result<Posting, PostFault>,
         demands: Grid,
-    ) -> Result<Results, NoMemory>
+    ) -> Result<Results, CloseFault>
         requires { IsWithinEligibility self.now.setup.products (eligibilities_of self.now.before) demands }
-        ensures sheet { IfOk result (λ results. results.closed.sheet ≡ posting.sheet) }
-        ensures next { IfOk result (λ results. results.next ≡ posting.next) }
-        ensures slips { IfOk result (λ results. results.closed.slips ≡
-            rules.slips_after (public_setup self.now.setup) self.now.before demands) }
-        ensures demands { IfOk result (λ results. results.demands ≡ demands_of results.closed.slips) }
+        ensures { IsRoundOf self.now demands posting result }
     {
-        let slips = self.slips(alloc, &demands)?;
+        let posting = match posting {
+            Ok(posting) => posting,
+            Err(fault) => {
+                drop(demands);
+                return Err(CloseFault::from(fault));
+            }
+        };
+        let slips = match self.slips(alloc, &demands) {
+            Ok(slips) => slips,
+            Err(none) => {
+                drop(posting);
+                drop(demands);
+                return Err(CloseFault::from(none));
+            }
+        };
         let Posting { sheet, next } = posting;
         Ok(Results {
             closed: ClosedRound { sheet, slips },

@@ -1,30 +1,19 @@
-use Rattle.std.proofs.Common.{◌≡◌, ap, sym, ◌∙◌}
-use Rattle.std.proofs.lemmas.Result.{err_from_is_err_and}
-use Rattle.clock_terms.specs.Limits.{SetupFields}
-use Rattle.clock_terms.proofs.IncrementLaws.{increments_of_test}
-use Rattle.clock_closing.specs.OpenRound.{OpenRoundFields}
-use Rattle.clock_closing.proofs.Steps.{is_open, closes-tested}
+use Rattle.std.proofs.Common.{ap, sym, ◌∙◌}
+use Rattle.clock_closing.specs.declared.asked.Asked.{Asked}
+use Rattle.clock_closing.specs.inside.Postings.{posted_now}
 use Rattle.clock_closing.proofs.open_round.OpenRound.close.Goals as goal
 
-pub results-requires : goal.results-requires
-results-requires g c =
-    let setup : c.self.inside.setup.now ≡ c.args.self.now.setup = ap (λ (round : OpenRoundFields). round.setup) c.self.view_is in
-    let products : c.setup.inside.products ≡ c.args.self.now.setup.products =
-    ap (λ (one : SetupFields). one.products) (c.setup.view_is ∙ setup) in
-    increments_of_test _ c.args.increments.now (sym (rw (c.as_slice.ensures, products) at c.if-not-are_within.ensures))
+pub returns-in-Ok-results-clause-answer : goal.returns-in-Ok-results-clause-answer
+returns-in-Ok-results-clause-answer g c =
+    let asked = c.in-Ok.ensures.asked in
+    asked.good
+    ∙ sym (ap (λ (one : Asked). posted_now c.args.self.now one.increments one.ties) asked.same)
+    ∙ c.in-Ok-results.ensures.closes
 
-pub returns-in_err-results-clause-answer : goal.returns-in_err-results-clause-answer
-returns-in_err-results-clause-answer g c =
-    let told = err_from_is_err_and c.from_residual-in_err-results.result c.from_residual-in_err-results.ensures.1 in
-    let good = closes-tested c.args.self.now (is_open c.self.view_is c.self.invariant) c.self.inside.setup.now c.as_slice.result.now
-    c.args.increments.now c.args.ties.now (ap (λ (round : OpenRoundFields). round.setup) c.self.view_is)
-    (c.as_slice.ensures ∙ ap (λ (one : SetupFields). one.products) c.setup.view_is) (sym c.if-not-are_within.ensures) c.in_ok-ties.ensures.good in
-    let refused = rw c.in_ok-ties.ensures.listed at c.in_err-results.ensures in
-    rw (told.1, told.2) (λ other. good ∙ refused other)
-
-pub returns-clause-answer : goal.returns-clause-answer
-returns-clause-answer g c =
-    closes-tested c.args.self.now (is_open c.self.view_is c.self.invariant) c.self.inside.setup.now c.as_slice.result.now
-    c.args.increments.now c.args.ties.now (ap (λ (round : OpenRoundFields). round.setup) c.self.view_is)
-    (c.as_slice.ensures ∙ ap (λ (one : SetupFields). one.products) c.setup.view_is) (sym c.if-not-are_within.ensures) c.in_ok-ties.ensures.good
-    ∙ (rw c.in_ok-ties.ensures.listed at c.in_ok-results.ensures.closes)
+pub returns-in-Err-results-clause-answer : goal.returns-in-Err-results-clause-answer
+returns-in-Err-results-clause-answer g c =
+    let asked = c.in-Ok.ensures.asked in
+    λ other.
+    asked.good
+    ∙ sym (ap (λ (one : Asked). posted_now c.args.self.now one.increments one.ties) asked.same)
+    ∙ c.in-Err-results.ensures other

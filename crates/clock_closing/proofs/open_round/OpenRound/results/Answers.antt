@@ -1,18 +1,56 @@
-use Rattle.std.proofs.Common.{◌≡◌, ◌≤◌, ap, sym, ◌∙◌, arith}
-use Rattle.clock_closing.specs.OpenRound.{OpenRoundFields}
+use Rattle.std.proofs.Common.{◌≡◌, ◌≢◌, ◌≤◌, ap, sym, ◌∙◌, arith}
+use Rattle.std.proofs.lemmas.List.Sorted.{All-permutation}
+use Rattle.clock_posting.specs.PostedPrice.{IsWithinPrices}
+use Rattle.clock_closing.specs.OpenRound.{OpenRoundFields, IsOpenRound}
+use Rattle.clock_closing.specs.Closing.{requests, later_result}
+use Rattle.clock_closing.proofs.Posts.{posts_by}
+use Rattle.clock_closing.proofs.OpenRounds.{priced_requests}
 use Rattle.clock_closing.proofs.RoundResults.{result-first, result-later}
 use Rattle.clock_closing.proofs.open_round.OpenRound.results.Goals as goal
+
+-- a round that is not the first is a later one
+later_by : (inside : OpenRoundFields) → IsOpenRound inside → inside.before.standing.round ≢ 1 → 2 ≤ inside.before.standing.round
+later_by inside is other = omega (arith, is.sound.priced.numbered, other)
+
+later_of : (inside now : OpenRoundFields) → inside ≡ now → IsOpenRound inside → inside.before.standing.round ≢ 1 → 2 ≤ now.before.standing.round
+later_of inside now same is other = rw (← same) (later_by inside is other)
 
 pub returns-then-self-eq1 : goal.returns-then-self-eq1
 returns-then-self-eq1 g c =
     let number : c.self.inside.round ≡ c.args.self.now.before.standing.round =
     ap (λ (round : OpenRoundFields). round.before.standing.round) c.self.view_is in
-    rw (result-first c.args.self.now.setup.products c.args.self.now.before c.args.ties.now (sym number ∙ c.if-self-eq1.true))
+    rw (result-first c.args.self.now.setup.products c.args.self.now.before c.args.asked.now.ties (sym number ∙ c.if-self-eq1.true))
     c.first_results.ensures
 
-pub returns-else-self-eq1 : goal.returns-else-self-eq1
-returns-else-self-eq1 g c =
+pub requests-requires : goal.requests-requires
+requests-requires g c = later_of _ _ c.self.view_is c.self.invariant c.if-self-eq1.false
+
+pub settled-requires-clause-later : goal.settled-requires-clause-later
+settled-requires-clause-later g c = later_of _ _ c.self.view_is c.self.invariant c.if-self-eq1.false
+
+pub post-posting-requires-clause-later : goal.post-posting-requires-clause-later
+post-posting-requires-clause-later g c = later_by _ c.self.invariant c.if-self-eq1.false
+
+pub post-posting-requires-clause-changes : goal.post-posting-requires-clause-changes
+post-posting-requires-clause-changes g c =
+    All-permutation (IsWithinPrices c.self.inside.prices.now) _ _ (rw (← c.self.view_is) at c.in-Ok.ensures.all)
+    (priced_requests _ _ c.self.invariant.sound (later_by _ c.self.invariant c.if-self-eq1.false))
+
+pub returns : goal.returns
+returns g c =
+    let now = c.args.self.now in
+    let increments = c.args.asked.now.increments in
+    let ties = c.args.asked.now.ties in
+    let setup : c.self.inside.setup.now ≡ c.args.self.now.setup = ap (λ (round : OpenRoundFields). round.setup) c.self.view_is in
     let number : c.self.inside.round ≡ c.args.self.now.before.standing.round =
     ap (λ (round : OpenRoundFields). round.before.standing.round) c.self.view_is in
-    let later : 2 ≤ c.args.self.now.before.standing.round = omega (arith, c.self.invariant.sound.priced.numbered) in
-    rw (result-later c.args.self.now.setup.products c.args.self.now.before c.args.ties.now later) c.later_results.ensures
+    let prices : c.self.inside.prices.now ≡ c.args.self.now.before.standing.prices =
+    ap (λ (round : OpenRoundFields). round.before.standing.prices) c.self.view_is in
+    let result = later_result now.setup.products now.before (requests now.before ties) in
+    let posting = rw (c.in_ok-settled.ensures.left, c.in_ok-settled.ensures.grid, c.in-Ok.ensures.ordered, setup, number, prices)
+    at c.post-posting.ensures.ok in
+    let refused = rw (c.in_ok-settled.ensures.left, c.in_ok-settled.ensures.grid, c.in-Ok.ensures.ordered, setup, prices)
+    at c.post-posting.ensures.err in
+    let comes = rw (c.into_grid.ensures, c.in_ok-settled.ensures.grid, c.in-Ok.ensures.ordered) at c.with_slips.ensures in
+    rw (result-later now.setup.products now.before ties (later_of _ _ c.self.view_is c.self.invariant c.if-self-eq1.false))
+    (comes increments result.posted (posts_by now increments result c.post-posting.result posting c.post-posting.ensures.laws refused))
