@@ -1,25 +1,21 @@
 ghost use Rattle.std.specs.Prelude.{◌≡◌, ◌≢◌, ◌<◌, None, length, slice_index_or, option_copied, IfOk, IfErr};
 ghost use Rattle.clock_terms.specs.Faults.{IsRefusal};
-ghost use Rattle.clock_terms.specs.Increments.{AreIncrements};
 ghost use Rattle.clock_bids.specs.Holding.{holding_of};
 ghost use Rattle.clock_order.specs.declared.ties.TieFault.TheVariants as tie_faults;
 ghost use Rattle.clock_closing.specs.OpenRound.{IsOpenRound, open_at, holding_at};
 ghost use Rattle.clock_closing.specs.Closing.{closing_now};
 ghost use Rattle.clock_closing.specs.Prepared.{Answers};
-ghost use Rattle.clock_closing.specs.inside.Postings.{ComesTo, IsAsked, posted_now};
+ghost use Rattle.clock_closing.specs.inside.Postings.{IsAsked};
 
-mod first_round;
-mod later_round;
+mod outcome;
 mod slips;
 
 use crate::asked::{Asked, copy_of};
 use crate::fault::CloseFault;
 use crate::holdings::Holdings;
 use crate::prepared::Prepared;
-use crate::results::Results;
 use clock_bids::{Own, Sheet};
 use clock_order::{Tie, Ties};
-use clock_posting::post;
 use clock_processor::Processor;
 use clock_terms::{Grid, Increments, Prices, Setup};
 use std::alloc::Global;
@@ -132,43 +128,6 @@ impl<'a> OpenRound<'a> {
             increments: copy,
             ties,
         })
-    }
-
-    /// What the round comes to. In the first round the sheets' quantities stand as demands, and in
-    /// a later one all bidders' requests are settled in their order.
-    fn results<P: Processor>(
-        &self,
-        alloc: Global,
-        processor: &P,
-        asked: &Asked,
-        old: Option<Grid>,
-    ) -> Result<Results, CloseFault>
-        requires { AreIncrements (length self.now.setup.products) asked.now.increments }
-        ensures { ComesTo (posted_now self.now asked.now.increments asked.now.ties) result }
-    {
-        if self.round == 1 {
-            drop(old);
-            return self.first_results(alloc, &asked.increments);
-        }
-        let requests = match self.requests(alloc, &asked.ties) {
-            Ok(requests) => requests,
-            Err(none) => {
-                drop(old);
-                return Err(CloseFault::from(none));
-            }
-        };
-        let settled = self.settled(alloc, processor, &requests, old)?;
-        let posting = post(
-            alloc,
-            self.setup,
-            self.round,
-            self.prices,
-            &requests,
-            &settled,
-            &asked.increments,
-        );
-        drop(requests);
-        self.with_slips(alloc, posting, settled.into_grid())
     }
 
     /// What a bidder holds.

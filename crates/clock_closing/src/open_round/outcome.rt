@@ -1,0 +1,160 @@
+//! What a round comes to: in the first round the sheets' quantities stand as demands, in a later one all bidders' requests are
+//! settled in their order.
+
+ghost use Rattle.std.specs.Prelude.{◌≡◌, ◌<◌, ◌≤◌, length, flat_map, AllPairs, IfOk};
+ghost use Rattle.clock_terms.specs.Limits.{IsRow};
+ghost use Rattle.clock_terms.specs.Increments.{AreIncrements};
+ghost use Rattle.clock_terms.specs.Requests.{AreApart};
+ghost use Rattle.clock_bids.specs.Sheet as sheets;
+ghost use Rattle.clock_processor.specs.Board.{IsWithinEligibility};
+ghost use Rattle.clock_closing.specs.OpenRound.{bids_at, bidder_numbers};
+ghost use Rattle.clock_closing.specs.inside.OpenRound.{eligibilities_of};
+ghost use Rattle.clock_closing.specs.Closing as rules;
+ghost use Rattle.clock_closing.specs.inside.Postings.{AreRequests, ComesTo, first_posted, posted_now};
+
+use crate::asked::Asked;
+use crate::fault::CloseFault;
+use crate::open_round::OpenRound;
+use crate::results::Results;
+use clock_bids::{Changes, asked_demands, bids_of, with_changes_of};
+use clock_device::NoMemory;
+use clock_order::{Ties, ordered};
+use clock_posting::{post, post_first};
+use clock_processor::{Board, Processor, Settled};
+use clock_terms::{Grid, Increments, Row};
+use std::alloc::Global;
+
+impl OpenRound<'_> {
+    /// What the round comes to. In the first round the sheets' quantities stand as demands, and in
+    /// a later one all bidders' requests are settled in their order.
+    pub(super) fn results<P: Processor>(
+        &self,
+        alloc: Global,
+        processor: &P,
+        asked: &Asked,
+        old: Option<Grid>,
+    ) -> Result<Results, CloseFault>
+        requires { AreIncrements (length self.now.setup.products) asked.now.increments }
+        ensures { ComesTo (posted_now self.now asked.now.increments asked.now.ties) result }
+    {
+        if self.round == 1 {
+            drop(old);
+            return self.first_results(alloc, &asked.increments);
+        }
+        let requests = match self.requests(alloc, &asked.ties) {
+            Ok(requests) => requests,
+            Err(none) => {
+                drop(old);
+                return Err(CloseFault::from(none));
+            }
+        };
+        let settled = self.settled(alloc, processor, &requests, old)?;
+        let posting = post(
+            alloc,
+            self.setup,
+            self.round,
+            self.prices,
+            &requests,
+            &settled,
+            &asked.increments,
+        );
+        drop(requests);
+        self.with_slips(alloc, posting, settled.into_grid())
+    }
+
+    /// What the first round comes to.
+    fn first_results(&self, alloc: Global, increments: &Increments) -> Result<Results, CloseFault>
+        requires first { self.now.before.standing.round ≡ 1 }
+        requires increments { AreIncrements (length self.now.setup.products) increments.now }
+        ensures { ComesTo (first_posted self.now increments.now) result }
+    {
+        let grid = self.asked_grid(alloc)?;
+        let posting = post_first(alloc, self.setup, &grid, increments);
+        self.with_slips(alloc, posting, grid)
+    }
+
+    /// The demands that the sheets in force ask for.
+    fn asked_grid(&self, alloc: Global) -> Result<Grid, NoMemory>
+        ensures { IfOk result (λ grid. grid ≡ rules.asked_grid self.now.setup.products self.now.before) }
+    {
+        let mut rows = Vec::with_capacity(alloc, self.bidders() as usize)?;
+        for bidder in 0..self.bidders() {
+            rows.push(self.asked_row(alloc, bidder)?)?;
+        }
+        Ok(Grid::of_rows(alloc, self.setup, rows)?)
+    }
+
+    /// The demands that a bidder's sheet in force asks for. No sheet is the same as an empty one.
+    pub(super) fn asked_row(&self, alloc: Global, bidder: u32) -> Result<Row, NoMemory>
+        requires { bidder < length self.now.setup.bidders }
+        ensures asked { IfOk result (λ row. row ≡ sheets.asked_demands
+            (length self.now.setup.products) (bids_at self.now.before.sheets bidder)) }
+        ensures row { IfOk result (IsRow self.now.setup.products) }
+    {
+        let asked = asked_demands(alloc, self.setup, bids_of(self.sheet(bidder)))?;
+        Row::of(alloc, self.setup, asked.as_slice())
+    }
+
+    /// All bidders' requests in the order of processing.
+    fn requests(&self, alloc: Global, ties: &Ties) -> Result<Changes, NoMemory>
+        requires { 2 ≤ self.now.before.standing.round }
+        ensures ordered { IfOk result (λ list. list ≡ rules.requests self.now.before ties.now) }
+        ensures all { IfOk result (AreRequests self.now.before) }
+    {
+        let changes = self.changes(alloc)?;
+        ordered(alloc, &changes, ties)
+    }
+
+    /// All bidders' requests, one bidder's after another's.
+    fn changes(&self, alloc: Global) -> Result<Changes, NoMemory>
+        requires { 2 ≤ self.now.before.standing.round }
+        ensures all { IfOk result (λ changes. changes ≡ flat_map
+            (rules.requests_by self.now.before) (bidder_numbers self.now.before)) }
+        ensures apart { IfOk result (AllPairs AreApart) }
+    {
+        let mut changes = Changes::new(alloc);
+        for bidder in 0..self.bidders() {
+            changes = with_changes_of(
+                alloc,
+                changes,
+                self.setup,
+                self.prices,
+                self.own(bidder),
+                bidder,
+                self.sheet(bidder),
+            )?;
+        }
+        Ok(changes)
+    }
+
+    /// The demands that the settling of these requests leaves, and what is left of each. They are settled in the memory of a grid
+    /// that is no longer needed, where there is one.
+    fn settled<P: Processor>(
+        &self,
+        alloc: Global,
+        processor: &P,
+        requests: &Changes,
+        old: Option<Grid>,
+    ) -> Result<Settled, NoMemory>
+        requires later { 2 ≤ self.now.before.standing.round }
+        requires requests { AreRequests self.now.before requests.now }
+        ensures grid { IfOk result (λ settled. settled.grid ≡
+            (rules.settlement self.now.setup.products self.now.before requests.now).grid) }
+        ensures left { IfOk result (λ settled. settled.left ≡
+            (rules.settlement self.now.setup.products self.now.before requests.now).left) }
+        ensures within { IfOk result (λ settled. IsWithinEligibility self.now.setup.products
+            (eligibilities_of self.now.before) settled.grid) }
+        ensures each { IfOk result (λ settled. length settled.left ≡ length requests.now) }
+    {
+        let eligibilities = match self.holdings.eligibilities(alloc) {
+            Ok(list) => list,
+            Err(none) => {
+                drop(old);
+                return Err(none);
+            }
+        };
+        let grid = self.holdings.grid(alloc, old)?;
+        let board = Board::on(alloc, self.setup, &eligibilities, grid)?;
+        processor.settle(alloc, board, requests)
+    }
+}
