@@ -31,15 +31,11 @@ pub fn audit_text(alloc: Global, report: &Report, digests: &[Digits]) -> Result<
     let sheets = report.sheets.as_slice();
     let mut text = with_audited(Text::new(alloc), &report.setup, sheets, digests)?;
     let last = &sheets[sheets.len() - 1];
-    if last.ended {
-        push_wins(
-            alloc,
-            &mut text,
-            &report.setup,
-            last.lines.as_slice(),
-            &report.grid,
-        )?;
+    if !last.ended {
+        return Ok(text);
     }
+    let lines = last.lines.as_slice();
+    push_wins(alloc, &mut text, &report.setup, lines, &report.grid)?;
     Ok(text)
 }
 

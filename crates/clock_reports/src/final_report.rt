@@ -76,9 +76,10 @@ pub fn report_so_far<P>(alloc: Global, house: &House<P>) -> Result<Report, NoMem
     ensures { IfOk result (λ report. report ≡ rules.report_of house.now.setup house.now.closed) }
 {
     house.law_of_house();
-    let setup = house.setup().copy(alloc)?;
-    let sheets = sheets_of(alloc, house)?;
+    // the set-up comes last, so that the least is let go where there is no memory
     let grid = house.demands().copy(alloc)?;
+    let sheets = sheets_of(alloc, house)?;
+    let setup = house.setup().copy(alloc)?;
     let report = Report {
         setup,
         sheets,

@@ -17,19 +17,14 @@ use std::alloc::Global;
 /// How many bytes a line of a product takes, about.
 const LINE_ROOM: usize = 48;
 
-/// How many bytes the report of an auction takes, about: a line for each product of each closed round.
-fn room_of<P>(house: &House<P>) -> usize {
-    let products = house.setup().products.as_slice().len();
-    products
-        .saturating_mul(house.closed_rounds() as usize)
-        .saturating_mul(LINE_ROOM)
-}
-
-/// A text with room for the report. It is taken at once: a long text that grows is copied, and both stand in memory.
+/// A text with room for the report, about: a line for each product of each closed round. It is taken at once, since a long
+/// text that grows is copied, and both stand in memory.
 fn empty_text<P>(alloc: Global, house: &House<P>) -> Result<Text, NoMemory>
     ensures { IfOk result (λ text. text ≡ []) }
 {
-    let room = Vec::with_capacity(alloc, room_of(house))?;
+    let products = house.setup().products.as_slice().len();
+    let lines = products.saturating_mul(house.closed_rounds() as usize);
+    let room = Vec::with_capacity(alloc, lines.saturating_mul(LINE_ROOM))?;
     Ok(Text::from_vec(room))
 }
 
