@@ -1,17 +1,31 @@
 -- The texts of bodies in the pieces in which they are pushed.
 use Rattle.std.proofs.Common.{◌≡◌, ℕ, List, ◌++◌, codes, decimal, refl, ap, ◌∙◌, append_assoc}
+use Rattle.std.specs.Prelude.{Result, Ok, Err, OnOk}
 use Rattle.serde_json.specs.Written.{compact_text}
 use Rattle.serde_json.proofs.OnLiterals.{serde_json_on_literals}
 use Rattle.clock_terms.specs.declared.increments.Increments.{Increments}
 use Rattle.clock_terms.specs.declared.increments.Increments.TheVariants.{Single, PerProduct}
 use Rattle.clock_bids.specs.declared.sheet.Bid.{Bid}
 use Rattle.clock_order.specs.declared.ties.Tie.{Tie}
-use Rattle.clock_views.specs.Values.{list_of}
+use Rattle.clock_views.specs.Values.{list_of, Adds}
+use Rattle.clock_views.proofs.Pushes.{before, together}
 use Rattle.clock_views.proofs.Texts.{bid_in_pieces}
 use Rattle.clock_scripts.specs.RequestTexts.{tie_value, close_value}
 use Rattle.clock_scripts.specs.inside.Arrays.{with_comma}
 use Rattle.clock_scripts.specs.inside.Bodies.{bid_start, bid_text}
 use Rattle.clock_scripts.specs.inside.RequestTexts.{increments_text}
+
+-- a piece, and what the last call adds behind it
+pub before_ok : {T E : Type 0} {piece text next : List ℕ} (rest whole : List ℕ) (result : Result T E) → Adds piece text next → OnOk result (Adds rest next whole)
+    → OnOk result (Adds (piece ++ rest) text whole)
+before_ok rest whole (Ok done) first others = before first others
+before_ok rest whole (Err fault) first others = tt
+
+-- and pieces that are together a text
+pub together_ok : {T E : Type 0} {pieces piece : List ℕ} (text whole : List ℕ) (result : Result T E) → piece ≡ pieces → OnOk result (Adds pieces text whole)
+    → OnOk result (Adds piece text whole)
+together_ok text whole (Ok done) is added = together is added
+together_ok text whole (Err fault) is added = tt
 
 regrouped : (a b c d e : List ℕ) → (a ++ (b ++ ((c ++ d) ++ e))) ++ codes "," ≡ (a ++ (b ++ c)) ++ (d ++ (e ++ codes ","))
 regrouped a b c d e = simp append_assoc

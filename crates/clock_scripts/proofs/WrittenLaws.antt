@@ -1,14 +1,20 @@
 -- Requests whose pieces stand one behind the other.
-use Rattle.std.proofs.Common.{◌≡◌, ℕ, ◌+◌, ◌-◌, ◌≤◌, List, [], ◌++◌, length, take, drop, sym, ◌∙◌, ap, ap₂, arith, append-nil}
+use Rattle.std.proofs.Common.{◌≡◌, ℕ, ◌+◌, ◌-◌, ◌≤◌, List, [], ◌++◌, length, take, drop, codes, sym, ◌∙◌, ap, ap₂, subst, arith, append-nil}
 use Rattle.std.proofs.Math.Seq.{drop-append_seam}
 use Rattle.std.proofs.lemmas.List.{take-append-le, drop-append-le, length-append, length-drop, take_all}
 use Rattle.std.specs.Prelude.{Result, Ok, Err, IfOk}
 use Rattle.clock_device.specs.declared.no_memory.NoMemory.{NoMemory}
+use Rattle.clock_terms.specs.Limits.{SetupFields}
+use Rattle.clock_order.specs.declared.ties.Tie.{Tie}
+use Rattle.clock_closing.specs.declared.closed_round.ClosedRound.{ClosedRound}
+use Rattle.clock_house.specs.History.{standing}
 use Rattle.clock_views.specs.Values.{Adds}
+use Rattle.clock_replays.specs.declared.closing.Closing.{Closing}
 use Rattle.clock_scripts.specs.declared.pieces.Place.{Place}
 use Rattle.clock_scripts.specs.declared.pieces.Written.{Written}
 use Rattle.clock_scripts.specs.declared.pieces.Pieces.{Pieces}
-use Rattle.clock_scripts.specs.RequestTexts.{request_head, request_text}
+use Rattle.clock_scripts.specs.RequestTexts.{request_head, request_text, written_close, close_text}
+use Rattle.clock_scripts.specs.ScriptedRequests.{scripted_close}
 use Rattle.clock_scripts.specs.Pieces.{IsKept, IsPlaceIn, Keeps, Writes, piece_at, text_at}
 
 -- a piece stands in a longer text still
@@ -83,3 +89,20 @@ written_behind old pushed new line token body start (Ok written) heads added fro
       reads = ended.reads ∙ ap (request_text line token) rest;
       within = ended.within;
     }
+
+-- the operator's request, by what it is written of
+pub closing_behind : (old pushed new : Pieces) (setup : SetupFields) (closed : List ClosedRound) (closing : Closing) (token : List ℕ) (round : ℕ)
+    (ties : List Tie) (start : ℕ) (result : Result Written NoMemory)
+    → token ≡ setup.operator → round ≡ (standing setup.products closed).round → ties ≡ closing.ties
+    → pushed.heads.items ≡ old.heads.items → Adds (written_close round closing.increments ties) old.bodies.text.items pushed.bodies.text.items
+    → start ≡ length old.bodies.text.items
+    → IfOk result (Writes pushed new (request_text (codes "POST /v1/close") token (drop start pushed.bodies.text.items)))
+    → IfOk result (Writes old new (scripted_close setup closed closing))
+unfolding scripted_close
+closing_behind old pushed new setup closed closing token round ties start result operator at same heads added from ended =
+    let text : close_text token round closing.increments ties
+    ≡ close_text setup.operator (standing setup.products closed).round closing.increments closing.ties =
+    ap (λ (sender : List ℕ). close_text sender round closing.increments ties) operator
+    ∙ ap₂ (λ (k : ℕ) (list : List Tie). close_text setup.operator k closing.increments list) at same in
+    subst (λ (whole : List ℕ). IfOk result (Writes old new whole)) text
+    (written_behind old pushed new (codes "POST /v1/close") token (written_close round closing.increments ties) start result heads added from ended)

@@ -1,10 +1,11 @@
 -- Requests that were written: their heads stand one behind the other in one text, their bodies in another.
 --     piece_at text place, text_at pieces written      what stands at a place, and the two pieces of a request
 --     IsPlaceIn text place, IsWrittenIn pieces written      the place is one of the text; those of a request are
+--     HoldsNothing pieces      no request stands in the texts
 --     Keeps old pieces      each request that stood in the texts stands there still
 --     Writes old pieces text written, WritesIf old pieces text written      a request was written, if there is one
 --     is_awaited count, AwaitsBody pieces written      a body of so many bytes needs to come; its head needs it just where it does
-use Rattle.std.specs.Prelude.{◌≡◌, ◌≤◌, ◌-◌, ◌&&◌, ℕ, Bool, List, ◌++◌, nat_le, length, take, drop, Option, Some, None}
+use Rattle.std.specs.Prelude.{◌≡◌, ◌≤◌, ◌-◌, ◌&&◌, ℕ, Bool, List, [], ◌++◌, nat_le, length, take, drop, Option, Some, None}
 use Rattle.clock_http.specs.HeaderLines.{body_limit}
 use Rattle.clock_http.specs.Framing.{needs_more}
 use Rattle.clock_scripts.specs.declared.pieces.Place.{Place}
@@ -26,6 +27,11 @@ IsPlaceIn text place = (place.start ≤ place.end) × (place.end ≤ length text
 -- the pieces of a request stand in the texts
 abbrev pub IsWrittenIn : Pieces → Written → Type 0
 IsWrittenIn pieces written = IsPlaceIn pieces.heads.items written.head × IsPlaceIn pieces.bodies.text.items written.body
+
+-- both texts are empty
+pub record HoldsNothing (pieces : Pieces) : Type 0 where
+  pub heads : pieces.heads.items ≡ []
+  pub bodies : pieces.bodies.text.items ≡ []
 
 -- a piece stands at its place still
 pub record IsKept (old text : List ℕ) (place : Place) : Type 0 where

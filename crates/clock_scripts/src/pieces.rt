@@ -2,16 +2,14 @@
 
 ghost use Rattle.std.specs.Prelude.{◌≡◌, ◌≤◌, ◌-◌, length, drop, IfOk};
 ghost use Rattle.clock_scripts.specs.RequestTexts.{request_text};
-ghost use Rattle.clock_scripts.specs.Pieces.{IsPlaceIn, IsWrittenIn, Writes, is_awaited, piece_at};
+ghost use Rattle.clock_scripts.specs.Pieces.{HoldsNothing, IsPlaceIn, IsWrittenIn, Writes, is_awaited, piece_at};
 ghost use Rattle.clock_scripts.specs.inside.Heads.{HasHead};
 
 use crate::request_writer::push_head;
 use crate::sheet_bodies::Bodies;
 use clock_device::NoMemory;
+use clock_http::MOST_BODY;
 use std::alloc::Global;
-
-/// The most bytes of a body. A longer one is refused at its head.
-const MOST_BODY: usize = 1_048_576;
 
 /// Where a piece stands in a text.
 #[derive(Clone, Copy)]
@@ -55,15 +53,20 @@ impl Written {
 
 impl Pieces {
     /// No requests yet, of an auction of so many products.
-    pub fn new(alloc: Global, products: usize) -> Result<Pieces, NoMemory> {
+    pub fn new(alloc: Global, products: usize) -> Result<Pieces, NoMemory>
+        ensures { IfOk result HoldsNothing }
+    {
+        let bodies = Bodies::new(alloc, products)?;
         Ok(Pieces {
             heads: Vec::new(alloc),
-            bodies: Bodies::new(alloc, products)?,
+            bodies,
         })
     }
 
     /// Lets all requests go. Their memory is used again.
-    pub fn clear(&mut self) {
+    pub fn clear(&mut self)
+        ensures { HoldsNothing self.new }
+    {
         self.heads.clear();
         self.bodies.text.clear();
     }

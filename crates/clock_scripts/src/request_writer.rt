@@ -64,8 +64,7 @@ fn push_tie(text: &mut Vec<u8>, tie: &Tie) -> Result<(), NoMemory>
     push_number(text, b"[", tie.bidder)?;
     push_number(text, b",", tie.product)?;
     push_number(text, b",", tie.number)?;
-    push_label(text, b"],")?;
-    Ok(())
+    push_label(text, b"],")
 }
 
 /// Adds an array of tie numbers.
@@ -111,8 +110,7 @@ pub(crate) fn push_close_body(
     push_number(text, b",\"round\":", round)?;
     push_label(text, b",\"ties\":")?;
     push_ties(text, ties)?;
-    push_label(text, b"}")?;
-    Ok(())
+    push_label(text, b"}")
 }
 
 /// Adds the head of a request of a line, with a token, before a body of so many bytes.
@@ -128,6 +126,5 @@ pub(crate) fn push_head(
     push_label(text, b" HTTP/1.1\r\nauthorization: Bearer ")?;
     push_label(text, token)?;
     push_number(text, b"\r\ncontent-length: ", length)?;
-    push_label(text, b"\r\n\r\n")?;
-    Ok(())
+    push_label(text, b"\r\n\r\n")
 }

@@ -8,20 +8,18 @@ ghost use Rattle.clock_house.specs.House.{standing_in, holding_in};
 ghost use Rattle.clock_scripts.specs.ScriptedRequests as rules;
 ghost use Rattle.clock_replays.specs.Replays.{IsScript, IsLimits};
 ghost use Rattle.clock_scripts.specs.Sincere.{sincere_sheet};
-ghost use Rattle.clock_scripts.specs.RequestTexts.{request_text, put_text, close_text};
+ghost use Rattle.clock_scripts.specs.RequestTexts.{request_text, put_text};
 ghost use Rattle.clock_scripts.specs.Pieces.{AwaitsBody, Writes, WritesIf};
 ghost use Rattle.clock_scripts.specs.inside.SincereSheets.{IsSincere, sheet_of as bids_of};
 
 use crate::pieces::{Pieces, Written};
 use crate::request_writer::push_close_body;
 use crate::sincere::Sincere;
-use clock_bids::Bid;
 use clock_device::NoMemory;
 use clock_house::House;
 use clock_http::law_head_of_grammar;
-use clock_order::Tie;
 use clock_replays::{BidList, Closing, LimitLists, Script};
-use clock_terms::{Increments, Setup};
+use clock_terms::Setup;
 
 /// A bidder's token.
 fn token_of(setup: &Setup, bidder: u32) -> &[u8]
@@ -30,6 +28,13 @@ fn token_of(setup: &Setup, bidder: u32) -> &[u8]
     ensures limits { IsToken result.now }
 {
     setup.bidders.as_slice()[bidder as usize].token.as_slice()
+}
+
+/// The operator's token.
+fn operator_token(setup: &Setup) -> &[u8]
+    ensures { result.now ≡ setup.now.operator }
+{
+    setup.operator.as_slice()
 }
 
 /// The sheet of a round in a list of sheets, from round 1 on.
@@ -67,32 +72,6 @@ impl Pieces {
         let start = self.bodies.text.len();
         sheet.push(&mut self.bodies)?;
         self.end_put(token, start)
-    }
-
-    /// Writes the request by which the holder of a token puts a sheet of these bids.
-    fn put_bids(&mut self, token: &[u8], round: u64, bids: &[Bid]) -> Result<Written, NoMemory>
-        requires token { IsToken token.now }
-        ensures writes { IfOk result (Writes self.old self.new (put_text token.now round bids.now)) }
-        ensures awaits { IfOk result (AwaitsBody self.new) }
-    {
-        let start = self.bodies.text.len();
-        self.bodies.push_sheet(round, bids)?;
-        self.end_put(token, start)
-    }
-
-    /// Writes the request by which the operator, whose token it is, closes a round.
-    fn put_closing(
-        &mut self,
-        token: &[u8],
-        round: u64,
-        increments: &Increments,
-        ties: &[Tie],
-    ) -> Result<Written, NoMemory>
-        ensures { IfOk result (Writes self.old self.new (close_text token.now round increments.now ties.now)) }
-    {
-        let start = self.bodies.text.len();
-        push_close_body(&mut self.bodies.text, round, increments, ties)?;
-        self.end_request(b"POST /v1/close", token, start)
     }
 
     /// Writes the sheet that a sincere bidder puts.
@@ -136,7 +115,9 @@ impl Pieces {
         match sheet_of(sheets, round) {
             None => Ok(None),
             Some(bids) => {
-                let written = self.put_bids(token, round, bids.as_slice())?;
+                let start = self.bodies.text.len();
+                self.bodies.push_sheet(round, bids.as_slice())?;
+                let written = self.end_put(token, start)?;
                 Ok(Some(written))
             }
         }
@@ -171,7 +152,6 @@ impl Pieces {
     }
 
     /// Writes the request by which the operator closes the current round.
-    #[tactic(auto, unfolding(crate::specs::ScriptedRequests::scripted_close))]
     pub fn write_close<P>(
         &mut self,
         house: &House<P>,
@@ -180,12 +160,11 @@ impl Pieces {
         ensures { IfOk result (Writes self.old self.new
             (rules.scripted_close house.now.setup house.now.closed closing.now)) }
     {
-        let written = self.put_closing(
-            house.setup().operator.as_slice(),
-            house.round(),
-            &closing.increments,
-            closing.ties.as_slice(),
-        )?;
-        Ok(written)
+        let round = house.round();
+        let token = operator_token(house.setup());
+        let start = self.bodies.text.len();
+        let ties = closing.ties.as_slice();
+        push_close_body(&mut self.bodies.text, round, &closing.increments, ties)?;
+        self.end_request(b"POST /v1/close", token, start)
     }
 }

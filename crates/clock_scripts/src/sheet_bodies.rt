@@ -1,7 +1,7 @@
 //! The bodies of sheets, and the texts of bids: but for the quantity they are the same for all who bid for a product at one
 //! price.
 
-ghost use Rattle.std.specs.Prelude.{◌≡◌, ◌≤◌, ◌++◌, ℕ, List, true, codes, decimal, length, take, OnOk, IfOk};
+ghost use Rattle.std.specs.Prelude.{◌≡◌, ◌≤◌, ◌++◌, ℕ, List, [], true, codes, decimal, length, take, OnOk, IfOk};
 ghost use Rattle.clock_bids.specs.declared.sheet.Bid.{Bid};
 ghost use Rattle.clock_views.specs.Values.{Adds};
 ghost use Rattle.clock_scripts.specs.RequestTexts.{written_put};
@@ -100,8 +100,7 @@ fn push_start(text: &mut Vec<u8>, price: u64, product: u64) -> Result<(), NoMemo
 {
     push_number(text, b"{\"price\":", price)?;
     push_number(text, b",\"product\":", product)?;
-    push_label(text, b",\"quantity\":")?;
-    Ok(())
+    push_label(text, b",\"quantity\":")
 }
 
 /// Adds the quantity of a bid, and its end with a comma behind it.
@@ -129,7 +128,9 @@ pub(crate) struct Bodies {
 
 impl Bodies {
     /// None yet, of an auction of so many products.
-    pub(crate) fn new(alloc: Global, products: usize) -> Result<Bodies, NoMemory> {
+    pub(crate) fn new(alloc: Global, products: usize) -> Result<Bodies, NoMemory>
+        ensures { IfOk result (λ bodies. bodies.text.items ≡ []) }
+    {
         let mut starts = Vec::with_capacity(alloc, products)?;
         for _product in 0..products {
             starts.push(BidStart::new())?;
@@ -161,8 +162,7 @@ impl Bodies {
         ensures { OnOk result (Adds (bid_text bid.now) self.old.text.items self.new.text.items) }
     {
         self.push_start(bid.price, bid.product)?;
-        push_quantity(&mut self.text, bid.quantity)?;
-        Ok(())
+        push_quantity(&mut self.text, bid.quantity)
     }
 
     /// Adds a bid at a price of its own, with a comma behind it. Its start is not kept: nobody else bids at that price, and the
@@ -171,8 +171,7 @@ impl Bodies {
         ensures { OnOk result (Adds (bid_text bid.now) self.old.text.items self.new.text.items) }
     {
         push_start(&mut self.text, bid.price, bid.product)?;
-        push_quantity(&mut self.text, bid.quantity)?;
-        Ok(())
+        push_quantity(&mut self.text, bid.quantity)
     }
 
     /// Begins the body of a sheet. It tells where its bids begin.
@@ -192,8 +191,7 @@ impl Bodies {
     {
         end_array(&mut self.text, start)?;
         push_number(&mut self.text, b",\"round\":", round)?;
-        push_label(&mut self.text, b"}")?;
-        Ok(())
+        push_label(&mut self.text, b"}")
     }
 
     /// Adds the body of a sheet.
@@ -204,7 +202,6 @@ impl Bodies {
         for bid in bids {
             self.push_bid(bid)?;
         }
-        self.close_sheet(start, round)?;
-        Ok(())
+        self.close_sheet(start, round)
     }
 }

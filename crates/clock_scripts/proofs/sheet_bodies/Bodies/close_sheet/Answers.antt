@@ -1,9 +1,9 @@
 use Rattle.std.proofs.Common.{◌++◌, Some, codes, refl, sym, append_assoc, ◌∙◌}
 use Rattle.clock_views.specs.BidderPages.{bid_value}
 use Rattle.clock_views.specs.Values.{Adds}
-use Rattle.clock_views.proofs.Pushes.{before, together}
 use Rattle.clock_views.proofs.Texts.{bids_in_pieces}
 use Rattle.clock_scripts.proofs.ArrayLaws.{array_from}
+use Rattle.clock_scripts.proofs.TextPieces.{before_ok, together_ok}
 use Rattle.clock_scripts.proofs.sheet_bodies.Bodies.close_sheet.Goals as goal
 
 pub returns : goal.returns
@@ -13,5 +13,6 @@ returns c = λ old begun bids opened from all.
     let bracket : Adds (codes "[") key begun = record { is = opened.is ∙ sym (append_assoc old (codes "{\"bids\":") (codes "[")) } in
     let array = array_from bid_value bids key begun c.args.self.now.text.items c.end_array.new.text.items c.args.start bracket from all.is
     c.in_ok-end_array.ensures in
-    together (bids_in_pieces c.args.round (Some bids))
-    (before first (before array (before c.in_ok-push_number.ensures c.in_ok-push_label.ensures)))
+    let result = c.push_label.result in
+    together_ok _ _ result (bids_in_pieces c.args.round (Some bids))
+    (before_ok _ _ result first (before_ok _ _ result array (before_ok _ _ result c.in_ok-push_number.ensures c.push_label.ensures)))

@@ -1,0 +1,13 @@
+use Rattle.std.proofs.Common.{◌∙◌, ap, arith, refl}
+use Rattle.clock_terms.specs.Limits.{SetupFields}
+use Rattle.clock_scripts.proofs.WrittenLaws.{closing_behind}
+use Rattle.clock_scripts.proofs.pieces.Pieces.write_close.Goals as goal
+
+pub returns : goal.returns
+returns g c =
+    let old = c.args.self.now in
+    let house = c.args.house.now in
+    closing_behind old (record old { bodies = (record old.bodies { text = c.push_close_body.new.text }) }) c.end_request.new.self house.setup house.closed
+    c.args.closing.now c.operator_token-token.result.now c.round-round.result c.as_slice-ties.result.now c.len-start.result c.end_request.result
+    (c.operator_token-token.ensures ∙ ap (λ (setup : SetupFields). setup.operator) c.setup.ensures) c.round-round.ensures.is c.as_slice-ties.ensures refl
+    c.in_ok-push_close_body.ensures (omega (arith, c.len-start.ensures, old.bodies.text.ok.0)) c.end_request.ensures.writes
