@@ -1,5 +1,5 @@
 //! The commands and options of the program, as clap is told of them.
-ghost use Rattle.std.specs.Prelude.{◌≡◌, codes, false, IfOk};
+ghost use Rattle.std.specs.Prelude.{◌≡◌, false, IfOk};
 ghost use Rattle.clap.specs.Words.{App, Rule, new_app, rule_of, with_rule, with_subcommand};
 ghost use Rattle.clock_words.specs.Words.{files_grammar, grammar, increment_option, needed_rule, number_rule, option_rule};
 ghost use Rattle.clock_words.specs.Words.{prices_grammar, program_alone_grammar, serve_grammar};
@@ -13,6 +13,9 @@ use clap::builder::ValueParser;
 use clap::{Arg, Command};
 use clock_money::{LEAST_INCREMENT, MOST_INCREMENT};
 use std::alloc::{AllocError, Global};
+
+/// What is said of the file that each command on files takes.
+static SETUP_FILE: &str = "The file of the set-up document";
 
 /// The highest port.
 pub const MOST_PORT: u64 = 65_535;
@@ -145,21 +148,13 @@ fn prices_command<'a>(alloc: Global, helps: &'a NumberHelps) -> Result<Command<'
     )
 }
 
-/// `--setup FILE`.
-fn setup_option<'a>(alloc: Global) -> Arg<'a>
-    ensures rule { rule_of result ≡ needed_rule (codes "setup") }
-    ensures local { result.global ≡ false }
-{
-    needed_option(alloc, "setup", "The file of the set-up document")
-}
-
 /// `serve` and its options.
 fn serve_command<'a>(alloc: Global, helps: &'a NumberHelps) -> Result<Command<'a>, AllocError>
     ensures { IfOk result (IsCommand serve_grammar) }
 {
     let about = "Takes the bids and closings of an auction on a port of 127.0.0.1";
     let serve = named(alloc, "serve", about, SERVE_HELP);
-    let with_setup = with_option(Ok(serve), setup_option(alloc));
+    let with_setup = with_option(Ok(serve), needed_option(alloc, "setup", SETUP_FILE));
     let port = number_option(alloc, "port", MOST_PORT, helps.port.as_str());
     let with_port = with_option(with_setup, port);
     let help = helps.connections.as_str();
@@ -178,7 +173,10 @@ fn files_command<'a>(
 ) -> Result<Command<'a>, AllocError>
     ensures { IfOk result (IsCommand (files_grammar name.now)) }
 {
-    let with_setup = with_option(Ok(named(alloc, name, about, help)), setup_option(alloc));
+    let with_setup = with_option(
+        Ok(named(alloc, name, about, help)),
+        needed_option(alloc, "setup", SETUP_FILE),
+    );
     let kept = "The file in which accepted sheets and closings were kept";
     with_option(with_setup, needed_option(alloc, "journal", kept))
 }

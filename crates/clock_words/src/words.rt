@@ -13,7 +13,7 @@ use clock_money::{LEAST_INCREMENT, MOST_INCREMENT};
 use std::alloc::Global;
 
 /// What the words ask the program to do.
-#[derive(Clone, Copy, Debug, PartialEq, Eq)]
+#[derive(Clone, Copy)]
 pub enum Job {
     /// Price lines for a set-up document, with clock prices at this increment in percent.
     Prices(u64),
@@ -24,7 +24,7 @@ pub enum Job {
 }
 
 /// What `serve` is told.
-#[derive(Clone, Copy, Debug)]
+#[derive(Clone, Copy)]
 pub struct Serving<'a> {
     /// The file of the set-up document.
     pub setup: &'a str,
@@ -37,7 +37,7 @@ pub struct Serving<'a> {
 }
 
 /// The files that tell of an auction.
-#[derive(Clone, Copy, Debug)]
+#[derive(Clone, Copy)]
 pub struct Files<'a> {
     /// The file of the set-up document.
     pub setup: &'a str,
@@ -46,7 +46,7 @@ pub struct Files<'a> {
 }
 
 /// What is to be done with files.
-#[derive(Clone, Copy, Debug)]
+#[derive(Clone, Copy)]
 pub enum FileTask<'a> {
     /// An auction is served.
     Serve(Serving<'a>),
@@ -131,7 +131,11 @@ pub fn job_asked(alloc: Global, words: &[&str]) -> Result<Option<Job>, Error>
 {
     let helps = number_helps(alloc)?;
     let matches = matches_in(alloc, &helps, words_given(words))?;
-    Ok(job_in(&matches))
+    let job = job_in(&matches);
+    // let go by calls: at the end of the scope it would be proved part by part
+    drop(matches);
+    drop(helps);
+    Ok(job)
 }
 
 /// The text that an option is given.
@@ -193,5 +197,7 @@ pub fn file_task_asked<'a>(
         → task_of (map (λ word. word.now) words.entry.now) ≡ None) }
 {
     let matches = matches_in(alloc, helps, words)?;
-    Ok(task_in(&matches))
+    let task = task_in(&matches);
+    drop(matches);
+    Ok(task)
 }

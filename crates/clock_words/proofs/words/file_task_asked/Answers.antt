@@ -12,5 +12,5 @@ returns-in_err-matches-clause-err c =
 
 pub returns-clause-ok : goal.returns-clause-ok
 returns-clause-ok c =
-    c.task_in.ensures ∙ ap task_met c.in_ok-matches.ensures.met
+    c.task_in-task.ensures ∙ ap task_met c.in_ok-matches.ensures.met
     ∙ meant_where_taken _ (fault_of grammar (map (λ word. word.now) c.args.words.now)) c.in_ok-matches.ensures.taken

@@ -12,6 +12,6 @@ returns-in_err-matches-clause-err c =
 
 pub returns-clause-ok : goal.returns-clause-ok
 returns-clause-ok c =
-    c.job_in.ensures.met ∙ ap job_met c.in_ok-matches.ensures.met
+    c.job_in-job.ensures.met ∙ ap job_met c.in_ok-matches.ensures.met
     ∙ meant_where_taken _ (fault_of grammar (map (λ word. word.now) c.words_given.result.now)) c.in_ok-matches.ensures.taken
     ∙ ap job_meant c.words_given.ensures
