@@ -33,20 +33,12 @@ pub struct NumberHelps {
 
 /// The texts for the limits that there are.
 pub fn number_helps(alloc: Global) -> Result<NumberHelps, AllocError> {
+    let rise = "By how many percent prices rise";
+    let served = "How many connections are served";
     Ok(NumberHelps {
-        increment: number_help(
-            alloc,
-            "By how many percent prices rise",
-            LEAST_INCREMENT,
-            MOST_INCREMENT,
-        )?,
+        increment: number_help(alloc, rise, LEAST_INCREMENT, MOST_INCREMENT)?,
         port: number_help(alloc, "The port of 127.0.0.1", 1, MOST_PORT)?,
-        connections: number_help(
-            alloc,
-            "How many connections are served",
-            1,
-            MOST_CONNECTIONS,
-        )?,
+        connections: number_help(alloc, served, 1, MOST_CONNECTIONS)?,
     })
 }
 
@@ -173,10 +165,8 @@ fn files_command<'a>(
 ) -> Result<Command<'a>, AllocError>
     ensures { IfOk result (IsCommand (files_grammar name.now)) }
 {
-    let with_setup = with_option(
-        Ok(named(alloc, name, about, help)),
-        needed_option(alloc, "setup", SETUP_FILE),
-    );
+    let files = named(alloc, name, about, help);
+    let with_setup = with_option(Ok(files), needed_option(alloc, "setup", SETUP_FILE));
     let kept = "The file in which accepted sheets and closings were kept";
     with_option(with_setup, needed_option(alloc, "journal", kept))
 }
