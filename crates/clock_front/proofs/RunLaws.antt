@@ -1,9 +1,9 @@
 -- A run goes on by one text, and each right reply is private.
-use Rattle.std.proofs.Common.{◌≡◌, ℕ, List, [], ◌∷◌, ◌++◌, ◌∙◌, ap, subst, inl, inr}
+use Rattle.std.proofs.Common.{◌≡◌, ℕ, List, [], ◌∷◌, ◌++◌, refl, ◌∙◌, ap, subst, inl, inr}
 use Rattle.clock_terms.specs.Limits.{SetupFields, IsSetup}
 use Rattle.clock_http.specs.Replies.{Answer}
 use Rattle.clock_house.specs.House.{HouseFields}
-use Rattle.clock_front.specs.Fronts.{reply, IsStruckOut, StandsForTexts, AnswersText}
+use Rattle.clock_front.specs.Fronts.{reply, StandsForTexts, AnswersText}
 use Rattle.clock_front.specs.Headline.{IsRight, Runs}
 use Rattle.clock_front.proofs.TextViews.{answered_from_view, isolated}
 
@@ -19,28 +19,17 @@ right setup limits past text one is = record {
   };
 }
 
--- the next text found no memory
-pub goes_on_without : (setup : SetupFields) (past texts : List (List ℕ)) (answers : List Answer) (end : List (List ℕ)) (text : List ℕ) (one : Answer) →
-    Runs setup past texts answers end → IsStruckOut text one → Runs setup past (texts ++ text ∷ []) (answers ++ one ∷ []) end
-goes_on_without setup past [] [] end text one runs none = inl (none, runs)
-goes_on_without setup past [] (a ∷ answers) end text one runs none = absurd runs
-goes_on_without setup past (t ∷ texts) [] end text one runs none = absurd runs
-goes_on_without setup past (t ∷ texts) (a ∷ answers) end text one runs none =
+-- the next text was replied to, or it found no memory
+goes_on : (setup : SetupFields) (past texts : List (List ℕ)) (answers : List Answer) (end next : List (List ℕ)) (text : List ℕ) (one : Answer) →
+    Runs setup past texts answers end → Runs setup end (text ∷ []) (one ∷ []) next →
+    Runs setup past (texts ++ text ∷ []) (answers ++ one ∷ []) next
+goes_on setup past [] [] end next text one runs is = subst (λ before. Runs setup before (text ∷ []) (one ∷ []) next) runs is
+goes_on setup past [] (a ∷ answers) end next text one runs is = absurd runs
+goes_on setup past (t ∷ texts) [] end next text one runs is = absurd runs
+goes_on setup past (t ∷ texts) (a ∷ answers) end next text one runs is =
     elim runs [
-      | inl struck ↦ inl (struck.0, goes_on_without setup past texts answers end text one struck.1 none)
-      | inr replied ↦ inr (replied.0, goes_on_without setup (t ∷ past) texts answers end text one replied.1 none)
-    ]
-
--- the next text was replied to
-pub goes_on : (setup : SetupFields) (past texts : List (List ℕ)) (answers : List Answer) (end : List (List ℕ)) (text : List ℕ) (one : Answer) →
-    Runs setup past texts answers end → IsRight setup end text one → Runs setup past (texts ++ text ∷ []) (answers ++ one ∷ []) (text ∷ end)
-goes_on setup past [] [] end text one runs is = inr (subst (λ before. IsRight setup before text one) runs is, ap (λ before. text ∷ before) runs)
-goes_on setup past [] (a ∷ answers) end text one runs is = absurd runs
-goes_on setup past (t ∷ texts) [] end text one runs is = absurd runs
-goes_on setup past (t ∷ texts) (a ∷ answers) end text one runs is =
-    elim runs [
-      | inl struck ↦ inl (struck.0, goes_on setup past texts answers end text one struck.1 is)
-      | inr replied ↦ inr (replied.0, goes_on setup (t ∷ past) texts answers end text one replied.1 is)
+      | inl struck ↦ inl (struck.0, goes_on setup past texts answers end next text one struck.1 is)
+      | inr replied ↦ inr (replied.0, goes_on setup (t ∷ past) texts answers end next text one replied.1 is)
     ]
 
 -- a run on its way: the front has the set-up and stands for the texts that were replied to
@@ -60,14 +49,14 @@ step setup limits texts answers front next text one before same answered =
       | inl told ↦ record {
         end = text ∷ before.end;
         kept = same ∙ before.kept;
-        runs = goes_on setup [] texts answers before.end text one before.runs
-            (right setup limits before.end text one (told.0 ∙ ap (λ of_setup. reply of_setup before.end text) before.kept));
+        runs = goes_on setup [] texts answers before.end (text ∷ before.end) text one before.runs
+            (inr (right setup limits before.end text one (told.0 ∙ ap (λ of_setup. reply of_setup before.end text) before.kept), refl));
         stands = told.1;
       }
       | inr none ↦ record {
         end = before.end;
         kept = same ∙ before.kept;
-        runs = goes_on_without setup [] texts answers before.end text one before.runs none.0;
+        runs = goes_on setup [] texts answers before.end before.end text one before.runs (inl (none.0, refl));
         stands = none.1;
       }
     ]

@@ -27,8 +27,7 @@ loop-text-preserved g c =
     let below : i < length texts = c.loop-text-test.true in
     let at : text ≡ get_or texts i text = rw c.as_slice.ensures c.text-item.is in
     let more : take (i + 1) texts ≡ take i texts ++ text ∷ [] = take_more texts i text below ∙ ap (λ (last : List ℕ). take i texts ++ last ∷ []) (sym at) in
-    let limits : IsSetup c.args.front.now.setup = subst IsSetup (ap (λ (house : HouseFields). house.setup) c.house.ensures
-    ∙ c.loop-text.invariant.kept) c.law_of_house.ensures.limits in
+    let limits : IsSetup c.args.front.now.setup = subst IsSetup (ap (λ (house : HouseFields). house.setup) c.house.ensures) c.law_of_house.ensures.limits in
     let next : IsUnderWay c.args.front.now.setup (take i texts ++ text ∷ []) (c.loop-text.replies ++ c.answer.result ∷ []) c.answer.new.self =
     step c.args.front.now.setup limits (take i texts) c.loop-text.replies front c.answer.new.self text c.answer.result c.loop-text.invariant
     c.answer.ensures.setup c.answer.ensures.answered in
@@ -39,11 +38,11 @@ loop-text-preserved g c =
 pub returns : goal.returns
 returns g c =
     let before = c.loop-text.invariant in
-    let same = ap (λ (house : HouseFields). house.setup) c.house-2.ensures ∙ before.kept in
+    let same = ap (λ (house : HouseFields). house.setup) c.house.ensures in
     record {
       end = before.end;
       runs = subst (λ (texts : List (List ℕ)). Runs c.args.front.now.setup [] texts c.loop-text.replies before.end)
           (take_all c.loop-text.text-index c.args.texts.now (omega arith)) before.runs;
       sound = subst (λ (setup : SetupFields). IsSound setup (history setup (commands_of c.args.front.now.setup before.end))) same
-          (c.law_of_house-2.ensures.sound (commands_of c.args.front.now.setup before.end));
+          (c.law_of_house.ensures.sound (commands_of c.args.front.now.setup before.end));
     }

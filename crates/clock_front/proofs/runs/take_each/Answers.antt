@@ -6,8 +6,8 @@ use Rattle.clock_house.specs.Laws.{IsSound}
 use Rattle.clock_front.specs.declared.events.EventReply.{EventReply}
 use Rattle.clock_front.specs.inside.EventRuns.{kept}
 use Rattle.clock_front.proofs.EventLaws.{IsOnItsWay, begins, goes_on, ends}
-use Rattle.clock_front.proofs.events.take_each.Goals as goal
-use Rattle.clock_front.proofs.events.take_each.Goals.{in-Some+in_ok-push, in_default}
+use Rattle.clock_front.proofs.runs.take_each.Goals as goal
+use Rattle.clock_front.proofs.runs.take_each.Goals.{in-Some+in_ok-push, in_default}
 
 pub loop-event-init : goal.loop-event-init
 loop-event-init g c =
@@ -38,7 +38,7 @@ pub returns : goal.returns
 returns g c =
     let way = c.loop-event.invariant in
     let hub = c.loop-event.hub in
-    let same = ap (λ (house : HouseFields). house.setup) (c.house-2.ensures ∙ c.front-2.ensures) ∙ way.underway.kept in
+    let same = ap (λ (house : HouseFields). house.setup) (c.house.ensures ∙ c.front.ensures) in
     ends c.args.hub.now.hub.house.setup c.args.events.now c.loop-event.event-index c.loop-event.replies
     hub.hub.connections hub.conns hub.hub.house way (omega arith)
-    (λ commands. subst (λ (setup : SetupFields). IsSound setup (history setup commands)) same (c.law_of_house-2.ensures.sound commands))
+    (λ commands. subst (λ (setup : SetupFields). IsSound setup (history setup commands)) same (c.law_of_house.ensures.sound commands))
