@@ -49,26 +49,6 @@ fn complete<P: Processor>(front: &mut Front<P>, connections: &mut Connections, c
     front.answer_framed(request.framing())
 }
 
-/// Takes a piece of the request of a connection that stands, or nothing of it.
-#[inline(always)]
-fn feed_on<P: Processor>(
-    front: &mut Front<P>,
-    connections: &mut Connections,
-    conn: Conn,
-    piece: &[u8],
-) -> Result<Fed, NoMemory>
-    requires { IsSome (text_of connections.old conn) }
-    ensures fed { (text : List ℕ) → text_of connections.old conn ≡ Some text
-        → IfOk result (IsFed (hub_of front.old connections.old) (hub_of front.new connections.new) conn (text ++ piece.now)) }
-    ensures front { OnErr result (front.new ≡ front.old) }
-    ensures connections { OnErr result (connections.new ≡ connections.old) }
-{
-    if connections.take(conn, piece)? {
-        return Ok(Fed::More);
-    }
-    Ok(Fed::Reply(complete(front, connections, conn)))
-}
-
 /// Answers the request of a connection of which the head alone has come, with a piece that has its whole body: nothing
 /// of it is kept, and the connection is gone. None where more has come, or more is awaited.
 fn complete_with<P: Processor>(
@@ -88,26 +68,6 @@ fn complete_with<P: Processor>(
     let reply = front.answer_framed(framing);
     let _answered = connections.remove(conn);
     Some(reply)
-}
-
-/// The same as [`feed_on`], of more than one byte. It stands apart, so that what a single byte costs stays small.
-#[inline(never)]
-fn feed_piece<P: Processor>(
-    front: &mut Front<P>,
-    connections: &mut Connections,
-    conn: Conn,
-    piece: &[u8],
-) -> Result<Fed, NoMemory>
-    requires { IsSome (text_of connections.old conn) }
-    ensures fed { (text : List ℕ) → text_of connections.old conn ≡ Some text
-        → IfOk result (IsFed (hub_of front.old connections.old) (hub_of front.new connections.new) conn (text ++ piece.now)) }
-    ensures front { OnErr result (front.new ≡ front.old) }
-    ensures connections { OnErr result (connections.new ≡ connections.old) }
-{
-    match complete_with(front, connections, conn, piece) {
-        Some(reply) => Ok(Fed::Reply(reply)),
-        None => feed_on(front, connections, conn, piece),
-    }
 }
 
 impl<P: Processor> Hub<P> {
@@ -132,6 +92,34 @@ impl<P: Processor> Hub<P> {
         self.connections.connect()
     }
 
+    /// Takes a piece of the request of a connection that stands, or nothing of it.
+    #[inline(always)]
+    fn feed_on(&mut self, conn: Conn, piece: &[u8]) -> Result<Fed, NoMemory>
+        requires { IsSome (text_of self.old.connections conn) }
+        ensures fed { (text : List ℕ) → text_of self.old.connections conn ≡ Some text
+            → IfOk result (IsFed self.old self.new conn (text ++ piece.now)) }
+        ensures still { OnErr result (self.new ≡ self.old) }
+    {
+        if self.connections.take(conn, piece)? {
+            return Ok(Fed::More);
+        }
+        Ok(Fed::Reply(complete(&mut self.front, &mut self.connections, conn)))
+    }
+
+    /// The same of more than one byte. It stands apart, so that what a single byte costs stays small.
+    #[inline(never)]
+    fn feed_piece(&mut self, conn: Conn, piece: &[u8]) -> Result<Fed, NoMemory>
+        requires { IsSome (text_of self.old.connections conn) }
+        ensures fed { (text : List ℕ) → text_of self.old.connections conn ≡ Some text
+            → IfOk result (IsFed self.old self.new conn (text ++ piece.now)) }
+        ensures still { OnErr result (self.new ≡ self.old) }
+    {
+        match complete_with(&mut self.front, &mut self.connections, conn, piece) {
+            Some(reply) => Ok(Fed::Reply(reply)),
+            None => self.feed_on(conn, piece),
+        }
+    }
+
     /// Takes a piece of a request: it needs more, or its reply is told, as [`Front::answer`] gives it. Where there is
     /// no memory the connection stands with the bytes that it had, and the piece can be fed again.
     #[inline(always)]
@@ -146,8 +134,8 @@ impl<P: Processor> Hub<P> {
             return Err(HubFault::Unknown);
         }
         let fed = match piece {
-            [_] => feed_on(&mut self.front, &mut self.connections, conn, piece)?,
-            _ => feed_piece(&mut self.front, &mut self.connections, conn, piece)?,
+            [_] => self.feed_on(conn, piece)?,
+            _ => self.feed_piece(conn, piece)?,
         };
         Ok(fed)
     }

@@ -37,10 +37,7 @@ impl<P: Processor> NumberedHub<P> {
     fn conn(&self, number: u64) -> Option<Conn>
         ensures { result ≡ conn_at self.now.conns number }
     {
-        match self.conns.as_slice().get(number as usize) {
-            Some(conn) => *conn,
-            None => None,
-        }
+        *self.conns.as_slice().get(number as usize)?
     }
 
     /// One more connection is asked for.
