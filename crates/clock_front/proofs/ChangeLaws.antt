@@ -1,19 +1,21 @@
--- A closing that was prepared is the closing that was asked for.
-use Rattle.std.proofs.Common.{◌≡◌, ◌≢◌, ℕ, List, Option, Result, Ok, Err, sym, ◌∙◌, ap, subst}
+-- A closing that was prepared is the closing that was asked for; what is told of a first fault; what is no command.
+use Rattle.std.proofs.Common.{◌≡◌, ◌≢◌, ℕ, List, Option, Result, Ok, Err, refl, sym, ◌∙◌, ap, subst}
 use Rattle.clock_terms.specs.Limits.{SetupFields}
 use Rattle.clock_terms.specs.declared.increments.Increments.{Increments}
 use Rattle.clock_bids.specs.declared.sheet.Bid.{Bid}
 use Rattle.clock_order.specs.declared.ties.Tie.{Tie}
-use Rattle.clock_house.specs.Command.{Command, close}
+use Rattle.clock_house.specs.Command.{Command, close, other}
 use Rattle.clock_closing.specs.declared.closed_round.ClosedRound.{ClosedRound}
 use Rattle.clock_closing.specs.declared.fault.CloseFault.{CloseFault}
 use Rattle.clock_house.specs.House.{HouseFields, IsUnchanged, IsFollowedBy, StandsStill, closing_in}
 use Rattle.clock_house.specs.Prepared.{PreparedClosing, FitsClosing}
-use Rattle.std.specs.Prelude.{IfOk, OnErr, OnOk}
+use Rattle.std.specs.Prelude.{IfOk, OnOk}
 use Rattle.clock_closing.specs.declared.fault.CloseFault.TheVariants.{NoMemory}
 use Rattle.clock_views.specs.Refusals.{shown_close}
+use Rattle.clock_bodies.specs.declared.body_fault.BodyFault.{BodyFault}
+use Rattle.clock_bodies.specs.declared.body_fault.BodyFault.TheVariants as body_faults
 use Rattle.clock_http.specs.Replies.{Answer}
-use Rattle.clock_front.specs.Outcomes.{close_outcome, done, refused, answer_of}
+use Rattle.clock_front.specs.Outcomes.{Outcome, close_outcome, done, refused, answer_of}
 use Rattle.clock_views.specs.OperatorPages.{closed_value}
 
 abbrev closing_by : ℕ → Increments → List Tie → SetupFields → List ClosedRound → List (Option (List Bid)) → Result ClosedRound CloseFault
@@ -55,14 +57,27 @@ closing_followed prepared old mid new round increments ties r i t still followed
     (subst (followed_by mid new round increments) t
     (subst (λ list. followed_by mid new round list prepared.ties) i (subst (λ n. followed_by mid new n prepared.increments prepared.ties) r followed)))
 
--- a refusal that is told is the first fault of the closing
-pub refusal_told : {N : Type 0} (told : Result Answer N) (fault : CloseFault) (round : ℕ) (closing : Result ClosedRound CloseFault)
-    → IfOk told (λ reply. reply ≡ answer_of (refused (shown_close fault))) → OnOk told (fault ≢ NoMemory) → (fault ≢ NoMemory → closing ≡ Err fault)
-    → IfOk told (λ reply. reply ≡ answer_of (close_outcome round closing))
-refusal_told (Ok reply) fault round closing is known answer = is ∙ ap (λ c. answer_of (close_outcome round c)) (sym (answer known))
-refusal_told (Err e) fault round closing is known answer = tt
+-- what is told of a fault is told of what has it as its first
+pub told_of_first : {N Known X : Type 0} (of : X → Outcome) (told : Result Answer N) (first fault : X) → OnOk told Known → (Known → first ≡ fault)
+    → IfOk told (λ reply. reply ≡ answer_of (of fault)) → IfOk told (λ reply. reply ≡ answer_of (of first))
+told_of_first of (Ok reply) first fault known is told = told ∙ ap (λ x. answer_of (of x)) (sym (is known))
+told_of_first of (Err e) first fault known is told = tt
 
--- what holds where nothing was told
-pub if_refused : {A N : Type 0} {P : Type 0} (told : Result A N) → P → OnErr told P
-if_refused (Ok reply) is = tt
-if_refused (Err e) is = is
+-- ---- what is no command
+
+-- a request that is no command changes nothing
+other_followed : (house : HouseFields) → IsFollowedBy other house house
+other_followed house = record {
+  setup = refl;
+  stands = λ commands stood. record { closed = stood.closed; sheets = stood.sheets };
+}
+
+pub none_followed : (command : Command) (house : HouseFields) → command ≡ other → IsFollowedBy command house house
+none_followed command house is = subst (λ c. IsFollowedBy c house house) (sym is) (other_followed house)
+
+-- a body with a fault is no command
+pub fault_followed : {A N B : Type 0} (of : Result B BodyFault → Command) (told : Result A N) (fault : BodyFault) (body : Result B BodyFault)
+    (house : HouseFields) → OnOk told (fault ≢ body_faults.NoMemory) → (fault ≢ body_faults.NoMemory → body ≡ Err fault)
+    → of (Err fault) ≡ other → OnOk told (IsFollowedBy (of body) house house)
+fault_followed of (Ok reply) fault body house known is none = none_followed (of body) house (ap of (is known) ∙ none)
+fault_followed of (Err e) fault body house known is none = tt

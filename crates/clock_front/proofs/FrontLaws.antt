@@ -2,7 +2,7 @@
 use Rattle.std.proofs.Common.{◌≡◌, true, List, ℕ, Option, None, Ok, Err, Result, refl, sym, ◌∙◌, ap, subst}
 use Rattle.std.specs.Prelude.{option_and_then}
 use Rattle.clock_terms.specs.Limits.{SetupFields}
-use Rattle.clock_house.specs.Command.{Command}
+use Rattle.clock_house.specs.Command.{Command, other}
 use Rattle.clock_closing.specs.declared.closed_round.ClosedRound.{ClosedRound}
 use Rattle.clock_house.specs.History.{history}
 use Rattle.clock_house.specs.House.{HouseFields, StandsFor}
@@ -10,7 +10,7 @@ use Rattle.clock_bids.specs.declared.sheet.Bid.{Bid}
 use Rattle.clock_http.specs.declared.code.Code.{Code}
 use Rattle.clock_http.specs.Framing.{Head, Framing, incomplete, refusal, whole, framing, is_incomplete, needs_more}
 use Rattle.clock_http.proofs.FramedLaws.{refused_by, whole_head}
-use Rattle.std.specs.Prelude.{IfOk, OnOk}
+use Rattle.std.specs.Prelude.{IfOk, OnErr, OnOk}
 use Rattle.clock_views.specs.Refusals.{alone}
 use Rattle.clock_views.specs.RefusalPage.{refusal_bytes}
 use Rattle.clock_views.proofs.Codes.{refusal_in_bytes}
@@ -18,11 +18,12 @@ use Rattle.clock_http.specs.Replies.{Answer, reply_bytes}
 use Rattle.clock_front.specs.FixedReplies.{cut_short}
 use Rattle.clock_front.specs.inside.FixedReplies.{refusal_of, is_fixed}
 use Rattle.clock_front.specs.Askers.{asker}
-use Rattle.clock_front.specs.Requests.{Ask, Request, ask_of, ask_by_route, request_of}
+use Rattle.clock_front.specs.Requests.{Ask, Request, ask_of, ask_by_route, request_of, turned_away}
 use Rattle.clock_http.specs.Routes.{page_of}
 use Rattle.clock_front.specs.declared.tokens.Asker.{Asker}
-use Rattle.clock_front.specs.Outcomes.{Outcome, outcome, answer_of}
+use Rattle.clock_front.specs.Outcomes.{Outcome, outcome, answer_of, refused, command_of}
 use Rattle.clock_front.specs.Fronts.{house_after}
+use Rattle.clock_front.proofs.OutcomeLaws.{away_other}
 
 -- a text that is refused at its head or at its length is refused by a reply that is always the same
 pub refused_fixed : (text : List ℕ) (code : Code) → framing text ≡ refusal code → is_fixed code ≡ true
@@ -63,6 +64,16 @@ pub ask_by : (text : List ℕ) (f : Framing) → f ≡ framing text → ask_of f
 unfolding request_of
 ask_by text f is = ap ask_of is
 
+-- a text that is turned away is told why
+pub away_told : (house : HouseFields) (who : Asker) (text : List ℕ) (f : Framing) (code : Code) → f ≡ framing text → ask_of f ≡ turned_away code
+    → answer_of (refused (alone code)) ≡ answer_of (outcome house who (request_of text).ask)
+away_told house who text f code is away = ap (λ ask. answer_of (outcome house who ask)) (sym away ∙ ask_by text f is)
+
+-- and is no command
+pub away_command : (setup : SetupFields) (who : Asker) (text : List ℕ) (f : Framing) (code : Code) → f ≡ framing text → ask_of f ≡ turned_away code
+    → command_of setup who (request_of text).ask ≡ other
+away_command setup who text f code is away = ap (command_of setup who) (sym (ask_by text f is) ∙ away) ∙ away_other setup who code
+
 -- what holds of who sends a whole request and what it asks for holds of its text
 pub of_text : (setup : SetupFields) (text : List ℕ) (P : Asker → Ask → Type 0) (who : Asker) (ask : Ask) (head : Head) (body : List ℕ)
     → who ≡ asker setup head.token → ask ≡ ask_by_route (page_of head.path) head body → whole head body ≡ framing text
@@ -86,6 +97,10 @@ told_as (Err e) a b same is = tt
 pub if_done : {A N : Type 0} {P : Type 0} (told : Result A N) → P → OnOk told P
 if_done (Ok reply) is = is
 if_done (Err e) is = tt
+
+pub if_refused : {A N : Type 0} {P : Type 0} (told : Result A N) → P → OnErr told P
+if_refused (Ok reply) is = tt
+if_refused (Err e) is = is
 
 -- the constant bytes are those of the refusal by its code alone
 abbrev pub constant_bytes : Code → List ℕ

@@ -1,5 +1,5 @@
 -- What is told of a closed round, and of none; which requests are no commands.
-use Rattle.std.proofs.Common.{◌≡◌, Option, Some, None, refl, sym, ◌∙◌, ap}
+use Rattle.std.proofs.Common.{◌≡◌, ℕ, Option, Some, None, Result, refl, sym, ◌∙◌, ap}
 use Rattle.std.specs.Prelude.{option_map}
 use Rattle.serde_json.specs.Data.{Data}
 use Rattle.clock_terms.specs.Limits.{SetupFields}
@@ -8,6 +8,9 @@ use Rattle.clock_closing.specs.declared.closed_round.ClosedRound.{ClosedRound}
 use Rattle.clock_http.specs.declared.code.Code.{Code}
 use Rattle.clock_views.specs.Refusals.{Shown}
 use Rattle.clock_http.specs.Replies.{Answer}
+use Rattle.clock_bodies.specs.declared.put_body.PutBody.{PutBody}
+use Rattle.clock_bodies.specs.declared.close_body.CloseBody.{CloseBody}
+use Rattle.clock_bodies.specs.declared.body_fault.BodyFault.{BodyFault}
 use Rattle.clock_front.specs.declared.tokens.Asker.{Asker}
 use Rattle.clock_front.specs.declared.tokens.Asker.TheVariants.{Nobody, Operator, Bidder}
 use Rattle.clock_front.specs.declared.asked.PageAsked.{PageAsked}
@@ -53,3 +56,16 @@ pub away_other : (setup : SetupFields) (asker : Asker) (code : Code) → command
 away_other setup Nobody code = refl
 away_other setup Operator code = refl
 away_other setup (Bidder b) code = refl
+
+-- a sheet of no bidder, and a closing of another than the operator
+pub put_other : (setup : SetupFields) (asker : Asker) (body : Result PutBody BodyFault) → ((bidder : ℕ) → asker ≡ Bidder bidder → ⊥)
+    → command_of setup asker (asked.put body) ≡ other
+put_other setup Nobody body none = refl
+put_other setup Operator body none = refl
+put_other setup (Bidder b) body none = absurd (none b refl)
+
+pub close_other : (setup : SetupFields) (asker : Asker) (body : Result CloseBody BodyFault) → (asker ≡ Operator → ⊥)
+    → command_of setup asker (asked.close body) ≡ other
+close_other setup Nobody body none = refl
+close_other setup Operator body none = absurd (none refl)
+close_other setup (Bidder b) body none = refl

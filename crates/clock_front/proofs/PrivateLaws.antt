@@ -8,13 +8,13 @@ use Rattle.clock_house.specs.House.{HouseFields, ToView}
 use Rattle.clock_house.specs.View.{seen_put_fault}
 use Rattle.clock_house.specs.declared.fault.PutFault.{PutFault}
 use Rattle.clock_house.specs.declared.fault.PutFault.TheVariants.{NoMemory}
-use Rattle.clock_views.specs.Refusals.{shown_put}
+use Rattle.clock_views.specs.Refusals.{Shown, shown_put}
 use Rattle.clock_front.specs.Askers.{asker}
 use Rattle.clock_front.specs.inside.Askers.{IsKnown}
 use Rattle.clock_front.specs.Fronts.{commands_of}
-use Rattle.clock_front.specs.Outcomes.{outcome, answer_of, put_outcome, refused}
+use Rattle.clock_front.specs.Outcomes.{Outcome, outcome, answer_of, put_outcome, refused}
 use Rattle.clock_front.specs.Private.{IsPrivateReply}
-use Rattle.clock_front.specs.Rooms.{IsPrivateWant, IsWantOf, asks_for_page, reply_room}
+use Rattle.clock_front.specs.Rooms.{IsPrivateWant, IsWantOf, WantsRoom, asks_for_page, refusal_room, reply_room}
 use Rattle.clock_front.specs.declared.unanswered.Unanswered.{Unanswered}
 use Rattle.clock_front.specs.declared.unanswered.Unanswered.TheVariants.{Room}
 use Rattle.clock_front.specs.inside.Private.{IsToldByView, IsToldAsker}
@@ -66,6 +66,12 @@ if_private (Err e) house text limits is = tt
 pub want_as : {T : Type 0} (told : Result T Unanswered) (P Q : Unanswered → Type 0) → ((why : Unanswered) → P why → Q why) → IfErr told P → IfErr told Q
 want_as (Ok done) P Q goes is = tt
 want_as (Err why) P Q goes is = goes why is
+
+-- the room for a refusal is the same whatever was asked
+pub refusal_want : {T : Type 0} (told : Result T Unanswered) (who : Asker) (ask : Ask) (right : Outcome) (away : Shown) → right ≡ refused away
+    → IfErr told (λ why. why ≡ Room refusal_room) → IfErr told (WantsRoom who ask right)
+refusal_want told who ask right away is =
+    want_as told (λ why. why ≡ Room refusal_room) (WantsRoom who ask right) (λ why same asks. same ∙ ap (λ o. Room (reply_room ask o)) (sym is))
 
 -- the room that a bidder's own text wants is told by its view
 private_want : (house : HouseFields) (text : List ℕ) (why : Unanswered) → IsSetup house.setup → IsWantOf text house why → IsPrivateWant text house why

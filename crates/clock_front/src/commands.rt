@@ -1,23 +1,30 @@
 //! Replies to requests that change the auction. A reply is built before its change is made.
 
-ghost use Rattle.std.specs.Prelude.{◌≡◌, ◌<◌, length, IfOk, OnOk, OnErr};
+ghost use Rattle.std.specs.Prelude.{◌≡◌, ◌≢◌, ◌<◌, Ok, Err, length, IfOk, IfErr, OnOk, OnErr};
 ghost use Rattle.clock_house.specs.House.{put_fault_in, closing_in, IsFollowedBy, StandsStill};
 ghost use Rattle.clock_house.specs.Command as command;
 ghost use Rattle.clock_bodies.specs.Bodies.{put_body};
 ghost use Rattle.clock_bodies.specs.CloseBodies.{close_body, in_version};
 ghost use Rattle.clock_front.specs.Outcomes as told;
-ghost use Rattle.clock_front.specs.Outcomes.{answer_of};
+ghost use Rattle.clock_front.specs.Outcomes.{answer_of, outcome};
+ghost use Rattle.clock_front.specs.Rooms.{WantsRoom};
+ghost use Rattle.clock_front.specs.inside.Askers.{IsKnown};
 ghost use Rattle.clock_front.specs.inside.Private.{IsToldByView};
 ghost use Rattle.clock_front.specs.Requests as asked;
 ghost use Rattle.clock_views.specs.BidderPages.{accepted_value};
 ghost use Rattle.clock_views.specs.OperatorPages.{closed_value};
+ghost use Rattle.clock_views.specs.Refusals.{alone};
 
 use crate::pages::{refusal, written};
+use crate::telling::{bidder_of, operator_of, turn_away};
+use crate::tokens::Asker;
+use crate::unanswered::Unanswered;
 use clock_bodies::{BodyFault, CloseBody, PutBody, is_of_version, read_close, read_put};
 use clock_device::NoMemory;
 use clock_house::{CloseFault, House, PutFault};
 use clock_http::{Code, Reply, text_with_room};
 use clock_processor::Processor;
+use clock_terms::Setup;
 use clock_views::{Refusal, accepted_room, closed_room, push_accepted_page, push_closed_page};
 use std::alloc::Global;
 
@@ -26,6 +33,18 @@ fn refused(alloc: Global, why: Refusal) -> Result<Reply, NoMemory>
     ensures { IfOk result (λ reply. reply ≡ answer_of (told.refused why)) }
 {
     Ok(refusal(alloc, why)?)
+}
+
+/// A refusal of a body for its fault, unless that is want of memory.
+fn refused_body(alloc: Global, fault: BodyFault) -> Result<Reply, NoMemory>
+    ensures reply { IfOk result (λ reply. reply ≡ answer_of (told.refused (alone (told.body_code fault)))) }
+    ensures known { OnOk result (fault ≢ BodyFault.NoMemory) }
+{
+    match fault {
+        BodyFault::NotJson => refused(alloc, Refusal::alone(Code::BadJson)),
+        BodyFault::Shape => refused(alloc, Refusal::alone(Code::Shape)),
+        BodyFault::NoMemory => Err(NoMemory),
+    }
 }
 
 /// That a sheet of so many bids was accepted.
@@ -53,18 +72,23 @@ fn put_sheet<P: Processor>(
 {
     let count = sheet.bids.as_slice().len() as u64;
     match house.prepare_sheet(bidder, sheet.round, sheet.bids) {
-        Ok(prepared) => {
-            let reply = accepted(alloc, sheet.round, count)?;
-            house.commit_put(prepared);
-            Ok(reply)
-        }
+        Ok(prepared) => match accepted(alloc, sheet.round, count) {
+            Ok(reply) => {
+                house.commit_put(prepared);
+                Ok(reply)
+            }
+            Err(refused) => {
+                drop(prepared);
+                Err(refused)
+            }
+        },
         Err(PutFault::NoMemory) => Err(NoMemory),
         Err(fault) => refused(alloc, Refusal::from(fault)),
     }
 }
 
 /// The reply to a body that a bidder puts as its sheet.
-pub(crate) fn put<P: Processor>(
+fn put<P: Processor>(
     alloc: Global,
     house: &mut House<P>,
     bidder: u32,
@@ -75,12 +99,28 @@ pub(crate) fn put<P: Processor>(
     ensures followed { OnOk result (IsFollowedBy (told.put_command bidder (put_body body.now)) house.old house.new) }
     ensures still { OnErr result (StandsStill house.old house.new) }
 {
-    house.law_of_house();
     match read_put(alloc, body) {
         Ok(sheet) => put_sheet(alloc, house, bidder, sheet),
-        Err(BodyFault::NotJson) => refused(alloc, Refusal::alone(Code::BadJson)),
-        Err(BodyFault::Shape) => refused(alloc, Refusal::alone(Code::Shape)),
-        Err(BodyFault::NoMemory) => Err(NoMemory),
+        Err(fault) => refused_body(alloc, fault),
+    }
+}
+
+/// A sheet of a bidder is put, and whoever is none is told so.
+pub(crate) fn answer_put<P: Processor>(
+    alloc: Global,
+    house: &mut House<P>,
+    asker: Asker,
+    body: &[u8],
+) -> Result<Reply, Unanswered>
+    requires { IsKnown (length house.old.setup.bidders) asker }
+    ensures reply { IfOk result (λ reply. reply ≡ answer_of (outcome house.old asker (asked.put (put_body body.now)))) }
+    ensures wanted { IfErr result (WantsRoom asker (asked.put (put_body body.now)) (outcome house.old asker (asked.put (put_body body.now)))) }
+    ensures followed { OnOk result (IsFollowedBy (told.command_of house.old.setup asker (asked.put (put_body body.now))) house.old house.new) }
+    ensures still { OnErr result (StandsStill house.old house.new) }
+{
+    match bidder_of(asker) {
+        Ok(bidder) => Ok(put(alloc, house, bidder, body)?),
+        Err(away) => turn_away(alloc, away),
     }
 }
 
@@ -107,27 +147,37 @@ fn close_round<P: Processor>(
     ensures still { OnErr result (StandsStill house.old house.new) }
 {
     match house.prepare(closing.round, &closing.increments, closing.ties.as_slice()) {
-        Ok(prepared) => match closed(alloc, closing.round, prepared.ended()) {
+        Ok(settled) => match closed(alloc, closing.round, settled.ended()) {
             Ok(reply) => {
-                house.commit(prepared);
+                house.commit(settled);
                 Ok(reply)
             }
             Err(refused) => {
-                drop(prepared);
+                drop(settled);
                 Err(refused)
             }
         },
         Err(CloseFault::NoMemory) => Err(NoMemory),
-        Err(fault) => refused(alloc, Refusal::from(fault)),
+        Err(why) => refused(alloc, Refusal::from(why)),
+    }
+}
+
+/// The closing that a body means under a set-up, or its first fault.
+fn closing_of(alloc: Global, setup: &Setup, body: &[u8]) -> Result<CloseBody, BodyFault>
+    ensures ok { IfOk result (λ closing. in_version setup.now.version (close_body body.now) ≡ Ok closing) }
+    ensures err { IfErr result (λ fault. fault ≢ BodyFault.NoMemory
+        → in_version setup.now.version (close_body body.now) ≡ Err fault) }
+{
+    let closing = read_close(alloc, body)?;
+    if is_of_version(setup.version, &closing.increments) {
+        Ok(closing)
+    } else {
+        Err(BodyFault::Shape)
     }
 }
 
 /// The reply to a body by which the operator closes a round.
-pub(crate) fn close<P: Processor>(
-    alloc: Global,
-    house: &mut House<P>,
-    body: &[u8],
-) -> Result<Reply, NoMemory>
+fn close<P: Processor>(alloc: Global, house: &mut House<P>, body: &[u8]) -> Result<Reply, NoMemory>
     ensures reply { IfOk result (λ reply. reply
         ≡ answer_of (told.close_to house.old (in_version house.old.setup.version (close_body body.now)))) }
     ensures followed { OnOk result
@@ -135,17 +185,26 @@ pub(crate) fn close<P: Processor>(
         house.old house.new) }
     ensures still { OnErr result (StandsStill house.old house.new) }
 {
-    house.law_of_house();
-    match read_close(alloc, body) {
-        Ok(closing) => {
-            if is_of_version(house.setup().version, &closing.increments) {
-                close_round(alloc, house, &closing)
-            } else {
-                refused(alloc, Refusal::alone(Code::Shape))
-            }
-        }
-        Err(BodyFault::NotJson) => refused(alloc, Refusal::alone(Code::BadJson)),
-        Err(BodyFault::Shape) => refused(alloc, Refusal::alone(Code::Shape)),
-        Err(BodyFault::NoMemory) => Err(NoMemory),
+    match closing_of(alloc, house.setup(), body) {
+        Ok(closing) => close_round(alloc, house, &closing),
+        Err(fault) => refused_body(alloc, fault),
+    }
+}
+
+/// The operator closes a round, and whoever is not the operator is told so.
+pub(crate) fn answer_close<P: Processor>(
+    alloc: Global,
+    house: &mut House<P>,
+    asker: Asker,
+    body: &[u8],
+) -> Result<Reply, Unanswered>
+    ensures reply { IfOk result (λ reply. reply ≡ answer_of (outcome house.old asker (asked.close (close_body body.now)))) }
+    ensures wanted { IfErr result (WantsRoom asker (asked.close (close_body body.now)) (outcome house.old asker (asked.close (close_body body.now)))) }
+    ensures followed { OnOk result (IsFollowedBy (told.command_of house.old.setup asker (asked.close (close_body body.now))) house.old house.new) }
+    ensures still { OnErr result (StandsStill house.old house.new) }
+{
+    match operator_of(asker) {
+        Ok(()) => Ok(close(alloc, house, body)?),
+        Err(why) => turn_away(alloc, why),
     }
 }

@@ -5,9 +5,8 @@ ghost use Rattle.clock_front.specs.Askers.{asker as asker_with};
 ghost use Rattle.clock_front.specs.inside.Askers.{IsKnown};
 ghost use Rattle.clock_http.specs.Framing.{framing as framing_of, incomplete, needs_more, refusal as refusal_of};
 ghost use Rattle.clock_front.specs.Fronts.{AnswersText, IsCutShort, IsDoneBy, IsStruckOut, StandsForTexts};
-ghost use Rattle.clock_front.specs.Outcomes.{answer_of, outcome, command_of, refused};
-ghost use Rattle.clock_front.specs.Rooms.{IsPrivateWant, IsWantOf, WantsRoom, refusal_room};
-ghost use Rattle.clock_front.specs.declared.unanswered.Unanswered.TheVariants as unanswered;
+ghost use Rattle.clock_front.specs.Outcomes.{answer_of, outcome, command_of};
+ghost use Rattle.clock_front.specs.Rooms.{IsPrivateWant, IsWantOf, WantsRoom};
 ghost use Rattle.clock_front.specs.Private.{IsPrivateReply};
 ghost use Rattle.clock_front.specs.inside.Private.{IsToldAsker};
 ghost use Rattle.clock_front.specs.Requests.{request_of};
@@ -17,10 +16,9 @@ ghost use Rattle.clock_front.specs.inside.HeldTokens.{IsTableOf};
 ghost use Rattle.clock_front.specs.inside.KeptPage.{IsProductsPage};
 
 use crate::asked::{Asked, asked_of};
-use crate::commands::{close, put};
+use crate::commands::{answer_close, answer_put};
 use crate::fixed_replies::{fixed_reply, no_memory_reply};
-use crate::pages::refusal;
-use crate::telling::{bidder_of, operator_of, tell};
+use crate::telling::{tell, turn_away};
 use crate::tokens::{Asker, Tokens, asker_of, tokens_of};
 use crate::unanswered::Unanswered;
 use clock_device::{NoMemory, Text};
@@ -56,14 +54,6 @@ impl<P> Model for Front<P> {
     ghost view = { λ f. f.house };
 
     ghost invariant = { λ f. IsTableOf f.house.setup f.tokens.entries × IsProductsPage f.house.setup f.products };
-}
-
-/// The refusal of a request that changes nothing.
-fn turn_away(alloc: Global, why: Refusal) -> Result<Reply, Unanswered>
-    ensures reply { IfOk result (λ reply. reply ≡ answer_of (refused why)) }
-    ensures wanted { IfErr result (λ wanted. wanted ≡ unanswered.Room refusal_room) }
-{
-    Ok(refusal(alloc, why)?)
 }
 
 /// Whose the tokens of a set-up are, the routes of all pages, and the page of products, which never changes.
@@ -110,20 +100,13 @@ impl<P: Processor> Front<P> {
             self.old self.new) }
         ensures still { OnErr result (StandsStill self.old self.new) }
     {
-        self.house.law_of_house();
         match what {
             Asked::Read(what) => {
                 let page = self.products.as_slice();
                 Ok(tell(self.alloc, &self.house, page, asker, what)?)
             }
-            Asked::Put(body) => match bidder_of(asker) {
-                Ok(bidder) => Ok(put(self.alloc, &mut self.house, bidder, body)?),
-                Err(away) => turn_away(self.alloc, away),
-            },
-            Asked::Close(body) => match operator_of(asker) {
-                Ok(()) => Ok(close(self.alloc, &mut self.house, body)?),
-                Err(away) => turn_away(self.alloc, away),
-            },
+            Asked::Put(body) => answer_put(self.alloc, &mut self.house, asker, body),
+            Asked::Close(body) => answer_close(self.alloc, &mut self.house, asker, body),
         }
     }
 

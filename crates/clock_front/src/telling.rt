@@ -3,13 +3,15 @@
 ghost use Rattle.std.specs.Prelude.{◌≡◌, ◌<◌, ℕ, length, IfOk, IfErr, OnOk, OnErr};
 ghost use Rattle.clock_front.specs.inside.Askers.{IsKnown};
 ghost use Rattle.clock_front.specs.Outcomes.{Outcome, answer_of, outcome, refused, to_bidder, to_operator};
-ghost use Rattle.clock_front.specs.Rooms.{reply_room};
+ghost use Rattle.clock_front.specs.Rooms.{refusal_room, reply_room};
+ghost use Rattle.clock_front.specs.declared.unanswered.Unanswered.TheVariants as unanswered;
 ghost use Rattle.clock_front.specs.inside.ShownAsked.{shown_reading};
 ghost use Rattle.clock_front.specs.inside.KeptPage.{IsProductsPage};
 
 use crate::asked::PageAsked;
 use crate::pages::{account, bids, not_allowed, products, refusal, results, sheet, slip, status};
 use crate::tokens::Asker;
+use crate::unanswered::Unanswered;
 use clock_house::House;
 use clock_http::{Code, NoRoom, Reply};
 use clock_views::Refusal;
@@ -39,6 +41,14 @@ pub(crate) fn operator_of(asker: Asker) -> Result<(), Refusal>
         Asker::Nobody => Err(Refusal::alone(Code::Token)),
         Asker::Bidder(_) => Err(Refusal::alone(Code::Role)),
     }
+}
+
+/// The refusal of a request that changes nothing.
+pub(crate) fn turn_away(alloc: Global, why: Refusal) -> Result<Reply, Unanswered>
+    ensures reply { IfOk result (λ reply. reply ≡ answer_of (refused why)) }
+    ensures wanted { IfErr result (λ wanted. wanted ≡ unanswered.Room refusal_room) }
+{
+    Ok(refusal(alloc, why)?)
 }
 
 /// The reply to what an asker asks to be told. The page of products is at hand.

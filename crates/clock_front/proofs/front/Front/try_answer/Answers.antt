@@ -1,7 +1,6 @@
-use Rattle.std.proofs.Common.{◌≡◌, ap, sym, subst, ◌∙◌}
+use Rattle.std.proofs.Common.{◌≡◌, ap, refl, sym, subst, ◌∙◌}
 use Rattle.std.specs.Prelude.{IfErr, IfOk, OnOk}
 use Rattle.clock_terms.specs.Limits.{IsSetup}
-use Rattle.clock_house.specs.Command.{Command, other}
 use Rattle.clock_house.specs.House.{HouseFields, IsFollowedBy}
 use Rattle.clock_views.specs.Refusals.{Shown}
 use Rattle.clock_http.specs.declared.code.Code.TheVariants.{CutShort}
@@ -12,9 +11,9 @@ use Rattle.clock_front.specs.Outcomes.{answer_of, outcome, command_of, refused}
 use Rattle.clock_front.specs.Requests.{Ask, request_of}
 use Rattle.clock_front.specs.Rooms.{WantsRoom}
 use Rattle.clock_front.specs.inside.HeldTokens.{IsTableOf}
-use Rattle.clock_front.proofs.OutcomeLaws.{away_other}
+use Rattle.clock_front.proofs.ChangeLaws.{none_followed}
 use Rattle.clock_front.proofs.PrivateLaws.{private_reply, if_private, if_private_want, want_as}
-use Rattle.clock_front.proofs.FrontLaws.{refused_fixed, told_as, if_done, ask_by, of_text}
+use Rattle.clock_front.proofs.FrontLaws.{refused_fixed, told_as, if_done, ask_by, away_told, away_command, of_text}
 use Rattle.clock_front.proofs.front.Front.try_answer.Goals as goal
 
 pub fixed_reply-requires : goal.fixed_reply-requires
@@ -25,34 +24,36 @@ returns-in-NeedMore-clause-reply g c = λ text is.
     let house = c.args.self.now in
     told_as c.turn_away.result _ _
     (ap (λ (shown : Shown). answer_of (refused shown)) c.alone.ensures
-    ∙ ap (λ (ask : Ask). answer_of (outcome house (asker house.setup (request_of text).token) ask))
-    (ask_by text incomplete (ap shown_framing (sym c.in-NeedMore.is) ∙ is)))
+    ∙ away_told house (asker house.setup (request_of text).token) text incomplete CutShort (ap shown_framing (sym c.in-NeedMore.is) ∙ is) refl)
     c.turn_away.ensures.reply
 
 pub returns-in-NeedMore-clause-followed : goal.returns-in-NeedMore-clause-followed
 returns-in-NeedMore-clause-followed g c = λ text is.
     let house = c.args.self.now in
-    let who = asker house.setup (request_of text).token in
-    let others = subst (λ (h : HouseFields). IsFollowedBy other h h) c.self.view_is c.law_of_house.ensures.others in
-    let same = sym (away_other house.setup who CutShort)
-    ∙ ap (command_of house.setup who) (ask_by text incomplete (ap shown_framing (sym c.in-NeedMore.is) ∙ is)) in
-    if_done c.turn_away.result (subst (λ (command : Command). IsFollowedBy command house house) same others)
+    if_done c.turn_away.result (none_followed _ house
+    (away_command house.setup (asker house.setup (request_of text).token) text incomplete CutShort (ap shown_framing (sym c.in-NeedMore.is) ∙ is) refl))
 
 pub returns-in-Refused-clause-reply : goal.returns-in-Refused-clause-reply
 returns-in-Refused-clause-reply g c = λ text is.
     let house = c.args.self.now in
+    let code = c.in-Refused.code in
     c.fixed_reply.ensures
-    ∙ ap (λ (ask : Ask). answer_of (outcome house (asker house.setup (request_of text).token) ask))
-    (ask_by text (refusal c.in-Refused.code) (ap shown_framing (sym c.in-Refused.is) ∙ is))
+    ∙ away_told house (asker house.setup (request_of text).token) text (refusal code) code (ap shown_framing (sym c.in-Refused.is) ∙ is) refl
 
 pub returns-in-Refused-clause-followed : goal.returns-in-Refused-clause-followed
 returns-in-Refused-clause-followed g c = λ text is.
     let house = c.args.self.now in
-    let who = asker house.setup (request_of text).token in
-    let others = subst (λ (h : HouseFields). IsFollowedBy other h h) c.self.view_is c.law_of_house.ensures.others in
-    let same = sym (away_other house.setup who c.in-Refused.code)
-    ∙ ap (command_of house.setup who) (ask_by text (refusal c.in-Refused.code) (ap shown_framing (sym c.in-Refused.is) ∙ is)) in
-    subst (λ (command : Command). IsFollowedBy command house house) same others
+    let code = c.in-Refused.code in
+    none_followed _ house
+    (away_command house.setup (asker house.setup (request_of text).token) text (refusal code) code (ap shown_framing (sym c.in-Refused.is) ∙ is) refl)
+
+pub answer_asked-requires : goal.answer_asked-requires
+answer_asked-requires g c =
+    c.asker_of-asker.ensures.known c.args.self.now.setup
+    (subst (λ (h : HouseFields). IsTableOf h.setup c.self.inside.tokens.entries) c.self.view_is c.self.invariant.0)
+
+pub returns-in-Whole-clause-still : goal.returns-in-Whole-clause-still
+returns-in-Whole-clause-still g c = c.answer_asked.ensures.still
 
 pub returns-in-Whole-clause-reply : goal.returns-in-Whole-clause-reply
 returns-in-Whole-clause-reply g c = λ text is.
