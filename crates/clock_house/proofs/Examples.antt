@@ -8,6 +8,7 @@ use Rattle.clock_bids.specs.declared.sheet.Bid.{Bid}
 use Rattle.clock_bids.specs.declared.sheet.BidFault.TheVariants.{OverCap, OverActivity}
 use Rattle.clock_order.specs.declared.ties.Tie.{Tie}
 use Rattle.clock_posting.specs.declared.sheet.Line.{Line}
+use Rattle.clock_posting.specs.declared.sheet.RoundSheet.{RoundSheet}
 use Rattle.clock_house.specs.declared.fault.PutFault.{PutFault}
 use Rattle.clock_house.specs.declared.fault.PutFault.TheVariants as put_faults
 use Rattle.clock_closing.specs.declared.fault.CloseFault.TheVariants as close_faults
@@ -38,18 +39,19 @@ newest (round ∷ rounds) = round
 abbrev line : ℕ → ℕ → ℕ → Option ℕ → Option ℕ → Line
 line start clock posted demand next = record { start = start; clock = clock; posted = posted; demand = demand; next = next }
 
+abbrev shown : ClosedRound → RoundSheet × List (List ℕ) × List ℕ
+shown round = (round.sheet, map (λ slip. slip.demands) round.slips, map (λ slip. slip.eligibility) round.slips)
+
 abbrev Newest : Auction → ℕ → Bool → List Line → List (List ℕ) → List ℕ → Type 0
 Newest auction round ended lines demands eligibilities =
-    ((newest auction.closed).sheet ≡ record { round = round; ended = ended; lines = lines })
-    × (map (λ slip. slip.demands) (newest auction.closed).slips ≡ demands)
-    × (map (λ slip. slip.eligibility) (newest auction.closed).slips ≡ eligibilities)
+    shown (newest auction.closed) ≡ (record { round = round; ended = ended; lines = lines }, demands, eligibilities)
 
 -- in round 1 X asks for 2 and Y for 1
 abbrev first_round : List Command
 first_round = put 0 1 (bid 0 2 100 ∷ []) ∷ put 1 1 (bid 0 1 100 ∷ []) ∷ close 1 (Single 10) [] ∷ []
 
 first_round_goes_on : Newest (run one_product first_round) 1 false (line 100 100 100 (Some 3) (Some 110) ∷ []) ((2 ∷ []) ∷ (1 ∷ []) ∷ []) (3 ∷ 2 ∷ [])
-first_round_goes_on = (refl, refl, refl)
+first_round_goes_on = refl
 
 abbrev append : List Command → List Command → List Command
 append [] more = more
@@ -57,23 +59,23 @@ append (command ∷ commands) more = command ∷ append commands more
 
 drop_without_room_keeps_demand : Newest (run one_product (append first_round (put 0 2 (bid 0 0 103 ∷ []) ∷ close 2 (Single 10) [] ∷ []))) 2 true
     (line 100 110 100 None None ∷ []) ((2 ∷ []) ∷ (0 ∷ []) ∷ []) (3 ∷ 0 ∷ [])
-drop_without_room_keeps_demand = (refl, refl, refl)
+drop_without_room_keeps_demand = refl
 
 drop_applied_in_part : Newest (run one_product (append first_round (put 0 2 (bid 0 0 103 ∷ []) ∷ put 1 2 (bid 0 1 110 ∷ []) ∷ close 2 (Single 10) [] ∷ [])))
     2 true
     (line 100 110 103 None None ∷ []) ((1 ∷ []) ∷ (1 ∷ []) ∷ []) (2 ∷ 2 ∷ [])
-drop_applied_in_part = (refl, refl, refl)
+drop_applied_in_part = refl
 
 lower_tie_number_first : Newest
     (run one_product (append first_round (put 0 2 (bid 0 1 104 ∷ []) ∷ put 1 2 (bid 0 0 104 ∷ []) ∷ close 2 (Single 10) (tie 0 0 9 ∷ tie 1 0 3 ∷ []) ∷ [])))
     2 true
     (line 100 110 104 None None ∷ []) ((2 ∷ []) ∷ (0 ∷ []) ∷ []) (3 ∷ 0 ∷ [])
-lower_tie_number_first = (refl, refl, refl)
+lower_tie_number_first = refl
 
 lower_bidder_first : Newest (run one_product (append first_round (put 0 2 (bid 0 1 104 ∷ []) ∷ put 1 2 (bid 0 0 104 ∷ []) ∷ close 2 (Single 10) [] ∷ []))) 2
     true
     (line 100 110 104 None None ∷ []) ((1 ∷ []) ∷ (1 ∷ []) ∷ []) (2 ∷ 2 ∷ [])
-lower_bidder_first = (refl, refl, refl)
+lower_bidder_first = refl
 
 -- X asks for 2 of B, Y for 2 of A, Z for 1 of B
 abbrev first_of_two : List Command
@@ -81,14 +83,14 @@ first_of_two = put 0 1 (bid 1 2 100 ∷ []) ∷ put 1 1 (bid 0 2 100 ∷ []) ∷
 
 totals_shown_only_above_supply : Newest (run two_products first_of_two) 1 false
     (line 100 100 100 None (Some 110) ∷ line 100 100 100 (Some 3) (Some 110) ∷ []) ((0 ∷ 2 ∷ []) ∷ (2 ∷ 0 ∷ []) ∷ (0 ∷ 1 ∷ []) ∷ []) (2 ∷ 2 ∷ 1 ∷ [])
-totals_shown_only_above_supply = (refl, refl, refl)
+totals_shown_only_above_supply = refl
 
 abbrev second_of_two : List Command
 second_of_two = put 1 2 (bid 0 1 102 ∷ []) ∷ put 0 2 (bid 0 1 104 ∷ bid 1 1 106 ∷ []) ∷ put 2 2 (bid 1 1 110 ∷ []) ∷ []
 
 freed_units_let_an_increase_in : Newest (run two_products (append first_of_two (append second_of_two (close 2 (Single 10) [] ∷ [])))) 2 true
     (line 100 110 102 None None ∷ line 100 110 106 None None ∷ []) ((1 ∷ 1 ∷ []) ∷ (1 ∷ 0 ∷ []) ∷ (0 ∷ 1 ∷ []) ∷ []) (2 ∷ 1 ∷ 1 ∷ [])
-freed_units_let_an_increase_in = (refl, refl, refl)
+freed_units_let_an_increase_in = refl
 
 three_applications : let auction = run two_products (append first_of_two second_of_two) in
     (settlement two_products.products (open_round two_products auction) (requests (open_round two_products auction) [])).applied ≡ 3
@@ -98,14 +100,14 @@ only_excess_demand_raises_the_price : Newest (run two_products
     (put 0 1 (bid 1 2 100 ∷ []) ∷ put 1 1 (bid 0 1 100 ∷ []) ∷ put 2 1 (bid 1 1 100 ∷ []) ∷ close 1 (Single 10) []
     ∷ put 0 2 (bid 1 2 110 ∷ []) ∷ put 2 2 (bid 1 1 110 ∷ []) ∷ close 2 (Single 10) [] ∷ [])) 2 false
     (line 100 110 100 None (Some 110) ∷ line 100 110 110 (Some 3) (Some 121) ∷ []) ((0 ∷ 2 ∷ []) ∷ (1 ∷ 0 ∷ []) ∷ (0 ∷ 1 ∷ []) ∷ []) (2 ∷ 1 ∷ 1 ∷ [])
-only_excess_demand_raises_the_price = (refl, refl, refl)
+only_excess_demand_raises_the_price = refl
 
 no_sheets_drop_to_supply : Newest (run one_product (append first_round (close 2 (Single 10) [] ∷ []))) 2 true
     (line 100 110 100 None None ∷ []) ((1 ∷ []) ∷ (1 ∷ []) ∷ []) (2 ∷ 2 ∷ [])
-no_sheets_drop_to_supply = (refl, refl, refl)
+no_sheets_drop_to_supply = refl
 
 no_sheets : Newest (run one_product (close 1 (Single 10) [] ∷ [])) 1 true (line 100 100 100 None None ∷ []) ((0 ∷ []) ∷ (0 ∷ []) ∷ []) (0 ∷ 0 ∷ [])
-no_sheets = (refl, refl, refl)
+no_sheets = refl
 
 second_close : closing_of one_product (run one_product (close 1 (Single 10) [] ∷ [])) 1 (Single 10) [] ≡ Err close_faults.Ended
 second_close = refl
@@ -139,7 +141,7 @@ no_limit_at_the_end = refl
 third_round : Newest (run one_product (append first_round (put 0 2 (bid 0 2 110 ∷ []) ∷ put 1 2 (bid 0 1 110 ∷ []) ∷ close 2 (Single 10) []
     ∷ put 0 3 (bid 0 1 115 ∷ bid 0 0 120 ∷ []) ∷ put 1 3 (bid 0 1 121 ∷ []) ∷ close 3 (Single 10) [] ∷ []))) 3 true
     (line 110 121 115 None None ∷ []) ((1 ∷ []) ∷ (1 ∷ []) ∷ []) (2 ∷ 2 ∷ [])
-third_round = (refl, refl, refl)
+third_round = refl
 
 quantity_over_the_cap : put_fault (public_setup one_product) (standing one_product.products []) (holding one_product [] 0) 1 (bid 0 3 100 ∷ [])
     ≡ Some (put_faults.Bid (OverCap 0))
@@ -165,7 +167,7 @@ first_of_granules increments =
 
 an_increment_for_each_product : Newest (run granules_and_increments (first_of_granules (PerProduct (10 ∷ 20 ∷ [])))) 1 false
     (line 100 100 100 None (Some 125) ∷ line 100 100 100 (Some 3) (Some 120) ∷ []) ((0 ∷ 2 ∷ []) ∷ (2 ∷ 0 ∷ []) ∷ (0 ∷ 1 ∷ []) ∷ []) (2 ∷ 2 ∷ 1 ∷ [])
-an_increment_for_each_product = (refl, refl, refl)
+an_increment_for_each_product = refl
 
 increments_for_one_of_two_products : closing_of granules_and_increments (run granules_and_increments []) 1 (PerProduct (10 ∷ [])) []
     ≡ Err close_faults.Increment
@@ -191,7 +193,7 @@ limit_of_the_first_round = refl
 
 first_round_under_the_limit : Newest (run activity_limit first_of_limit) 1 false
     (line 100 100 100 (Some 8) (Some 110) ∷ line 100 100 100 None (Some 110) ∷ []) ((4 ∷ 0 ∷ []) ∷ (4 ∷ 0 ∷ []) ∷ []) (8 ∷ 8 ∷ [])
-first_round_under_the_limit = (refl, refl, refl)
+first_round_under_the_limit = refl
 
 above_the_limit : judged activity_limit first_of_limit 0 2 (bid 0 3 104 ∷ bid 1 3 106 ∷ []) ≡ Some (put_faults.Bid OverActivity)
 above_the_limit = refl
@@ -207,4 +209,4 @@ without_a_limit_above_the_eligibility = refl
 processed_activity_within_the_eligibility : Newest (run activity_limit (append first_of_limit
     (put 0 2 (bid 0 3 104 ∷ bid 1 2 106 ∷ []) ∷ put 1 2 (bid 0 4 110 ∷ []) ∷ close 2 tens [] ∷ []))) 2 false
     (line 100 110 110 (Some 7) (Some 121) ∷ line 100 110 100 None (Some 110) ∷ []) ((3 ∷ 1 ∷ []) ∷ (4 ∷ 0 ∷ []) ∷ []) (8 ∷ 8 ∷ [])
-processed_activity_within_the_eligibility = (refl, refl, refl)
+processed_activity_within_the_eligibility = refl

@@ -1,9 +1,10 @@
 -- What a house that stands for a list of commands keeps.
-use Rattle.std.proofs.Common.{◌≡◌, ℕ, zero, suc, List, [], ◌∷◌, false, length, ap, sym, subst, ◌∙◌, All}
+use Rattle.std.proofs.Common.{◌≡◌, ℕ, zero, suc, List, [], ◌∷◌, Bool, false, length, ap, sym, subst, ◌∙◌, All}
 use Rattle.std.specs.Prelude.{Option, Some, reverse}
 use Rattle.std.proofs.lemmas.Option.{none-some, slice_get_within, get_or_from_slice_get}
 use Rattle.std.proofs.lemmas.List.Elements.{All-nil, All-cons, All-head, All-tail, All-append}
 use Rattle.std.proofs.lemmas.List.FromFn.{length-map-range_with_len}
+use Rattle.clock_terms.specs.declared.prices.PricePair.{PricePair}
 use Rattle.clock_terms.specs.Limits.{IsSetup, public_setup}
 use Rattle.clock_bids.specs.declared.sheet.Bid.{Bid}
 use Rattle.clock_house.specs.Command.{Command}
@@ -11,6 +12,7 @@ use Rattle.clock_terms.specs.Prices.{opening_prices}
 use Rattle.clock_closing.specs.OpenRound.{OpenRound, IsOpenRound}
 use Rattle.clock_house.specs.History.{ClosedRound, round_at, history, standing, holding, for_each_bidder}
 use Rattle.clock_house.specs.inside.OpenRounds.{open_round, open_round_in}
+use Rattle.clock_house.specs.inside.Kept.{IsKept}
 use Rattle.clock_house.specs.House.{HouseFields, StandsFor, standing_in, holding_in}
 use Rattle.clock_house.specs.Laws.{AreNumbered, IsSound, IsOpen}
 use Rattle.clock_house.proofs.Sound.{sound, open_sound}
@@ -89,3 +91,17 @@ module _ (house : HouseFields) (limits : IsSetup house.setup) (commands : List C
     sound = stands_going going;
     opening = stands_opening going;
   }
+
+-- a house keeps the same with other room for further rounds
+pub kept_in_room : (house : HouseFields) (spare : ℕ) (ended : Bool) (round : ℕ) (prices : List PricePair) (demands : List (List ℕ)) →
+    IsKept house ended round prices demands →
+    IsKept (record { setup = house.setup; closed = house.closed; sheets = house.sheets; spare = spare }) ended round prices demands
+kept_in_room house spare ended round prices demands kept = record {
+  limits = kept.limits;
+  commands = kept.commands;
+  stands = record { closed = kept.stands.closed; sheets = kept.stands.sheets };
+  ended_is = kept.ended_is;
+  round_is = kept.round_is;
+  prices_are = kept.prices_are;
+  demands_are = kept.demands_are;
+}

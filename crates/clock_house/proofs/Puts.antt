@@ -1,17 +1,21 @@
 -- What putting a sheet does to the commands that a house stands for.
-use Rattle.std.proofs.Common.{◌≡◌, ℕ, ◌<◌, inl, inr, List, ◌∷◌, Bool, true, false, ◌&&◌, ◌==◌, refl}
+use Rattle.std.proofs.Common.{◌≡◌, ℕ, ◌<◌, inl, inr, List, ◌∷◌, Bool, true, false, ◌&&◌, ◌==◌, not, refl}
 use Rattle.std.proofs.Common.{ap, sym, subst, ◌∙◌, arith, get_or, set, length, eq-eqb, ne_eqb}
-use Rattle.std.specs.Prelude.{Option, Some, None, is_none}
+use Rattle.std.specs.Prelude.{◌≢◌, Option, Some, None, Result, Ok, Err, IfOk, IfErr, is_none}
 use Rattle.std.proofs.lemmas.Bool.{cases_eq}
 use Rattle.std.proofs.lemmas.List.{get_or-set_same, get_or-set_other, length-set}
 use Rattle.std.proofs.lemmas.List.FromFn.{fill_by_all, length-map-range_with_len, get_or-map-range_with_len}
 use Rattle.clock_terms.specs.Limits.{public_setup}
+use Rattle.clock_terms.specs.Faults.{first_fault}
+use Rattle.clock_bids.specs.Sheet.{sheet_fault}
+use Rattle.clock_closing.specs.Faults.{fault_check}
 use Rattle.clock_bids.specs.declared.sheet.Bid.{Bid}
 use Rattle.clock_house.specs.declared.fault.PutFault.{PutFault}
+use Rattle.clock_house.specs.declared.fault.PutFault.TheVariants as put_faults
 use Rattle.clock_house.specs.Command.{Command, put}
 use Rattle.clock_house.specs.Standing.{put_fault}
 use Rattle.clock_house.specs.History.{ClosedRound, history, standing, holding, sheet_in_force}
-use Rattle.clock_house.specs.House.{HouseFields, StandsFor, put_fault_in, with_sheet}
+use Rattle.clock_house.specs.House.{HouseFields, StandsFor, IsFollowedBy, AnswersPut, standing_in, holding_in, put_fault_in, with_sheet}
 use Rattle.clock_house.specs.Prepared.{PreparedSheet, FitsSheet}
 use Rattle.clock_house.proofs.Steps.{in_force-accepted, in_force-skipped}
 
@@ -94,4 +98,41 @@ module _ (house : HouseFields) (bidder round : ℕ) (bids : List Bid) (commands 
     sheets = fill_by_all (sheet_in_force house.setup (history house.setup (put bidder round bids ∷ commands))) (set house.sheets bidder (Some bids))
         (length house.setup.bidders) None
         (length-set house.sheets bidder (Some bids) ∙ many) (accepted_at lt e);
+  }
+
+-- the first fault of a sheet, test after test
+module _ (house : HouseFields) (bidder round : ℕ) (bids : List Bid) where
+  abbrev by_tests : Bool → Bool → Option PutFault
+  by_tests ended current = first_fault (
+      (put_faults.Ended, not ended)
+      ∷ (put_faults.WrongRound (standing_in house).round, current)
+      ∷ fault_check put_faults.Bid
+      (sheet_fault (public_setup house.setup) (standing_in house).round (standing_in house).prices (holding_in house bidder) bids))
+
+  pub put-ended : (standing_in house).ended ≡ true → put_fault_in house bidder round bids ≡ Some put_faults.Ended
+  put-ended ended = ap (λ end. by_tests end (round == (standing_in house).round)) ended
+
+  pub put-other : (standing_in house).ended ≡ false → round ≢ (standing_in house).round →
+      put_fault_in house bidder round bids ≡ Some (put_faults.WrongRound (standing_in house).round)
+  put-other going other =
+      ap (λ end. by_tests end (round == (standing_in house).round)) going ∙ ap (by_tests false) (ne_eqb round (standing_in house).round other)
+
+-- the answer of a house that judges a sheet
+module _ (house : HouseFields) (bidder round : ℕ) (bids : List Bid) where
+  -- it accepts the sheet that it answers with
+  pub fits-judged : (result : Result PreparedSheet PutFault) → bidder < length house.setup.bidders →
+      AnswersPut (put_fault_in house bidder round bids) result →
+      IfOk result (λ prepared. prepared ≡ record { bidder = bidder; round = round; bids = bids }) →
+      IfOk result (λ prepared. FitsSheet prepared house)
+  fits-judged (Ok prepared) known is asked =
+      subst (λ (one : PreparedSheet). FitsSheet one house) (sym asked) (record { known = known; good = is })
+  fits-judged (Err fault) known is asked = tt
+
+  -- a refused sheet is one more command
+  pub judged-followed : (result : Result PreparedSheet PutFault) → AnswersPut (put_fault_in house bidder round bids) result →
+      IfErr result (λ told. told ≢ put_faults.NoMemory → IsFollowedBy (put bidder round bids) house house)
+  judged-followed (Ok prepared) is = tt
+  judged-followed (Err fault) is = λ other. record {
+    setup = refl;
+    stands = λ commands stands. put-refused house bidder round bids commands stands fault (is other);
   }

@@ -1,6 +1,6 @@
 -- What a house is for a bidder is what the bidder's view shows.
-use Rattle.std.proofs.Common.{◌≡◌, ℕ, ◌<◌, List, [], refl, ap, ◌∙◌, length}
-use Rattle.std.specs.Prelude.{Option, Some, None, option_map, slice_index_or}
+use Rattle.std.proofs.Common.{◌≡◌, ℕ, ◌<◌, List, [], refl, ap, subst, ◌∙◌, length}
+use Rattle.std.specs.Prelude.{Option, Some, None, Result, option_map, slice_index_or}
 use Rattle.clock_terms.specs.Limits.{public_setup}
 use Rattle.clock_bids.specs.declared.sheet.Bid.{Bid}
 use Rattle.clock_posting.specs.declared.sheet.RoundSheet.{RoundSheet}
@@ -9,7 +9,8 @@ use Rattle.clock_house.specs.Command.{Command}
 use Rattle.clock_house.specs.Standing.{Standing, Holding, put_fault}
 use Rattle.clock_house.specs.History.{ClosedRound, standing, holding, bidder_at, slip_of, round_at}
 use Rattle.clock_house.specs.View.{view_of, seen_standing, seen_holding, seen_in_force, seen_put_fault, seen_round, shown_to}
-use Rattle.clock_house.specs.House.{HouseFields, StandsFor, standing_in, holding_in, put_fault_in}
+use Rattle.clock_house.specs.declared.fault.PutFault.{PutFault}
+use Rattle.clock_house.specs.House.{HouseFields, StandsFor, AnswersPut, AnswersByView, standing_in, holding_in, put_fault_in}
 use Rattle.clock_house.proofs.Isolation.{seen}
 use Rattle.clock_house.proofs.Puts.{sheet_at}
 
@@ -53,3 +54,9 @@ module _ (house : HouseFields) (bidder : ℕ) (commands : List Command) (stands 
   pub slip_seen : (n : ℕ) → option_map (slip_of bidder) (round_at n house.closed)
       ≡ option_map (λ seen. seen.1) (seen_round n (view_of house.setup bidder commands))
   slip_seen n = slip_part (round_at n house.closed) ∙ ap (option_map (λ (seen : RoundSheet × Slip). seen.1)) (both_seen n)
+
+-- a sheet that is answered as the house judges it is answered as the view says
+pub answers-by_view : {T : Type 0} (house : HouseFields) (bidder round : ℕ) (bids : List Bid) (result : Result T PutFault) →
+    AnswersPut (put_fault_in house bidder round bids) result → AnswersByView house bidder round bids result
+answers-by_view house bidder round bids result is = λ commands stands.
+    subst (λ (fault : Option PutFault). AnswersPut fault result) (put_fault_seen house bidder commands stands round bids) is

@@ -48,9 +48,7 @@ impl<P> House<P> {
     {
         self.ended
     }
-}
 
-impl<P> House<P> {
     /// What a bidder holds before the current round, and the number of that round; after the end
     /// what it has won, and the last round. The bidder is one of the set-up's.
     pub fn own(&self, bidder: u32) -> Own<'_>
@@ -117,9 +115,7 @@ impl<P> House<P> {
     {
         Some(slip_at(closed_at(self.rounds.as_slice(), round)?, bidder))
     }
-}
 
-impl<P> House<P> {
     /// The laws that hold of every house, handed to a caller: it stands for some list of commands, after every list
     /// of commands the auction is in order, a request that is no command changes nothing, and what
     /// any auction is for a bidder is what its view shows. It does nothing when it runs.

@@ -4,6 +4,12 @@ use Rattle.clock_house.proofs.Kept.{stands_sound, stands_going, stands_sheets}
 use Rattle.clock_house.proofs.Isolation.{seen}
 use Rattle.clock_house.proofs.house.House.law_of_house.Goals as goal
 
+pub returns-clause-stands : goal.returns-clause-stands
+returns-clause-stands g c = rw (← c.self.view_is) (c.self.invariant.commands, c.self.invariant.stands)
+
+pub returns-clause-limits : goal.returns-clause-limits
+returns-clause-limits g c = rw (← c.self.view_is) c.self.invariant.limits
+
 pub returns-clause-sound : goal.returns-clause-sound
 returns-clause-sound g c = rw (← c.self.view_is) (λ commands. sound c.self.inside.setup c.self.invariant.limits commands)
 
