@@ -94,17 +94,12 @@ impl<'a> OpenRound<'a> {
                 return Err(fault);
             }
         };
-        match self.results(alloc, processor, &asked, old) {
-            Ok(results) => Ok(Prepared {
-                round: self.round,
-                asked,
-                results,
-            }),
-            Err(fault) => {
-                drop(asked);
-                Err(fault)
-            }
-        }
+        let results = self.results(alloc, processor, &asked, old)?;
+        Ok(Prepared {
+            round: self.round,
+            asked,
+            results,
+        })
     }
 
     /// What the closing is asked for, where increments and tie numbers have no fault.

@@ -31,22 +31,8 @@ impl OpenRound<'_> {
         requires { IsWithinEligibility self.now.setup.products (eligibilities_of self.now.before) demands }
         ensures { IsRoundOf self.now demands posting result }
     {
-        let posting = match posting {
-            Ok(posting) => posting,
-            Err(fault) => {
-                drop(demands);
-                return Err(CloseFault::from(fault));
-            }
-        };
-        let slips = match self.slips(alloc, &demands) {
-            Ok(slips) => slips,
-            Err(none) => {
-                drop(posting);
-                drop(demands);
-                return Err(CloseFault::from(none));
-            }
-        };
-        let Posting { sheet, next } = posting;
+        let Posting { sheet, next } = posting?;
+        let slips = self.slips(alloc, &demands)?;
         Ok(Results {
             closed: ClosedRound { sheet, slips },
             next,

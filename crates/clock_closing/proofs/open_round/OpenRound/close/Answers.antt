@@ -1,19 +1,22 @@
 use Rattle.std.proofs.Common.{ap, sym, ◌∙◌}
+use Rattle.std.proofs.lemmas.Result.{err_from_is_err_and}
 use Rattle.clock_closing.specs.declared.asked.Asked.{Asked}
 use Rattle.clock_closing.specs.inside.Postings.{posted_now}
 use Rattle.clock_closing.proofs.open_round.OpenRound.close.Goals as goal
 
-pub returns-in-Ok-results-clause-answer : goal.returns-in-Ok-results-clause-answer
-returns-in-Ok-results-clause-answer g c =
+pub returns-clause-answer : goal.returns-clause-answer
+returns-clause-answer g c =
     let asked = c.in-Ok.ensures.asked in
     asked.good
     ∙ sym (ap (λ (one : Asked). posted_now c.args.self.now one.increments one.ties) asked.same)
-    ∙ c.in-Ok-results.ensures.closes
+    ∙ c.in_ok-results.ensures.closes
 
-pub returns-in-Err-results-clause-answer : goal.returns-in-Err-results-clause-answer
-returns-in-Err-results-clause-answer g c =
+pub returns-in_err-results-clause-answer : goal.returns-in_err-results-clause-answer
+returns-in_err-results-clause-answer g c =
     let asked = c.in-Ok.ensures.asked in
-    λ other.
+    let told = err_from_is_err_and c.from_residual.result c.from_residual.ensures.1 in
+    rw (told.1, told.2)
+    (λ other.
     asked.good
     ∙ sym (ap (λ (one : Asked). posted_now c.args.self.now one.increments one.ties) asked.same)
-    ∙ c.in-Err-results.ensures other
+    ∙ c.in_err-results.ensures other)

@@ -1,14 +1,19 @@
+use Rattle.std.proofs.lemmas.Result.{err_from_is_err_and}
 use Rattle.clock_closing.proofs.Posts.{round-made, round-refused, round-no_memory}
 use Rattle.clock_closing.proofs.open_round.OpenRound.with_slips.Goals as goal
 
-pub returns-in-Err : goal.returns-in-Err
-returns-in-Err c = round-refused c.args.self.now c.args.demands c.args.posting c.in-Err.fault c.from.result c.in-Err.is c.from.ensures
+pub returns-in_err-sheet : goal.returns-in_err-sheet
+returns-in_err-sheet c =
+    let told = err_from_is_err_and c.from_residual.result c.from_residual.ensures.1 in
+    rw told.1
+    (round-refused c.args.self.now c.args.demands c.args.posting c.in_err-sheet.field-0.0 told.0 c.in_err-sheet.was told.2)
 
-pub returns-in-Err-slips : goal.returns-in-Err-slips
-returns-in-Err-slips c =
-    round-no_memory c.args.self.now c.args.demands c.args.posting c.from-in-Err-slips.result c.from-in-Err-slips.ensures
+pub returns-in_err-slips : goal.returns-in_err-slips
+returns-in_err-slips c =
+    let told = err_from_is_err_and c.from_residual-in_err-slips.result c.from_residual-in_err-slips.ensures.1 in
+    rw told.1 (round-no_memory c.args.self.now c.args.demands c.args.posting told.0 told.2)
 
 pub returns : goal.returns
 returns c =
-    round-made c.args.self.now c.args.demands c.args.posting c.in-Ok.posting c.in-Ok-slips.slips c.in-Ok.is c.in-Ok-slips.ensures.slips
-    c.in-Ok-slips.ensures.demands
+    round-made c.args.self.now c.args.demands c.args.posting c.in_ok-sheet.field-0 c.in_ok-slips.slips c.in_ok-sheet.was c.in_ok-slips.ensures.slips
+    c.in_ok-slips.ensures.demands
