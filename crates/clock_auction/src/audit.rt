@@ -64,22 +64,6 @@ fn remember(digests: &mut Vec<Digits>, chain: &Link) -> Result<(), NoMemory>
 }
 
 impl Recount {
-    /// No text was taken yet.
-    fn new(alloc: Global, front: Front<Woken>, first: Link) -> Recount
-        requires { StandsForTexts [] front }
-        ensures stands { IsRecounted first [] result.front result.chain result.digests.items }
-        ensures first { result.first ≡ first }
-        ensures setup { result.front.setup ≡ front.setup }
-    {
-        Recount {
-            front,
-            first,
-            chain: first,
-            texts: 0,
-            digests: Vec::new(alloc),
-        }
-    }
-
     /// How many texts were taken, and the digest of the last.
     pub fn end(&self) -> (u64, Link) {
         (self.texts, self.chain)
@@ -97,7 +81,13 @@ pub fn recounted(
     ensures { IfOk result (λ recount. IsRecountOf front.setup first bytes.now recount.front recount.chain
         recount.digests.items) }
 {
-    let mut recount = Recount::new(alloc, front, first);
+    let mut recount = Recount {
+        front,
+        first,
+        chain: first,
+        texts: 0,
+        digests: Vec::new(alloc),
+    };
     match recover(&mut recount, &first, bytes) {
         Ok(_) => Ok(recount),
         Err(fault) => {

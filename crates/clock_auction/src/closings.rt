@@ -5,7 +5,7 @@ ghost use Rattle.clock_journal.specs.Format.{Fits};
 use crate::digests::Hex;
 use clock_device::Failed;
 use clock_front::{Front, Progress, Reply};
-use clock_journal::{Durable, Journal, Link};
+use clock_journal::{Durable, Journal};
 use clock_processor::Processor;
 use clock_serving::Keeper;
 use std::marker::Model;
@@ -34,13 +34,6 @@ impl<'a, R, D: Durable> Telling<'a, R, D> {
     {
         Telling { rt, journal }
     }
-
-    /// The digest of the last text.
-    pub fn chain(&self) -> Link
-        ensures { result ≡ self.now.chain }
-    {
-        *self.journal.chain()
-    }
 }
 
 impl<R: Print, D: Durable> Keeper for Telling<'_, R, D> {
@@ -60,7 +53,7 @@ impl<R: Print, D: Durable> Keeper for Telling<'_, R, D> {
     /// The reply was given out, so nothing waits for the line.
     fn round_closed(&mut self, round: u64) {
         let rt = self.rt;
-        let digest = Hex(self.chain());
+        let digest = Hex(*self.journal.chain());
         let _untold = println!(rt; "closed {round} {digest}");
     }
 }

@@ -24,8 +24,8 @@ pub struct Hex(pub Link);
 
 impl Display for Hex {
     fn fmt<W: fmt::Write>(&self, f: &mut Formatter<W>) -> fmt::Result {
-        for digit in digits_of(&self.0) {
-            f.write_char(digit as char)?;
+        for digit in digits_of(&self.0).as_slice() {
+            f.write_char(*digit as char)?;
         }
         Ok(())
     }

@@ -33,57 +33,13 @@ where
     let digest = digest_of(document.as_slice());
     let front = front_in(rt.alloc(), document)?;
     let mut auction = Auction { front, texts: 0 };
-    let served = keep_and_serve(rt, &mut auction, digest, serving, path);
+    let served = match taken_over(rt, &mut auction, digest, path) {
+        Ok(journal) => serve_by(rt, &mut auction, journal, serving),
+        Err(fault) => Err(fault),
+    };
     // let go by a call: at the end of the scope it would be proved part by part
     drop(auction);
     served
-}
-
-/// Takes the journal over, and serves connections by it.
-fn keep_and_serve<R>(
-    rt: &R,
-    auction: &mut Auction<Woken>,
-    digest: Link,
-    serving: &Serving,
-    path: &str,
-) -> Result<(), Fault>
-where
-    R: Files<File = File>
-        + Print
-        + Eprint
-        + Net<Listener = TcpListener, Stream = TcpStream>
-        + Alloc<A = Global>,
-    requires { StandsForTexts [] auction.old.front }
-{
-    let journal = taken_over(rt, auction, digest, path)?;
-    let mut telling = Telling::new(rt, journal);
-    let served = tell_and_serve(rt, auction, &mut telling, serving);
-    drop(telling);
-    served
-}
-
-/// Tells what was taken over, listens, and serves connections.
-fn tell_and_serve<R>(
-    rt: &R,
-    auction: &mut Auction<Woken>,
-    telling: &mut Telling<'_, R, FileDisk<File>>,
-    serving: &Serving,
-) -> Result<(), Fault>
-where
-    R: Print + Net<Listener = TcpListener, Stream = TcpStream> + Alloc<A = Global>,
-    requires { telling.old.has_failed ≡ false }
-{
-    tell_journal(rt, auction.texts, telling.chain())?;
-    let listener = listening(rt, serving.port)?;
-    let served = serve_kept_on(
-        rt.alloc(),
-        &mut auction.front,
-        telling,
-        &listener,
-        serving.connections,
-    );
-    drop(listener);
-    Ok(served?)
 }
 
 /// The journal in a file that was taken over and is held by this server alone.
@@ -98,39 +54,70 @@ where
     requires { StandsForTexts [] auction.old.front }
     ensures unfailed { IfOk result (λ journal. journal.has_failed ≡ false) }
 {
-    let file = opened(rt, path)?;
-    match recovered_in(rt, auction, &digest, &file) {
-        Ok(recovered) => resumed(rt, file, digest, recovered, path),
+    let (file, bytes) = opened(rt, path)?;
+    let taken = take_up(auction, &digest, bytes.as_slice());
+    let size = bytes.len();
+    drop(bytes);
+    match taken {
+        Ok(recovered) => {
+            tell_cut(rt, recovered.end, size);
+            resumed(rt, file, digest, recovered, path)
+        }
         Err(fault) => {
             drop(file);
+            Err(Fault::from(fault))
+        }
+    }
+}
+
+/// Tells of bytes behind the last text, which are cut off.
+fn tell_cut<R: Eprint>(rt: &R, end: usize, size: usize) {
+    if end < size {
+        let cut = size - end;
+        // it is told for the operator's eyes alone: where that fails the auction goes on
+        let _untold = eprintln!(rt; "cut {cut} bytes at {end}");
+    }
+}
+
+/// Tells what was taken over, listens, and serves connections.
+fn serve_by<R>(
+    rt: &R,
+    auction: &mut Auction<Woken>,
+    journal: Journal<FileDisk<File>>,
+    serving: &Serving,
+) -> Result<(), Fault>
+where
+    R: Print + Net<Listener = TcpListener, Stream = TcpStream> + Alloc<A = Global>,
+    requires { journal.has_failed ≡ false }
+{
+    match tell_and_listen(rt, auction.texts, *journal.chain(), serving.port) {
+        Ok(listener) => {
+            let mut telling = Telling::new(rt, journal);
+            let served = serve_kept_on(
+                rt.alloc(),
+                &mut auction.front,
+                &mut telling,
+                &listener,
+                serving.connections,
+            );
+            drop(listener);
+            drop(telling);
+            Ok(served?)
+        }
+        Err(fault) => {
+            drop(journal);
             Err(fault)
         }
     }
 }
 
-/// Takes up the auction from the bytes of a file.
-fn recovered_in<R>(
-    rt: &R,
-    auction: &mut Auction<Woken>,
-    digest: &Link,
-    file: &File,
-) -> Result<Recovered, Fault>
+/// Tells what was taken over, and listens.
+fn tell_and_listen<R>(rt: &R, texts: u64, chain: Link, port: u16) -> Result<TcpListener, Fault>
 where
-    R: Eprint + Alloc<A = Global>,
-    requires { StandsForTexts [] auction.old.front }
+    R: Print + Net<Listener = TcpListener, Stream = TcpStream>,
 {
-    let bytes = bytes_of(rt.alloc(), file)?;
-    let taken = take_up(auction, digest, bytes.as_slice());
-    let size = bytes.len();
-    drop(bytes);
-    let recovered = taken?;
-    if recovered.end < size {
-        let cut = size - recovered.end;
-        let end = recovered.end;
-        // it is told for the operator's eyes alone: where that fails the auction goes on
-        let _untold = eprintln!(rt; "cut {cut} bytes at {end}");
-    }
-    Ok(recovered)
+    tell_journal(rt, texts, chain)?;
+    listening(rt, port)
 }
 
 /// The journal that goes on, and whose file a loss of power leaves in its folder.
@@ -157,18 +144,32 @@ where
     }
 }
 
-/// The file, which is made where there is none, readable by its owner alone, and locked.
-fn opened<R: Files<File = File>>(rt: &R, path: &str) -> Result<File, Fault> {
+/// The file, which is made where there is none, readable by its owner alone, and locked; and all its bytes.
+fn opened<R>(rt: &R, path: &str) -> Result<(File, Vec<u8>), Fault>
+where
+    R: Files<File = File> + Alloc<A = Global>,
+{
     let mut how = OpenOptions::new();
     how.read(true).append(true).create(true).mode(0o600);
     let Ok(file) = how.open(rt, path) else {
         return Err(Fault::Journal);
     };
-    if !is_plain(&file) {
+    match locked_bytes(rt.alloc(), &file) {
+        Ok(bytes) => Ok((file, bytes)),
+        Err(fault) => {
+            drop(file);
+            Err(fault)
+        }
+    }
+}
+
+/// All bytes of a file of a disk, which is locked before they are read.
+fn locked_bytes(alloc: Global, file: &File) -> Result<Vec<u8>, Fault> {
+    if !is_plain(file) {
         return Err(Fault::Journal);
     }
     match file.try_lock() {
-        Ok(()) => Ok(file),
+        Ok(()) => bytes_of(alloc, file),
         Err(TryLockError::WouldBlock) => Err(Fault::JournalBusy),
         Err(TryLockError::Error(_)) => Err(Fault::Journal),
     }

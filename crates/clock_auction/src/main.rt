@@ -15,7 +15,7 @@ mod telling;
 use clap::error::ErrorKind;
 use clock_commands::{Fault, command, show_fault};
 use clock_device::{FromReader, ToWriter};
-use clock_words::{FileTask, file_task_asked, number_helps};
+use clock_words::{FileTask, NumberHelps, file_task_asked, number_helps};
 use kept::serve_kept;
 use serve::serve;
 use std::alloc::{AllocError, Global};
@@ -42,26 +42,44 @@ fn main(rt: HostRuntime) -> io::Result<ExitCode> {
     Ok(ExitCode::from(status))
 }
 
-/// Does what the words ask for, and answers the exit status. What is to be done with files is done here, and
-/// all else by `command`.
+/// Does what the words ask for, and answers the exit status.
 fn run(rt: &HostRuntime, words: &[&str]) -> u8 {
     let Ok(helps) = number_helps(rt.alloc()) else {
         return fault_status(rt, Fault::Memory);
     };
-    match file_task_asked(rt.alloc(), &helps, words) {
+    let status = run_by(rt, &helps, words);
+    drop(helps);
+    status
+}
+
+/// The same with the texts of helps. What is to be done with files is done here, and all else by `command`.
+fn run_by(rt: &HostRuntime, helps: &NumberHelps, words: &[&str]) -> u8 {
+    match file_task_asked(rt.alloc(), helps, words) {
         Ok(Some(task)) => match run_task(rt, &task) {
             Ok(()) => 0,
             Err(fault) => fault_status(rt, fault),
         },
-        Err(error) if error.kind() == ErrorKind::OutOfMemory => fault_status(rt, Fault::Memory),
-        _ => command(
-            rt.alloc(),
-            words,
-            &mut FromReader::new(rt.stdin()),
-            &mut ToWriter::new(rt.stdout()),
-            &mut ToWriter::new(rt.stderr()),
-        ),
+        Ok(None) => run_command(rt, words),
+        Err(error) => {
+            let kind = error.kind();
+            drop(error);
+            match kind {
+                ErrorKind::OutOfMemory => fault_status(rt, Fault::Memory),
+                _ => run_command(rt, words),
+            }
+        }
     }
+}
+
+/// Does what is done over the standard streams.
+fn run_command(rt: &HostRuntime, words: &[&str]) -> u8 {
+    command(
+        rt.alloc(),
+        words,
+        &mut FromReader::new(rt.stdin()),
+        &mut ToWriter::new(rt.stdout()),
+        &mut ToWriter::new(rt.stderr()),
+    )
 }
 
 /// Does what is to be done with files.

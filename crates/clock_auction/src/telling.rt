@@ -4,11 +4,11 @@ ghost use Rattle.clock_front.specs.Fronts.{StandsForTexts};
 ghost use Rattle.clock_auction.specs.Audits.{IsSomeRecount};
 
 use crate::audit::{Recount, audit_of, recounted};
-use crate::journal_text::{Listing, listing_of};
+use crate::journal_text::listing_of;
 use crate::kept::{bytes_of, is_plain, tell_journal};
 use crate::serve::{file_bytes, front_in};
 use clock_commands::Fault;
-use clock_device::{Sink, Text, write_all};
+use clock_device::{Sink, write_all};
 use clock_front::Front;
 use clock_journal::{Link, digest_of};
 use clock_queue::Woken;
@@ -25,23 +25,15 @@ where
     let document = file_bytes(rt, named.setup)?;
     let first = digest_of(document.as_slice());
     drop(document);
-    let listing = listed(rt, first, named.journal)?;
+    let bytes = journal_bytes(rt, named.journal)?;
+    let listed = listing_of(rt.alloc(), first, bytes.as_slice());
+    drop(bytes);
+    let listing = listed?;
     let end = listing.end();
     let told = written(out, listing.text());
     drop(listing);
     told?;
     tell_journal(rt, end.0, end.1)
-}
-
-/// What a journal holds, for the set-up document of a digest.
-fn listed<R>(rt: &R, first: Link, path: &str) -> Result<Listing, Fault>
-where
-    R: Files<File = File> + Alloc<A = Global>,
-{
-    let bytes = journal_bytes(rt, path)?;
-    let listing = listing_of(rt.alloc(), first, bytes.as_slice());
-    drop(bytes);
-    listing
 }
 
 /// Prints an auction that is recounted from its journal.
@@ -54,9 +46,12 @@ where
     let front = front_in(rt.alloc(), document)?;
     let recount = recounted_of(rt, front, first, named.journal)?;
     let end = recount.end();
-    let text = audit_of(rt.alloc(), &recount);
+    let made = audit_of(rt.alloc(), &recount);
     drop(recount);
-    tell_text(out, text)?;
+    let text = made?;
+    let told = written(out, text.as_slice());
+    drop(text);
+    told?;
     tell_journal(rt, end.0, end.1)
 }
 
@@ -77,18 +72,6 @@ where
             drop(front);
             Err(fault)
         }
-    }
-}
-
-/// Writes a text that was made, where it was.
-fn tell_text(out: &mut impl Sink, made: Result<Text, Fault>) -> Result<(), Fault> {
-    match made {
-        Ok(text) => {
-            let told = written(out, text.as_slice());
-            drop(text);
-            told
-        }
-        Err(fault) => Err(fault),
     }
 }
 
