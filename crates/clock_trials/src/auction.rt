@@ -1,9 +1,9 @@
 //! An auction as data: what is done to it and what is seen of it, step by step.
 
-use crate::comparing::{assert_is_at, assert_reads};
+use crate::comparing::assert_is_at;
 use crate::settle::push_demands;
 use crate::views::{Page, page_of};
-use clock_bids::Bid;
+use clock_bids::{Bid, Own};
 use clock_device::Text;
 use clock_house::{CloseFault, House, PutFault};
 use clock_order::Tie;
@@ -12,7 +12,7 @@ use clock_processor::{Plain, Processor};
 use clock_queue::Woken;
 use clock_setup::{Amounts, Increments, read_setup};
 use clock_terms::KeptRow;
-use std::alloc::{AllocError, Global};
+use std::alloc::Global;
 use std::process::Abort;
 
 /// A bid: the product's number, the quantity and the price.
@@ -31,6 +31,13 @@ pub const Y: u32 = 1;
 
 pub const Z: u32 = 2;
 
+/// By how many percent a closing raises prices: all alike, or each product's.
+#[derive(Clone, Copy)]
+pub enum Rise<'a> {
+    By(u64),
+    Each(&'a [u64]),
+}
+
 /// What is done to an auction, or seen of it.
 #[derive(Clone, Copy)]
 pub enum Step<'a> {
@@ -40,14 +47,10 @@ pub enum Step<'a> {
     PutEach(&'a [Single]),
     /// A bidder's sheet for a round is refused.
     RefusedPut(u32, u64, &'a [Offer], PutFault),
-    /// The current round is closed with one increment for all products.
-    Close(u64, &'a [Draw]),
-    /// The current round is closed with an increment for each product.
-    CloseEach(&'a [u64]),
+    /// The current round is closed.
+    Close(Rise<'a>, &'a [Draw]),
     /// A closing of a round is refused.
-    RefusedClose(u64, u64, &'a [Draw], CloseFault),
-    /// A closing of the current round with an increment for each product is refused.
-    RefusedCloseEach(&'a [u64], CloseFault),
+    RefusedClose(u64, Rise<'a>, &'a [Draw], CloseFault),
     /// A closed round has these lines.
     Lines(u64, &'a [u8]),
     /// The bidders hold these eligibilities, and these demands, row by row.
@@ -76,6 +79,12 @@ pub fn play_all(rt: &impl Abort, alloc: Global, plays: &[Play]) {
     }
 }
 
+/// An auction of a set-up document with this processor.
+fn house_of<P: Processor + Drop>(alloc: Global, document: &str, processor: P) -> Option<House<P>> {
+    let setup = read_setup(alloc, document.as_bytes()).ok()?;
+    House::new(alloc, setup, processor).ok()
+}
+
 /// Takes the steps of a play on an auction with this processor, if there is memory for it.
 fn play_with<P: Processor + Drop>(
     rt: &impl Abort,
@@ -84,8 +93,7 @@ fn play_with<P: Processor + Drop>(
     play: &Play,
 ) -> Option<()> {
     let &(shows, document, steps) = play;
-    let setup = read_setup(alloc, document.as_bytes()).ok()?;
-    let mut house = House::new(alloc, setup, processor).ok()?;
+    let mut house = house_of(alloc, document, processor)?;
     let taken = take_all(rt, alloc, &mut house, shows, steps);
     drop(house);
     taken
@@ -120,44 +128,35 @@ fn take<P: Processor>(
         Step::RefusedPut(bidder, round, offers, fault) => {
             put(rt, alloc, house, at, round, (bidder, offers), Err(fault))
         }
-        Step::Close(increment, draws) => {
-            let increments = Increments::Single(increment);
-            close(rt, alloc, house, at, round, increments, draws, Ok(()))
+        Step::Close(rise, draws) => close(rt, alloc, house, at, (round, rise, draws), Ok(())),
+        Step::RefusedClose(round, rise, draws, fault) => {
+            close(rt, alloc, house, at, (round, rise, draws), Err(fault))
         }
-        Step::CloseEach(increments) => close_each(rt, alloc, house, at, increments, Ok(())),
-        Step::RefusedClose(round, increment, draws, fault) => {
-            let increments = Increments::Single(increment);
-            close(rt, alloc, house, at, round, increments, draws, Err(fault))
-        }
-        Step::RefusedCloseEach(increments, fault) => {
-            close_each(rt, alloc, house, at, increments, Err(fault))
-        }
-        Step::Lines(round, lines) => {
-            assert_reads(rt, at, lines_of(alloc, house, round), lines);
-            Some(())
-        }
+        _ => see(rt, alloc, house, at, step),
+    }
+}
+
+/// Sees what a step shows, where nothing is done at it.
+fn see<P: Processor>(
+    rt: &impl Abort,
+    alloc: Global,
+    house: &House<P>,
+    at: At,
+    step: &Step,
+) -> Option<()> {
+    match *step {
+        Step::Lines(round, lines) => reads(rt, at, lines_of(alloc, house, round), lines),
+        Step::Reads(page, text) => reads(rt, at, page_of(alloc, house, page), text.as_bytes()),
         Step::Hold(eligibilities, demands) => {
             see_held(rt, alloc, house, at, eligibilities, demands)
         }
         Step::Slip(bidder, round, activity, eligibility, demands) => {
-            see_slip(
-                rt,
-                house,
-                at,
-                bidder,
-                (round, activity, eligibility),
-                demands,
-            )
+            let told = (round, activity, eligibility);
+            see_slip(rt, house, at, bidder, told, demands)
         }
         Step::InForce(bidder, offers) => see_in_force(rt, alloc, house, at, bidder, offers),
-        Step::Stands(round, ended) => {
-            see_round(rt, house, at, round, ended);
-            Some(())
-        }
-        Step::Reads(page, expected) => {
-            assert_reads(rt, at, page_of(alloc, house, page), expected.as_bytes());
-            Some(())
-        }
+        Step::Stands(round, ended) => see_round(rt, house, at, round, ended),
+        _ => None,
     }
 }
 
@@ -184,14 +183,14 @@ pub fn list_of<T: Drop, F: Fn(&(u64, u64, u64)) -> T>(
     alloc: Global,
     rows: &[(u64, u64, u64)],
     make: F,
-) -> Result<Vec<T>, AllocError>
+) -> Option<Vec<T>>
     requires { F.IsAlwaysCallable make }
 {
     let mut list = Vec::new(alloc);
     for row in rows {
-        list.push(make(row))?;
+        list.push(make(row)).ok()?;
     }
-    Ok(list)
+    Some(list)
 }
 
 /// Puts a sheet of these bids.
@@ -217,7 +216,7 @@ fn put<P: Processor>(
     expected: Result<(), PutFault>,
 ) -> Option<()> {
     let (bidder, offers) = sheet;
-    let bids = list_of(alloc, offers, bid_of).ok()?;
+    let bids = list_of(alloc, offers, bid_of)?;
     let answer = put_bids(rt, house, bidder, round, bids.as_slice());
     assert_is_at(rt, at, answer, expected);
     Some(())
@@ -238,35 +237,42 @@ fn put_each<P: Processor>(
     Some(())
 }
 
+/// The increments of a closing.
+fn increments_of(alloc: Global, rise: Rise) -> Option<Increments> {
+    match rise {
+        Rise::By(percent) => Some(Increments::Single(percent)),
+        Rise::Each(percents) => {
+            let amounts = Amounts::from_slice(alloc, percents).ok()?;
+            Some(Increments::PerProduct(amounts))
+        }
+    }
+}
+
+/// What a house answers to a closing.
+fn close_house<P: Processor>(
+    house: &mut House<P>,
+    round: u64,
+    increments: &Increments,
+    ties: &[Tie],
+) -> Result<(), CloseFault> {
+    house.close(round, increments, ties)
+}
+
 /// Closes a round, which is answered so.
 fn close<P: Processor>(
     rt: &impl Abort,
     alloc: Global,
     house: &mut House<P>,
     at: At,
-    round: u64,
-    increments: Increments,
-    draws: &[Draw],
+    closing: (u64, Rise, &[Draw]),
     expected: Result<(), CloseFault>,
 ) -> Option<()> {
-    let ties = list_of(alloc, draws, tie_of).ok()?;
-    let answer = house.close(round, &increments, ties.as_slice());
+    let (round, rise, draws) = closing;
+    let increments = increments_of(alloc, rise)?;
+    let ties = list_of(alloc, draws, tie_of)?;
+    let answer = close_house(house, round, &increments, ties.as_slice());
     assert_is_at(rt, at, answer, expected);
     Some(())
-}
-
-/// Closes the current round with an increment for each product.
-fn close_each<P: Processor>(
-    rt: &impl Abort,
-    alloc: Global,
-    house: &mut House<P>,
-    at: At,
-    increments: &[u64],
-    expected: Result<(), CloseFault>,
-) -> Option<()> {
-    let round = house.round();
-    let increments = Increments::PerProduct(Amounts::from_slice(alloc, increments).ok()?);
-    close(rt, alloc, house, at, round, increments, &[], expected)
 }
 
 /// The lines of a closed round.
@@ -278,6 +284,49 @@ fn lines_of<P: Processor>(alloc: Global, house: &House<P>, round: u64) -> Option
     sheet_lines(alloc, house.setup(), sheet).ok()
 }
 
+/// Asserts that a text is this, if there is one.
+fn reads(rt: &impl Abort, at: At, text: Option<Text>, expected: &[u8]) -> Option<()> {
+    let text = text?;
+    assert_is_at(rt, at, text.as_slice(), expected);
+    Some(())
+}
+
+/// What a bidder holds, if there is one of this number.
+fn own_of<P: Processor>(house: &House<P>, bidder: u32) -> Option<Own<'_>> {
+    if (bidder as usize) < house.setup().bidders.as_slice().len() {
+        Some(house.own(bidder))
+    } else {
+        None
+    }
+}
+
+/// The demands of the first bidders, row by row.
+fn demands_held<P: Processor>(alloc: Global, house: &House<P>, bidders: usize) -> Option<Amounts> {
+    let mut all = Amounts::new(alloc);
+    let mut bidder = 0u32;
+    for _ in 0..bidders {
+        push_demands(&mut all, own_of(house, bidder)?.demands).ok()?;
+        bidder = bidder.saturating_add(1);
+    }
+    Some(all)
+}
+
+/// Asserts what bidders may demand, from the first on.
+fn see_eligible<P: Processor>(
+    rt: &impl Abort,
+    house: &House<P>,
+    at: At,
+    eligibilities: &[u64],
+) -> Option<()> {
+    let mut bidder = 0u32;
+    for eligibility in eligibilities {
+        let own = own_of(house, bidder)?;
+        assert_is_at(rt, at, own.eligibility, *eligibility);
+        bidder = bidder.saturating_add(1);
+    }
+    Some(())
+}
+
 /// Asserts what bidders hold, from the first on: their eligibilities, and their demands, row by row.
 fn see_held<P: Processor>(
     rt: &impl Abort,
@@ -287,16 +336,9 @@ fn see_held<P: Processor>(
     eligibilities: &[u64],
     demands: &[u64],
 ) -> Option<()> {
-    let mut all = Amounts::new(alloc);
-    let mut bidder = 0u32;
-    for eligibility in eligibilities {
-        assert!(rt; (bidder as usize) < house.setup().bidders.as_slice().len());
-        let own = house.own(bidder);
-        assert_is_at(rt, at, own.eligibility, *eligibility);
-        push_demands(&mut all, own.demands).ok()?;
-        bidder = bidder.saturating_add(1);
-    }
-    assert_is_at(rt, at, all.as_slice(), demands);
+    see_eligible(rt, house, at, eligibilities)?;
+    let held = demands_held(alloc, house, eligibilities.len())?;
+    assert_is_at(rt, at, held.as_slice(), demands);
     Some(())
 }
 
@@ -324,26 +366,26 @@ fn see_slip<P: Processor>(
 ) -> Option<()> {
     assert!(rt; (bidder as usize) < house.setup().bidders.as_slice().len());
     let slip = house.slip(bidder, told.0)?;
-    assert_is_at(rt, at, (slip.round, slip.activity, slip.eligibility), told);
-    assert_is_at(rt, at, is_kept(&slip.demands, demands), true);
+    let shown = (slip.round, slip.activity, slip.eligibility);
+    let is_kept = is_kept(&slip.demands, demands);
+    assert_is_at(rt, at, (shown, is_kept), (told, true));
     Some(())
 }
 
-/// Asserts whether a bidder has a sheet in force, and its bids.
-fn is_in_force<P: Processor>(
-    rt: &impl Abort,
-    house: &House<P>,
-    at: At,
-    bidder: u32,
-    is_put: bool,
-    bids: &[Bid],
-) {
-    assert!(rt; (bidder as usize) < house.setup().bidders.as_slice().len());
-    let sheet = house.bids(bidder);
-    assert_is_at(rt, at, sheet.is_some(), is_put);
-    if let Some(sheet) = sheet {
-        assert_is_at(rt, at, sheet.bids(), bids);
+/// The bids that a bidder has in force, if there is one of this number.
+fn bids_of<P: Processor>(house: &House<P>, bidder: u32) -> Option<Option<&[Bid]>> {
+    if (bidder as usize) >= house.setup().bidders.as_slice().len() {
+        return None;
     }
+    match house.bids(bidder) {
+        Some(sheet) => Some(Some(sheet.bids())),
+        None => Some(None),
+    }
+}
+
+/// The bids of a sheet, where it is put.
+pub fn sheet_of(bids: &[Bid], is_put: bool) -> Option<&[Bid]> {
+    if is_put { Some(bids) } else { None }
 }
 
 /// Asserts the bids that a bidder has in force.
@@ -355,14 +397,22 @@ fn see_in_force<P: Processor>(
     bidder: u32,
     offers: Option<&[Offer]>,
 ) -> Option<()> {
-    let bids = list_of(alloc, offers.unwrap_or(&[]), bid_of).ok()?;
-    is_in_force(rt, house, at, bidder, offers.is_some(), bids.as_slice());
+    let bids = list_of(alloc, offers.unwrap_or(&[]), bid_of)?;
+    let expected = sheet_of(bids.as_slice(), offers.is_some());
+    assert_is_at(rt, at, bids_of(house, bidder), Some(expected));
     Some(())
 }
 
 /// Asserts the current round and whether the auction has ended, and that no later round is closed.
-fn see_round<P: Processor>(rt: &impl Abort, house: &House<P>, at: At, round: u64, ended: bool) {
-    assert_is_at(rt, at, (house.round(), house.ended()), (round, ended));
+fn see_round<P: Processor>(
+    rt: &impl Abort,
+    house: &House<P>,
+    at: At,
+    round: u64,
+    ended: bool,
+) -> Option<()> {
+    let stands = (house.round(), house.ended());
     let closed = (house.sheet(0).is_some(), house.sheet(round).is_some());
-    assert_is_at(rt, at, closed, (false, ended));
+    assert_is_at(rt, at, (stands, closed), ((round, ended), (false, ended)));
+    Some(())
 }

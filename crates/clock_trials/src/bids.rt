@@ -3,17 +3,16 @@
 ghost use Rattle.std.specs.Prelude.{◌≡◌, ◌≤◌, ◌<◌, length, All, IsTrue, IfOk};
 ghost use Rattle.clock_terms.specs.Limits.{IsRow};
 
-use crate::auction::{Offer, bid_of, list_of};
+use crate::auction::{Offer, bid_of, list_of, sheet_of};
 use crate::comparing::{assert_is, assert_is_at};
 use crate::settle::{Asked, change_of};
-use clock_bids::{Bid, BidFault, Changes, Kind, Own, asked_demands, changes_of, check_sheet};
+use clock_bids::{Bid, Changes, Kind, Own, asked_demands, changes_of, check_sheet};
 use clock_device::NoMemory;
 use clock_money::Price;
 use clock_setup::fixtures::{ONE_PRODUCT, TWO_PRODUCTS};
 use clock_setup::{Amounts, PricePair, Prices, Product, Row, Setup, read_setup};
 use std::alloc::Global;
 use std::process::Abort;
-use std::test::Fail;
 
 /// The second round of an auction, in which each product's prices go from 100 to 110: its set-up document, and the
 /// first bidder's eligibility and demands.
@@ -91,7 +90,28 @@ fn held(eligibility: u64, row: &Row) -> Own<'_>
     }
 }
 
-/// The changes that the first bidder asks for, by a sheet of bids or without one.
+/// The changes that the first bidder asks for by a sheet of bids, if it may put this sheet.
+fn asked_with(
+    alloc: Global,
+    setup: &Setup,
+    prices: &Prices,
+    own: Own,
+    bids: &[Bid],
+) -> Option<Changes>
+    requires round { 2 ≤ own.round }
+    requires prices { length prices.now ≡ length setup.now.products }
+    requires rising { All (λ pair. pair.start < pair.clock) prices.now }
+    requires demands { IsRow setup.now.products own.demands.now }
+{
+    let Ok(sheet) = check_sheet(alloc, setup, prices, own, bids) else {
+        return None;
+    };
+    let changes = changes_of(alloc, setup, prices, own, 0, Some(&sheet));
+    drop(sheet);
+    changes.ok()
+}
+
+/// The same, or what it asks for without a sheet.
 fn asked(
     rt: &impl Abort,
     alloc: Global,
@@ -99,17 +119,16 @@ fn asked(
     prices: &Prices,
     own: Own,
     bids: Option<&[Bid]>,
-) -> Result<Changes, BidFault>
+) -> Option<Changes>
     requires { IsRow setup.now.products own.demands.now }
 {
     assert!(rt; own.round >= 2);
     assert!(rt; rise(prices));
     assert!(rt; are_prices(setup, prices));
-    let Some(bids) = bids else {
-        return Ok(changes_of(alloc, setup, prices, own, 0, None)?);
-    };
-    let sheet = check_sheet(alloc, setup, prices, own, bids)?;
-    Ok(changes_of(alloc, setup, prices, own, 0, Some(&sheet))?)
+    match bids {
+        Some(bids) => asked_with(alloc, setup, prices, own, bids),
+        None => changes_of(alloc, setup, prices, own, 0, None).ok(),
+    }
 }
 
 /// The same of what it holds in the second round.
@@ -124,12 +143,7 @@ fn asked_in(
     let Ok(row) = row_of(rt, alloc, setup, round.2) else {
         return None;
     };
-    asked(rt, alloc, setup, &prices, held(round.1, &row), bids).ok()
-}
-
-/// The bids of a sheet, where it is put.
-fn sheet_of(bids: &[Bid], is_put: bool) -> Option<&[Bid]> {
-    if is_put { Some(bids) } else { None }
+    asked(rt, alloc, setup, &prices, held(round.1, &row), bids)
 }
 
 /// The same in the auction of a set-up document, by offers.
@@ -139,7 +153,7 @@ fn asked_by(
     round: &Round,
     offers: Option<&[Offer]>,
 ) -> Option<Changes> {
-    let bids = list_of(alloc, offers.unwrap_or(&[]), bid_of).ok()?;
+    let bids = list_of(alloc, offers.unwrap_or(&[]), bid_of)?;
     let setup = read_setup(alloc, round.0.as_bytes()).ok()?;
     let sheet = sheet_of(bids.as_slice(), offers.is_some());
     let changes = asked_in(rt, alloc, &setup, round, sheet);
@@ -243,17 +257,23 @@ const CHAIN: [Bid; 2] = [
 ];
 
 /// The demands that bids ask for.
-fn demands_of(rt: &impl Abort, alloc: Global, bids: &[Bid]) -> Result<Amounts, Fail> {
-    let setup = read_setup(alloc, TWO_PRODUCTS.as_bytes())?;
+fn demands_of(rt: &impl Abort, alloc: Global, bids: &[Bid]) -> Option<Amounts> {
+    let setup = read_setup(alloc, TWO_PRODUCTS.as_bytes()).ok()?;
     assert!(rt; are_known(&setup, bids));
     let demands = asked_demands(alloc, &setup, bids);
     drop(setup);
-    Ok(demands?)
+    demands.ok()
+}
+
+/// Bids ask for demands.
+fn ask_for(rt: &impl Abort, alloc: Global, bids: &[Bid], expected: &[u64]) -> Option<()> {
+    let demands = demands_of(rt, alloc, bids)?;
+    assert_is(rt, demands.as_slice(), expected);
+    Some(())
 }
 
 #[test]
-fn the_last_quantity_is_the_demand_asked_for(rt: HostRuntime) -> Result<(), Fail> {
-    let demands = demands_of(&rt, rt.alloc(), &CHAIN)?;
-    assert_is(&rt, demands.as_slice(), [0, 2].as_slice());
-    Ok(())
+fn the_last_quantity_is_the_demand_asked_for(rt: HostRuntime) {
+    let asked = ask_for(&rt, rt.alloc(), &CHAIN, &[0, 2]);
+    assert_is(&rt, asked, Some(()));
 }

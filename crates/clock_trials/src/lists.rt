@@ -111,11 +111,10 @@ fn read_list(list: &Items<u64>) -> (usize, bool, Option<u64>, u64) {
 }
 
 #[test]
-fn a_list_is_read_as_a_slice(rt: HostRuntime) -> Result<(), NoMemory> {
-    let list = in_room(rt.alloc())?;
-    assert_is(&rt, read_list(&list), (3, false, Some(4), 12));
+fn a_list_is_read_as_a_slice(rt: HostRuntime) {
+    let read = in_room(rt.alloc()).map(|list| read_list(&list));
+    assert_is(&rt, read, Ok((3, false, Some(4), 12)));
     assert_is(&rt, read_list(&Items::new(rt.alloc())), (0, true, None, 0));
-    Ok(())
 }
 
 /// A read of so many bytes at most into four: its answer, and the four bytes then.
@@ -154,16 +153,30 @@ fn a_list_source_gives_its_bytes_in_pieces(rt: HostRuntime) {
     gives(&rt, &mut ListSource::new(b"hello", 2, None), IN_PIECES);
 }
 
+/// Reads of `hello` of which the second is interrupted, or fails.
+const INTERRUPTED: &[Given<'static>] = &[
+    (4, Ok(4), b"hell"),
+    (4, Err(Stop::Interrupted), b"hell"),
+    (4, Ok(1), b"oell"),
+];
+
+const FAILED: &[Given<'static>] = &[
+    (4, Ok(4), b"hell"),
+    (4, Err(Stop::Failed), b"hell"),
+    (4, Ok(1), b"oell"),
+];
+
+/// How the second read stops, and the reads.
+const STOPPED: &[(Stop, &[Given])] = &[(Stop::Interrupted, INTERRUPTED), (Stop::Failed, FAILED)];
+
 #[test]
 fn a_list_source_stops_at_one_read(rt: HostRuntime) {
-    for stop in [Stop::Interrupted, Stop::Failed] {
-        let mut source = ListSource::new(b"hello", 4, Some((1, stop)));
-        let reads: [Given; 3] = [
-            (4, Ok(4), b"hell"),
-            (4, Err(stop), b"hell"),
-            (4, Ok(1), b"oell"),
-        ];
-        gives(&rt, &mut source, &reads);
+    for &(stop, reads) in STOPPED {
+        gives(
+            &rt,
+            &mut ListSource::new(b"hello", 4, Some((1, stop))),
+            reads,
+        );
     }
 }
 
@@ -175,57 +188,30 @@ const UNTIL_FULL: &[Taken<'static>] = &[
     (b"lo", Err(Failed)),
 ];
 
-#[test]
-fn a_list_sink_takes_pieces_until_it_is_full(rt: HostRuntime) -> Result<(), NoMemory> {
-    let mut sink = ListSink::new(rt.alloc(), 3, 2, None)?;
-    takes(&rt, &mut sink, UNTIL_FULL);
-    assert_is(&rt, sink.bytes(), b"hel".as_slice());
-    Ok(())
-}
-
-#[test]
-fn a_list_sink_fails_at_one_write(rt: HostRuntime) -> Result<(), NoMemory> {
-    let mut sink = ListSink::new(rt.alloc(), 8, 8, Some(0))?;
-    takes(
-        &rt,
-        &mut sink,
-        &[(b"hello", Err(Failed)), (b"hello", Ok(5))],
-    );
-    assert_is(&rt, sink.bytes(), b"hello".as_slice());
-    Ok(())
-}
-
-/// A reader that is interrupted at first, then gives a byte, and then fails.
-#[derive(Drop)]
-struct Flaky {
-    reads: u8,
-}
-
-impl Read for Flaky {
-    fn read(&mut self, buffer: &mut [u8]) -> io::Result<usize> {
-        let read = self.reads;
-        self.reads = read.saturating_add(1);
-        match (read, buffer.first_mut()) {
-            (0, _) => Err(io::Error::from(ErrorKind::Interrupted)),
-            (1, Some(byte)) => {
-                *byte = b'x';
-                Ok(1)
-            }
-            _ => Err(io::Error::from(ErrorKind::Other)),
+/// Asserts what the writes to a list's sink are answered, and what it has then.
+fn comes_to(rt: &impl Abort, sink: Result<ListSink, NoMemory>, writes: &[Taken], expected: &[u8]) {
+    match sink {
+        Ok(mut sink) => {
+            takes(rt, &mut sink, writes);
+            assert_is(rt, sink.bytes(), expected);
         }
+        Err(_) => assert_is(rt, b"no sink".as_slice(), expected),
     }
 }
 
-/// Reads of the flaky reader.
-const FLAKY: &[Given<'static>] = &[
-    (2, Err(Stop::Interrupted), b"----"),
-    (2, Ok(1), b"x---"),
-    (2, Err(Stop::Failed), b"x---"),
-];
+#[test]
+fn a_list_sink_takes_pieces_until_it_is_full(rt: HostRuntime) {
+    let sink = ListSink::new(rt.alloc(), 3, 2, None);
+    comes_to(&rt, sink, UNTIL_FULL, b"hel");
+}
+
+/// Writes of which the first fails.
+const AFTER_ONE: &[Taken<'static>] = &[(b"hello", Err(Failed)), (b"hello", Ok(5))];
 
 #[test]
-fn a_reader_is_interrupted_or_fails(rt: HostRuntime) {
-    gives(&rt, &mut FromReader::new(Flaky { reads: 0 }), FLAKY);
+fn a_list_sink_fails_at_one_write(rt: HostRuntime) {
+    let sink = ListSink::new(rt.alloc(), 8, 8, Some(0));
+    comes_to(&rt, sink, AFTER_ONE, b"hello");
 }
 
 /// A reader and a writer that tell how many calls they have had: by the byte that a read gives,
@@ -233,16 +219,27 @@ fn a_reader_is_interrupted_or_fails(rt: HostRuntime) {
 #[derive(Drop)]
 struct Counter {
     calls: u8,
+    /// Whether the first read is interrupted and the third fails.
+    is_flaky: bool,
+}
+
+/// One that has had no calls.
+fn counting(is_flaky: bool) -> Counter {
+    Counter { calls: 0, is_flaky }
 }
 
 impl Read for Counter {
     fn read(&mut self, buffer: &mut [u8]) -> io::Result<usize> {
         self.calls = self.calls.saturating_add(1);
-        if buffer.is_empty() {
-            return Ok(0);
+        match (self.is_flaky, self.calls, buffer.first_mut()) {
+            (true, 1, _) => Err(io::Error::from(ErrorKind::Interrupted)),
+            (true, 3, _) => Err(io::Error::from(ErrorKind::Other)),
+            (_, calls, Some(byte)) => {
+                *byte = calls;
+                Ok(1)
+            }
+            _ => Ok(0),
         }
-        buffer[0] = self.calls;
-        Ok(1)
     }
 }
 
@@ -257,24 +254,48 @@ impl Write for Counter {
     }
 }
 
+/// Reads of the flaky reader.
+const FLAKY: &[Given<'static>] = &[
+    (2, Err(Stop::Interrupted), b"----"),
+    (2, Ok(1), b"\x02---"),
+    (2, Err(Stop::Failed), b"\x02---"),
+];
+
+#[test]
+fn a_reader_is_interrupted_or_fails(rt: HostRuntime) {
+    gives(&rt, &mut FromReader::new(counting(true)), FLAKY);
+}
+
+/// How many bytes each call of the writer below takes, and the byte that a call of the reader gives.
+const CALLS: &[(usize, &[u8])] = &[
+    (1, b"\x01---"),
+    (2, b"\x02---"),
+    (3, b"\x03---"),
+    (4, b"\x04---"),
+    (5, b"\x05---"),
+    (6, b"\x06---"),
+    (7, b"\x07---"),
+    (8, b"\x08---"),
+];
+
 #[test]
 fn each_call_is_one_call_of_the_reader_or_writer_below(rt: HostRuntime) {
-    let mut source = FromReader::new(Counter { calls: 0 });
-    let mut sink = ToWriter::new(Counter { calls: 0 });
-    for call in 1..=8u8 {
-        gives(&rt, &mut source, &[(1, Ok(1), &[call, b'-', b'-', b'-'])]);
-        takes(&rt, &mut sink, &[(b"12345678", Ok(usize::from(call)))]);
+    let mut source = FromReader::new(counting(false));
+    let mut sink = ToWriter::new(counting(false));
+    for &(count, bytes) in CALLS {
+        gives(&rt, &mut source, &[(1, Ok(1), bytes)]);
+        takes(&rt, &mut sink, &[(b"12345678", Ok(count))]);
     }
 }
 
+/// Reads of `hi`.
+const HI: &[Given<'static>] = &[(3, Ok(2), b"hi--"), (3, Ok(0), b"hi--")];
+
+/// Writes to a vector.
+const TO_VECTOR: &[Taken<'static>] = &[(b"hi", Ok(2)), (b"", Err(Failed))];
+
 #[test]
 fn a_slice_is_read_and_a_vector_written(rt: HostRuntime) {
-    let mut source = FromReader::new(b"hi".as_slice());
-    gives(
-        &rt,
-        &mut source,
-        &[(3, Ok(2), b"hi--"), (3, Ok(0), b"hi--")],
-    );
-    let mut sink = ToWriter::new(Vec::new(rt.alloc()));
-    takes(&rt, &mut sink, &[(b"hi", Ok(2)), (b"", Err(Failed))]);
+    gives(&rt, &mut FromReader::new(b"hi".as_slice()), HI);
+    takes(&rt, &mut ToWriter::new(Vec::new(rt.alloc())), TO_VECTOR);
 }

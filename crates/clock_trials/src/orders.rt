@@ -46,7 +46,7 @@ fn both(alloc: Global, first: &Change, second: &Change) -> Result<Changes, NoMem
 
 /// The tie numbers of a list, in the auction of a set-up document, or their fault.
 fn ties_of(alloc: Global, document: &str, draws: &[Draw]) -> Option<Result<Ties, TieFault>> {
-    let draws = list_of(alloc, draws, tie_of).ok()?;
+    let draws = list_of(alloc, draws, tie_of)?;
     let setup = read_setup(alloc, document.as_bytes()).ok()?;
     let ties = Ties::new(alloc, &setup, draws.as_slice());
     drop(setup);

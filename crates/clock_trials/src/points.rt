@@ -3,7 +3,6 @@
 use crate::comparing::assert_is;
 use clock_money::Point;
 use std::cmp::Ordering;
-use std::test::Fail;
 
 #[test]
 fn a_price_outside_has_no_point(rt: HostRuntime) {

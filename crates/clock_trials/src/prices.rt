@@ -2,7 +2,6 @@
 
 use crate::comparing::assert_is;
 use clock_money::{LEAST_INCREMENT, MOST_GRANULE, MOST_INCREMENT, Price, clock_price};
-use std::test::Fail;
 
 /// The dollars of a price, where there is one.
 fn dollars_of(price: Option<Price>) -> Option<u64> {

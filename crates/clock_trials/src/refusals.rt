@@ -1,5 +1,6 @@
 //! What a house refuses, and that a refusal changes nothing.
 
+use crate::auction::Rise::By;
 use crate::auction::Step::{
     Close, Hold, InForce, Lines, Put, PutEach, RefusedClose, RefusedPut, Stands,
 };
@@ -27,10 +28,10 @@ const IN_TURN: &[Play<'static>] = &[
         "nobody bids and the auction ends",
         ONE_PRODUCT,
         &[
-            Close(10, &[]),
+            Close(By(10), &[]),
             Lines(1, b"round 1\nA 100 100 100 - -\n"),
             Hold(&[0, 0], &[0, 0]),
-            RefusedClose(1, 10, &[], CloseFault::Ended),
+            RefusedClose(1, By(10), &[], CloseFault::Ended),
             RefusedPut(X, 1, &[], PutFault::Ended),
             Stands(1, true),
         ],
@@ -41,10 +42,10 @@ const IN_TURN: &[Play<'static>] = &[
         &[
             RefusedPut(X, 2, &[(0, 3, 100)], PutFault::WrongRound(1)),
             PutEach(&[(X, (0, 2, 100)), (Y, (0, 1, 100))]),
-            Close(10, &[]),
+            Close(By(10), &[]),
             RefusedPut(X, 1, &[(0, 2, 110)], PutFault::WrongRound(2)),
             InForce(X, None),
-            RefusedClose(1, 10, &[], CloseFault::WrongRound(2)),
+            RefusedClose(1, By(10), &[], CloseFault::WrongRound(2)),
             Stands(2, false),
         ],
     ),
@@ -70,7 +71,7 @@ const AT_THE_LIMIT: &[Play<'static>] = &[
         AT_THE_HIGHEST,
         &[
             PutEach(&[(X, (0, 1, HIGHEST)), (Y, (0, 1, HIGHEST))]),
-            Close(1, &[]),
+            Close(By(1), &[]),
             Lines(
                 1,
                 b"round 1\nA 1000000000000 1000000000000 1000000000000 - -\n",
@@ -85,7 +86,7 @@ const AT_THE_LIMIT: &[Play<'static>] = &[
         AT_THE_HIGHEST,
         &[
             MORE_AT_HIGHEST,
-            RefusedClose(1, 1, &[], CloseFault::PriceLimit(0)),
+            RefusedClose(1, By(1), &[], CloseFault::PriceLimit(0)),
             Stands(1, false),
             InForce(X, Some(&[(0, 2, HIGHEST)])),
             InForce(Y, Some(&[(0, 1, HIGHEST)])),
@@ -96,9 +97,9 @@ const AT_THE_LIMIT: &[Play<'static>] = &[
         BELOW_THE_HIGHEST,
         &[
             PutEach(&[(X, (0, 2, HIGH)), (Y, (0, 1, HIGH))]),
-            Close(1, &[]),
+            Close(By(1), &[]),
             PutEach(&[(X, (0, 2, HIGHER)), (Y, (0, 1, HIGHER))]),
-            RefusedClose(2, 1, &[], CloseFault::PriceLimit(0)),
+            RefusedClose(2, By(1), &[], CloseFault::PriceLimit(0)),
             Stands(2, false),
             InForce(X, Some(&[(0, 2, HIGHER)])),
         ],
@@ -108,17 +109,17 @@ const AT_THE_LIMIT: &[Play<'static>] = &[
         AT_THE_HIGHEST,
         &[
             MORE_AT_HIGHEST,
-            RefusedClose(2, 0, &[(0, 1, 5)], CloseFault::WrongRound(1)),
-            RefusedClose(1, 0, &[(0, 1, 5)], CloseFault::Increment),
-            RefusedClose(1, 51, &[(0, 1, 5)], CloseFault::Increment),
-            RefusedClose(1, 1, &[(0, 1, 5)], CloseFault::Tie(TieFault::Range(0))),
+            RefusedClose(2, By(0), &[(0, 1, 5)], CloseFault::WrongRound(1)),
+            RefusedClose(1, By(0), &[(0, 1, 5)], CloseFault::Increment),
+            RefusedClose(1, By(51), &[(0, 1, 5)], CloseFault::Increment),
+            RefusedClose(1, By(1), &[(0, 1, 5)], CloseFault::Tie(TieFault::Range(0))),
             RefusedClose(
                 1,
-                1,
+                By(1),
                 &[(0, 0, 1), (0, 0, 2)],
                 CloseFault::Tie(TieFault::Repeated(1)),
             ),
-            RefusedClose(1, 1, &[], CloseFault::PriceLimit(0)),
+            RefusedClose(1, By(1), &[], CloseFault::PriceLimit(0)),
         ],
     ),
 ];

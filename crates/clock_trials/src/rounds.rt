@@ -1,7 +1,8 @@
 //! Whole rounds: what is applied, what is posted, and what each bidder is left with.
 
+use crate::auction::Rise::{By, Each};
 use crate::auction::Step::{
-    Close, CloseEach, Hold, Lines, Put, PutEach, RefusedCloseEach, RefusedPut, Slip, Stands,
+    Close, Hold, Lines, Put, PutEach, RefusedClose, RefusedPut, Slip, Stands,
 };
 use crate::auction::{Play, Step, X, Y, Z, play_all};
 use crate::documents::{NO_HIGHER_LIMIT, SEVEN_BLOCKS};
@@ -15,14 +16,50 @@ const SECOND: u32 = 1;
 /// A sheet asks for more activity than it may.
 const OVER: PutFault = PutFault::Bid(BidFault::OverActivity);
 
-/// X asks for 2 blocks and Y for 1 of a supply of 2, so that there is a second round.
-const THREE_OF_TWO: Step<'static> = PutEach(&[(X, (0, 2, 100)), (Y, (0, 1, 100))]);
+/// In a first round X asks for 2 blocks and Y for 1 of a supply of 2, so that there is a second.
+const FIRST: Step<'static> = PutEach(&[(X, (0, 2, 100)), (Y, (0, 1, 100))]);
 
-/// What is posted then.
+const CLOSE: Step<'static> = Close(By(10), &[]);
+
 const POSTED: Step<'static> = Lines(1, b"round 1\nA 100 100 100 3 110\n");
 
-/// X and Y give up a block at the same point.
-const AT_ONE_POINT: Step<'static> = PutEach(&[(X, (0, 1, 104)), (Y, (0, 0, 104))]);
+/// In the second X drops both; or Y keeps its one too; or both give up a block at the same point.
+const X_DROPS: Step<'static> = Put(X, &[(0, 0, 103)]);
+
+const Y_KEEPS: Step<'static> = PutEach(&[(X, (0, 0, 103)), (Y, (0, 1, 110))]);
+
+const BOTH: Step<'static> = PutEach(&[(X, (0, 1, 104)), (Y, (0, 0, 104))]);
+
+/// Y has the lower tie number.
+const Y_FIRST: Step<'static> = Close(By(10), &[(0, 0, 9), (1, 0, 3)]);
+
+/// What is posted then.
+const AT_100: Step<'static> = Lines(2, b"round 2\nA 100 110 100 - -\n");
+
+const AT_103: Step<'static> = Lines(2, b"round 2\nA 100 110 103 - -\n");
+
+const AT_104: Step<'static> = Lines(2, b"round 2\nA 100 110 104 - -\n");
+
+/// X holds both blocks, or each holds one, and the auction has ended.
+const X_HOLDS: Step<'static> = Hold(&[3, 0], &[2, 0]);
+
+const ONE_EACH: Step<'static> = Hold(&[2, 2], &[1, 1]);
+
+const ENDED: Step<'static> = Stands(2, true);
+
+type Steps = &'static [Step<'static>];
+
+const NO_ROOM: Steps = &[FIRST, CLOSE, POSTED, X_DROPS, CLOSE, AT_100, X_HOLDS, ENDED];
+
+const IN_PART: Steps = &[
+    FIRST, CLOSE, POSTED, Y_KEEPS, CLOSE, AT_103, ONE_EACH, ENDED,
+];
+
+const BY_TIES: Steps = &[FIRST, CLOSE, POSTED, BOTH, Y_FIRST, AT_104, X_HOLDS, ENDED];
+
+const NO_TIES: Steps = &[FIRST, CLOSE, POSTED, BOTH, CLOSE, AT_104, ONE_EACH, ENDED];
+
+const NO_SHEETS: Steps = &[FIRST, CLOSE, POSTED, CLOSE, AT_100, ONE_EACH, ENDED];
 
 /// Rounds of an auction of one product.
 const OF_ONE_PRODUCT: &[Play<'static>] = &[
@@ -31,86 +68,22 @@ const OF_ONE_PRODUCT: &[Play<'static>] = &[
         ONE_PRODUCT,
         &[
             PutEach(&[(X, (0, 1, 100)), (Y, (0, 1, 100))]),
-            Close(10, &[]),
+            Close(By(10), &[]),
             Lines(1, b"round 1\nA 100 100 100 - -\n"),
             Stands(1, true),
         ],
     ),
-    (
-        "a drop without room keeps the demand",
-        ONE_PRODUCT,
-        &[
-            THREE_OF_TWO,
-            Close(10, &[]),
-            POSTED,
-            Put(X, &[(0, 0, 103)]),
-            Close(10, &[]),
-            Lines(2, b"round 2\nA 100 110 100 - -\n"),
-            Hold(&[3, 0], &[2, 0]),
-            Stands(2, true),
-        ],
-    ),
-    (
-        "a drop is applied as far as there is excess",
-        ONE_PRODUCT,
-        &[
-            THREE_OF_TWO,
-            Close(10, &[]),
-            POSTED,
-            PutEach(&[(X, (0, 0, 103)), (Y, (0, 1, 110))]),
-            Close(10, &[]),
-            Lines(2, b"round 2\nA 100 110 103 - -\n"),
-            Hold(&[2, 2], &[1, 1]),
-            Stands(2, true),
-        ],
-    ),
-    (
-        "the lower tie number goes first at equal points",
-        ONE_PRODUCT,
-        &[
-            THREE_OF_TWO,
-            Close(10, &[]),
-            POSTED,
-            AT_ONE_POINT,
-            Close(10, &[(0, 0, 9), (1, 0, 3)]),
-            Lines(2, b"round 2\nA 100 110 104 - -\n"),
-            Hold(&[3, 0], &[2, 0]),
-            Stands(2, true),
-        ],
-    ),
-    (
-        "the lower bidder goes first without tie numbers",
-        ONE_PRODUCT,
-        &[
-            THREE_OF_TWO,
-            Close(10, &[]),
-            POSTED,
-            AT_ONE_POINT,
-            Close(10, &[]),
-            Lines(2, b"round 2\nA 100 110 104 - -\n"),
-            Hold(&[2, 2], &[1, 1]),
-            Stands(2, true),
-        ],
-    ),
-    (
-        "missing sheets drop at the start price",
-        ONE_PRODUCT,
-        &[
-            THREE_OF_TWO,
-            Close(10, &[]),
-            POSTED,
-            Close(10, &[]),
-            Lines(2, b"round 2\nA 100 110 100 - -\n"),
-            Hold(&[2, 2], &[1, 1]),
-            Stands(2, true),
-        ],
-    ),
+    ("a drop without room keeps the demand", ONE_PRODUCT, NO_ROOM),
+    ("a drop is applied as far as it may", ONE_PRODUCT, IN_PART),
+    ("a lower tie number goes first", ONE_PRODUCT, BY_TIES),
+    ("a lower bidder goes first without", ONE_PRODUCT, NO_TIES),
+    ("missing sheets drop at the start", ONE_PRODUCT, NO_SHEETS),
     (
         "a slip tells a bidder its own results",
         ONE_PRODUCT,
         &[
             Put(X, &[(0, 2, 100)]),
-            Close(10, &[]),
+            Close(By(10), &[]),
             Slip(X, 1, 2, 3, &[2]),
             Slip(Y, 1, 0, 0, &[0]),
             Stands(1, true),
@@ -128,12 +101,12 @@ const OF_TWO_PRODUCTS: &[Play<'static>] = &[
         TWO_PRODUCTS,
         &[
             MORE_OF_B,
-            Close(10, &[]),
+            Close(By(10), &[]),
             Lines(1, b"round 1\nA 100 100 100 - 110\nB 100 100 100 3 110\n"),
             Put(Y, &[(0, 1, 102)]),
             Put(X, &[(0, 1, 104), (1, 1, 106)]),
             Put(Z, &[(1, 1, 110)]),
-            Close(10, &[]),
+            Close(By(10), &[]),
             Lines(2, b"round 2\nA 100 110 102 - -\nB 100 110 106 - -\n"),
             Hold(&[2, 1, 1], &[1, 1, 1, 0, 0, 1]),
             Stands(2, true),
@@ -144,9 +117,9 @@ const OF_TWO_PRODUCTS: &[Play<'static>] = &[
         GRANULES_AND_INCREMENTS,
         &[
             MORE_OF_B,
-            RefusedCloseEach(&[10], CloseFault::Increment),
-            RefusedCloseEach(&[10, 51], CloseFault::Increment),
-            CloseEach(&[10, 20]),
+            RefusedClose(1, Each(&[10]), &[], CloseFault::Increment),
+            RefusedClose(1, Each(&[10, 51]), &[], CloseFault::Increment),
+            Close(Each(&[10, 20]), &[]),
             Lines(1, b"round 1\nA 100 100 100 - 125\nB 100 100 100 3 120\n"),
             Stands(2, false),
         ],
@@ -157,12 +130,12 @@ const OF_TWO_PRODUCTS: &[Play<'static>] = &[
         &[
             RefusedPut(X, 1, &[(0, 4, 100), (1, 1, 100)], OVER),
             PutEach(&[(X, (0, 4, 100)), (SECOND, (0, 4, 100))]),
-            CloseEach(&[10, 10]),
+            Close(Each(&[10, 10]), &[]),
             Lines(1, b"round 1\nA 100 100 100 8 110\nB 100 100 100 - 110\n"),
             RefusedPut(X, 2, &[(0, 3, 104), (1, 3, 106)], OVER),
             Put(X, &[(0, 3, 104), (1, 2, 106)]),
             Put(SECOND, &[(0, 4, 110)]),
-            CloseEach(&[10, 10]),
+            Close(Each(&[10, 10]), &[]),
             Lines(2, b"round 2\nA 100 110 110 7 121\nB 100 110 100 - 110\n"),
             Slip(X, 2, 8, 8, &[3, 1]),
         ],
@@ -173,7 +146,7 @@ const OF_TWO_PRODUCTS: &[Play<'static>] = &[
         &[
             Put(X, &[(0, 7, 100), (1, 3, 100)]),
             Put(SECOND, &[(0, 1, 100)]),
-            Close(10, &[]),
+            Close(By(10), &[]),
             RefusedPut(X, 2, &[(0, 7, 110), (1, 6, 110)], OVER),
             Put(X, &[(0, 7, 110), (1, 5, 110)]),
         ],
@@ -183,7 +156,7 @@ const OF_TWO_PRODUCTS: &[Play<'static>] = &[
         NO_HIGHER_LIMIT,
         &[
             PutEach(&[(X, (0, 4, 100)), (SECOND, (0, 4, 100))]),
-            CloseEach(&[10, 10]),
+            Close(Each(&[10, 10]), &[]),
             RefusedPut(X, 2, &[(0, 3, 104), (1, 2, 106)], OVER),
         ],
     ),
@@ -192,9 +165,9 @@ const OF_TWO_PRODUCTS: &[Play<'static>] = &[
         TWO_PRODUCTS,
         &[
             PutEach(&[(X, (1, 2, 100)), (Y, (0, 1, 100)), (Z, (1, 1, 100))]),
-            Close(10, &[]),
+            Close(By(10), &[]),
             PutEach(&[(X, (1, 2, 110)), (Z, (1, 1, 110))]),
-            Close(10, &[]),
+            Close(By(10), &[]),
             Lines(2, b"round 2\nA 100 110 100 - 110\nB 100 110 110 3 121\n"),
             Hold(&[2, 1, 1], &[0, 2, 1, 0, 0, 1]),
             Stands(3, false),

@@ -1,43 +1,59 @@
 use crate::comparing::assert_is_at;
-use clock_json::{Scan, ScanStop, is_blank};
+use clock_json::{FlatRows, Scan, ScanStop, is_blank};
 use std::alloc::Global;
+
+/// A sum, and more numbers.
+fn with_numbers(sum: u64, numbers: &[u64]) -> u64 {
+    let mut sum = sum;
+    for number in numbers {
+        sum = sum.wrapping_add(*number);
+    }
+    sum
+}
+
+/// The sum of the numbers of all rows.
+fn sum_of(alloc: Global, rows: &FlatRows) -> Option<u64> {
+    let mut row = Vec::new(alloc);
+    let mut sum = 0u64;
+    for place in 0..rows.count() {
+        rows.read_row(place, &mut row).ok()?;
+        sum = with_numbers(sum, row.as_slice());
+    }
+    Some(sum)
+}
 
 /// The number of the rows, the sum of their numbers, and whether the rows have three numbers each; or 9 and what
 /// stopped the reading.
 fn flat_rows_of(alloc: Global, text: &[u8]) -> (usize, u64, bool) {
-    let mut scan = Scan::new(text);
-    match scan.flat_rows(alloc) {
-        Ok(rows) => {
-            let (count, wide) = (rows.count(), rows.has_lengths(3));
-            let mut sum = 0u64;
-            let mut row = Vec::new(alloc);
-            for place in 0..count {
-                if rows.read_row(place, &mut row).is_err() {
-                    return (9, 1, false);
-                }
-                for number in row.as_slice() {
-                    sum = sum.wrapping_add(*number);
-                }
-            }
-            (count, sum, wide)
-        }
+    match Scan::new(text).flat_rows(alloc) {
+        Ok(rows) => match sum_of(alloc, &rows) {
+            Some(sum) => (rows.count(), sum, rows.has_lengths(3)),
+            None => (9, 1, false),
+        },
         Err(ScanStop::Unusual) => (9, 0, false),
         Err(ScanStop::NoMemory) => (9, 1, false),
     }
 }
 
-/// How long the key and the text of an object with one member are, where it is the whole text.
-fn member_of(text: &[u8]) -> Option<(usize, usize)> {
-    let mut scan = Scan::new(text);
+/// How long the key and the text of an object with one member are, where it comes next.
+fn next_member(scan: &mut Scan<'_>) -> Option<(usize, usize)> {
     if !scan.opens_object() {
         return None;
     }
     let key = scan.key().ok()?.len();
     let value = scan.text().ok()?.len();
-    if !scan.closes_object() || !scan.ends() {
-        return None;
+    if scan.closes_object() {
+        Some((key, value))
+    } else {
+        None
     }
-    Some((key, value))
+}
+
+/// The same where it is the whole text.
+fn member_of(text: &[u8]) -> Option<(usize, usize)> {
+    let mut scan = Scan::new(text);
+    let member = next_member(&mut scan);
+    if scan.ends() { member } else { None }
 }
 
 /// Texts, and what their rows come to.

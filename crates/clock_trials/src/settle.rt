@@ -11,7 +11,7 @@ use crate::comparing::assert_is;
 use clock_device::NoMemory;
 use clock_money::Point;
 use clock_processor::{Board, Processor, Settled};
-use clock_setup::{Amounts, Grid, Product, Setup, read_setup};
+use clock_setup::{Amounts, Grid, Product, Setup};
 use clock_terms::{Change, Changes, Kind, Row};
 use std::alloc::Global;
 use std::process::Abort;
@@ -236,32 +236,20 @@ fn compare(
     Ok(settled.tests())
 }
 
-/// Settles requests after first ones, and asserts what they come to.
-fn settles_to<P: Processor>(
-    rt: &impl Abort,
-    alloc: Global,
-    processor: &P,
-    setup: &Setup,
-    requests: (&[Asked], &[Asked]),
-    end: End,
-) -> Result<u64, Fail> {
-    let settled = settle_from_none(alloc, processor, setup, requests)?;
-    let tests = compare(rt, alloc, &settled, setup.bidders.as_slice().len(), end);
-    drop(settled);
-    Ok(tests?)
-}
+/// First requests and others after them, and what these come to.
+pub type Case<'a> = (&'a [Asked], &'a [Asked], End<'a>);
 
-/// The same in the auction of a set-up document.
+/// Settles requests after first ones, and asserts what they come to. The answer is how often a room was looked at.
 pub fn settle_twice<P: Processor>(
     rt: &impl Abort,
     alloc: Global,
     processor: &P,
-    document: &str,
-    requests: (&[Asked], &[Asked]),
-    end: End,
+    setup: &Setup,
+    case: Case,
 ) -> Result<u64, Fail> {
-    let setup = read_setup(alloc, document.as_bytes())?;
-    let tests = settles_to(rt, alloc, processor, &setup, requests, end);
-    drop(setup);
-    tests
+    let (first, second, end) = case;
+    let settled = settle_from_none(alloc, processor, setup, (first, second))?;
+    let tests = compare(rt, alloc, &settled, setup.bidders.as_slice().len(), end);
+    drop(settled);
+    Ok(tests?)
 }

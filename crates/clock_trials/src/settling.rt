@@ -1,10 +1,11 @@
 //! Settlings: what requests come to, with the rescanned list and with the event queue.
 
 use crate::comparing::{assert_is, assert_is_at};
-use crate::settle::{Asked, End, settle_twice};
+use crate::settle::{Asked, Case, End, settle_twice};
 use clock_processor::Plain;
 use clock_queue::Woken;
 use clock_setup::fixtures::TWO_PRODUCTS;
+use clock_setup::{Setup, read_setup};
 use clock_terms::Kind;
 use std::alloc::{AllocError, Global};
 use std::process::Abort;
@@ -27,17 +28,19 @@ const Z_DROPS_B: Asked = (Kind::Reduction, 2, 1, 1, 100);
 
 const X_DROPS_B: Asked = (Kind::Reduction, 0, 1, 2, 106);
 
-/// Settles requests after first ones with both processors, and asserts what they come to. The answer is how often the
-/// event queue looked at a room.
-fn settles(
-    rt: &impl Abort,
-    alloc: Global,
-    document: &str,
-    requests: (&[Asked], &[Asked]),
-    end: End,
-) -> Result<u64, Fail> {
-    settle_twice(rt, alloc, &Plain, document, requests, end)?;
-    settle_twice(rt, alloc, &Woken, document, requests, end)
+/// Settles the requests of a case with both processors, and asserts what they come to. The answer is how often the event
+/// queue looked at a room.
+fn settles(rt: &impl Abort, alloc: Global, setup: &Setup, case: Case) -> Result<u64, Fail> {
+    settle_twice(rt, alloc, &Plain, setup, case)?;
+    settle_twice(rt, alloc, &Woken, setup, case)
+}
+
+/// The same in the auction of a set-up document.
+fn settles_in(rt: &impl Abort, alloc: Global, document: &str, case: Case) -> Result<u64, Fail> {
+    let setup = read_setup(alloc, document.as_bytes())?;
+    let tests = settles(rt, alloc, &setup, case);
+    drop(setup);
+    tests
 }
 
 /// What requests after the first ones on the two products show and come to, and how often the event queue looks at a
@@ -72,7 +75,7 @@ const AFTER_FIRST: &[(&str, &[Asked], End<'static>, u64)] = &[
 #[test]
 fn requests_come_to_their_ends(rt: HostRuntime) -> Result<(), Fail> {
     for &(shows, requests, end, most) in AFTER_FIRST {
-        let tests = settles(&rt, rt.alloc(), TWO_PRODUCTS, (&FIRST, requests), end)?;
+        let tests = settles_in(&rt, rt.alloc(), TWO_PRODUCTS, (&FIRST, requests, end))?;
         assert_is_at(&rt, shows, tests <= most, true);
     }
     Ok(())
@@ -124,12 +127,11 @@ fn each_keeps_a_block(rt: &impl Abort, alloc: Global, document: &str) -> Result<
     let given = of_each(alloc, Kind::Reduction)?;
     let ones = ones(alloc, 100)?;
     let end: End = (ones.as_slice(), ones.as_slice(), 0);
-    settles(
+    settles_in(
         rt,
         alloc,
         document,
-        (taken.as_slice(), given.as_slice()),
-        end,
+        (taken.as_slice(), given.as_slice(), end),
     )
 }
 

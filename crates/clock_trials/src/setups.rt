@@ -1,4 +1,5 @@
 use crate::comparing::{assert_is, assert_is_at};
+use clock_setup::OpeningFault::{Activity, Demand};
 use clock_setup::Place::{
     BidderName, Cap, Eligibility, Granule, Limit, Name, Opening, Operator, Requirement, Supply,
     Token, Units,
@@ -275,6 +276,8 @@ const WEAK: &str = r#"{"version":1,"requirement":95,"operator":"OPERATOROPERATOR
 /// A set-up of no version.
 const NO_VERSION: &str = r#"{"version":3}"#;
 
+const BAD_VERSION: OpeningFault = OpeningFault::Setup(SetupFault::Version);
+
 /// The demands, the increment and the set-up of an opening, and what is read of it.
 const OPENINGS: &[(&str, &str, &str, Opened)] = &[
     ("[[2],[1]]", "10", ONE_PRODUCT, Ok((3, 10))),
@@ -289,31 +292,16 @@ const OPENINGS: &[(&str, &str, &str, Opened)] = &[
     ("[[1],\"1\"]", "10", ONE_PRODUCT, Err(OpeningFault::Shape)),
     ("[[1]]", "51", ONE_PRODUCT, Err(OpeningFault::Shape)),
     ("[[3],[1,1]]", "10", ONE_PRODUCT, Err(OpeningFault::Shape)),
-    (
-        "[[3],[1]]",
-        "10",
-        ONE_PRODUCT,
-        Err(OpeningFault::Demand(0, 0)),
-    ),
-    (
-        "[[2],[3]]",
-        "51",
-        ONE_PRODUCT,
-        Err(OpeningFault::Demand(1, 0)),
-    ),
+    ("[[3],[1]]", "10", ONE_PRODUCT, Err(Demand(0, 0))),
+    ("[[2],[3]]", "51", ONE_PRODUCT, Err(Demand(1, 0))),
     ("[[1],[1]]", "0", ONE_PRODUCT, Err(OpeningFault::Increment)),
     ("[[1],[1]]", "51", ONE_PRODUCT, Err(OpeningFault::Increment)),
     ("[[1],[1]]", "[10]", ONE_PRODUCT, Err(OpeningFault::Shape)),
-    (
-        "[]",
-        "0",
-        NO_VERSION,
-        Err(OpeningFault::Setup(SetupFault::Version)),
-    ),
+    ("[]", "0", NO_VERSION, Err(BAD_VERSION)),
     ("[7]", "0", NO_VERSION, Err(OpeningFault::Shape)),
-    ("[[3],[1]]", "10", WEAK, Err(OpeningFault::Demand(0, 0))),
-    ("[[2],[3]]", "10", WEAK, Err(OpeningFault::Activity(0))),
-    ("[[2],[1]]", "51", WEAK, Err(OpeningFault::Activity(0))),
+    ("[[3],[1]]", "10", WEAK, Err(Demand(0, 0))),
+    ("[[2],[3]]", "10", WEAK, Err(Activity(0))),
+    ("[[2],[1]]", "51", WEAK, Err(Activity(0))),
 ];
 
 #[test]

@@ -1,5 +1,6 @@
 //! What a sheet is refused for.
 
+use crate::auction::Rise::By;
 use crate::auction::Step::{Close, InForce, Put, PutEach, RefusedPut};
 use crate::auction::{Offer, Play, X, Y, Z, play_all};
 use clock_bids::BidFault;
@@ -37,7 +38,7 @@ const SHEETS: &[Play<'static>] = &[
         ONE_PRODUCT,
         &[
             PutEach(&[(X, (0, 2, 100)), (Y, (0, 1, 100))]),
-            Close(10, &[]),
+            Close(By(10), &[]),
             RefusedPut(
                 X,
                 2,

@@ -2,56 +2,78 @@
 
 use crate::comparing::assert_is_at;
 use clock_http::Code;
+use std::process::Abort;
 
-/// The status and reason of requests that are read and refused: nine codes of sheets, and then five of closings.
-const UNPROCESSABLE: (u16, &str) = (422, "Unprocessable Entity");
+/// A status and its reason, and the codes that have these, each with the text by which it stands in pages.
+type Status<'a> = (u16, &'a str, &'a [(Code, &'a str)]);
 
-/// Codes with their status and reason, and the text by which they stand in pages.
-const CODES: &[(Code, (u16, &str), &str)] = &[
-    (Code::Done, (200, "OK"), "done"),
-    (Code::BadHead, (400, "Bad Request"), "bad_head"),
-    (Code::BadLength, (400, "Bad Request"), "bad_length"),
-    (Code::CutShort, (400, "Bad Request"), "cut_short"),
-    (Code::BadJson, (400, "Bad Request"), "bad_json"),
-    (Code::Token, (401, "Unauthorized"), "token"),
-    (Code::Role, (403, "Forbidden"), "role"),
-    (Code::NoPage, (404, "Not Found"), "no_page"),
-    (Code::NoRound, (404, "Not Found"), "no_round"),
-    (Code::Method, (405, "Method Not Allowed"), "method"),
-    (Code::Ended, (409, "Conflict"), "ended"),
-    (Code::WrongRound, (409, "Conflict"), "wrong_round"),
-    (Code::LongBody, (413, "Payload Too Large"), "long_body"),
-    (Code::Shape, UNPROCESSABLE, "shape"),
-    (Code::TooMany, UNPROCESSABLE, "too_many"),
-    (Code::UnknownProduct, UNPROCESSABLE, "unknown_product"),
-    (Code::PriceRange, UNPROCESSABLE, "price_range"),
-    (Code::OverCap, UNPROCESSABLE, "over_cap"),
-    (Code::PriceOrder, UNPROCESSABLE, "price_order"),
-    (Code::MixedDirection, UNPROCESSABLE, "mixed_direction"),
-    (Code::KeepPrice, UNPROCESSABLE, "keep_price"),
-    (Code::OverActivity, UNPROCESSABLE, "over_activity"),
-    (Code::Increment, UNPROCESSABLE, "increment"),
-    (Code::TieRange, UNPROCESSABLE, "tie_range"),
-    (Code::TieRepeated, UNPROCESSABLE, "tie_repeated"),
-    (Code::TooManyTies, UNPROCESSABLE, "too_many_ties"),
-    (Code::PriceLimit, UNPROCESSABLE, "price_limit"),
-    (
-        Code::LongHead,
-        (431, "Request Header Fields Too Large"),
-        "long_head",
-    ),
-    (Code::Coding, (501, "Not Implemented"), "coding"),
-    (Code::Memory, (503, "Service Unavailable"), "memory"),
+const STATUSES: &[Status<'static>] = &[
+    (200, "OK", &[(Code::Done, "done")]),
+    (400, "Bad Request", BAD_REQUESTS),
+    (401, "Unauthorized", &[(Code::Token, "token")]),
+    (403, "Forbidden", &[(Code::Role, "role")]),
+    (404, "Not Found", NOT_FOUND),
+    (405, "Method Not Allowed", &[(Code::Method, "method")]),
+    (409, "Conflict", CONFLICTS),
+    (413, "Payload Too Large", &[(Code::LongBody, "long_body")]),
+    (422, "Unprocessable Entity", OF_SHEETS),
+    (422, "Unprocessable Entity", OF_CLOSINGS),
+    (422, "Unprocessable Entity", OF_TIES),
+    (431, "Request Header Fields Too Large", LONG_HEADS),
+    (501, "Not Implemented", &[(Code::Coding, "coding")]),
+    (503, "Service Unavailable", &[(Code::Memory, "memory")]),
 ];
 
-/// What a code has of these.
-fn parts_of(code: Code) -> ((u16, &'static str), &'static str) {
-    ((code.status(), code.reason()), code.text())
+const BAD_REQUESTS: &[(Code, &str)] = &[
+    (Code::BadHead, "bad_head"),
+    (Code::BadLength, "bad_length"),
+    (Code::CutShort, "cut_short"),
+    (Code::BadJson, "bad_json"),
+];
+
+const NOT_FOUND: &[(Code, &str)] = &[(Code::NoPage, "no_page"), (Code::NoRound, "no_round")];
+
+const CONFLICTS: &[(Code, &str)] = &[(Code::Ended, "ended"), (Code::WrongRound, "wrong_round")];
+
+const LONG_HEADS: &[(Code, &str)] = &[(Code::LongHead, "long_head")];
+
+/// Those of sheets that are read and refused.
+const OF_SHEETS: &[(Code, &str)] = &[
+    (Code::Shape, "shape"),
+    (Code::TooMany, "too_many"),
+    (Code::UnknownProduct, "unknown_product"),
+    (Code::PriceRange, "price_range"),
+    (Code::OverCap, "over_cap"),
+    (Code::PriceOrder, "price_order"),
+    (Code::MixedDirection, "mixed_direction"),
+    (Code::KeepPrice, "keep_price"),
+    (Code::OverActivity, "over_activity"),
+];
+
+/// Those of closings, and of their tie numbers.
+const OF_CLOSINGS: &[(Code, &str)] = &[
+    (Code::Increment, "increment"),
+    (Code::PriceLimit, "price_limit"),
+];
+
+const OF_TIES: &[(Code, &str)] = &[
+    (Code::TieRange, "tie_range"),
+    (Code::TieRepeated, "tie_repeated"),
+    (Code::TooManyTies, "too_many_ties"),
+];
+
+/// Codes have a status, its reason and their texts.
+fn have_status(rt: &impl Abort, row: &Status) {
+    let &(status, reason, codes) = row;
+    for &(code, text) in codes {
+        let told = (code.status(), code.reason(), code.text());
+        assert_is_at(rt, code, told, (status, reason, text));
+    }
 }
 
 #[test]
 fn a_code_has_its_status_its_reason_and_its_text(rt: HostRuntime) {
-    for &(code, status, text) in CODES {
-        assert_is_at(&rt, code, parts_of(code), (status, text));
+    for row in STATUSES {
+        have_status(&rt, row);
     }
 }

@@ -1,6 +1,7 @@
 //! What the pages show of an auction of one product, in which X drops two blocks in the second round
 //! and Y keeps one, so that X's drop is applied in part.
 
+use crate::auction::Rise::By;
 use crate::auction::Step::{Close, Put, PutEach, Reads};
 use crate::auction::{Play, Step, X, Y, play_all};
 use crate::views::Page;
@@ -16,7 +17,7 @@ const PAGES: &[Play<'static>] = &[
         ONE_PRODUCT,
         &[
             FIRST_SHEETS,
-            Close(10, &[]),
+            Close(By(10), &[]),
             Reads(
                 Page::Account,
                 r#"{"activity":2,"demands":[2],"eligibility":3,"ended":false,"name":"X","round":2}"#,
@@ -42,9 +43,9 @@ const PAGES: &[Play<'static>] = &[
         ONE_PRODUCT,
         &[
             FIRST_SHEETS,
-            Close(10, &[]),
+            Close(By(10), &[]),
             PutEach(&[(X, (0, 0, 103)), (Y, (0, 1, 110))]),
-            Close(10, &[]),
+            Close(By(10), &[]),
             Reads(
                 Page::Slip(2),
                 r#"{"activity":1,"demands":[1],"eligibility":2,"round":2}"#,
