@@ -1,8 +1,7 @@
 use clock_device::NoMemory;
 use clock_order::TieFault;
 use clock_posting::PostFault;
-use std::error::Error;
-use std::fmt::{self, Display, Formatter, Write};
+use thiserror::Error;
 
 // The cases are described above the enum: `rt plant` takes a comment above a case for its name, and
 // then tries no body of `close`.
@@ -15,30 +14,20 @@ use std::fmt::{self, Display, Formatter, Write};
 /// - `Tie`: the tie numbers have this fault.
 /// - `PriceLimit`: the next clock price of this product would be above the highest price.
 /// - `NoMemory`: there was no memory.
-#[derive(Clone, Copy, Debug, PartialEq, Eq)]
+#[derive(Clone, Copy, Debug, PartialEq, Eq, Error)]
 pub enum CloseFault {
+    #[error("the auction has ended")]
     Ended,
+    #[error("not the current round")]
     WrongRound(u64),
+    #[error("increment out of range")]
     Increment,
+    #[error("the tie numbers have a fault")]
     Tie(TieFault),
+    #[error("a next clock price is too high")]
     PriceLimit(u64),
+    #[error("out of memory")]
     NoMemory,
-}
-
-impl Error for CloseFault {}
-
-// By hand: the derived one formats each text for itself, and takes three times as long to prove.
-impl Display for CloseFault {
-    fn fmt<W: Write>(&self, f: &mut Formatter<W>) -> fmt::Result {
-        f.write_str(match self {
-            CloseFault::Ended => "the auction has ended",
-            CloseFault::WrongRound(_) => "not the current round",
-            CloseFault::Increment => "increment out of range",
-            CloseFault::Tie(_) => "the tie numbers have a fault",
-            CloseFault::PriceLimit(_) => "a next clock price is too high",
-            CloseFault::NoMemory => "out of memory",
-        })
-    }
 }
 
 impl From<NoMemory> for CloseFault {

@@ -24,7 +24,7 @@ use Rattle.clock_posting.specs.declared.fault.PostFault.TheVariants as post_faul
 use Rattle.clock_posting.specs.Posting.{IsPosting, IsConsistent, post_fault, price_limit_fault}
 use Rattle.clock_closing.specs.declared.fault.CloseFault.TheVariants as close_faults
 use Rattle.clock_closing.specs.Faults.{fault_check}
-use Rattle.clock_closing.specs.Closing.{ClosedRound, RoundResult, requests_by, requests, first_result, round_result, closed_round, closing_now}
+use Rattle.clock_closing.specs.Closing.{ClosedRound, RoundResult, requests_by, first_result, round_result, closed_round, closing_now}
 use Rattle.clock_closing.specs.Results.{AreConsistent}
 
 -- all bidders' requests, in any order
