@@ -104,30 +104,24 @@ heads_kept old new group i one apart here is stand others =
 abbrev pub one_step : SetupFields → Request → Step
 one_step setup one texts = after_request setup texts (Some one.bidder) one.round (text_in one)
 
-before_body : (whole : Step) (group : List Request) (i : ℕ) (one : Request) (initial now : HouseFields) → i < length group → one ≡ get_or group i one
-    → IsOnWay whole (after_group initial.setup (drop i group)) initial now
-    → IsOnWay whole (λ texts. one_step initial.setup one texts >>= after_group initial.setup (drop (i + 1) group)) initial now
-before_body whole group i one initial now below is before =
-    let P : List Request → Type 0 = λ rest. IsOnWay whole (after_group initial.setup rest) initial now in
-    subst P (next_at group i one below is) before
+module _ (whole : Step) (group : List Request) (i : ℕ) (one : Request) (initial now next : HouseFields) (below : i < length group)
+    (is : one ≡ get_or group i one) (before : IsOnWay whole (after_group initial.setup (drop i group)) initial now) where
+  before_body : IsOnWay whole (λ texts. one_step initial.setup one texts >>= after_group initial.setup (drop (i + 1) group)) initial now
+  before_body = subst (λ (rest : List Request). IsOnWay whole (after_group initial.setup rest) initial now) (next_at group i one below is) before
 
--- a request of the group is done
-pub body_done : {U : Type 0} (whole : Step) (group : List Request) (i : ℕ) (one : Request) (initial now next : HouseFields) (done : U)
-    → i < length group → one ≡ get_or group i one → IsOnWay whole (after_group initial.setup (drop i group)) initial now
-    → MakesStep (one_step now.setup one) now next (Ok done) → IsOnWay whole (after_group initial.setup (drop (i + 1) group)) initial next
-body_done whole group i one initial now next done below is before made =
-    goes_on whole (one_step initial.setup one) (after_group initial.setup (drop (i + 1) group)) initial now next done
-    (before_body whole group i one initial now below is before)
-    (subst (λ (setup : SetupFields). MakesStep (one_step setup one) now next (Ok done)) before.setup made)
+  -- a request of the group is done
+  pub body_done : {U : Type 0} (done : U) → MakesStep (one_step now.setup one) now next (Ok done)
+      → IsOnWay whole (after_group initial.setup (drop (i + 1) group)) initial next
+  body_done done made =
+      goes_on whole (one_step initial.setup one) (after_group initial.setup (drop (i + 1) group)) initial now next done before_body
+      (subst (λ (setup : SetupFields). MakesStep (one_step setup one) now next (Ok done)) before.setup made)
 
--- one is refused
-pub body_refused : {U T : Type 0} (whole : Step) (group : List Request) (i : ℕ) (one : Request) (initial now next : HouseFields) (fault : SimFault)
-    → i < length group → one ≡ get_or group i one → IsOnWay whole (after_group initial.setup (drop i group)) initial now
-    → MakesStep {T = U} (one_step now.setup one) now next (Err fault) → MakesStep {T = T} whole initial next (Err fault)
-body_refused {U = U} {T = T} whole group i one initial now next fault below is before made =
-    stops {U = U} {T = T} whole (one_step initial.setup one) (after_group initial.setup (drop (i + 1) group)) initial now next fault
-    (before_body whole group i one initial now below is before)
-    (subst (λ (setup : SetupFields). MakesStep {T = U} (one_step setup one) now next (Err fault)) before.setup made)
+  -- one is refused
+  pub body_refused : {U T : Type 0} (fault : SimFault) → MakesStep {T = U} (one_step now.setup one) now next (Err fault)
+      → MakesStep {T = T} whole initial next (Err fault)
+  body_refused {U = U} {T = T} fault made =
+      stops {U = U} {T = T} whole (one_step initial.setup one) (after_group initial.setup (drop (i + 1) group)) initial now next fault before_body
+      (subst (λ (setup : SetupFields). MakesStep {T = U} (one_step setup one) now next (Err fault)) before.setup made)
 
 -- ---- one more waits
 

@@ -138,6 +138,15 @@ begins whole initial = record {
   comes = λ texts stands. record { texts = texts; stands = stands; same = refl };
 }
 
+-- what is left, said in another way
+pub left_as : (whole rest other : Step) (initial now : HouseFields) → ((texts : Texts) → rest texts ≡ other texts) → IsOnWay whole rest initial now
+    → IsOnWay whole other initial now
+left_as whole rest other initial now alike before = record {
+  setup = before.setup;
+  comes = λ texts stands.
+      let way = before.comes texts stands in record { texts = way.texts; stands = way.stands; same = sym (alike way.texts) ∙ way.same };
+}
+
 -- one step of the rest is made
 pub goes_on : {U : Type 0} (whole step rest : Step) (initial now next : HouseFields) (done : U)
     → IsOnWay whole (λ texts. step texts >>= rest) initial now → MakesStep step now next (Ok done) → IsOnWay whole rest initial next
@@ -184,19 +193,19 @@ until_over whole rest initial now over before is = record {
       };
 }
 
-pub goes_past : (whole rest : Step) (initial now : HouseFields) → IsOnWay whole (until_end initial.setup rest) initial now → (standing_in now).ended ≡ false
+goes_past : (whole rest : Step) (initial now : HouseFields) → IsOnWay whole (until_end initial.setup rest) initial now → (standing_in now).ended ≡ false
     → IsOnWay whole rest initial now
 goes_past whole rest initial now before going = until_over whole rest initial now false before going
 
 -- where the auction has not ended after a step, it goes on
-pub goes_on_after : {T : Type 0} (step : Step) (old new : HouseFields) (done : T) → IsGoing old → MakesStep step old new (Ok done)
+goes_on_after : {T : Type 0} (step : Step) (old new : HouseFields) (done : T) → IsGoing old → MakesStep step old new (Ok done)
     → (standing_in new).ended ≡ false → IsGoing new
 goes_on_after step old new done before made going =
     let end = made.comes before.texts before.stands in
     record { going = going; texts = end.texts; stands = end.stands }
 
 -- nothing is left
-pub ends : {T : Type 0} (whole rest : Step) (initial now : HouseFields) (done : T) → IsOnWay whole rest initial now
+ends : {T : Type 0} (whole rest : Step) (initial now : HouseFields) (done : T) → IsOnWay whole rest initial now
     → ((texts : Texts) → rest texts ≡ Ok texts) → MakesStep whole initial now (Ok done)
 ends whole rest initial now done before none = record {
   setup = before.setup;
@@ -205,13 +214,13 @@ ends whole rest initial now done before none = record {
       record { texts = way.texts; is = sym way.same ∙ none way.texts; stands = way.stands };
 }
 
-pub ends_there : {T : Type 0} (whole rest : Step) (initial now : HouseFields) (done : T) → IsOnWay whole (until_end initial.setup rest) initial now
+ends_there : {T : Type 0} (whole rest : Step) (initial now : HouseFields) (done : T) → IsOnWay whole (until_end initial.setup rest) initial now
     → (standing_in now).ended ≡ true → MakesStep whole initial now (Ok done)
 ends_there whole rest initial now done before over =
     ends whole (λ (texts : Texts). Ok texts) initial now done (until_over whole rest initial now true before over) (λ texts. refl)
 
 -- a last step is made, and its end is a fault
-pub spent : {U T : Type 0} (whole step : Step) (initial now next : HouseFields) (done : U) (fault : SimFault)
+spent : {U T : Type 0} (whole step : Step) (initial now next : HouseFields) (done : U) (fault : SimFault)
     → IsOnWay whole (λ texts. step texts >>= (λ put. Err fault)) initial now → MakesStep step now next (Ok done)
     → MakesStep {T = T} whole initial next (Err fault)
 spent whole step initial now next done fault before made =
@@ -222,63 +231,59 @@ spent whole step initial now next done fault before made =
 
 -- ---- round after round
 
-before_round : (whole : Step) (scripts : List Script) (closings : List Closing) (i : ℕ) (closing : Closing) (initial now : HouseFields)
-    → i < length closings → closing ≡ get_or closings i closing
-    → IsOnWay whole (rehearsed initial.setup scripts (drop i closings)) initial now
-    → IsOnWay whole (λ texts. after_round initial.setup scripts closing texts >>=
-    until_end initial.setup (rehearsed initial.setup scripts (drop (i + 1) closings))) initial now
-before_round whole scripts closings i closing initial now below is before =
-    let P : List Closing → Type 0 = λ rest. IsOnWay whole (rehearsed initial.setup scripts rest) initial now in
-    subst P (next_at closings i closing below is) before
+module _ (whole : Step) (scripts : List Script) (closings : List Closing) (i : ℕ) (closing : Closing) (initial now next : HouseFields)
+    (below : i < length closings) (is : closing ≡ get_or closings i closing)
+    (before : IsOnWay whole (rehearsed initial.setup scripts (drop i closings)) initial now) where
+  -- those behind this one
+  abbrev pub others : Step
+  others = rehearsed initial.setup scripts (drop (i + 1) closings)
 
--- a round is played
-pub round_played : {U : Type 0} (whole : Step) (scripts : List Script) (closings : List Closing) (i : ℕ) (closing : Closing)
-    (initial now next : HouseFields) (done : U)
-    → i < length closings → closing ≡ get_or closings i closing
-    → IsOnWay whole (rehearsed initial.setup scripts (drop i closings)) initial now → MakesStep (after_round now.setup scripts closing) now next (Ok done)
-    → IsOnWay whole (until_end initial.setup (rehearsed initial.setup scripts (drop (i + 1) closings))) initial next
-round_played whole scripts closings i closing initial now next done below is before made =
-    goes_on whole (after_round initial.setup scripts closing) (until_end initial.setup (rehearsed initial.setup scripts (drop (i + 1) closings)))
-    initial now next done
-    (before_round whole scripts closings i closing initial now below is before)
-    (subst (λ (setup : SetupFields). MakesStep (after_round setup scripts closing) now next (Ok done)) before.setup made)
+  begun : IsOnWay whole (λ texts. after_round initial.setup scripts closing texts >>= until_end initial.setup others) initial now
+  begun = subst (λ (rest : List Closing). IsOnWay whole (rehearsed initial.setup scripts rest) initial now) (next_at closings i closing below is) before
 
-pub round_refused : {U T : Type 0} (whole : Step) (scripts : List Script) (closings : List Closing) (i : ℕ) (closing : Closing)
-    (initial now next : HouseFields) (fault : SimFault)
-    → i < length closings → closing ≡ get_or closings i closing
-    → IsOnWay whole (rehearsed initial.setup scripts (drop i closings)) initial now → MakesStep {T = U} (after_round now.setup scripts closing) now next
-    (Err fault)
-    → MakesStep {T = T} whole initial next (Err fault)
-round_refused {U = U} {T = T} whole scripts closings i closing initial now next fault below is before made =
-    stops {U = U} {T = T} whole (after_round initial.setup scripts closing)
-    (until_end initial.setup (rehearsed initial.setup scripts (drop (i + 1) closings))) initial now next fault
-    (before_round whole scripts closings i closing initial now below is before)
-    (subst (λ (setup : SetupFields). MakesStep {T = U} (after_round setup scripts closing) now next (Err fault)) before.setup made)
+  played : {U : Type 0} (done : U) → MakesStep (after_round now.setup scripts closing) now next (Ok done)
+      → IsOnWay whole (until_end initial.setup others) initial next
+  played done made =
+      goes_on whole (after_round initial.setup scripts closing) (until_end initial.setup others) initial now next done begun
+      (subst (λ (setup : SetupFields). MakesStep (after_round setup scripts closing) now next (Ok done)) before.setup made)
 
-before_last : (whole : Step) (scripts : List Script) (closings : List Closing) (i : ℕ) (initial now : HouseFields) → length closings ≤ i
-    → IsOnWay whole (rehearsed initial.setup scripts (drop i closings)) initial now
-    → IsOnWay whole (λ texts. after_puts initial.setup 0 scripts texts >>= (λ put. Err ClosingsSpent)) initial now
-before_last whole scripts closings i initial now past before =
-    let P : List Closing → Type 0 = λ rest. IsOnWay whole (rehearsed initial.setup scripts rest) initial now in
-    subst P (drop_all i closings past) before
+  -- a round is played, and the auction goes on
+  pub round_passed : {U : Type 0} (done : U) → MakesStep (after_round now.setup scripts closing) now next (Ok done) → (standing_in next).ended ≡ false
+      → IsGoing now → IsOnWay whole others initial next × IsGoing next
+  round_passed done made going was_going = (
+    goes_past whole others initial next (played done made) going,
+    goes_on_after (after_round now.setup scripts closing) now next done was_going made going,
+  )
 
--- no closing is left
-pub closings_spent : {U T : Type 0} (whole : Step) (scripts : List Script) (closings : List Closing) (i : ℕ) (initial now next : HouseFields) (done : U)
-    → length closings ≤ i
-    → IsOnWay whole (rehearsed initial.setup scripts (drop i closings)) initial now → MakesStep (after_puts now.setup 0 scripts) now next (Ok done)
-    → MakesStep {T = T} whole initial next (Err ClosingsSpent)
-closings_spent {T = T} whole scripts closings i initial now next done past before made =
-    spent {T = T} whole (after_puts initial.setup 0 scripts) initial now next done ClosingsSpent (before_last whole scripts closings i initial now past before)
-    (subst (λ (setup : SetupFields). MakesStep (after_puts setup 0 scripts) now next (Ok done)) before.setup made)
+  -- it is the last
+  pub round_ends : {U T : Type 0} (done : U) (over : T) → MakesStep (after_round now.setup scripts closing) now next (Ok done) → (standing_in next).ended ≡ true
+      → MakesStep whole initial next (Ok over)
+  round_ends done over made ended = ends_there whole others initial next over (played done made) ended
 
-pub last_refused : {U T : Type 0} (whole : Step) (scripts : List Script) (closings : List Closing) (i : ℕ) (initial now next : HouseFields) (fault : SimFault)
-    → length closings ≤ i
-    → IsOnWay whole (rehearsed initial.setup scripts (drop i closings)) initial now → MakesStep {T = U} (after_puts now.setup 0 scripts) now next (Err fault)
-    → MakesStep {T = T} whole initial next (Err fault)
-last_refused {U = U} {T = T} whole scripts closings i initial now next fault past before made =
-    stops {U = U} {T = T} whole (after_puts initial.setup 0 scripts) (λ put. Err ClosingsSpent) initial now next fault
-    (before_last whole scripts closings i initial now past before)
-    (subst (λ (setup : SetupFields). MakesStep {T = U} (after_puts setup 0 scripts) now next (Err fault)) before.setup made)
+  -- it is refused
+  pub round_refused : {U T : Type 0} (fault : SimFault) → MakesStep {T = U} (after_round now.setup scripts closing) now next (Err fault)
+      → MakesStep {T = T} whole initial next (Err fault)
+  round_refused {U = U} {T = T} fault made =
+      stops {U = U} {T = T} whole (after_round initial.setup scripts closing) (until_end initial.setup others) initial now next fault begun
+      (subst (λ (setup : SetupFields). MakesStep {T = U} (after_round setup scripts closing) now next (Err fault)) before.setup made)
+
+module _ (whole : Step) (scripts : List Script) (closings : List Closing) (i : ℕ) (initial now next : HouseFields) (past : length closings ≤ i)
+    (before : IsOnWay whole (rehearsed initial.setup scripts (drop i closings)) initial now) where
+  last_left : IsOnWay whole (λ texts. after_puts initial.setup 0 scripts texts >>= (λ put. Err ClosingsSpent)) initial now
+  last_left = subst (λ (rest : List Closing). IsOnWay whole (rehearsed initial.setup scripts rest) initial now) (drop_all i closings past) before
+
+  -- no closing is left
+  pub closings_spent : {U T : Type 0} (done : U) → MakesStep (after_puts now.setup 0 scripts) now next (Ok done)
+      → MakesStep {T = T} whole initial next (Err ClosingsSpent)
+  closings_spent {T = T} done made =
+      spent {T = T} whole (after_puts initial.setup 0 scripts) initial now next done ClosingsSpent last_left
+      (subst (λ (setup : SetupFields). MakesStep (after_puts setup 0 scripts) now next (Ok done)) before.setup made)
+
+  pub last_refused : {U T : Type 0} (fault : SimFault) → MakesStep {T = U} (after_puts now.setup 0 scripts) now next (Err fault)
+      → MakesStep {T = T} whole initial next (Err fault)
+  last_refused {U = U} {T = T} fault made =
+      stops {U = U} {T = T} whole (after_puts initial.setup 0 scripts) (λ put. Err ClosingsSpent) initial now next fault last_left
+      (subst (λ (setup : SetupFields). MakesStep {T = U} (after_puts setup 0 scripts) now next (Err fault)) before.setup made)
 
 -- ---- the report
 

@@ -1,7 +1,7 @@
 -- The bidders' turns: each puts its sheet, whose request waits for others or is sent after those that wait.
 use Rattle.std.proofs.Common.{◌≡◌, ℕ, ◌+◌, ◌<◌, ◌≤◌, List, [], ◌∷◌, ◌++◌, length, drop, get_or, Option, Some, None, Result, Ok, Err, refl, sym, ◌∙◌}
 use Rattle.std.proofs.Common.{ap, subst, All, arith}
-use Rattle.std.specs.Prelude.{MatchResult, OnOk}
+use Rattle.std.specs.Prelude.{MatchResult, OnOk, option_map}
 use Rattle.std.proofs.lemmas.List.{drop_all}
 use Rattle.std.proofs.lemmas.List.Elements.{All-tail}
 use Rattle.clock_terms.specs.Limits.{SetupFields}
@@ -18,12 +18,17 @@ use Rattle.clock_sim.specs.declared.groups.Group.{Group}
 use Rattle.clock_sim.specs.declared.sim_fault.SimFault.{SimFault}
 use Rattle.clock_sim.specs.declared.sim_fault.SimFault.TheVariants.{NoMemory}
 use Rattle.clock_sim.specs.Rehearsal.{if_done, after_request, after_request_if, after_put, after_puts, rounds_after}
+use Rattle.clock_scripts.specs.declared.pieces.Pieces.{Pieces}
+use Rattle.clock_scripts.specs.declared.pieces.Written.{Written}
+use Rattle.clock_scripts.specs.Pieces.{WritesIf, text_at}
 use Rattle.clock_scripts.specs.ScriptedRequests.{scripted_put}
-use Rattle.clock_sim.specs.inside.Groups.{Request, ClosesNoRound, ComesUnderWay, IsGroup, IsUnderWay, StillWait, text_in, after_group, requests_in, with_request}
+use Rattle.clock_sim.specs.inside.Groups.{Request, ClosesNoRound, ComesUnderWay, IsGroup, IsNext, IsUnderWay, StillWait, text_in, after_group, requests_in}
+use Rattle.clock_sim.specs.inside.Groups.{with_put, with_request, with_turn}
 use Rattle.clock_sim.specs.inside.Steps.{IsGoing, ComesTo, MakesStep, IsLeft, MakesWay}
-use Rattle.clock_sim.proofs.StepLaws.{Texts, Step, IsOnWay, and_then, next_at}
+use Rattle.clock_sim.proofs.StepLaws.{Texts, Step, IsOnWay, and_then, left_as, next_at}
 use Rattle.clock_sim.proofs.GroupLaws.{ended_ok, one_step, with_one}
-use Rattle.clock_sim.proofs.WrittenLaws.{none_wait}
+use Rattle.clock_sim.proofs.PutLaws.{scripted_closes_none}
+use Rattle.clock_sim.proofs.WrittenLaws.{kept_if, none_wait, reads_as, still_twice, still_wait}
 
 -- ---- steps with requests that wait
 
@@ -138,7 +143,7 @@ going_after_one bidder round text old new (Err fault) closes before made = tt
 -- ---- a group that is sent
 
 -- a request that is written stands behind those that wait
-pub still_under_way : (hub : HubFields) (group next : Group) → IsUnderWay hub group → StillWait group next → IsUnderWay hub next
+still_under_way : (hub : HubFields) (group next : Group) → IsUnderWay hub group → StillWait group next → IsUnderWay hub next
 still_under_way hub group next before keeps =
     let kept = keeps before.waits.written in record {
       waits = record { requests = subst (IsGroup hub.connections) (sym kept.0) before.waits.requests; written = kept.1 };
@@ -200,7 +205,7 @@ module _ (old : HouseFields) (group : List Request) (bidder : ℕ) (script : Scr
       (stands.closed ∙ sym (group_closes_none old.setup group texts end close is))
 
   -- no sheet is given
-  pub none_put : {T : Type 0} (done : T) → scripted_put old.setup old.closed bidder script ≡ None
+  none_put : {T : Type 0} (done : T) → scripted_put old.setup old.closed bidder script ≡ None
       → MakesWay (λ texts. after_group old.setup group texts >>= after_put old.setup bidder script) (after_group old.setup group) old old (Ok done)
   none_put done none = record {
     setup = refl;
@@ -215,7 +220,7 @@ module _ (old : HouseFields) (group : List Request) (bidder : ℕ) (script : Scr
   }
 
   -- the sheet is given as this text
-  pub put_waits : {T : Type 0} (new : HouseFields) (rest : Step) (text : List ℕ) (round : ℕ) (result : Result T SimFault)
+  put_waits : {T : Type 0} (new : HouseFields) (rest : Step) (text : List ℕ) (round : ℕ) (result : Result T SimFault)
       → scripted_put old.setup old.closed bidder script ≡ Some text → round ≡ (standing_in old).round
       → MakesWay (λ texts. after_group old.setup group texts >>= (λ sent. after_request old.setup sent (Some bidder) round text)) rest old new result
       → MakesWay (λ texts. after_group old.setup group texts >>= after_put old.setup bidder script) rest old new result
@@ -231,6 +236,57 @@ module _ (old : HouseFields) (group : List Request) (bidder : ℕ) (script : Scr
         subst P same (made.comes texts stands);
   }
 
+-- ---- a bidder's turn, before which there is room for its request
+
+module _ (hub : HubFields) (group room : Group) (pieces : Pieces) (house : HouseFields) (bidder : ℕ) (script : Script) (written : Option Written)
+    (before : IsUnderWay hub group) (has_room : StillWait group room) (same : house ≡ hub.house)
+    (writes : WritesIf room.pieces pieces (scripted_put house.setup house.closed bidder script) written) where
+  -- the group with what was written
+  abbrev pub grown : Group
+  grown = record room { pieces = pieces }
+
+  still : StillWait group grown
+  still = still_twice group room grown has_room
+      (still_wait room pieces (kept_if room.pieces pieces (scripted_put house.setup house.closed bidder script) written writes))
+
+  puts : scripted_put hub.house.setup hub.house.closed bidder script ≡ option_map (text_at pieces) written
+  puts =
+      ap (λ (now : HouseFields). scripted_put now.setup now.closed bidder script) (sym same)
+      ∙ reads_as room.pieces pieces (scripted_put house.setup house.closed bidder script) written writes
+
+  -- what was written comes next
+  pub written_next : (one : Written) (round : ℕ) → written ≡ Some one → IsNext hub grown (record { bidder = bidder; round = round; written = one })
+  written_next one round is =
+      let made = subst (WritesIf room.pieces pieces (scripted_put house.setup house.closed bidder script)) is writes in record {
+        under_way = still_under_way hub group grown before still;
+        within = made.1.within;
+        closes = scripted_closes_none hub.house.setup hub.house.closed bidder script (text_at pieces one) (puts ∙ ap (option_map (text_at pieces)) is);
+      }
+
+  pub turn_taken : {T : Type 0} (one : Written) (round : ℕ) (new : HubFields) (last : Group) (result : Result T SimFault) → written ≡ Some one
+      → round ≡ (standing_in hub.house).round
+      → ComesUnderWay (with_turn hub.house.setup grown (record { bidder = bidder; round = round; written = one })) hub new last result
+      → ComesUnderWay (with_put hub.house.setup (requests_in group) bidder script) hub new last result
+  turn_taken one round new last result is at made =
+      let rest = after_group hub.house.setup (requests_in last) in record {
+        under_way = made.under_way;
+        way = put_waits hub.house (requests_in group) bidder script before.waits.requests.close new.house rest (text_at pieces one) round result
+            (puts ∙ ap (option_map (text_at pieces)) is) at
+            (subst (λ (requests : List Request). MakesWay (with_request hub.house.setup requests bidder round (text_at pieces one)) rest hub.house new.house result)
+            (still before.waits.written).0 made.way);
+      }
+
+  -- nothing was written
+  pub turn_passed : {T : Type 0} (done : T) → written ≡ None → ComesUnderWay (with_put hub.house.setup (requests_in group) bidder script) hub hub grown (Ok done)
+  turn_passed done is = record {
+    under_way = still_under_way hub group grown before still;
+    way = subst
+        (λ (requests : List Request). MakesWay (with_put hub.house.setup (requests_in group) bidder script) (after_group hub.house.setup requests) hub.house hub.house
+        (Ok done))
+        (sym (still before.waits.written).0)
+        (none_put hub.house (requests_in group) bidder script before.waits.requests.close done (puts ∙ ap (option_map (text_at pieces)) is));
+  }
+
 -- ---- bidder after bidder
 
 -- the requests that wait, and then the sheets of the bidders from this one on
@@ -242,45 +298,38 @@ in_turn : (setup : SetupFields) (i : ℕ) (script : Script) (rest : List Script)
 in_turn setup i script rest (Ok texts) = refl
 in_turn setup i script rest (Err fault) = refl
 
-before_turn : (whole : Step) (scripts : List Script) (group : List Request) (i : ℕ) (script : Script) (initial now : HouseFields) → i < length scripts
-    → script ≡ get_or scripts i script → IsOnWay whole (then_puts initial.setup group i (drop i scripts)) initial now
-    → IsOnWay whole (λ texts. after_group initial.setup group texts >>= after_put initial.setup i script >>=
-    after_puts initial.setup (i + 1) (drop (i + 1) scripts)) initial now
-before_turn whole scripts group i script initial now below is before = record {
-  setup = before.setup;
-  comes = λ texts stands.
-      let way = before.comes texts stands in
-      record {
-        texts = way.texts;
-        stands = way.stands;
-        same = sym (in_turn initial.setup i script (drop (i + 1) scripts) (after_group initial.setup group way.texts))
-            ∙ ap (λ (rest : List Script). then_puts initial.setup group i rest way.texts) (sym (next_at scripts i script below is)) ∙ way.same;
-      };
-}
+module _ (whole : Step) (scripts : List Script) (group waiting : List Request) (i : ℕ) (script : Script) (initial now next : HouseFields)
+    (below : i < length scripts) (is : script ≡ get_or scripts i script)
+    (before : IsOnWay whole (then_puts initial.setup group i (drop i scripts)) initial now) where
+  -- the turn, and those behind it
+  abbrev turn : SetupFields → Step
+  turn setup texts = after_group setup group texts >>= after_put setup i script
 
--- a bidder's turn is over
-pub turn_over : {U : Type 0} (whole : Step) (scripts : List Script) (group waiting : List Request) (i : ℕ) (script : Script)
-    (initial now next : HouseFields) (done : U)
-    → i < length scripts → script ≡ get_or scripts i script → IsOnWay whole (then_puts initial.setup group i (drop i scripts)) initial now
-    → MakesWay (λ texts. after_group now.setup group texts >>= after_put now.setup i script) (after_group now.setup waiting) now next (Ok done)
-    → IsOnWay whole (then_puts initial.setup waiting (i + 1) (drop (i + 1) scripts)) initial next
-turn_over whole scripts group waiting i script initial now next done below is before made =
-    way_goes_on whole (λ texts. after_group initial.setup group texts >>= after_put initial.setup i script) (after_group initial.setup waiting)
-    (after_puts initial.setup (i + 1) (drop (i + 1) scripts)) initial now next done (before_turn whole scripts group i script initial now below is before)
-    (subst (λ (setup : SetupFields). MakesWay (λ texts. after_group setup group texts >>= after_put setup i script) (after_group setup waiting) now next
-    (Ok done)) before.setup made)
+  abbrev behind : Step
+  behind = after_puts initial.setup (i + 1) (drop (i + 1) scripts)
 
--- a request was refused in a bidder's turn
-pub turn_refused : {U T : Type 0} (whole : Step) (scripts : List Script) (group waiting : List Request) (i : ℕ) (script : Script)
-    (initial now next : HouseFields) (fault : SimFault)
-    → i < length scripts → script ≡ get_or scripts i script → IsOnWay whole (then_puts initial.setup group i (drop i scripts)) initial now
-    → MakesWay {T = U} (λ texts. after_group now.setup group texts >>= after_put now.setup i script) (after_group now.setup waiting) now next (Err fault)
-    → MakesStep {T = T} whole initial next (Err fault)
-turn_refused {U = U} {T = T} whole scripts group waiting i script initial now next fault below is before made =
-    way_stops {U = U} {T = T} whole (λ texts. after_group initial.setup group texts >>= after_put initial.setup i script) (after_group initial.setup waiting)
-    (after_puts initial.setup (i + 1) (drop (i + 1) scripts)) initial now next fault (before_turn whole scripts group i script initial now below is before)
-    (subst (λ (setup : SetupFields). MakesWay {T = U} (λ texts. after_group setup group texts >>= after_put setup i script)
-    (after_group setup waiting) now next (Err fault)) before.setup made)
+  before_turn : IsOnWay whole (λ texts. turn initial.setup texts >>= behind) initial now
+  before_turn =
+      left_as whole (then_puts initial.setup group i (drop i scripts)) (λ texts. turn initial.setup texts >>= behind) initial now
+      (λ texts. ap (λ (rest : List Script). then_puts initial.setup group i rest texts) (next_at scripts i script below is)
+      ∙ in_turn initial.setup i script (drop (i + 1) scripts) (after_group initial.setup group texts))
+      before
+
+  -- a bidder's turn is over
+  pub turn_over : {U : Type 0} (done : U)
+      → MakesWay (λ texts. after_group now.setup group texts >>= after_put now.setup i script) (after_group now.setup waiting) now next (Ok done)
+      → IsOnWay whole (then_puts initial.setup waiting (i + 1) (drop (i + 1) scripts)) initial next
+  turn_over done made =
+      way_goes_on whole (turn initial.setup) (after_group initial.setup waiting) behind initial now next done before_turn
+      (subst (λ (setup : SetupFields). MakesWay (turn setup) (after_group setup waiting) now next (Ok done)) before.setup made)
+
+  -- a request was refused in it
+  pub turn_refused : {U T : Type 0} (fault : SimFault)
+      → MakesWay {T = U} (λ texts. after_group now.setup group texts >>= after_put now.setup i script) (after_group now.setup waiting) now next (Err fault)
+      → MakesStep {T = T} whole initial next (Err fault)
+  turn_refused {U = U} {T = T} fault made =
+      way_stops {U = U} {T = T} whole (turn initial.setup) (after_group initial.setup waiting) behind initial now next fault before_turn
+      (subst (λ (setup : SetupFields). MakesWay {T = U} (turn setup) (after_group setup waiting) now next (Err fault)) before.setup made)
 
 -- no request waits before the first turn
 pub first_turn : (setup : SetupFields) (group : List Request) (scripts : List Script) (initial : HouseFields) → initial.setup ≡ setup → length group ≡ 0

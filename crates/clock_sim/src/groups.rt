@@ -1,10 +1,10 @@
 //! The requests of a group: their connections stand at once, all heads come before the first body.
 
-ghost use Rattle.std.specs.Prelude.{◌≡◌, [], Some, true, OnOk};
+ghost use Rattle.std.specs.Prelude.{◌≡◌, [], Some, true, IfOk, OnOk};
 ghost use Rattle.clock_http.specs.Framing.{needs_more};
-ghost use Rattle.clock_scripts.specs.Pieces.{AwaitsBody, IsWrittenIn, piece_at, text_at};
-ghost use Rattle.clock_sim.specs.inside.Groups.{AreApart, AreWritten, ClosesNoRound, ComesUnderWay, IsUnderWay, StandFrom};
-ghost use Rattle.clock_sim.specs.inside.Groups.{StillWait, Waits, after_group, requests_in, with_written};
+ghost use Rattle.clock_scripts.specs.Pieces.{AwaitsBody, HoldsNothing, piece_at};
+ghost use Rattle.clock_sim.specs.inside.Groups.{AreApart, AreWritten, ComesUnderWay, IsNext, IsUnderWay, StandFrom};
+ghost use Rattle.clock_sim.specs.inside.Groups.{StillWait, Waits, after_group, requests_in, with_turn};
 ghost use Rattle.clock_sim.specs.inside.Steps.{MakesStep};
 
 use crate::sending::{send, send_body};
@@ -18,13 +18,19 @@ use std::alloc::Global;
 /// How many requests a group has at most.
 const MOST_WAITING: usize = 64;
 
-/// A request of a group: who sends it in which round, over which connection, and where it stands.
+/// A bidder's request in a round, and where it stands.
+#[derive(Clone, Copy)]
+pub(crate) struct Turn {
+    pub(crate) bidder: u64,
+    pub(crate) round: u64,
+    pub(crate) written: Written,
+}
+
+/// A request of a group, and the connection over which it is sent.
 #[derive(Drop)]
 struct Waiting {
-    bidder: u64,
-    round: u64,
+    turn: Turn,
     conn: Conn,
-    written: Written,
 }
 
 /// The requests of a group. Their pieces stand on the same memory from group to group.
@@ -37,7 +43,9 @@ pub(crate) struct Group {
 
 impl Group {
     /// No requests yet, of an auction of so many products.
-    pub(crate) fn new(alloc: Global, products: usize) -> Result<Group, NoMemory> {
+    pub(crate) fn new(alloc: Global, products: usize) -> Result<Group, NoMemory>
+        ensures { IfOk result (λ group. requests_in group ≡ []) }
+    {
         Ok(Group {
             pieces: Pieces::new(alloc, products)?,
             waiting: Vec::new(alloc),
@@ -46,7 +54,8 @@ impl Group {
 
     /// Where no request waits, lets go what was written before.
     pub(crate) fn make_room(&mut self)
-        ensures { StillWait self.old self.new }
+        ensures waits { StillWait self.old self.new }
+        ensures room { self.old.waiting.items ≡ [] → HoldsNothing self.new.pieces }
     {
         if self.waiting.is_empty() {
             self.pieces.clear();
@@ -68,7 +77,7 @@ impl Group {
         ensures heads { OnOk result (StandFrom 0 hub.new.connections (requests_in self.now) (λ k one. one.head)) }
     {
         for one in &self.waiting {
-            hub.feed(one.conn, self.pieces.head(&one.written))?;
+            hub.feed(one.conn, self.pieces.head(&one.turn.written))?;
         }
         Ok(())
     }
@@ -84,9 +93,9 @@ impl Group {
             send_body(
                 hub,
                 one.conn,
-                Some(one.bidder),
-                one.round,
-                self.pieces.body(&one.written),
+                Some(one.turn.bidder),
+                one.turn.round,
+                self.pieces.body(&one.turn.written),
             )?;
         }
         Ok(())
@@ -107,27 +116,13 @@ impl Group {
     }
 
     /// A request waits for the others of its group; its connection is made.
-    fn join<P: Processor>(
-        &mut self,
-        hub: &mut Hub<P>,
-        bidder: u64,
-        round: u64,
-        written: Written,
-    ) -> Result<(), SimFault>
-        requires under_way { IsUnderWay hub.old self.old }
-        requires within { IsWrittenIn self.old.pieces written }
-        requires needs { needs_more (piece_at self.old.pieces.heads.items written.head) ≡ true }
-        requires closes { ClosesNoRound (text_at self.old.pieces written) }
-        ensures { ComesUnderWay (with_written hub.old.house.setup self.old bidder round written) hub.old hub.new self.new
-            result }
+    fn join<P: Processor>(&mut self, hub: &mut Hub<P>, turn: Turn) -> Result<(), SimFault>
+        requires next { IsNext hub.old self.old turn }
+        requires needs { needs_more (piece_at self.old.pieces.heads.items turn.written.head) ≡ true }
+        ensures { ComesUnderWay (with_turn hub.old.house.setup self.old turn) hub.old hub.new self.new result }
     {
         let conn = hub.connect()?;
-        self.waiting.push(Waiting {
-            bidder,
-            round,
-            conn,
-            written,
-        })?;
+        self.waiting.push(Waiting { turn, conn })?;
         Ok(())
     }
 
@@ -144,26 +139,17 @@ impl Group {
     }
 
     /// Sends a request by itself, after those that wait.
-    fn send_alone<P: Processor>(
-        &mut self,
-        hub: &mut Hub<P>,
-        bidder: u64,
-        round: u64,
-        written: Written,
-    ) -> Result<(), SimFault>
-        requires under_way { IsUnderWay hub.old self.old }
-        requires within { IsWrittenIn self.old.pieces written }
-        requires closes { ClosesNoRound (text_at self.old.pieces written) }
-        ensures { ComesUnderWay (with_written hub.old.house.setup self.old bidder round written) hub.old hub.new self.new
-            result }
+    fn send_alone<P: Processor>(&mut self, hub: &mut Hub<P>, turn: Turn) -> Result<(), SimFault>
+        requires { IsNext hub.old self.old turn }
+        ensures { ComesUnderWay (with_turn hub.old.house.setup self.old turn) hub.old hub.new self.new result }
     {
         self.send_all(hub)?;
         send(
             hub,
-            Some(bidder),
-            round,
-            self.pieces.head(&written),
-            self.pieces.body(&written),
+            Some(turn.bidder),
+            turn.round,
+            self.pieces.head(&turn.written),
+            self.pieces.body(&turn.written),
         )
     }
 
@@ -171,21 +157,16 @@ impl Group {
     pub(crate) fn take_turn<P: Processor>(
         &mut self,
         hub: &mut Hub<P>,
-        bidder: u64,
-        round: u64,
-        written: Written,
+        turn: Turn,
     ) -> Result<(), SimFault>
-        requires under_way { IsUnderWay hub.old self.old }
-        requires within { IsWrittenIn self.old.pieces written }
-        requires awaits { AwaitsBody self.old.pieces written }
-        requires closes { ClosesNoRound (text_at self.old.pieces written) }
-        ensures { ComesUnderWay (with_written hub.old.house.setup self.old bidder round written) hub.old hub.new self.new
-            result }
+        requires next { IsNext hub.old self.old turn }
+        requires awaits { AwaitsBody self.old.pieces turn.written }
+        ensures { ComesUnderWay (with_turn hub.old.house.setup self.old turn) hub.old hub.new self.new result }
     {
-        if !written.needs_body() {
-            return self.send_alone(hub, bidder, round, written);
+        if !turn.written.needs_body() {
+            return self.send_alone(hub, turn);
         }
-        self.join(hub, bidder, round, written)?;
+        self.join(hub, turn)?;
         self.send_full(hub)
     }
 }

@@ -1,13 +1,14 @@
 //! The rounds of a replay: each bidder's sheet, then the closing.
 
-ghost use Rattle.std.specs.Prelude.{◌≡◌, ◌<◌, length, true, OnOk};
+ghost use Rattle.std.specs.Prelude.{◌≡◌, ◌<◌, ◌≤◌, length, true, OnOk};
+ghost use Rattle.clock_terms.specs.Limits.{most_bidders};
 ghost use Rattle.clock_house.specs.House.{standing_in};
 ghost use Rattle.clock_sim.specs.Rehearsal as rules;
 ghost use Rattle.clock_replays.specs.Replays.{IsScript};
 ghost use Rattle.clock_sim.specs.inside.Groups.{ComesUnderWay, IsUnderWay, requests_in, with_put};
 ghost use Rattle.clock_sim.specs.inside.Steps.{AreScriptsOf, IsGoing, MakesStep};
 
-use crate::groups::Group;
+use crate::groups::{Group, Turn};
 use crate::sending::send;
 use crate::sim_fault::SimFault;
 use clock_front::Hub;
@@ -19,6 +20,13 @@ fn current_round<P: Processor>(hub: &Hub<P>) -> u64
     ensures { result ≡ (standing_in hub.now.house).round }
 {
     hub.front().house().round()
+}
+
+/// Whether the auction has ended.
+fn has_ended<P: Processor>(hub: &Hub<P>) -> bool
+    ensures { result ≡ (standing_in hub.now.house).ended }
+{
+    hub.front().house().ended()
 }
 
 /// A bidder puts the sheet that its script gives, if any: the request joins the group, or what went before is sent.
@@ -39,8 +47,22 @@ fn put_scripted<P: Processor>(
     let written = group.pieces.write_put(hub.front().house(), bidder, script)?;
     match written {
         None => Ok(()),
-        Some(written) => group.take_turn(hub, bidder as u64, round, written),
+        Some(written) => {
+            let turn = Turn {
+                bidder: bidder as u64,
+                round,
+                written,
+            };
+            group.take_turn(hub, turn)
+        }
     }
+}
+
+/// The bidders are few enough to be numbered. It does nothing when it runs.
+fn law_few_bidders<P: Processor>(hub: &Hub<P>)
+    ensures { length hub.now.house.setup.bidders ≤ most_bidders }
+{
+    hub.front().house().law_of_house();
 }
 
 /// The bidders put their sheets, in the order of their numbers.
@@ -53,7 +75,7 @@ fn put_all<P: Processor>(
     requires going { IsGoing hub.old.house }
     ensures { MakesStep (rules.after_puts hub.old.house.setup 0 scripts.now) hub.old.house hub.new.house result }
 {
-    hub.front().house().law_of_house();
+    law_few_bidders(hub);
     group.clear();
     for (bidder, script) in scripts.iter().enumerate() {
         put_scripted(hub, group, bidder as u32, script)?;
@@ -112,7 +134,7 @@ pub(crate) fn play<P: Processor>(
 {
     for closing in closings {
         play_round(hub, group, scripts, closing)?;
-        if hub.front().house().ended() {
+        if has_ended(hub) {
             return Ok(());
         }
     }

@@ -4,12 +4,13 @@
 --     AreWritten group, StillWait old group      the pieces of all that wait stand in the texts; the requests that wait are the same
 --     text_in one, after_group setup group texts      the text of a request, and the requests of a group, answered one after the other
 --     with_request setup group bidder round text texts, with_put setup group bidder script texts      and then one more of a bidder
---     with_written setup group bidder round written texts      and then one that was written
+--     with_turn setup group turn texts      and then one that was written
 --     StandFrom place connections group text      from a place on, each connection stands with these bytes
 --     AreApart group      no two of the connections are one
 --     IsGroup connections group      the requests wait, each over a connection of its own, over which nothing has come yet
 --     Waits connections group      those of a group do
 --     IsUnderWay hub group      they do, and the auction goes on
+--     IsNext hub group turn      and a request that was written and closes no round may come behind them
 --     ComesUnderWay steps old new group result      some steps were made but for the requests that wait
 use Rattle.std.specs.Prelude.{◌≡◌, ◌≤◌, ◌<◌, ℕ, List, [], ◌∷◌, ◌++◌, true, length, map, slice_index_or, Some, Result, Ok, OnOk, All}
 use Rattle.clock_terms.specs.Limits.{SetupFields}
@@ -18,9 +19,9 @@ use Rattle.clock_http.specs.Framing.{needs_more}
 use Rattle.clock_connections.specs.Connections.{ConnectionFields, text_of}
 use Rattle.clock_front.specs.Hubs.{HubFields}
 use Rattle.clock_connections.specs.declared.connections.Conn.{Conn}
-use Rattle.clock_scripts.specs.declared.pieces.Written.{Written}
 use Rattle.clock_scripts.specs.declared.pieces.Pieces.{Pieces}
 use Rattle.clock_scripts.specs.Pieces.{IsWrittenIn, piece_at, text_at}
+use Rattle.clock_sim.specs.declared.groups.Turn.{Turn}
 use Rattle.clock_sim.specs.declared.groups.Waiting.{Waiting}
 use Rattle.clock_sim.specs.declared.groups.Group.{Group}
 use Rattle.clock_replays.specs.declared.script.Script.{Script}
@@ -43,11 +44,11 @@ pub record Request : Type 0 where
 -- by the pieces that were written
 abbrev pub request_in : Pieces → Waiting → Request
 request_in pieces one = record {
-  bidder = one.bidder;
-  round = one.round;
+  bidder = one.turn.bidder;
+  round = one.turn.round;
   conn = one.conn;
-  head = piece_at pieces.heads.items one.written.head;
-  body = piece_at pieces.bodies.text.items one.written.body;
+  head = piece_at pieces.heads.items one.turn.written.head;
+  body = piece_at pieces.bodies.text.items one.turn.written.body;
 }
 
 -- the requests that wait
@@ -56,7 +57,7 @@ requests_in group = map (request_in group.pieces) group.waiting.items
 
 -- the pieces of the requests that wait stand in the texts
 abbrev pub AreWritten : Group → Type 0
-AreWritten group = All (λ one. IsWrittenIn group.pieces one.written) group.waiting.items
+AreWritten group = All (λ one. IsWrittenIn group.pieces one.turn.written) group.waiting.items
 
 -- the requests that wait are the same
 abbrev pub StillWait : Group → Group → Type 0
@@ -81,8 +82,8 @@ abbrev pub with_put : SetupFields → List Request → ℕ → Script → List (
 with_put setup group bidder script texts = after_group setup group texts >>= after_put setup bidder script
 
 -- the requests of a group, and then one that was written
-abbrev pub with_written : SetupFields → Group → ℕ → ℕ → Written → List (List ℕ) → Result (List (List ℕ)) SimFault
-with_written setup group bidder round written = with_request setup (requests_in group) bidder round (text_at group.pieces written)
+abbrev pub with_turn : SetupFields → Group → Turn → List (List ℕ) → Result (List (List ℕ)) SimFault
+with_turn setup group turn = with_request setup (requests_in group) turn.bidder turn.round (text_at group.pieces turn.written)
 
 -- from a place on, each connection stands with these bytes
 abbrev pub StandFrom : ℕ → ConnectionFields → List Request → (ℕ → Request → List ℕ) → Type 0
@@ -113,6 +114,12 @@ pub record Waits (connections : ConnectionFields) (group : Group) : Type 0 where
 pub record IsUnderWay (hub : HubFields) (group : Group) : Type 0 where
   pub waits : Waits hub.connections group
   pub going : IsGoing hub.house
+
+-- behind the requests that wait one may come that was written and closes no round
+pub record IsNext (hub : HubFields) (group : Group) (turn : Turn) : Type 0 where
+  pub under_way : IsUnderWay hub group
+  pub within : IsWrittenIn group.pieces turn.written
+  pub closes : ClosesNoRound (text_at group.pieces turn.written)
 
 -- some steps were made but for the requests that wait now, and the auction goes on; or their fault is told
 pub record ComesUnderWay {T : Type 0} (steps : List (List ℕ) → Result (List (List ℕ)) SimFault) (old new : HubFields) (group : Group)

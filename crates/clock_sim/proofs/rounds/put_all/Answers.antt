@@ -32,8 +32,8 @@ put_scripted-requires-clause-script g c =
 pub loop-bidder-preserved : goal.loop-bidder-preserved
 loop-bidder-preserved g c = (
   turn_over (after_puts c.args.hub.now.house.setup 0 c.args.scripts.now) c.args.scripts.now (requests_in c.loop-bidder.group) (requests_in c.put_scripted.new.group)
-      c.loop-bidder.bidder c.index-scripts-bidder.result c.args.hub.now.house c.loop-bidder.hub.house c.put_scripted.new.hub.house _
-      c.loop-bidder-test.true c.index-scripts-bidder.is c.loop-bidder.invariant.0 c.in_ok-put_scripted.ensures.way,
+      c.loop-bidder.bidder c.index-scripts-bidder.result c.args.hub.now.house c.loop-bidder.hub.house c.put_scripted.new.hub.house
+      c.loop-bidder-test.true c.index-scripts-bidder.is c.loop-bidder.invariant.0 _ c.in_ok-put_scripted.ensures.way,
   c.in_ok-put_scripted.ensures.under_way,
 )
 
@@ -42,8 +42,8 @@ returns-in_err-put_scripted g c =
     let told = err_from_is_err_and c.from_residual.result c.from_residual.ensures.1 in
     rw (told.1, told.2)
     (turn_refused (after_puts c.args.hub.now.house.setup 0 c.args.scripts.now) c.args.scripts.now (requests_in c.loop-bidder.group) (requests_in c.put_scripted.new.group)
-    c.loop-bidder.bidder c.index-scripts-bidder.result c.args.hub.now.house c.loop-bidder.hub.house c.put_scripted.new.hub.house _
-    c.loop-bidder-test.true c.index-scripts-bidder.is c.loop-bidder.invariant.0 c.in_err-put_scripted.ensures.way)
+    c.loop-bidder.bidder c.index-scripts-bidder.result c.args.hub.now.house c.loop-bidder.hub.house c.put_scripted.new.hub.house
+    c.loop-bidder-test.true c.index-scripts-bidder.is c.loop-bidder.invariant.0 _ c.in_err-put_scripted.ensures.way)
 
 pub returns : goal.returns
 returns g c =

@@ -20,7 +20,7 @@ loop-one-preserved g c =
     λ waiting piece. (text : List ℕ) → text_of old.connections (waiting_at waiting i).conn ≡ Some text
     → IsFed old c.feed.new.self (waiting_at waiting i).conn (text ++ piece) c.in_ok-feed.field-0 in
     let piece : c.head.result.now ≡ one.head =
-    c.head.ensures ∙ ap (λ (list : List Waiting). piece_at group.pieces.heads.items (waiting_at list i).written.head) same in
+    c.head.ensures ∙ ap (λ (list : List Waiting). piece_at group.pieces.heads.items (waiting_at list i).turn.written.head) same in
     let came = head_came (requests_in group) i one c.args.hub.now.connections old c.feed.new.self c.in_ok-feed.field-0 c.requires.requests
     at.0 at.1 c.loop-one.invariant.1 (subst₂ IsTold same piece c.in_ok-feed.ensures.fed) in
     (came.0 ∙ c.loop-one.invariant.0, came.1)

@@ -14,24 +14,24 @@ pub returns : goal.returns
 returns g c =
     let group = c.args.self.now in
     let pieces = group.pieces in
-    let one : Waiting = record { bidder = c.args.bidder; round = c.args.round; conn = c.in_ok-conn.conn; written = c.args.written } in
+    let one : Waiting = record { turn = c.args.turn; conn = c.in_ok-conn.conn } in
     let next : Group = record { pieces = pieces; waiting = c.push.new.self } in
-    let before = c.requires.under_way in
+    let before = c.requires.next.under_way in
     let front = c.in_ok-conn.ensures.front in
     let more = c.in_ok-push.ensures.items in
     let waiting = one_more pieces group.waiting.items _ one more in
-    let Stands : Waiting → Type 0 = λ w. IsWrittenIn pieces w.written in
+    let Stands : Waiting → Type 0 = λ w. IsWrittenIn pieces w.turn.written in
     record {
       under_way = record {
         waits = record {
           requests = subst (IsGroup c.connect.new.self.connections) (sym waiting)
               (joined_group c.args.hub.now.connections c.connect.new.self.connections (requests_in group) (request_in pieces one)
-              before.waits.requests c.in_ok-conn.ensures.connected c.requires.needs c.requires.closes);
+              before.waits.requests c.in_ok-conn.ensures.connected c.requires.needs c.requires.next.closes);
           written = subst (λ (list : List Waiting). All Stands list) (sym more)
-              (All-push Stands group.waiting.items one before.waits.written c.requires.within);
+              (All-push Stands group.waiting.items one before.waits.written c.requires.next.within);
         };
         going = subst IsGoing (sym front) before.going;
       };
-      way = one_waits (requests_in group) (requests_in next) (request_in pieces one) (text_at pieces c.args.written)
+      way = one_waits (requests_in group) (requests_in next) (request_in pieces one) (text_at pieces c.args.turn.written)
           c.args.hub.now.house c.connect.new.self.house _ front waiting refl;
     }
