@@ -11,7 +11,7 @@ use clock_sim::{ScriptFault, SimFault};
 /// Why a run ended before its end. The cases stand in the order in which they are looked at, want of
 /// memory aside, which stands in place of any other. `Bind` and `Accept` come in `serve` alone, `File`
 /// and those of a journal where files are named.
-#[derive(Clone, Copy, Debug, PartialEq, Eq)]
+#[derive(Clone, Copy)]
 pub enum Fault {
     /// The file of the set-up could not be opened.
     File,
