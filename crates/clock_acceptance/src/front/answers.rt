@@ -1,5 +1,5 @@
 //! What requests are answered with, one after the other.
-use super::requests::{compare, fields_of, reply_of, setup_of, text_of};
+use super::requests::{compare, reply_of, request_of, setup_of, text_of};
 use super::texts::{ACCEPTED, PUT};
 use crate::comparing::assert_is;
 use crate::front::example::{on_front, on_one_product};
@@ -12,25 +12,12 @@ use clock_setup::fixtures::{ACTIVITY_LIMIT, GRANULES_AND_INCREMENTS, ONE_PRODUCT
 use std::alloc::Global;
 use std::process::Abort;
 
-/// Sends a request, of its line, whose token it has and its body, and compares the status and page of its reply.
-fn send_request(
-    rt: &impl Abort,
-    alloc: Global,
-    front: &mut Front<Plain>,
-    request: (&str, &str, &str),
-    told: (&str, &str),
-) -> Option<()> {
-    let text = text_of(alloc, request.0, request.1, request.2)?;
-    compare(rt, alloc, front, text.as_str(), told.0, told.1)
-}
-
 /// Sends the request of a row, and compares its reply.
 fn send(rt: &impl Abort, alloc: Global, front: &mut Front<Plain>, row: &str) -> Option<()> {
-    let fields = fields_of(alloc, row)?;
-    let &[line, who, body, status, page] = fields.as_slice() else {
-        return None;
-    };
-    send_request(rt, alloc, front, (line, who, body), (status, page))
+    let (request, reply) = row.split_once('>')?;
+    let (status, page) = reply.split_once('|')?;
+    let text = request_of(alloc, request)?;
+    compare(rt, alloc, front, text.as_str(), status, page)
 }
 
 /// Sends the requests of all rows in turn.
@@ -41,15 +28,15 @@ fn send_rows(rt: &impl Abort, alloc: Global, front: &mut Front<Plain>, rows: &st
     Some(())
 }
 
-/// Requests in turn: the request line, whose token it has, its body, and the status and page of its reply. So are the
-/// other tables here.
+/// Requests in turn: the request line, whose token it has, its body, and behind `>` the status and page of its reply. So
+/// are the other tables here.
 const SHEETS: &str =
-    r#"GET /v1/me/bids|X||200 OK|{"bids":[{"price":100,"product":0,"quantity":2}],"round":1}
-PUT /v1/me/bids|X|{"bids":[{"price":100,"product":0,"quantity":1}],"round":1}|200 OK|{"accepted":true,"bids":1,"round":1}
-GET /v1/me/bids|X||200 OK|{"bids":[{"price":100,"product":0,"quantity":1}],"round":1}
-PUT /v1/me/bids|X|{"bids":[],"round":1}|200 OK|{"accepted":true,"bids":0,"round":1}
-GET /v1/me/bids|X||200 OK|{"bids":[],"round":1}
-GET /v1/me/bids|Y||200 OK|{"bids":null,"round":1}"#;
+    r#"GET /v1/me/bids|X|>200 OK|{"bids":[{"price":100,"product":0,"quantity":2}],"round":1}
+PUT /v1/me/bids|X|{"bids":[{"price":100,"product":0,"quantity":1}],"round":1}>200 OK|{"accepted":true,"bids":1,"round":1}
+GET /v1/me/bids|X|>200 OK|{"bids":[{"price":100,"product":0,"quantity":1}],"round":1}
+PUT /v1/me/bids|X|{"bids":[],"round":1}>200 OK|{"accepted":true,"bids":0,"round":1}
+GET /v1/me/bids|X|>200 OK|{"bids":[],"round":1}
+GET /v1/me/bids|Y|>200 OK|{"bids":null,"round":1}"#;
 
 /// The 147 bytes of a sheet that X puts, byte for byte, and its reply; then the rows.
 fn put_and_told(rt: &impl Abort, alloc: Global, front: &mut Front<Plain>) -> Option<()> {
@@ -67,83 +54,83 @@ fn a_sheet_is_put_and_told(rt: HostRuntime) {
 
 /// X drops two blocks, of which one is given up.
 const DROP_IN_PART: &str =
-    r#"PUT /v1/me/bids|X|{"bids":[{"price":100,"product":0,"quantity":2}],"round":1}|200 OK|{"accepted":true,"bids":1,"round":1}
-PUT /v1/me/bids|Y|{"bids":[{"price":100,"product":0,"quantity":1}],"round":1}|200 OK|{"accepted":true,"bids":1,"round":1}
-POST /v1/close|O|{"increment":10,"round":1,"ties":[]}|200 OK|{"closed":1,"ended":false}
-PUT /v1/me/bids|X|{"bids":[{"price":110,"product":0,"quantity":2}],"round":1}|409 Conflict|{"code":"wrong_round","round":2,"status":409}
-PUT /v1/me/bids|X|{"bids":[{"price":103,"product":0,"quantity":0}],"round":2}|200 OK|{"accepted":true,"bids":1,"round":2}
-PUT /v1/me/bids|Y|{"bids":[{"price":110,"product":0,"quantity":1}],"round":2}|200 OK|{"accepted":true,"bids":1,"round":2}
-GET /v1/me|X||200 OK|{"activity":2,"demands":[2],"eligibility":3,"ended":false,"name":"X","round":2}
-POST /v1/close|O|{"increment":10,"round":2,"ties":[]}|200 OK|{"closed":2,"ended":true}
-GET /v1/results|O||200 OK|{"bidders":[{"demands":[1],"eligibility":2,"name":"X"},{"demands":[1],"eligibility":2,"name":"Y"}],"ended":true,"round":2}
-GET /v1/me/rounds/2|X||200 OK|{"activity":1,"demands":[1],"eligibility":2,"round":2}
-GET /v1/rounds/2|||200 OK|{"ended":true,"products":[{"clock":110,"demand":null,"name":"A","next":null,"posted":103,"start":100}],"round":2}
-PUT /v1/me/bids|X|{"bids":[],"round":2}|409 Conflict|{"code":"ended","status":409}
-PUT /v1/me/bids|X|{"bids":[],"round":1}|409 Conflict|{"code":"ended","status":409}
-PUT /v1/me/bids|X|{"bids":[]}|422 Unprocessable Entity|{"code":"shape","status":422}
-POST /v1/close|O|{"increment":10,"round":1,"ties":[]}|409 Conflict|{"code":"ended","status":409}
-POST /v1/close|O|{"increments":[10],"round":2,"ties":[]}|422 Unprocessable Entity|{"code":"shape","status":422}"#;
+    r#"PUT /v1/me/bids|X|{"bids":[{"price":100,"product":0,"quantity":2}],"round":1}>200 OK|{"accepted":true,"bids":1,"round":1}
+PUT /v1/me/bids|Y|{"bids":[{"price":100,"product":0,"quantity":1}],"round":1}>200 OK|{"accepted":true,"bids":1,"round":1}
+POST /v1/close|O|{"increment":10,"round":1,"ties":[]}>200 OK|{"closed":1,"ended":false}
+PUT /v1/me/bids|X|{"bids":[{"price":110,"product":0,"quantity":2}],"round":1}>409 Conflict|{"code":"wrong_round","round":2,"status":409}
+PUT /v1/me/bids|X|{"bids":[{"price":103,"product":0,"quantity":0}],"round":2}>200 OK|{"accepted":true,"bids":1,"round":2}
+PUT /v1/me/bids|Y|{"bids":[{"price":110,"product":0,"quantity":1}],"round":2}>200 OK|{"accepted":true,"bids":1,"round":2}
+GET /v1/me|X|>200 OK|{"activity":2,"demands":[2],"eligibility":3,"ended":false,"name":"X","round":2}
+POST /v1/close|O|{"increment":10,"round":2,"ties":[]}>200 OK|{"closed":2,"ended":true}
+GET /v1/results|O|>200 OK|{"bidders":[{"demands":[1],"eligibility":2,"name":"X"},{"demands":[1],"eligibility":2,"name":"Y"}],"ended":true,"round":2}
+GET /v1/me/rounds/2|X|>200 OK|{"activity":1,"demands":[1],"eligibility":2,"round":2}
+GET /v1/rounds/2||>200 OK|{"ended":true,"products":[{"clock":110,"demand":null,"name":"A","next":null,"posted":103,"start":100}],"round":2}
+PUT /v1/me/bids|X|{"bids":[],"round":2}>409 Conflict|{"code":"ended","status":409}
+PUT /v1/me/bids|X|{"bids":[],"round":1}>409 Conflict|{"code":"ended","status":409}
+PUT /v1/me/bids|X|{"bids":[]}>422 Unprocessable Entity|{"code":"shape","status":422}
+POST /v1/close|O|{"increment":10,"round":1,"ties":[]}>409 Conflict|{"code":"ended","status":409}
+POST /v1/close|O|{"increments":[10],"round":2,"ties":[]}>422 Unprocessable Entity|{"code":"shape","status":422}"#;
 
 /// Each request has two faults or more, of which the earlier one answers.
-const REFUSALS: &str = r#"DELETE /v1/none|||404 Not Found|{"code":"no_page","status":404}
-DELETE /v1/me/bids|||405 Method Not Allowed|{"code":"method","status":405}
-PUT /v1/me/bids||x|401 Unauthorized|{"code":"token","status":401}
-PUT /v1/me/bids|O|x|403 Forbidden|{"code":"role","status":403}
-PUT /v1/me/bids|O|{"bids":[]}|403 Forbidden|{"code":"role","status":403}
-POST /v1/close|X|x|403 Forbidden|{"code":"role","status":403}
-POST /v1/close|X|{"increments":[10],"round":1,"ties":[]}|403 Forbidden|{"code":"role","status":403}
-PUT /v1/me/bids|X|x|400 Bad Request|{"code":"bad_json","status":400}
-PUT /v1/me/bids|X|{"bids":[]}|422 Unprocessable Entity|{"code":"shape","status":422}
-PUT /v1/me/bids|X|{"bids":[{"price":1,"product":1,"quantity":2}],"round":2}|409 Conflict|{"code":"wrong_round","round":1,"status":409}
-PUT /v1/me/bids|X|{"bids":[{"price":1,"product":1,"quantity":2}],"round":1}|422 Unprocessable Entity|{"code":"unknown_product","place":0,"status":422}
-PUT /v1/me/bids|X|{"bids":[{"price":101,"product":0,"quantity":3}],"round":1}|422 Unprocessable Entity|{"code":"price_range","place":0,"status":422}
-POST /v1/close|O|{"increments":[10],"round":2,"ties":[]}|422 Unprocessable Entity|{"code":"shape","status":422}
-POST /v1/close|O|{"increment":51,"round":2,"ties":[[0,1,5]]}|409 Conflict|{"code":"wrong_round","round":1,"status":409}
-POST /v1/close|O|{"increment":51,"round":1,"ties":[[0,1,5]]}|422 Unprocessable Entity|{"code":"increment","status":422}
-POST /v1/close|O|{"increment":10,"round":1,"ties":[[0,0,1],[0,0,2]]}|422 Unprocessable Entity|{"code":"tie_repeated","place":1,"status":422}
-GET /v1/rounds/01|||404 Not Found|{"code":"no_round","status":404}
-GET /v1/products|||200 OK|{"products":[{"cap":2,"name":"A","opening":100,"supply":2,"units":1}],"requirement":95,"version":1}"#;
+const REFUSALS: &str = r#"DELETE /v1/none||>404 Not Found|{"code":"no_page","status":404}
+DELETE /v1/me/bids||>405 Method Not Allowed|{"code":"method","status":405}
+PUT /v1/me/bids||x>401 Unauthorized|{"code":"token","status":401}
+PUT /v1/me/bids|O|x>403 Forbidden|{"code":"role","status":403}
+PUT /v1/me/bids|O|{"bids":[]}>403 Forbidden|{"code":"role","status":403}
+POST /v1/close|X|x>403 Forbidden|{"code":"role","status":403}
+POST /v1/close|X|{"increments":[10],"round":1,"ties":[]}>403 Forbidden|{"code":"role","status":403}
+PUT /v1/me/bids|X|x>400 Bad Request|{"code":"bad_json","status":400}
+PUT /v1/me/bids|X|{"bids":[]}>422 Unprocessable Entity|{"code":"shape","status":422}
+PUT /v1/me/bids|X|{"bids":[{"price":1,"product":1,"quantity":2}],"round":2}>409 Conflict|{"code":"wrong_round","round":1,"status":409}
+PUT /v1/me/bids|X|{"bids":[{"price":1,"product":1,"quantity":2}],"round":1}>422 Unprocessable Entity|{"code":"unknown_product","place":0,"status":422}
+PUT /v1/me/bids|X|{"bids":[{"price":101,"product":0,"quantity":3}],"round":1}>422 Unprocessable Entity|{"code":"price_range","place":0,"status":422}
+POST /v1/close|O|{"increments":[10],"round":2,"ties":[]}>422 Unprocessable Entity|{"code":"shape","status":422}
+POST /v1/close|O|{"increment":51,"round":2,"ties":[[0,1,5]]}>409 Conflict|{"code":"wrong_round","round":1,"status":409}
+POST /v1/close|O|{"increment":51,"round":1,"ties":[[0,1,5]]}>422 Unprocessable Entity|{"code":"increment","status":422}
+POST /v1/close|O|{"increment":10,"round":1,"ties":[[0,0,1],[0,0,2]]}>422 Unprocessable Entity|{"code":"tie_repeated","place":1,"status":422}
+GET /v1/rounds/01||>404 Not Found|{"code":"no_round","status":404}
+GET /v1/products||>200 OK|{"products":[{"cap":2,"name":"A","opening":100,"supply":2,"units":1}],"requirement":95,"version":1}"#;
 
 /// Each request has one fault.
-const FAULTS: &str = r#"GET /v1/me|||401 Unauthorized|{"code":"token","status":401}
-GET /v1/me|O||403 Forbidden|{"code":"role","status":403}
-GET /v1/rounds/1|||404 Not Found|{"code":"no_round","status":404}
-POST /v1/close|O|{"increment":0,"round":1,"ties":[]}|422 Unprocessable Entity|{"code":"increment","status":422}
-POST /v1/close|O|{"increment":51,"round":1,"ties":[]}|422 Unprocessable Entity|{"code":"increment","status":422}
-POST /v1/close|O|{"increment":10,"round":1,"ties":[[0,1,5]]}|422 Unprocessable Entity|{"code":"tie_range","place":0,"status":422}
-PUT /v1/me/bids|X|{"bids":[{"price":101,"product":0,"quantity":1}],"round":1}|422 Unprocessable Entity|{"code":"price_range","place":0,"status":422}
-PUT /v1/me/bids|X|{"bids":[{"price":100,"product":0,"quantity":3}],"round":1}|422 Unprocessable Entity|{"code":"over_cap","place":0,"status":422}
-PUT /v1/me/bids|X|{"bids":[{"price":100,"product":0,"quantity":1},{"price":100,"product":0,"quantity":2}],"round":1}|422 Unprocessable Entity|{"code":"price_order","place":1,"status":422}
-PUT /v1/me/bids|X|{"bids":[{"price":100,"product":0,"quantity":2}],"round":1}|200 OK|{"accepted":true,"bids":1,"round":1}
-PUT /v1/me/bids|Y|{"bids":[{"price":100,"product":0,"quantity":1}],"round":1}|200 OK|{"accepted":true,"bids":1,"round":1}
-POST /v1/close|O|{"increment":10,"round":1,"ties":[]}|200 OK|{"closed":1,"ended":false}
-PUT /v1/me/bids|X|{"bids":[{"price":103,"product":0,"quantity":1},{"price":105,"product":0,"quantity":2}],"round":2}|422 Unprocessable Entity|{"code":"mixed_direction","place":1,"status":422}
-PUT /v1/me/bids|X|{"bids":[{"price":105,"product":0,"quantity":2}],"round":2}|422 Unprocessable Entity|{"code":"keep_price","place":0,"status":422}"#;
+const FAULTS: &str = r#"GET /v1/me||>401 Unauthorized|{"code":"token","status":401}
+GET /v1/me|O|>403 Forbidden|{"code":"role","status":403}
+GET /v1/rounds/1||>404 Not Found|{"code":"no_round","status":404}
+POST /v1/close|O|{"increment":0,"round":1,"ties":[]}>422 Unprocessable Entity|{"code":"increment","status":422}
+POST /v1/close|O|{"increment":51,"round":1,"ties":[]}>422 Unprocessable Entity|{"code":"increment","status":422}
+POST /v1/close|O|{"increment":10,"round":1,"ties":[[0,1,5]]}>422 Unprocessable Entity|{"code":"tie_range","place":0,"status":422}
+PUT /v1/me/bids|X|{"bids":[{"price":101,"product":0,"quantity":1}],"round":1}>422 Unprocessable Entity|{"code":"price_range","place":0,"status":422}
+PUT /v1/me/bids|X|{"bids":[{"price":100,"product":0,"quantity":3}],"round":1}>422 Unprocessable Entity|{"code":"over_cap","place":0,"status":422}
+PUT /v1/me/bids|X|{"bids":[{"price":100,"product":0,"quantity":1},{"price":100,"product":0,"quantity":2}],"round":1}>422 Unprocessable Entity|{"code":"price_order","place":1,"status":422}
+PUT /v1/me/bids|X|{"bids":[{"price":100,"product":0,"quantity":2}],"round":1}>200 OK|{"accepted":true,"bids":1,"round":1}
+PUT /v1/me/bids|Y|{"bids":[{"price":100,"product":0,"quantity":1}],"round":1}>200 OK|{"accepted":true,"bids":1,"round":1}
+POST /v1/close|O|{"increment":10,"round":1,"ties":[]}>200 OK|{"closed":1,"ended":false}
+PUT /v1/me/bids|X|{"bids":[{"price":103,"product":0,"quantity":1},{"price":105,"product":0,"quantity":2}],"round":2}>422 Unprocessable Entity|{"code":"mixed_direction","place":1,"status":422}
+PUT /v1/me/bids|X|{"bids":[{"price":105,"product":0,"quantity":2}],"round":2}>422 Unprocessable Entity|{"code":"keep_price","place":0,"status":422}"#;
 
 /// More activity than a bidder is eligible for.
 const ACTIVE: &str =
-    r#"PUT /v1/me/bids|X|{"bids":[{"price":100,"product":0,"quantity":4},{"price":100,"product":1,"quantity":1}],"round":1}|422 Unprocessable Entity|{"code":"over_activity","status":422}"#;
+    r#"PUT /v1/me/bids|X|{"bids":[{"price":100,"product":0,"quantity":4},{"price":100,"product":1,"quantity":1}],"round":1}>422 Unprocessable Entity|{"code":"over_activity","status":422}"#;
 
 /// A round that cannot be closed at its demand keeps its sheets, and can be closed once it has less.
 const PRICE_LIMIT: &str =
-    r#"PUT /v1/me/bids|X|{"bids":[{"price":1000000000000,"product":0,"quantity":2}],"round":1}|200 OK|{"accepted":true,"bids":1,"round":1}
-PUT /v1/me/bids|Y|{"bids":[{"price":1000000000000,"product":0,"quantity":1}],"round":1}|200 OK|{"accepted":true,"bids":1,"round":1}
-POST /v1/close|O|{"increment":1,"round":1,"ties":[[0,1,5]]}|422 Unprocessable Entity|{"code":"tie_range","place":0,"status":422}
-POST /v1/close|O|{"increment":1,"round":1,"ties":[]}|422 Unprocessable Entity|{"code":"price_limit","place":0,"status":422}
-GET /v1/status|||200 OK|{"ended":false,"round":1,"version":1}
-GET /v1/me/bids|X||200 OK|{"bids":[{"price":1000000000000,"product":0,"quantity":2}],"round":1}
-GET /v1/me/bids|Y||200 OK|{"bids":[{"price":1000000000000,"product":0,"quantity":1}],"round":1}
-PUT /v1/me/bids|X|{"bids":[{"price":1000000000000,"product":0,"quantity":1}],"round":1}|200 OK|{"accepted":true,"bids":1,"round":1}
-POST /v1/close|O|{"increment":1,"round":1,"ties":[]}|200 OK|{"closed":1,"ended":true}"#;
+    r#"PUT /v1/me/bids|X|{"bids":[{"price":1000000000000,"product":0,"quantity":2}],"round":1}>200 OK|{"accepted":true,"bids":1,"round":1}
+PUT /v1/me/bids|Y|{"bids":[{"price":1000000000000,"product":0,"quantity":1}],"round":1}>200 OK|{"accepted":true,"bids":1,"round":1}
+POST /v1/close|O|{"increment":1,"round":1,"ties":[[0,1,5]]}>422 Unprocessable Entity|{"code":"tie_range","place":0,"status":422}
+POST /v1/close|O|{"increment":1,"round":1,"ties":[]}>422 Unprocessable Entity|{"code":"price_limit","place":0,"status":422}
+GET /v1/status||>200 OK|{"ended":false,"round":1,"version":1}
+GET /v1/me/bids|X|>200 OK|{"bids":[{"price":1000000000000,"product":0,"quantity":2}],"round":1}
+GET /v1/me/bids|Y|>200 OK|{"bids":[{"price":1000000000000,"product":0,"quantity":1}],"round":1}
+PUT /v1/me/bids|X|{"bids":[{"price":1000000000000,"product":0,"quantity":1}],"round":1}>200 OK|{"accepted":true,"bids":1,"round":1}
+POST /v1/close|O|{"increment":1,"round":1,"ties":[]}>200 OK|{"closed":1,"ended":true}"#;
 
 /// A closing has an increment for each product.
 const VERSION_2: &str =
-    r#"POST /v1/close|O|{"increment":10,"round":1,"ties":[]}|422 Unprocessable Entity|{"code":"shape","status":422}
-POST /v1/close|O|{"increments":[10],"round":1,"ties":[]}|422 Unprocessable Entity|{"code":"increment","status":422}
-POST /v1/close|O|{"increments":[10,20,30],"round":1,"ties":[]}|422 Unprocessable Entity|{"code":"increment","status":422}
-POST /v1/close|O|{"increments":[10,51],"round":1,"ties":[]}|422 Unprocessable Entity|{"code":"increment","status":422}
-POST /v1/close|O|{"increments":[10,20],"round":1,"ties":[]}|200 OK|{"closed":1,"ended":true}
-GET /v1/status|||200 OK|{"ended":true,"round":1,"version":2}"#;
+    r#"POST /v1/close|O|{"increment":10,"round":1,"ties":[]}>422 Unprocessable Entity|{"code":"shape","status":422}
+POST /v1/close|O|{"increments":[10],"round":1,"ties":[]}>422 Unprocessable Entity|{"code":"increment","status":422}
+POST /v1/close|O|{"increments":[10,20,30],"round":1,"ties":[]}>422 Unprocessable Entity|{"code":"increment","status":422}
+POST /v1/close|O|{"increments":[10,51],"round":1,"ties":[]}>422 Unprocessable Entity|{"code":"increment","status":422}
+POST /v1/close|O|{"increments":[10,20],"round":1,"ties":[]}>200 OK|{"closed":1,"ended":true}
+GET /v1/status||>200 OK|{"ended":true,"round":1,"version":2}"#;
 
 /// The one product at the highest price.
 const AT_THE_HIGHEST: &str = r#"{"version":1,"requirement":95,"operator":"OPERATOROPERATOR",
@@ -198,6 +185,12 @@ const TOO_MANY: &[(&str, &str, Repeated<'static>, &str)] = &[
     ),
 ];
 
+/// The text of a request line, whose token it has and the parts of its body.
+fn long_text(alloc: Global, asked: (&str, &str), parts: Repeated<'_>) -> Option<String> {
+    let body = repeated(alloc, parts)?;
+    text_of(alloc, asked.0, asked.1, body.as_str())
+}
+
 /// A body of these parts is refused with a page.
 fn has_too_many(
     rt: &impl Abort,
@@ -207,15 +200,9 @@ fn has_too_many(
     parts: Repeated<'_>,
     page: &str,
 ) -> Option<()> {
-    let body = repeated(alloc, parts).ok()?;
-    let request = (asked.0, asked.1, body.as_str());
-    send_request(
-        rt,
-        alloc,
-        front,
-        request,
-        ("422 Unprocessable Entity", page),
-    )
+    let text = long_text(alloc, asked, parts)?;
+    let status = "422 Unprocessable Entity";
+    compare(rt, alloc, front, text.as_str(), status, page)
 }
 
 #[test]

@@ -1,5 +1,5 @@
 //! What the bodies of requests mean.
-use crate::comparing::assert_is_at;
+use crate::comparing::assert_is;
 use clock_bids::Bid;
 use clock_front::{BodyFault, CloseBody, read_close, read_put};
 use clock_terms::Increments;
@@ -75,8 +75,11 @@ const SHEETS: &[(&[u8], Result<Sheet<'static>, BodyFault>)] = &[
 /// Asserts what the body of a sheet means.
 fn is_sheet(rt: &impl Abort, alloc: Global, body: &[u8], expected: Result<Sheet<'_>, BodyFault>) {
     match read_put(alloc, body) {
-        Ok(put) => assert_is_at(rt, body, Ok((put.round, put.bids.as_slice())), expected),
-        Err(fault) => assert_is_at(rt, body, Err(fault), expected),
+        Ok(put) => {
+            let told = Ok((put.round, put.bids.as_slice()));
+            assert_is(rt, (body, told), (body, expected));
+        }
+        Err(fault) => assert_is(rt, (body, Err(fault)), (body, expected)),
     }
 }
 
@@ -136,6 +139,6 @@ fn closing_of(alloc: Global, body: &[u8]) -> Result<Closing, BodyFault> {
 #[test]
 fn a_closing_has_one_form_of_increments(rt: HostRuntime) {
     for &(body, closing) in CLOSINGS {
-        assert_is_at(&rt, body, closing_of(rt.alloc(), body), closing);
+        assert_is(&rt, (body, closing_of(rt.alloc(), body)), (body, closing));
     }
 }

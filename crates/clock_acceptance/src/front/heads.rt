@@ -1,13 +1,13 @@
 //! What is answered where a head is at a limit or past it, or is none.
 use super::requests::compare;
-use crate::comparing::assert_is_at;
+use crate::comparing::assert_is;
 use crate::front::example::on_one_product;
 use crate::repeated::{Repeated, repeated};
 use std::alloc::Global;
 use std::process::Abort;
 
 /// The status and the page of a reply.
-type Told<'a> = (&'a str, &'a str);
+pub type Told<'a> = (&'a str, &'a str);
 
 /// Those of a head that is read, and whose path has no page.
 const NO_PAGE: Told<'static> = ("404 Not Found", r#"{"code":"no_page","status":404}"#);
@@ -18,9 +18,11 @@ const LONG_HEAD: Told<'static> = (
     r#"{"code":"long_head","status":431}"#,
 );
 
-const BAD_HEAD: Told<'static> = ("400 Bad Request", r#"{"code":"bad_head","status":400}"#);
+/// Those of a text that has no head of the form.
+pub const BAD_HEAD: Told<'static> = ("400 Bad Request", r#"{"code":"bad_head","status":400}"#);
 
-const BAD_LENGTH: Told<'static> = ("400 Bad Request", r#"{"code":"bad_length","status":400}"#);
+/// Those of a head that does not tell one length.
+pub const BAD_LENGTH: Told<'static> = ("400 Bad Request", r#"{"code":"bad_length","status":400}"#);
 
 const CUT_SHORT: Told<'static> = ("400 Bad Request", r#"{"code":"cut_short","status":400}"#);
 
@@ -29,7 +31,8 @@ const LONG_BODY: Told<'static> = (
     r#"{"code":"long_body","status":413}"#,
 );
 
-const CODING: Told<'static> = ("501 Not Implemented", r#"{"code":"coding","status":501}"#);
+/// Those of a head whose body comes in another coding.
+pub const CODING: Told<'static> = ("501 Not Implemented", r#"{"code":"coding","status":501}"#);
 
 /// Requests, and the replies to them. Where there are two faults the earlier one answers.
 const TEXTS: &[(&str, Told<'static>)] = &[
@@ -77,7 +80,7 @@ fn answers(rt: &impl Abort, alloc: Global, text: &str, told: Told<'_>) -> Option
 fn header_lines_are_answered_by_their_faults(rt: HostRuntime) {
     for &(text, told) in TEXTS {
         let done = answers(&rt, rt.alloc(), text, told);
-        assert_is_at(&rt, text, done, Some(()));
+        assert_is(&rt, (text, done), (text, Some(())));
     }
 }
 
@@ -103,8 +106,8 @@ fn long_head_answers(
     length: usize,
     told: Told<'_>,
 ) -> Option<()> {
-    let text = repeated(alloc, parts).ok()?;
-    assert_is_at(rt, parts.2, text.len(), length);
+    let text = repeated(alloc, parts)?;
+    assert_is(rt, (parts.2, text.len()), (parts.2, length));
     answers(rt, alloc, text.as_str(), told)
 }
 
@@ -112,7 +115,7 @@ fn long_head_answers(
 fn a_head_has_at_most_64_lines_and_16384_bytes(rt: HostRuntime) {
     for &(parts, length) in WITHIN {
         let done = long_head_answers(&rt, rt.alloc(), parts, length, NO_PAGE);
-        assert_is_at(&rt, length, done, Some(()));
+        assert_is(&rt, (length, done), (length, Some(())));
     }
 }
 
@@ -120,6 +123,6 @@ fn a_head_has_at_most_64_lines_and_16384_bytes(rt: HostRuntime) {
 fn a_longer_head_is_refused(rt: HostRuntime) {
     for &(parts, length) in BEYOND {
         let done = long_head_answers(&rt, rt.alloc(), parts, length, LONG_HEAD);
-        assert_is_at(&rt, length, done, Some(()));
+        assert_is(&rt, (length, done), (length, Some(())));
     }
 }

@@ -1,15 +1,16 @@
 //! Truncated and malicious texts: over whole bytes, over a stream and over a connection the reply is the same.
+use super::heads::{BAD_HEAD, BAD_LENGTH, CODING, Told};
 use super::hubs::{bytes_of, connected, fed, finished, on_hub};
 use super::requests::reply_with;
 use super::streams::serve;
 use super::texts::{ACCEPTED, BIDS_OF_X, CUT_SHORT, LONG_HEAD, NO_SHEET, PUT, SHEET};
-use crate::comparing::{assert_is, assert_is_at};
+use crate::comparing::assert_is;
 use crate::front::example::on_one_product;
 use crate::repeated::{Repeated, repeated};
 use clock_device::Text;
 use clock_front::{Front, Hub};
 use clock_processor::Plain;
-use std::alloc::{AllocError, Global};
+use std::alloc::Global;
 use std::process::Abort;
 
 /// The reply to a text.
@@ -65,55 +66,75 @@ fn is_told(rt: &impl Abort, alloc: Global, text: &[u8], reply: &str, page: &str)
 }
 
 /// A text is refused with a status and a page, and no sheet is in force.
-fn is_refused(rt: &impl Abort, alloc: Global, text: &[u8], status: &str, page: &str) -> Option<()> {
-    let reply = reply_with(alloc, status, page)?;
+fn is_refused(rt: &impl Abort, alloc: Global, text: &[u8], told: Told<'_>) -> Option<()> {
+    let reply = reply_with(alloc, told.0, told.1)?;
     is_told(rt, alloc, text, reply.as_str(), NO_SHEET)
 }
 
-/// Texts of sheets with X's token, and the status and page of the reply.
-const MALICIOUS: &[(&[u8], &str, &str)] = &[
-    (
-        b"PUT /v1/me/bids HTTP/1.1\r\nauthorization: Bearer XXXXXXXXXXXXXXXX\r\ncontent-length: 21\r\na: b\0\r\n\r\n{\"bids\":[],\"round\":1}",
-        "400 Bad Request",
-        r#"{"code":"bad_head","status":400}"#,
-    ),
-    (
-        b"PUT /v1/me/bids HTTP/1.1\r\nauthorization: Bearer XXXXXXXXXXXXXXXX\r\ntransfer-encoding: chunked\r\ncontent-length: x\r\n\r\n{\"bids\":[],\"round\":1}",
-        "501 Not Implemented",
-        r#"{"code":"coding","status":501}"#,
-    ),
-    (
-        b"PUT /v1/me/bids HTTP/1.1\r\nauthorization: Bearer XXXXXXXXXXXXXXXX\r\ncontent-length: 21\r\ncontent-length: 21\r\n\r\n{\"bids\":[],\"round\":1}",
-        "400 Bad Request",
-        r#"{"code":"bad_length","status":400}"#,
-    ),
-    (
-        b"PUT /v1/me/bids HTTP/1.1\r\nauthorization: Bearer XXXXXXXXXXXXXXXX\r\nauthorization: Bearer XXXXXXXXXXXXXXXX\r\ncontent-length: 21\r\n\r\n{\"bids\":[],\"round\":1}",
-        "401 Unauthorized",
-        r#"{"code":"token","status":401}"#,
-    ),
-    (
-        b"PUT /v1/me/bids HTTP/1.1\r\nauthorization: Bearer XXXXXXXXXXXXXXXX\r\ncontent-length: 29\r\n\r\n{\"bids\":[],\"round\":1,\"x\":\"\xff\"}",
-        "400 Bad Request",
-        r#"{"code":"bad_json","status":400}"#,
-    ),
-    (
-        b"PUT /v1/me/bids HTTP/1.1\r\nauthorization: Bearer XXXXXXXXXXXXXXXX\r\ncontent-length: 61\r\n\r\n{\"bids\":[{\"price\":100,\"product\":0,\"quantity\":1.0}],\"round\":1}",
-        "422 Unprocessable Entity",
-        r#"{"code":"shape","status":422}"#,
-    ),
-    (
-        b"PUT /v1/me/bids HTTP/1.1\r\nauthorization: Bearer XXXXXXXXXXXXXXXX\r\ncontent-length: 60\r\n\r\n{\"bids\":[{\"price\":100,\"product\":0,\"quantity\":-1}],\"round\":1}",
-        "422 Unprocessable Entity",
-        r#"{"code":"shape","status":422}"#,
-    ),
+/// What stands in a request of a sheet with X's token before its other header lines.
+const HEAD: &[u8] = b"PUT /v1/me/bids HTTP/1.1\r\nauthorization: Bearer XXXXXXXXXXXXXXXX\r\n";
+
+/// A sheet of no bids, one with a byte that is no text, and sheets with a part of a block and with less than none.
+const EMPTY: &[u8] = b"{\"bids\":[],\"round\":1}";
+
+const NO_TEXT: &[u8] = b"{\"bids\":[],\"round\":1,\"x\":\"\xff\"}";
+
+const PART: &[u8] = b"{\"bids\":[{\"price\":100,\"product\":0,\"quantity\":1.0}],\"round\":1}";
+
+const LESS: &[u8] = b"{\"bids\":[{\"price\":100,\"product\":0,\"quantity\":-1}],\"round\":1}";
+
+const TWO_LENGTHS: &[u8] = b"content-length: 21\r\ncontent-length: 21";
+
+const TWO_TOKENS: &[u8] = b"authorization: Bearer XXXXXXXXXXXXXXXX\r\ncontent-length: 21";
+
+const CODED: &[u8] = b"transfer-encoding: chunked\r\ncontent-length: x";
+
+const TOKEN: Told<'static> = ("401 Unauthorized", r#"{"code":"token","status":401}"#);
+
+const BAD_JSON: Told<'static> = ("400 Bad Request", r#"{"code":"bad_json","status":400}"#);
+
+const SHAPE: Told<'static> = (
+    "422 Unprocessable Entity",
+    r#"{"code":"shape","status":422}"#,
+);
+
+/// The other header lines of such requests and their bodies, and the replies.
+const MALICIOUS: &[(&[u8], &[u8], Told<'static>)] = &[
+    (b"content-length: 21\r\na: b\0", EMPTY, BAD_HEAD),
+    (CODED, EMPTY, CODING),
+    (TWO_LENGTHS, EMPTY, BAD_LENGTH),
+    (TWO_TOKENS, EMPTY, TOKEN),
+    (b"content-length: 29", NO_TEXT, BAD_JSON),
+    (b"content-length: 61", PART, SHAPE),
+    (b"content-length: 60", LESS, SHAPE),
 ];
+
+/// The text of such a request.
+fn text_of(alloc: Global, lines: &[u8], body: &[u8]) -> Option<Text> {
+    let mut text = Text::new(alloc);
+    for part in [HEAD, lines, b"\r\n\r\n", body] {
+        text.extend_from_slice(part).ok()?;
+    }
+    Some(text)
+}
+
+/// It is refused.
+fn is_malicious(
+    rt: &impl Abort,
+    alloc: Global,
+    lines: &[u8],
+    body: &[u8],
+    told: Told<'_>,
+) -> Option<()> {
+    let text = text_of(alloc, lines, body)?;
+    is_refused(rt, alloc, text.as_slice(), told)
+}
 
 #[test]
 fn malicious_texts_are_refused(rt: HostRuntime) {
-    for &(text, status, page) in MALICIOUS {
-        let done = is_refused(&rt, rt.alloc(), text, status, page);
-        assert_is_at(&rt, text, done, Some(()));
+    for &(lines, body, told) in MALICIOUS {
+        let done = is_malicious(&rt, rt.alloc(), lines, body, told);
+        assert_is(&rt, (lines, done), (lines, Some(())));
     }
 }
 
@@ -122,7 +143,7 @@ fn each_beginning_of_a_request_is_cut_short(rt: HostRuntime) {
     for count in 0..147 {
         let text = PUT.as_bytes().get(..count).unwrap_or(b"more");
         let done = is_told(&rt, rt.alloc(), text, CUT_SHORT, NO_SHEET);
-        assert_is_at(&rt, count, done, Some(()));
+        assert_is(&rt, (count, done), (count, Some(())));
     }
 }
 
@@ -142,7 +163,7 @@ fn long_text_is_told(
     reply: &str,
     page: &str,
 ) -> Option<()> {
-    let text = repeated(alloc, parts).ok()?;
+    let text = repeated(alloc, parts)?;
     is_told(rt, alloc, text.as_str().as_bytes(), reply, page)
 }
 
@@ -150,7 +171,7 @@ fn long_text_is_told(
 fn long_texts_are_answered_by_their_beginning(rt: HostRuntime) {
     for &(parts, reply, page) in LONG {
         let done = long_text_is_told(&rt, rt.alloc(), parts, reply, page);
-        assert_is_at(&rt, reply, done, Some(()));
+        assert_is(&rt, (reply, done), (reply, Some(())));
     }
 }
 
@@ -159,16 +180,15 @@ const HEAD_OF_2000: &str =
     "PUT /v1/me/bids HTTP/1.1\r\nauthorization: Bearer XXXXXXXXXXXXXXXX\r\ncontent-length: 2000\r\n\r\n";
 
 /// A sheet of a thousand lists, each within the one before.
-fn nested(alloc: Global) -> Result<String, AllocError> {
+fn nested(alloc: Global) -> Option<String> {
     let closing = repeated(alloc, ("", "]", 1_000, ""))?;
     repeated(alloc, (HEAD_OF_2000, "[", 1_000, closing.as_str()))
 }
 
 /// It is no JSON.
 fn nested_is_refused(rt: &impl Abort, alloc: Global) -> Option<()> {
-    let text = nested(alloc).ok()?;
-    let page = r#"{"code":"bad_json","status":400}"#;
-    is_refused(rt, alloc, text.as_str().as_bytes(), "400 Bad Request", page)
+    let text = nested(alloc)?;
+    is_refused(rt, alloc, text.as_str().as_bytes(), BAD_JSON)
 }
 
 #[test]

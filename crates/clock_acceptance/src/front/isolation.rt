@@ -1,10 +1,10 @@
 //! One bidder's replies in two runs in which it sees the same.
 mod in_pieces;
 
-use super::requests::{fields_of, text_of};
-use crate::comparing::assert_is_at;
+use super::requests::{reply_of, request_of};
+use crate::comparing::assert_is;
 use crate::front::example::on_front;
-use clock_front::{Front, Reply};
+use clock_front::Front;
 use clock_processor::Plain;
 use std::alloc::{AllocError, Global};
 use std::process::Abort;
@@ -51,59 +51,44 @@ const PAGES: &str =
 {"activity":1,"demands":[1],"eligibility":2,"round":2}
 {"ended":true,"products":[{"clock":110,"demand":null,"name":"A","next":null,"posted":103,"start":100}],"round":2}"#;
 
-/// A request of a run, and whether it is X's.
-#[derive(Drop)]
-struct Request {
-    is_own: bool,
-    text: String,
-}
+/// The row of a request of a run, and whether it is X's.
+type Sent<'a> = (&'a str, bool);
 
-/// The request of a row.
-fn request_of(alloc: Global, row: &str, is_own: bool) -> Option<Request> {
-    let fields = fields_of(alloc, row)?;
-    let &[line, who, body] = fields.as_slice() else {
-        return None;
-    };
-    let text = text_of(alloc, line, who, body)?;
-    Some(Request { is_own, text })
-}
-
-/// The requests of rows.
-fn push_rows(alloc: Global, requests: &mut Vec<Request>, rows: &str, is_own: bool) -> Option<()> {
+/// Adds the requests of rows.
+fn push_rows<'a>(requests: &mut Vec<Sent<'a>>, rows: &'a str, is_own: bool) -> Option<()> {
     for row in rows.split('\n') {
         if !row.is_empty() {
-            requests.push(request_of(alloc, row, is_own)?).ok()?;
+            requests.push((row, is_own)).ok()?;
         }
     }
     Some(())
 }
 
 /// The requests of a run in their order: X's of each turn, and then those of the others.
-fn requests_of(alloc: Global, others: &str) -> Option<Vec<Request>> {
+fn requests_of(alloc: Global, others: &str) -> Option<Vec<Sent<'_>>> {
     let mut requests = Vec::new(alloc);
     let mut others = others.split('~');
     for own in OWN.split('~') {
-        push_rows(alloc, &mut requests, own, true)?;
-        push_rows(alloc, &mut requests, others.next().unwrap_or(""), false)?;
+        push_rows(&mut requests, own, true)?;
+        push_rows(&mut requests, others.next().unwrap_or(""), false)?;
     }
     Some(requests)
 }
 
-/// Adds the reply to a request of X.
-fn push_reply(alloc: Global, told: &mut String, request: &Request, reply: &Reply) -> Option<()> {
-    if request.is_own {
-        let reply = String::from_utf8_lossy(alloc, reply.bytes()).ok()?;
-        told.push_str(reply.as_str()).ok()?;
-    }
-    Some(())
+/// The reply to the request of a row.
+fn reply_to(alloc: Global, front: &mut Front<Plain>, row: &str) -> Option<String> {
+    let text = request_of(alloc, row)?;
+    reply_of(alloc, front, text.as_str())
 }
 
 /// What X is told by a front that answers the requests in turn.
-fn told_in_turn(alloc: Global, front: &mut Front<Plain>, requests: &[Request]) -> Option<String> {
+fn told_in_turn(alloc: Global, front: &mut Front<Plain>, requests: &[Sent]) -> Option<String> {
     let mut told = String::new(alloc);
-    for request in requests {
-        let reply = front.answer(request.text.as_str().as_bytes());
-        push_reply(alloc, &mut told, request, &reply)?;
+    for &(row, is_own) in requests {
+        let reply = reply_to(alloc, front, row)?;
+        if is_own {
+            told.push_str(reply.as_str()).ok()?;
+        }
     }
     Some(told)
 }
@@ -254,25 +239,36 @@ const RUNS: &[(&str, &str, Run<'static>, Run<'static>)] = &[
     ),
 ];
 
-/// X is told the same in both runs of what is public, its pages among it.
+/// X is told this in a run of what is public, its pages among it.
+fn is_told(
+    rt: &impl Abort,
+    alloc: Global,
+    public: &str,
+    run: Run<'_>,
+    expected: &str,
+) -> Option<()> {
+    let told = told_x(alloc, public, run)?;
+    let is_whole = has_pages(told.as_str());
+    assert_is(rt, (told.as_str(), is_whole), (expected, true));
+    Some(())
+}
+
+/// X is told the same in both runs.
 fn is_told_alike(
     rt: &impl Abort,
     alloc: Global,
-    hidden: &str,
     public: &str,
-    runs: (Run<'_>, Run<'_>),
+    one: Run<'_>,
+    two: Run<'_>,
 ) -> Option<()> {
-    let one = told_x(alloc, public, runs.0)?;
-    assert_is_at(rt, hidden, has_pages(one.as_str()), true);
-    let two = told_x(alloc, public, runs.1)?;
-    assert_is_at(rt, hidden, one.as_str(), two.as_str());
-    Some(())
+    let told = told_x(alloc, public, one)?;
+    is_told(rt, alloc, public, two, told.as_str())
 }
 
 #[test]
 fn what_a_bidder_may_not_see_shows_in_no_reply(rt: HostRuntime) {
     for &(hidden, public, one, two) in RUNS {
-        let done = is_told_alike(&rt, rt.alloc(), hidden, public, (one, two));
-        assert_is_at(&rt, hidden, done, Some(()));
+        let done = is_told_alike(&rt, rt.alloc(), public, one, two);
+        assert_is(&rt, (hidden, done), (hidden, Some(())));
     }
 }

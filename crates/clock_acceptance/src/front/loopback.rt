@@ -82,13 +82,18 @@ fn three_are_served(alloc: Global, listener: &TcpListener) -> Option<bool> {
     })
 }
 
+/// Serves them, and closes the port.
+fn serve_three(rt: &(impl Abort + Alloc<A = Global>), listener: TcpListener) {
+    let is_served = three_are_served(rt.alloc(), &listener);
+    drop(listener);
+    assert_is(rt, is_served, Some(true));
+}
+
 #[test]
 fn connections_are_served_in_turn(rt: HostRuntime) -> io::Result<()> {
     let listener = any_port(&rt)?;
     let clients = three_clients(&rt, listener.local_addr()?)?;
-    let is_served = three_are_served(rt.alloc(), &listener);
-    drop(listener);
-    assert_is(&rt, is_served, Some(true));
+    serve_three(&rt, listener);
     assert_each_hears(&rt, clients)
 }
 
@@ -96,8 +101,6 @@ fn connections_are_served_in_turn(rt: HostRuntime) -> io::Result<()> {
 fn a_client_that_is_gone_ends_alone(rt: HostRuntime) -> io::Result<()> {
     let listener = any_port(&rt)?;
     let status = left_client(&rt, listener.local_addr()?)?;
-    let is_served = three_are_served(rt.alloc(), &listener);
-    drop(listener);
-    assert_is(&rt, is_served, Some(true));
+    serve_three(&rt, listener);
     assert_hears(&rt, status, FIRST_ROUND)
 }

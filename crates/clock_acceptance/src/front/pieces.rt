@@ -4,7 +4,8 @@ use super::hubs;
 use super::hubs::{fed, finished, on_hub};
 use super::requests::setup_of;
 use super::texts::{ACCEPTED, BIDS_OF_Y, CUT_SHORT, FIRST_ROUND, NO_BIDS, PUT, STATUS};
-use crate::comparing::{assert_is, assert_is_at};
+use crate::comparing::assert_is;
+use clock_device::Text;
 use clock_front::{Conn, Event, EventReplies, EventReply, Hub, HubFault, run_events};
 use clock_processor::Plain;
 use clock_setup::fixtures::ONE_PRODUCT;
@@ -59,8 +60,8 @@ fn replies_to(alloc: Global, events: &[Event]) -> Option<EventReplies> {
 fn are_told(rt: &impl Abort, replies: &[EventReply], expected: &[(u64, &str)]) {
     assert_is(rt, replies.len(), expected.len());
     for (one, (number, reply)) in replies.iter().zip(expected) {
-        assert_is_at(rt, *number, one.number, *number);
-        assert_is_at(rt, *number, one.reply.bytes(), reply.as_bytes());
+        let told = (one.number, one.reply.bytes());
+        assert_is(rt, told, (*number, reply.as_bytes()));
     }
 }
 
@@ -101,58 +102,77 @@ fn no_more_than_256_stand(rt: HostRuntime) {
     assert_is(&rt, done, Some(()));
 }
 
-/// What a connection is told at a step: a reply, or that more is needed, or a fault in words.
-type Told<'a> = Result<Option<&'a str>, &'a str>;
+/// What a connection is told that there is not.
+const UNKNOWN: &str = "no such connection";
 
-const UNKNOWN: Told<'static> = Err("no such connection");
-
-/// What the connections are told that are asked for in turn, as one after the other gets a text or its input ends.
-const STEPS: &[(usize, &str, Told<'static>)] = &[
-    (0, "connect", Ok(None)),
-    (0, STATUS, Ok(Some(FIRST_ROUND))),
+/// What the connections are told that are asked for in turn, as one after the other gets a text or its input ends:
+/// nothing where more is needed.
+const STEPS: &[(usize, &str, &str)] = &[
+    (0, "connect", ""),
+    (0, STATUS, FIRST_ROUND),
     (0, STATUS, UNKNOWN),
-    (1, "connect", Ok(None)),
-    (1, "", Ok(None)),
-    (1, "GET", Ok(None)),
-    (1, "end", Ok(Some(CUT_SHORT))),
+    (1, "connect", ""),
+    (1, "", ""),
+    (1, "GET", ""),
+    (1, "end", CUT_SHORT),
     (1, "end", UNKNOWN),
-    (2, "connect", Ok(None)),
+    (2, "connect", ""),
     (1, STATUS, UNKNOWN),
-    (2, STATUS, Ok(Some(FIRST_ROUND))),
+    (2, STATUS, FIRST_ROUND),
 ];
 
-/// Asserts what a connection is told at a step.
+/// A fault in words.
+fn words_of(alloc: Global, fault: HubFault) -> Option<Text> {
+    let words = format!(in alloc; "{fault}").ok()?;
+    Text::from_slice(alloc, words.as_str().as_bytes()).ok()
+}
+
+/// What a connection is told whose input ends.
+fn told_at_end(alloc: Global, hub: &mut Hub<Plain>, conn: Conn) -> Option<Text> {
+    match finished(alloc, hub, conn) {
+        Ok(reply) => Some(reply),
+        Err(fault) => words_of(alloc, fault),
+    }
+}
+
+/// What a connection is told that gets a text.
+fn told_of(alloc: Global, hub: &mut Hub<Plain>, conn: Conn, text: &str) -> Option<Text> {
+    match fed(alloc, hub, conn, text.as_bytes()) {
+        Ok(Some(reply)) => Some(reply),
+        Ok(None) => Some(Text::new(alloc)),
+        Err(fault) => words_of(alloc, fault),
+    }
+}
+
+/// What a connection is told at a step.
+fn told(alloc: Global, hub: &mut Hub<Plain>, conn: Conn, text: &str) -> Option<Text> {
+    match text {
+        "end" => told_at_end(alloc, hub, conn),
+        text => told_of(alloc, hub, conn, text),
+    }
+}
+
+/// Asserts it.
 fn is_told(
     rt: &impl Abort,
     alloc: Global,
     hub: &mut Hub<Plain>,
     conn: Conn,
     text: &str,
-    told: Told<'_>,
+    expected: &str,
 ) -> Option<()> {
-    let reply = match text {
-        "end" => finished(alloc, hub, conn).map(Some),
-        text => fed(alloc, hub, conn, text.as_bytes()),
-    };
-    let told = told.map(|reply| reply.map(|reply| reply.as_bytes()));
-    match reply {
-        Ok(Some(reply)) => assert_is_at(rt, text, Ok(Some(reply.as_slice())), told),
-        Ok(None) => assert_is_at(rt, text, Ok(None), told),
-        Err(fault) => {
-            let words = format!(in alloc; "{fault}").ok()?;
-            assert_is_at(rt, text, Err(words.as_str()), told);
-        }
-    }
+    let told = told(alloc, hub, conn, text)?;
+    assert_is(rt, (text, told.as_slice()), (text, expected.as_bytes()));
     Some(())
 }
 
 /// Takes all steps.
 fn take_steps(rt: &impl Abort, alloc: Global, hub: &mut Hub<Plain>) -> Option<()> {
     let mut conns = Vec::new(alloc);
-    for &(number, text, told) in STEPS {
+    for &(number, text, expected) in STEPS {
         match conns.as_slice().get(number) {
             None => conns.push(hubs::connected(hub).ok()?).ok()?,
-            Some(conn) => is_told(rt, alloc, hub, *conn, text, told)?,
+            Some(conn) => is_told(rt, alloc, hub, *conn, text, expected)?,
         }
     }
     Some(())

@@ -12,11 +12,6 @@ pub(super) fn setup_of(alloc: Global, document: &str) -> Option<Setup> {
     read_setup(alloc, document.as_bytes()).ok()
 }
 
-/// The fields of a row.
-pub(super) fn fields_of(alloc: Global, row: &str) -> Option<Vec<&str>> {
-    row.split('|').collect(alloc).ok()
-}
-
 /// The header line of a token, by whose it is: a bidder's letter, the operator's, or `N` for nobody's.
 fn token_line(who: &str) -> &'static str {
     match who {
@@ -38,6 +33,13 @@ pub(super) fn text_of(alloc: Global, line: &str, who: &str, body: &str) -> Optio
         body.len()
     )
     .ok()
+}
+
+/// The text of the request of a row: its line, whose token it has, and its body.
+pub(super) fn request_of(alloc: Global, row: &str) -> Option<String> {
+    let (line, rest) = row.split_once('|')?;
+    let (who, body) = rest.split_once('|')?;
+    text_of(alloc, line, who, body)
 }
 
 /// The bytes of the reply to a text.

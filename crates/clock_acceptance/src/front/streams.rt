@@ -3,7 +3,7 @@ ghost use Rattle.std.specs.Prelude.{◌≤◌};
 
 use super::requests::reply_of;
 use super::texts::{ACCEPTED, BIDS_OF_X, NO_SHEET, PUT, SHEET};
-use crate::comparing::{assert_is, assert_is_at};
+use crate::comparing::assert_is;
 use crate::front::example::on_one_product;
 use clock_device::{ListSink, ListSource, NoMemory, Stop, Text};
 use clock_front::{Front, StreamFault, serve_stream};
@@ -73,7 +73,8 @@ fn served_as(
 /// The same with a front of its own.
 fn compare(rt: &impl Abort, alloc: Global, row: &Row<'_>) {
     let done = on_one_product(alloc, |front| served_as(rt, alloc, front, row));
-    assert_is_at(rt, (row.piece, row.read, row.write), done, Some(()));
+    let at = (row.piece, row.read, row.write);
+    assert_is(rt, (at, done), (at, Some(())));
 }
 
 /// The sheet is put, by reads of so many bytes.

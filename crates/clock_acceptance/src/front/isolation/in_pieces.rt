@@ -1,12 +1,9 @@
 //! The same where each request comes over a connection of its own, in single bytes.
-use super::{
-    BY_W, BY_Y, PUBLIC, Request, Run, V_X_AND_W, X_AND_Y, document_of, push_reply, requests_of,
-    told_x,
-};
+use super::{BY_W, BY_Y, PUBLIC, Run, Sent, V_X_AND_W, X_AND_Y, document_of, requests_of, told_x};
 use crate::comparing::assert_is;
-use crate::front::events::{connected, push_byte};
-use crate::front::requests::setup_of;
-use clock_front::{Event, EventReplies, EventReply, run_events};
+use crate::front::events::{connected, piece};
+use crate::front::requests::{request_of, setup_of};
+use clock_front::{Event, EventReplies, EventReply, Reply, run_events};
 use clock_processor::Plain;
 use std::alloc::Global;
 use std::process::Abort;
@@ -47,40 +44,51 @@ fn places_of(part: Part, count: usize) -> (usize, usize) {
     }
 }
 
+/// The bytes of a part of a text.
+fn part_of(text: &[u8], part: Part) -> &[u8] {
+    let (first, end) = places_of(part, text.len());
+    text.get(first..end).unwrap_or(b"")
+}
+
+/// A piece of one byte for each of some bytes.
+fn push_bytes(alloc: Global, events: &mut Vec<Event>, number: u64, bytes: &[u8]) -> Option<()> {
+    for byte in bytes {
+        events.push(piece(alloc, number, &[*byte])?).ok()?;
+    }
+    Some(())
+}
+
 /// The bytes of a part of a request.
 fn push_part(
     alloc: Global,
     events: &mut Vec<Event>,
     number: usize,
-    request: &Request,
+    row: &str,
     part: Part,
 ) -> Option<()> {
-    let text = request.text.as_str().as_bytes();
-    let (first, end) = places_of(part, text.len());
-    for place in first..end {
-        push_byte(alloc, events, number as u64, text, place)?;
-    }
-    Some(())
+    let text = request_of(alloc, row)?;
+    let bytes = part_of(text.as_str().as_bytes(), part);
+    push_bytes(alloc, events, number as u64, bytes)
 }
 
 /// A part of each request, from the first to the last or the other way round.
 fn push_parts(
     alloc: Global,
     events: &mut Vec<Event>,
-    requests: &[Request],
+    requests: &[Sent],
     part: Part,
     is_backwards: bool,
 ) -> Option<()> {
     let count = requests.len();
     for turn in 0..count {
         let number = if is_backwards { count - 1 - turn } else { turn };
-        push_part(alloc, events, number, &requests[number], part)?;
+        push_part(alloc, events, number, requests[number].0, part)?;
     }
     Some(())
 }
 
 /// A byte of each request in turn, but their last ones.
-fn push_in_turn(alloc: Global, events: &mut Vec<Event>, requests: &[Request]) -> Option<()> {
+fn push_in_turn(alloc: Global, events: &mut Vec<Event>, requests: &[Sent]) -> Option<()> {
     for place in 0..LONGEST {
         push_parts(alloc, events, requests, Part::At(place), false)?;
     }
@@ -91,7 +99,7 @@ fn push_in_turn(alloc: Global, events: &mut Vec<Event>, requests: &[Request]) ->
 fn push_requests(
     alloc: Global,
     events: &mut Vec<Event>,
-    requests: &[Request],
+    requests: &[Sent],
     way: Way,
 ) -> Option<()> {
     match way {
@@ -103,7 +111,7 @@ fn push_requests(
 }
 
 /// What comes of the connections of a run.
-fn events_of(alloc: Global, requests: &[Request], way: Way) -> Option<Vec<Event>> {
+fn events_of(alloc: Global, requests: &[Sent], way: Way) -> Option<Vec<Event>> {
     let mut events = connected(alloc, requests.len())?;
     push_requests(alloc, &mut events, requests, way)?;
     Some(events)
@@ -117,29 +125,30 @@ fn replies_to(alloc: Global, bidders: &str, events: &[Event]) -> Option<EventRep
 }
 
 /// The replies to requests that come in a way.
-fn replies_in(
-    alloc: Global,
-    bidders: &str,
-    requests: &[Request],
-    way: Way,
-) -> Option<EventReplies> {
+fn replies_in(alloc: Global, bidders: &str, requests: &[Sent], way: Way) -> Option<EventReplies> {
     let events = events_of(alloc, requests, way)?;
     replies_to(alloc, bidders, events.as_slice())
 }
 
+/// Adds a reply.
+fn push_reply(alloc: Global, told: &mut String, reply: &Reply) -> Option<()> {
+    let reply = String::from_utf8_lossy(alloc, reply.bytes()).ok()?;
+    told.push_str(reply.as_str()).ok()
+}
+
 /// The replies to X's own requests among them.
-fn own_replies(alloc: Global, requests: &[Request], replies: &[EventReply]) -> Option<String> {
+fn own_replies(alloc: Global, requests: &[Sent], replies: &[EventReply]) -> Option<String> {
     let mut told = String::new(alloc);
     for one in replies {
-        if let Some(request) = requests.get(one.number as usize) {
-            push_reply(alloc, &mut told, request, &one.reply)?;
+        if let Some((_, true)) = requests.get(one.number as usize) {
+            push_reply(alloc, &mut told, &one.reply)?;
         }
     }
     Some(told)
 }
 
 /// What X is told where requests come in a way.
-fn told_in(alloc: Global, bidders: &str, requests: &[Request], way: Way) -> Option<String> {
+fn told_in(alloc: Global, bidders: &str, requests: &[Sent], way: Way) -> Option<String> {
     let replies = replies_in(alloc, bidders, requests, way)?;
     let told = own_replies(alloc, requests, replies.as_slice());
     drop(replies);

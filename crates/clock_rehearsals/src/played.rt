@@ -1,16 +1,15 @@
 //! A replay is played, and its report or its first fault is told.
 
-use super::documents::joined;
-use crate::comparing::{assert_is, assert_is_at};
-use crate::repeated::repeated;
-use clock_device::{NoMemory, Text};
+use crate::comparing::assert_is;
+use crate::documents::joined;
+use clock_device::Text;
 use clock_http::Code;
 use clock_processor::Plain;
 use clock_setup::fixtures::ONE_PRODUCT;
 use clock_sim::{
     Replay, Report, SimFault, read_replay, replay_text, report_text, simulate, simulate_with,
 };
-use std::alloc::{AllocError, Global};
+use std::alloc::Global;
 use std::process::Abort;
 
 const FALLING_LIMITS: &str = r#"{"kind":"sincere","limits":[[120,115]]}"#;
@@ -76,12 +75,7 @@ fn fault_of(alloc: Global, document: &[u8]) -> Option<SimFault> {
 }
 
 /// A document of one product with these scripts.
-fn with_scripts(
-    alloc: Global,
-    closings: &str,
-    first: &str,
-    second: &str,
-) -> Result<Text, NoMemory> {
+fn with_scripts(alloc: Global, closings: &str, first: &str, second: &str) -> Option<Text> {
     joined(
         alloc,
         &[
@@ -142,17 +136,17 @@ fn script_comes_to(
     script: &str,
     closings: &str,
     expected: Result<&str, SimFault>,
-) -> Result<(), NoMemory> {
+) -> Option<()> {
     let document = with_scripts(alloc, closings, script, ONE_BLOCK)?;
     comes_to_in_all_ways(rt, alloc, document.as_slice(), expected);
-    Ok(())
+    Some(())
 }
 
 #[test]
 fn a_report_or_the_first_fault_is_told(rt: HostRuntime) {
     for &(script, closings, expected) in PLAYED {
         let done = script_comes_to(&rt, rt.alloc(), script, closings, expected);
-        assert_is(&rt, done, Ok(()));
+        assert_is(&rt, (script, done), (script, Some(())));
     }
 }
 
@@ -170,45 +164,53 @@ const BEFORE_SCRIPTS: &str = r#"{"closings":[{"increment":10,"ties":[]}],"script
 const BEFORE_BIDDERS: &str =
     r#"],"setup":{"version":1,"requirement":95,"operator":"OPERATOROPERATOR","products":[{"name":"A","units":1,"supply":200,"cap":1,"opening":100}],"bidders":[{"eligibility":1,"name":"B0","token":"TOKENTOKENTOKENS0"}"#;
 
-/// Adds a bidder behind another.
-fn push_bidder(alloc: Global, text: &mut String, number: u64) -> Result<(), AllocError> {
-    let bidder = format!(in alloc;
-        r#",{{"eligibility":1,"name":"B{number}","token":"TOKENTOKENTOKENS{number}"}}"#
-    )?;
-    text.push_str(bidder.as_str())
-}
-
-/// All bidders but the first.
-fn other_bidders(alloc: Global) -> Result<String, AllocError> {
-    let mut text = String::new(alloc);
+/// Adds all bidders but the first.
+fn push_bidders(alloc: Global, text: &mut Text) -> Option<()> {
     for number in 1..130 {
-        push_bidder(alloc, &mut text, number)?;
+        let bidder = format!(in alloc;
+            r#",{{"eligibility":1,"name":"B{number}","token":"TOKENTOKENTOKENS{number}"}}"#
+        );
+        let bidder = bidder.ok()?;
+        text.extend_from_slice(bidder.as_str().as_bytes()).ok()?;
     }
-    Ok(text)
+    Some(())
 }
 
 /// Scripts of 130 bidders, two groups of 64 and one of two: the first one's, how many put a block, and how many behind
 /// them one too many.
 type Scripts<'a> = (&'a str, usize, usize);
 
+/// Adds a piece so often.
+fn push_times(text: &mut Text, piece: &str, times: usize) -> Option<()> {
+    for _ in 0..times {
+        text.extend_from_slice(piece.as_bytes()).ok()?;
+    }
+    Some(())
+}
+
+/// Pieces of a text one after the other, each so often.
+fn repeated(alloc: Global, pieces: &[(&str, usize)]) -> Option<Text> {
+    let mut text = Text::new(alloc);
+    for &(piece, times) in pieces {
+        push_times(&mut text, piece, times)?;
+    }
+    Some(text)
+}
+
 /// A document of a round with their sheets.
-fn many_sheets(alloc: Global, scripts: Scripts<'_>) -> Result<Text, NoMemory> {
+fn many_sheets(alloc: Global, scripts: Scripts<'_>) -> Option<Text> {
     let (first, good, faulty) = scripts;
-    let good = repeated(alloc, ("", ONE_MORE, good, ""))?;
-    let faulty = repeated(alloc, ("", TWO_MORE, faulty, ""))?;
-    let others = other_bidders(alloc)?;
-    joined(
-        alloc,
-        &[
-            BEFORE_SCRIPTS,
-            first,
-            good.as_str(),
-            faulty.as_str(),
-            BEFORE_BIDDERS,
-            others.as_str(),
-            "]}}",
-        ],
-    )
+    let pieces = [
+        (BEFORE_SCRIPTS, 1),
+        (first, 1),
+        (ONE_MORE, good),
+        (TWO_MORE, faulty),
+        (BEFORE_BIDDERS, 1),
+    ];
+    let mut text = repeated(alloc, &pieces)?;
+    push_bidders(alloc, &mut text)?;
+    text.extend_from_slice(b"]}}").ok()?;
+    Some(text)
 }
 
 /// Scripts, and the fault of the first one that puts a block too many.
@@ -224,34 +226,37 @@ const GROUPS: &[(Scripts<'static>, Option<SimFault>)] = &[
     ((ONE, 129, 0), None),
 ];
 
-/// The first fault of such a document, or none.
-fn fault_of_many(alloc: Global, scripts: Scripts<'_>) -> Result<Option<SimFault>, NoMemory> {
-    let document = many_sheets(alloc, scripts)?;
-    Ok(fault_of(alloc, document.as_slice()))
+/// The first fault of a document that could be made, or none.
+fn fault_in(alloc: Global, document: Option<Text>) -> Option<Option<SimFault>> {
+    let document = document?;
+    Some(fault_of(alloc, document.as_slice()))
 }
 
 #[test]
 fn groups_are_answered_in_the_order_of_the_bidders(rt: HostRuntime) {
     for &(scripts, fault) in GROUPS {
-        assert_is_at(&rt, scripts, fault_of_many(rt.alloc(), scripts), Ok(fault));
+        let told = fault_in(rt.alloc(), many_sheets(rt.alloc(), scripts));
+        assert_is(&rt, (scripts, told), (scripts, Some(fault)));
     }
 }
 
-const BEFORE_LONG: &str = r#",{"kind":"literal","sheets":[[{"price":100,"product":0,"quantity":1}"#;
+/// A script whose sheet has a bid more than those behind it.
+const LONG: &str = r#",{"kind":"literal","sheets":[[{"price":100,"product":0,"quantity":1}"#;
+
+const ONE_BID: &str = r#",{"price":100,"product":0,"quantity":1}"#;
 
 /// A document with a script of X where Y's sheet has bids enough for a body that is too long.
-fn before_long(alloc: Global, script: &str) -> Result<Text, NoMemory> {
-    let bid = r#",{"price":100,"product":0,"quantity":1}"#;
-    let bids = repeated(alloc, (BEFORE_LONG, bid, 28_000, "]]}"))?;
-    joined(
+fn before_long(alloc: Global, script: &str) -> Option<Text> {
+    repeated(
         alloc,
         &[
-            r#"{"closings":[],"scripts":["#,
-            script,
-            bids.as_str(),
-            r#"],"setup":"#,
-            ONE_PRODUCT,
-            "}",
+            (r#"{"closings":[],"scripts":["#, 1),
+            (script, 1),
+            (LONG, 1),
+            (ONE_BID, 28_000),
+            (r#"]]}],"setup":"#, 1),
+            (ONE_PRODUCT, 1),
+            ("}", 1),
         ],
     )
 }
@@ -262,16 +267,10 @@ const BEFORE: &[(&str, SimFault)] = &[
     (OVER_CAP, SimFault::Refused(0, 1, Code::OverCap)),
 ];
 
-/// The first fault of such a document, or none.
-fn fault_before_long(alloc: Global, script: &str) -> Result<Option<SimFault>, NoMemory> {
-    let document = before_long(alloc, script)?;
-    Ok(fault_of(alloc, document.as_slice()))
-}
-
 #[test]
 fn a_sheet_that_is_too_long_waits_for_those_before_it(rt: HostRuntime) {
     for &(script, fault) in BEFORE {
-        let told = fault_before_long(rt.alloc(), script);
-        assert_is_at(&rt, script, told, Ok(Some(fault)));
+        let told = fault_in(rt.alloc(), before_long(rt.alloc(), script));
+        assert_is(&rt, (script, told), (script, Some(Some(fault))));
     }
 }

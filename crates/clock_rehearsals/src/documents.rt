@@ -1,6 +1,6 @@
 //! What documents of replays mean.
-use crate::comparing::{assert_is, assert_is_at};
-use clock_device::{NoMemory, Text};
+use crate::comparing::assert_is;
+use clock_device::Text;
 use clock_setup::fixtures::{GRANULES_AND_INCREMENTS, ONE_PRODUCT};
 use clock_setup::{Place, SetupFault};
 use clock_sim::{ScriptFault, read_replay};
@@ -69,16 +69,16 @@ const ROWS: &[(&str, &str, &str, Option<ScriptFault>)] = &[
 ];
 
 /// Pieces of a text, one after the other.
-pub(super) fn joined(alloc: Global, pieces: &[&str]) -> Result<Text, NoMemory> {
+pub fn joined(alloc: Global, pieces: &[&str]) -> Option<Text> {
     let mut text = Text::new(alloc);
     for piece in pieces {
-        text.extend_from_slice(piece.as_bytes())?;
+        text.extend_from_slice(piece.as_bytes()).ok()?;
     }
-    Ok(text)
+    Some(text)
 }
 
 /// A document with these closings, scripts and set-up.
-fn document(alloc: Global, closings: &str, scripts: &str, setup: &str) -> Result<Text, NoMemory> {
+fn document(alloc: Global, closings: &str, scripts: &str, setup: &str) -> Option<Text> {
     joined(
         alloc,
         &[
@@ -104,16 +104,16 @@ fn fault_of_parts(
     closings: &str,
     scripts: &str,
     setup: &str,
-) -> Result<Option<ScriptFault>, NoMemory> {
+) -> Option<Option<ScriptFault>> {
     let text = document(alloc, closings, scripts, setup)?;
-    Ok(fault_of(alloc, text.as_slice()))
+    Some(fault_of(alloc, text.as_slice()))
 }
 
 #[test]
 fn the_first_fault_is_told(rt: HostRuntime) {
     for &(closings, scripts, setup, fault) in ROWS {
         let told = fault_of_parts(rt.alloc(), closings, scripts, setup);
-        assert_is_at(&rt, scripts, told, Ok(fault));
+        assert_is(&rt, (scripts, told), (scripts, Some(fault)));
     }
     assert_is(&rt, fault_of(rt.alloc(), b"{"), Some(ScriptFault::NotJson));
 }
