@@ -1,6 +1,7 @@
 -- An auction whose accepted texts are kept in a journal. (Own rule: what is refused or only read is not kept.)
 --     is_get text      a whole request by GET
 --     IsAccepted text answer      the text was accepted as a sheet or a closing
+--     LeavesOneMore text old new      a stop leaves the texts that were there, and at most this one more
 --     IsInStep digest texts journal house      the journal has these texts on its disk, and the house stands for them
 --     IsKept digest past text answer journal old new      how a text is answered and kept
 --     IsTakenUp digest bytes recovered house      the house stands for all texts of a file
@@ -15,6 +16,8 @@ use Rattle.clock_http.specs.declared.code.Code.TheVariants.{Done}
 use Rattle.clock_http.specs.Framing.{Framing, framing, incomplete, refusal, whole}
 use Rattle.clock_http.specs.Replies.{Answer}
 use Rattle.clock_front.specs.Fronts.{reply, text_command, StandsForTexts, IsStruckOut}
+use Rattle.clock_journal.specs.Crash.{LeavesTexts}
+use Rattle.clock_journal.specs.Disks.{MayBeLeft}
 use Rattle.clock_journal.specs.Kept.{JournalState, HasTexts}
 use Rattle.clock_journal.specs.Reading.{onto}
 use Rattle.clock_journal.specs.Recovering.{IsPlaced}
@@ -37,6 +40,12 @@ pub record IsAccepted (text : List ℕ) (answer : Answer) : Type 0 where
 -- the house stands for the texts of a journal, of which the oldest stands first
 abbrev pub StandsForKept : List (List ℕ) → HouseFields → Type 0
 StandsForKept texts house = StandsForTexts (onto texts []) house
+
+-- whatever texts the journal had, a stop at any moment since leaves these, and at most this one more
+abbrev pub LeavesOneMore : List ℕ → JournalState → JournalState → Type 0
+LeavesOneMore text old new =
+    (digest : List ℕ) (texts : List (List ℕ)) → HasTexts digest texts old
+    → (left : List ℕ) → MayBeLeft old.synced new.written left → LeavesTexts digest left (texts ++ text ∷ []) (length texts)
 
 -- the journal has these texts, the oldest first, all of them on its disk; and the house stands for them
 pub record IsInStep (digest : List ℕ) (texts : List (List ℕ)) (journal : JournalState) (house : HouseFields) : Type 0 where

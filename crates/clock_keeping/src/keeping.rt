@@ -1,12 +1,10 @@
-ghost use Rattle.std.specs.Prelude.{◌≡◌, ◌⊎◌, ◌++◌, [], ◌∷◌, List, ℕ, IfOk, OnOk, OnErr, IsTrue, true, false, length};
+ghost use Rattle.std.specs.Prelude.{◌≡◌, ◌⊎◌, ◌++◌, [], ◌∷◌, List, ℕ, IfOk, OnOk, OnErr, IsTrue, true, false};
 ghost use Rattle.clock_http.specs.Shown.{Knows};
 ghost use Rattle.clock_front.specs.Fronts.{AnswersText, IsStruckOut};
 ghost use Rattle.clock_front.specs.Private.{IsPrivateReply};
-ghost use Rattle.clock_journal.specs.Crash.{LeavesTexts};
-ghost use Rattle.clock_journal.specs.Disks.{MayBeLeft};
 ghost use Rattle.clock_journal.specs.Format.{Fits};
 ghost use Rattle.clock_journal.specs.Kept.{HasTexts};
-ghost use Rattle.clock_keeping.specs.Keeping.{IsInStep, IsKept, is_get as is_get_of};
+ghost use Rattle.clock_keeping.specs.Keeping.{IsInStep, IsKept, LeavesOneMore, is_get as is_get_of};
 
 use clock_device::Failed;
 use clock_front::{Framing, Front, Progress, Reply};
@@ -42,9 +40,7 @@ fn keep<D: Durable>(journal: &mut Journal<D>, text: &[u8]) -> Result<(), Failed>
     requires unfailed { journal.old.has_failed ≡ false }
     ensures kept { (digest : List ℕ) (texts : List (List ℕ)) → HasTexts digest texts journal.old
         → OnOk result (HasTexts digest (texts ++ text.now ∷ []) journal.new) }
-    ensures moments { (digest : List ℕ) (texts : List (List ℕ)) → HasTexts digest texts journal.old
-        → (left : List ℕ) → MayBeLeft journal.old.synced journal.new.written left
-        → LeavesTexts digest left (texts ++ text.now ∷ []) (length texts) }
+    ensures moments { LeavesOneMore text.now journal.old journal.new }
     ensures ok { OnOk result (journal.new.has_failed ≡ false) }
     ensures err { OnErr result ((journal.new.has_failed ≡ true) ⊎ (Fits text.now → ⊥)) }
 {
@@ -72,9 +68,7 @@ pub fn answer_and_keep<P: Processor, D: Durable>(
     ensures setup { front.new.setup ≡ front.old.setup }
     ensures kept { (digest : List ℕ) (past : List (List ℕ)) → IsInStep digest past journal.old front.old
         → IfOk result (λ reply. IsKept digest past text.now reply journal.new front.old front.new) }
-    ensures moments { (digest : List ℕ) (past : List (List ℕ)) → HasTexts digest past journal.old
-        → (left : List ℕ) → MayBeLeft journal.old.synced journal.new.written left
-        → LeavesTexts digest left (past ++ text.now ∷ []) (length past) }
+    ensures moments { LeavesOneMore text.now journal.old journal.new }
     ensures ok { OnOk result (journal.new.has_failed ≡ false) }
     ensures err { OnErr result ((journal.new.has_failed ≡ true) ⊎ (Fits text.now → ⊥)) }
 {

@@ -2,10 +2,9 @@
 use Rattle.std.proofs.Common.{◌≡◌, ◌<◌, ◌+◌, ℕ, List, [], ◌∷◌, ◌++◌, Option, Result, Ok, Err, length, refl, sym, ◌∙◌, subst, arith, length-append}
 use Rattle.clock_terms.specs.Limits.{IsSetup}
 use Rattle.clock_house.specs.House.{HouseFields}
-use Rattle.clock_journal.specs.Crash.{LeavesTexts}
 use Rattle.clock_journal.specs.Disks.{MayBeLeft}
-use Rattle.clock_journal.specs.Kept.{HasTexts, JournalState}
-use Rattle.clock_keeping.specs.Keeping.{IsInStep}
+use Rattle.clock_journal.specs.Kept.{JournalState}
+use Rattle.clock_keeping.specs.Keeping.{IsInStep, LeavesOneMore}
 use Rattle.clock_serving.specs.declared.fault.ServeFault.{ServeFault}
 use Rattle.clock_serving.specs.declared.fault.ServeFault.TheVariants.{Accept, Journal}
 use Rattle.clock_serving.specs.Exchanges.{Exchange, HasClosed}
@@ -34,9 +33,7 @@ module _ (takes : List ℕ → Type 0) (count : ℕ) (first mid last : Option (L
   }
 
   told_are_kept : (text : List ℕ) (digest : List ℕ) (past : List (List ℕ)) → IsInStep digest past journal_old old
-      → ((digest : List ℕ) (past : List (List ℕ)) → HasTexts digest past journal_mid → (left : List ℕ)
-      → MayBeLeft journal_mid.synced journal_new.written left → LeavesTexts digest left (past ++ text ∷ []) (length past))
-      → HasKeptTold digest past before.exchanges text journal_new old
+      → LeavesOneMore text journal_mid journal_new → HasKeptTold digest past before.exchanges text journal_new old
   told_are_kept text digest past in_step moments =
       let so_far = before.served.kept digest past in_step in
       record {

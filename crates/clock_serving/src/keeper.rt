@@ -1,11 +1,9 @@
-ghost use Rattle.std.specs.Prelude.{◌≡◌, ◌⊎◌, ◌++◌, ℕ, List, [], ◌∷◌, length, IfOk, OnOk, OnErr, true, false};
+ghost use Rattle.std.specs.Prelude.{◌≡◌, ◌⊎◌, ℕ, List, IfOk, OnOk, OnErr, true, false};
 ghost use Rattle.clock_front.specs.Fronts.{AnswersText};
 ghost use Rattle.clock_http.specs.Shown.{Knows};
-ghost use Rattle.clock_journal.specs.Crash.{LeavesTexts};
-ghost use Rattle.clock_journal.specs.Disks.{MayBeLeft};
 ghost use Rattle.clock_journal.specs.Format.{Fits};
-ghost use Rattle.clock_journal.specs.Kept.{HasTexts, JournalState};
-ghost use Rattle.clock_keeping.specs.Keeping.{IsInStep, IsKept};
+ghost use Rattle.clock_journal.specs.Kept.{JournalState};
+ghost use Rattle.clock_keeping.specs.Keeping.{IsInStep, IsKept, LeavesOneMore};
 ghost use Rattle.clock_serving.specs.Exchanges.{no_journal};
 
 use clock_device::Failed;
@@ -40,9 +38,7 @@ pub trait Keeper {
         ensures setup { front.new.setup ≡ front.old.setup }
         ensures kept { (digest : List ℕ) (past : List (List ℕ)) → IsInStep digest past (journal self.old) front.old
             → IfOk result (λ reply. IsKept digest past text.now reply (journal self.new) front.old front.new) }
-        ensures moments { (digest : List ℕ) (past : List (List ℕ)) → HasTexts digest past (journal self.old)
-            → (left : List ℕ) → MayBeLeft (journal self.old).synced (journal self.new).written left
-            → LeavesTexts digest left (past ++ text.now ∷ []) (length past) }
+        ensures moments { LeavesOneMore text.now (journal self.old) (journal self.new) }
         ensures ok { OnOk result ((journal self.new).has_failed ≡ false) }
         ensures err { OnErr result (((journal self.new).has_failed ≡ true) ⊎ (takes text.now → ⊥)) };
 

@@ -4,7 +4,7 @@
 --     IsServed one ..      one connection was served
 --     IsUnkept takes one ..      its text could not be kept
 --     EndsOne takes old new .. result      how serving one ends
-use Rattle.std.specs.Prelude.{◌≡◌, ◌⊎◌, ◌++◌, ℕ, true, List, [], ◌∷◌, length, Option, Result, Ok, Err}
+use Rattle.std.specs.Prelude.{◌≡◌, ◌⊎◌, ℕ, true, List, [], ◌∷◌, Option, Result, Ok, Err}
 use Rattle.clock_device.specs.Told.{Reading}
 use Rattle.clock_device.specs.Writings.{WritesNothing}
 use Rattle.clock_house.specs.House.{HouseFields}
@@ -13,10 +13,8 @@ use Rattle.clock_connections.specs.Arrivals.{HasArrived, HasNoRoom}
 use Rattle.clock_front.specs.FixedReplies.{no_memory}
 use Rattle.clock_front.specs.Fronts.{AnswersText}
 use Rattle.clock_front.specs.Streamed.{IsLeftUnread}
-use Rattle.clock_journal.specs.Crash.{LeavesTexts}
-use Rattle.clock_journal.specs.Disks.{MayBeLeft}
-use Rattle.clock_journal.specs.Kept.{JournalState, HasTexts}
-use Rattle.clock_keeping.specs.Keeping.{IsInStep, IsKept}
+use Rattle.clock_journal.specs.Kept.{JournalState}
+use Rattle.clock_keeping.specs.Keeping.{IsInStep, IsKept, LeavesOneMore}
 use Rattle.clock_serving.specs.Serving.{WritesReply}
 use Rattle.clock_serving.specs.Exchanges.{Exchange, HasClosed}
 use Rattle.clock_serving.specs.declared.fault.ServeFault.{ServeFault}
@@ -50,8 +48,7 @@ pub record FailsToKeep (takes : List ℕ → Type 0) (reading : Reading) (journa
   pub text : List ℕ
   pub arrived : HasArrived reading text
   pub failed : (journal_new.has_failed ≡ true) ⊎ (takes text → ⊥)
-  pub moments : (digest : List ℕ) (past : List (List ℕ)) → HasTexts digest past journal_old
-      → (left : List ℕ) → MayBeLeft journal_old.synced journal_new.written left → LeavesTexts digest left (past ++ text ∷ []) (length past)
+  pub moments : LeavesOneMore text journal_old journal_new
 
 -- and nothing was written
 abbrev pub IsUnkept : (List ℕ → Type 0) → Exchange → JournalState → JournalState → Type 0
