@@ -11,10 +11,11 @@ use Rattle.clock_house.specs.House.{HouseFields, IsUnchanged, IsFollowedBy, Stan
 use Rattle.clock_house.specs.Prepared.{PreparedClosing, FitsClosing}
 use Rattle.std.specs.Prelude.{IfOk, OnOk}
 use Rattle.clock_closing.specs.declared.fault.CloseFault.TheVariants.{NoMemory}
+use Rattle.clock_views.specs.Refusals.{shown_close}
 use Rattle.clock_bodies.specs.declared.body_fault.BodyFault.{BodyFault}
 use Rattle.clock_bodies.specs.declared.body_fault.BodyFault.TheVariants as body_faults
 use Rattle.clock_http.specs.Replies.{Answer}
-use Rattle.clock_front.specs.Outcomes.{Outcome, close_outcome, done, answer_of}
+use Rattle.clock_front.specs.Outcomes.{Outcome, close_outcome, done, refused, answer_of}
 use Rattle.clock_views.specs.OperatorPages.{closed_value}
 
 abbrev closing_by : ℕ → Increments → List Tie → SetupFields → List ClosedRound → List (Option (List Bid)) → Result ClosedRound CloseFault

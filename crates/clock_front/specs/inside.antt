@@ -3,6 +3,7 @@ pub mod Askers
 pub mod EventRuns
 pub mod FixedReplies
 pub mod Hubs
+pub mod Private
 pub mod HeldTokens
 pub mod NumberedHubs
 pub mod ShownAsked

@@ -9,6 +9,7 @@ ghost use Rattle.clock_front.specs.Outcomes as told;
 ghost use Rattle.clock_front.specs.Outcomes.{answer_of, outcome};
 ghost use Rattle.clock_front.specs.Rooms.{WantsRoom};
 ghost use Rattle.clock_front.specs.inside.Askers.{IsKnown};
+ghost use Rattle.clock_front.specs.inside.Private.{IsToldByView};
 ghost use Rattle.clock_front.specs.Requests as asked;
 ghost use Rattle.clock_views.specs.BidderPages.{accepted_value};
 ghost use Rattle.clock_views.specs.OperatorPages.{closed_value};
@@ -65,6 +66,7 @@ fn put_sheet<P: Processor>(
     requires { bidder < length house.old.setup.bidders }
     ensures reply { IfOk result (λ reply. reply
         ≡ answer_of (told.put_outcome sheet (put_fault_in house.old bidder sheet.round sheet.bids))) }
+    ensures private { IfOk result (IsToldByView house.old bidder (asked.put (Ok sheet))) }
     ensures followed { OnOk result (IsFollowedBy (command.put bidder sheet.round sheet.bids) house.old house.new) }
     ensures still { OnErr result (StandsStill house.old house.new) }
 {

@@ -8,6 +8,7 @@ ghost use Rattle.clock_front.specs.Fronts.{AnswersText, IsCutShort, IsDoneBy, Is
 ghost use Rattle.clock_front.specs.Outcomes.{answer_of, outcome, command_of};
 ghost use Rattle.clock_front.specs.Rooms.{IsPrivateWant, IsWantOf, WantsRoom};
 ghost use Rattle.clock_front.specs.Private.{IsPrivateReply};
+ghost use Rattle.clock_front.specs.inside.Private.{IsToldAsker};
 ghost use Rattle.clock_front.specs.Requests.{request_of};
 ghost use Rattle.clock_http.specs.Shown.{IsFramed, Knows, shown_framing};
 ghost use Rattle.clock_front.specs.inside.ShownAsked.{shown_asked};
@@ -94,6 +95,7 @@ impl<P: Processor> Front<P> {
         ensures reply { IfOk result (λ reply. reply ≡ answer_of (outcome self.old asker (shown_asked what.entry))) }
         ensures wanted { IfErr result (WantsRoom asker (shown_asked what.entry)
             (outcome self.old asker (shown_asked what.entry))) }
+        ensures private { IfOk result (IsToldAsker self.old asker (shown_asked what.entry)) }
         ensures followed { OnOk result (IsFollowedBy (command_of self.old.setup asker (shown_asked what.entry))
             self.old self.new) }
         ensures still { OnErr result (StandsStill self.old self.new) }

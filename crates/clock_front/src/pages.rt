@@ -9,6 +9,7 @@ ghost use Rattle.clock_front.specs.inside.KeptPage.{IsProductsPage, head_room};
 ghost use Rattle.clock_terms.specs.Limits.{SetupFields, public_setup};
 ghost use Rattle.clock_views.specs.PublicPages.{products_value};
 ghost use Rattle.clock_front.specs.inside.Roomless.{without_room};
+ghost use Rattle.clock_front.specs.inside.Private.{IsToldByView};
 ghost use Rattle.clock_front.specs.Requests as asked;
 
 use clock_device::Bounded;
@@ -91,6 +92,7 @@ pub(crate) fn sheet<P>(alloc: Global, house: &House<P>, segment: &[u8]) -> Resul
 pub(crate) fn account<P>(alloc: Global, house: &House<P>, bidder: u32) -> Result<Reply, NoRoom>
     requires { bidder < length house.now.setup.bidders }
     ensures reply { IfOk result (λ reply. reply ≡ answer_of (told house.now (who.Bidder bidder) asked.account)) }
+    ensures private { IfOk result (IsToldByView house.now bidder asked.account) }
     ensures room { IfErr result (λ room. room ≡ reply_room asked.account (told house.now (who.Bidder bidder)
         asked.account)) }
 {

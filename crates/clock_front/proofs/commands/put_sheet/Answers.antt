@@ -6,6 +6,7 @@ use Rattle.clock_house.specs.declared.fault.PutFault.{PutFault}
 use Rattle.clock_views.specs.BidderPages.{accepted_value}
 use Rattle.clock_front.specs.Outcomes.{answer_of, done, put_outcome}
 use Rattle.clock_front.proofs.ChangeLaws.{told_of_first}
+use Rattle.clock_front.proofs.PrivateLaws.{accepted_by_view, refused_by_view}
 use Rattle.clock_front.proofs.commands.put_sheet.Goals as goal
 
 pub returns-in-Ok-accepted-clause-reply : goal.returns-in-Ok-accepted-clause-reply
@@ -14,6 +15,12 @@ returns-in-Ok-accepted-clause-reply g c =
     c.in-Ok-accepted.ensures
     ∙ ap (λ (count : ℕ). answer_of (done (accepted_value sheet.round count))) (ap length c.as_slice.ensures)
     ∙ ap (λ (first : Option PutFault). answer_of (put_outcome sheet first)) (sym c.in-Ok.ensures.answer)
+
+pub returns-in-Ok-accepted-clause-private : goal.returns-in-Ok-accepted-clause-private
+returns-in-Ok-accepted-clause-private g c =
+    accepted_by_view c.args.house.now c.args.bidder c.args.sheet c.in-Ok-accepted.reply c.in-Ok.ensures.seen
+    (c.in-Ok-accepted.ensures
+    ∙ ap (λ (count : ℕ). answer_of (done (accepted_value c.args.sheet.round count))) (ap length c.as_slice.ensures))
 
 pub returns-in-Ok-accepted-clause-followed : goal.returns-in-Ok-accepted-clause-followed
 returns-in-Ok-accepted-clause-followed g c =
@@ -25,3 +32,8 @@ returns-in-Err-clause-reply g c =
     let sheet = c.args.sheet in
     told_of_first (put_outcome sheet) c.refused.result (put_fault_in c.args.house.now c.args.bidder sheet.round sheet.bids) (Some c.in-Err.fault)
     (search rules) c.in-Err.ensures.answer (rw c.from.ensures at c.refused.ensures)
+
+pub returns-in-Err-clause-private : goal.returns-in-Err-clause-private
+returns-in-Err-clause-private g c =
+    refused_by_view c.refused.result c.args.house.now c.args.bidder c.args.sheet c.in-Err.fault c.in-Err.ensures.seen
+    (rw c.from.ensures at c.refused.ensures) (search rules)

@@ -6,6 +6,8 @@ use Rattle.clock_bids.specs.Holding.{Holding}
 use Rattle.clock_house.specs.History.{bidder_at}
 use Rattle.clock_house.specs.House.{standing_in, holding_in}
 use Rattle.clock_views.specs.BidderPages.{account_value}
+use Rattle.clock_front.specs.Requests.{account}
+use Rattle.clock_front.proofs.PrivateLaws.{told_by_view}
 use Rattle.clock_front.proofs.PageLaws.{held_is, written_page}
 use Rattle.clock_front.proofs.pages.account.Goals as goal
 
@@ -22,3 +24,6 @@ returns-clause-reply g c =
     (standing_in house).round held c.ended.result)) held
     ∙ ap (λ (ended : Bool). with_page Done None (account_value house.setup.products (bidder_at house.setup c.args.bidder).name
     (standing_in house).round (holding_in house c.args.bidder) ended)) c.ended.ensures.is
+
+pub returns-clause-private : goal.returns-clause-private
+returns-clause-private g c = told_by_view c.args.house.now c.args.bidder account c.written.result c.requires (returns-clause-reply g c)
