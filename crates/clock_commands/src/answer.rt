@@ -47,7 +47,7 @@ fn prices_answer(alloc: Global, increment: u64, document: &[u8]) -> Result<Text,
     ensures err { IfErr result (IsRefusal Fault.Memory (answer_to (Job.Prices increment) document.now)) }
 {
     let setup = setup_in(alloc, document)?;
-    let text = prices_text(alloc, &setup, increment);
+    let text = prices_text(alloc, setup.products.as_slice(), increment);
     drop(setup);
     Ok(text?)
 }

@@ -5,20 +5,11 @@ ghost use Rattle.clock_commands.specs.PriceLines.{price_line, price_lines};
 
 use clock_device::{NoMemory, Text};
 use clock_money::clock_price;
-use clock_terms::{Product, Setup};
+use clock_terms::Product;
 use std::alloc::Global;
 
-/// The price lines of a set-up, with clock prices at this increment in percent.
-pub fn prices_text(alloc: Global, setup: &Setup, increment: u64) -> Result<Text, NoMemory>
-    requires { IsIncrement increment }
-    ensures { IfOk result (λ text. text ≡ price_lines increment setup.now.products) }
-{
-    let products = setup.products.as_slice();
-    lines_text(alloc, products, increment)
-}
-
-/// The price lines of some products.
-fn lines_text(alloc: Global, products: &[Product], increment: u64) -> Result<Text, NoMemory>
+/// The price lines of some products, with clock prices at this increment in percent.
+pub fn prices_text(alloc: Global, products: &[Product], increment: u64) -> Result<Text, NoMemory>
     requires increment { IsIncrement increment }
     requires limits { All IsProduct products.now }
     ensures { IfOk result (λ text. text ≡ price_lines increment products.now) }

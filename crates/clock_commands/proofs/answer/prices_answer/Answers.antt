@@ -1,0 +1,9 @@
+use Rattle.std.proofs.Common.{◌∙◌, ap, subst, sym}
+use Rattle.std.specs.Prelude.{All, List}
+use Rattle.clock_terms.specs.Limits.{SetupFields, IsProduct}
+use Rattle.clock_terms.specs.declared.setup.Product.{Product}
+use Rattle.clock_commands.proofs.answer.prices_answer.Goals as goal
+
+pub prices_text-text-requires-clause-limits : goal.prices_text-text-requires-clause-limits
+prices_text-text-requires-clause-limits c =
+    subst (λ (list : List Product). All IsProduct list) (sym c.as_slice.ensures) c.setup.invariant.products
