@@ -11,9 +11,6 @@ use clock_order::Tie;
 use clock_terms::Increments;
 use std::alloc::Global;
 
-/// How many bytes a tie number and its comma take, where its numbers are short.
-const SHORT_TIE: usize = 16;
-
 /// The increments, where they were found in one form and not in both.
 pub fn one_form(single: Option<u64>, listed: Option<Items<u64>>) -> Option<Increments>
     ensures single { IfSome result (λ increments. single ≡ single_of increments) }
@@ -90,8 +87,8 @@ impl<'v> ScannedMembers<'v> for FoundClose {
 
     fn read(&mut self, alloc: Global, key: &[u8], scan: &mut Scan<'v>) -> Result<(), ScanStop> {
         if is_key(key, "ties") {
-            let room = scan.bytes_left() / SHORT_TIE;
-            self.ties = Some(scanned_parts::<TieReader>(alloc, scan, room)?);
+            // no room is made ahead: a document of many closings would take it once for each
+            self.ties = Some(scanned_parts::<TieReader>(alloc, scan, 0)?);
         } else if is_key(key, "increments") {
             self.increments = Some(scan.numbers(alloc)?);
         } else if is_key(key, "increment") {
