@@ -10,6 +10,7 @@ won. It asks for the status each second, or as seldom as it is told, and misses 
 it asks again. It ends with status 1 where a sheet is refused, a round is missed, or the round falls: then another server answers.
 """
 import argparse
+import http.client
 import json
 import os
 import ssl
@@ -41,7 +42,7 @@ class Auction:
             except urllib.error.HTTPError as error:
                 if error.code not in BUSY:
                     sys.exit(f"{path} is refused: {error.read().decode(errors='replace')}")
-            except OSError as error:
+            except (OSError, http.client.HTTPException) as error:
                 print("no reply:", error, file=sys.stderr)
             time.sleep(self.every)
         sys.exit(f"{path}: no reply after {TRIES} times")

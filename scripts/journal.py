@@ -7,11 +7,11 @@ FRONT = 40
 
 
 def whole_texts_of(setup, bytes):
-    """The texts of a journal that a server may be adding to: of the last record only a part may be there."""
+    """The texts of a journal that a server may be adding to, one by one: of the last record only a part may be there."""
     place = HEAD
     while place + FRONT <= len(bytes) and (end := place + FRONT + int.from_bytes(bytes[place : place + 4], "big")) <= len(bytes):
         place = end
-    return texts_of(setup, bytes[:place])
+    return each_text_of(setup, bytes, place)
 
 
 def token_in(text):
@@ -35,15 +35,19 @@ def body_in(text):
 
 def texts_of(setup, bytes):
     """The texts of a whole journal of this set-up document, each with its digest. A record that is not right is an AssertionError."""
+    return list(each_text_of(setup, bytes, len(bytes)))
+
+
+def each_text_of(setup, bytes, length):
+    """The same of so many bytes, one text after the other: none is kept."""
     digest = hashlib.sha256(setup).digest()
     assert bytes[:HEAD] == KIND + digest, "no journal of this set-up"
-    found, place = [], HEAD
-    while place < len(bytes):
+    place = HEAD
+    while place < length:
         size = int.from_bytes(bytes[place : place + 4], "big")
         text = bytes[place + FRONT : place + FRONT + size]
         digest = hashlib.sha256(digest + text).digest()
         assert bytes[place + 4 : place + 8] == bytes[place : place + 4] and len(text) == size, f"no record at {place}"
         assert bytes[place + 8 : place + FRONT] == digest, f"another digest at {place}"
-        found.append((text, digest.hex()))
+        yield text, digest.hex()
         place += FRONT + size
-    return found
