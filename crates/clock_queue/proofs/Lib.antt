@@ -1,3 +1,4 @@
+mod Shown
 pub mod Counts
 pub mod Rooms
 pub mod Members
@@ -6,4 +7,3 @@ pub mod Applies
 pub mod Start
 pub mod Steps
 pub mod Ended
-mod Shown

@@ -2,7 +2,6 @@
 //! again.
 #![tactic(auto)]
 
-mod line;
 mod lines;
 mod queue;
 mod ready;

@@ -2,33 +2,28 @@ ghost use Rattle.std.specs.Prelude.{◌≡◌, ◌<◌, [], ◌∷◌, ◌++◌,
 ghost use Rattle.clock_queue.specs.inside.Lines as lines;
 ghost use Rattle.clock_queue.specs.inside.Lines.{HasLines};
 
-use crate::line::Line;
 use clock_device::NoMemory;
 use clock_terms::{Change, Kind};
+use smallvec::SmallVec;
 use std::alloc::Global;
 use std::marker::Model;
 
 /// The lines in which requests wait: for each product one of its reductions, for each bidder one of its increases.
-/// Contracts see the list of the lines.
+/// Contracts see the list of the lines, and in each the places of its requests.
 ///
-/// In most lines nobody ever waits. So a line is a slot alone, which is 0 until a first request waits in it, and from then
-/// on the place of its list. The list at 0 stays empty.
+/// Most lines are short, and up to four places stand in the line itself: only longer ones ask for memory.
 #[derive(Drop)]
 pub(crate) struct Lines {
-    alloc: Global,
-    slots: Vec<usize>,
-    lists: Vec<Line>,
+    lists: Vec<SmallVec<usize, 4>>,
 }
 
 impl Model for Lines {
     ghost use Rattle.std.specs.Prelude.{List, ℕ};
-    ghost use Rattle.clock_queue.specs.inside.Lines.{AreKept, lines_shown};
+    ghost use Rattle.clock_queue.specs.inside.Lines.{places_of};
 
     ghost Value = { List (List ℕ) };
 
-    ghost view = { λ a. lines_shown a.slots.items a.lists.items };
-
-    ghost invariant = { λ a. AreKept a.slots.items a.lists.items };
+    ghost view = { λ a. places_of a.lists.items };
 }
 
 impl Lines {
@@ -36,13 +31,11 @@ impl Lines {
     pub(crate) fn new(alloc: Global, count: usize) -> Result<Lines, NoMemory>
         ensures { IfOk result (λ new. new ≡ replicate count []) }
     {
-        let mut lists = Vec::new(alloc);
-        lists.push(Line::new(alloc))?;
-        Ok(Lines {
-            alloc,
-            slots: vec![in alloc; 0; count]?,
-            lists,
-        })
+        let mut lists = Vec::with_capacity(alloc, count)?;
+        for _line in 0..count {
+            lists.push(SmallVec::new(alloc))?;
+        }
+        Ok(Lines { lists })
     }
 
     /// Adds a place at the end of a line.
@@ -50,24 +43,7 @@ impl Lines {
         requires { line < length self.old }
         ensures { OnOk result (self.new ≡ slice_set self.old line (slice_index_or self.old line [] ++ place ∷ [])) }
     {
-        let slot = self.slots[line];
-        if slot == 0 {
-            return self.begin(line, place);
-        }
-        self.lists[slot].push(place)
-    }
-
-    /// Makes a list for a line, with its first place.
-    fn begin(&mut self, line: usize, place: usize) -> Result<(), NoMemory>
-        requires line { line < length self.old }
-        requires nobody { slice_index_or self.old line [] ≡ [] }
-        ensures { OnOk result (self.new ≡ slice_set self.old line (place ∷ [])) }
-    {
-        let mut places = Line::new(self.alloc);
-        places.push(place)?;
-        let slot = self.lists.len();
-        self.lists.push(places)?;
-        self.slots[line] = slot;
+        self.lists[line].push(place)?;
         Ok(())
     }
 
@@ -76,18 +52,15 @@ impl Lines {
         requires { line < length self.now }
         ensures { result.now ≡ slice_index_or self.now line [] }
     {
-        self.lists[self.slots[line]].as_slice()
+        self.lists[line].as_slice()
     }
 
-    /// Takes all places out of a line. Its list keeps its room.
+    /// Takes all places out of a line, which keeps its room.
     pub(crate) fn clear(&mut self, line: usize)
         requires { line < length self.old }
         ensures { self.new ≡ slice_set self.old line [] }
     {
-        let slot = self.slots[line];
-        if slot > 0 {
-            self.lists[slot].clear();
-        }
+        self.lists[line].clear();
     }
 }
 

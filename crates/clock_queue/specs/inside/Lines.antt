@@ -2,9 +2,9 @@
 --     line_of change      the line in which a request waits
 --     woken_line change      the line whose requests its application may make room for
 --     HasLines count change      both are among so many lines
---     lines_shown slots lists      the lines that slots and lists keep
---     AreKept slots lists      each line that has a list has it for itself
-use Rattle.std.specs.Prelude.{◌≡◌, ℕ, ◌+◌, ◌*◌, ◌<◌, List, [], length, map, slice_index, slice_index_or}
+--     places_of lists      the places that wait in each line
+use Rattle.std.specs.Prelude.{ℕ, ◌+◌, ◌*◌, ◌<◌, List, map}
+use Rattle.smallvec.specs.SmallVec.{SmallVec}
 use Rattle.clock_terms.specs.declared.change.Change.{Change}
 use Rattle.clock_terms.specs.declared.change.Kind.{Kind}
 use Rattle.clock_terms.specs.declared.change.Kind.TheVariants.{Increase, Reduction}
@@ -38,14 +38,6 @@ pub record HasLines (count : ℕ) (change : Change) : Type 0 where
   pub product : product_line change.product < count
   pub bidder : bidder_line change.bidder < count
 
--- a line is the list at its slot
-abbrev pub lines_shown : List ℕ → List (List ℕ) → List (List ℕ)
-lines_shown slots lists = map (λ slot. slice_index_or lists slot []) slots
-
--- the list at 0 is empty, and is that of all lines in which nobody ever waited; each other list is that of one line alone
-pub record AreKept (slots : List ℕ) (lists : List (List ℕ)) : Type 0 where
-  pub some : 0 < length lists
-  pub empty : slice_index_or lists 0 [] ≡ []
-  pub within : (line : ℕ) → line < length slots → slice_index slots line < length lists
-  pub apart : (line other : ℕ) → line < length slots → other < length slots → 0 < slice_index slots line →
-      slice_index slots line ≡ slice_index slots other → line ≡ other
+-- the places that wait in each line
+abbrev pub places_of : List (SmallVec ℕ) → List (List ℕ)
+places_of lists = map (λ list. list.items) lists
