@@ -10,7 +10,7 @@ ghost use Rattle.clock_bids.specs.Sheet.{IsGoodSheet, asked_demands, most_bids, 
 ghost use Rattle.clock_bids.specs.inside.Judging.{AreJudged};
 ghost use Rattle.clock_bids.specs.inside.Chains.{checks_by_last, quantity_of, step_checks};
 
-use crate::last_bids::{keep_place, last_before};
+use crate::last_bids::{last_bid, last_places};
 use crate::sheet::{Bid, BidFault, Own, Sheet};
 use clock_device::Items;
 use clock_terms::{PricePair, Prices, Product, Row, Setup};
@@ -109,7 +109,8 @@ fn activity_limit(setup: &Setup, round: u64, eligibility: u64) -> u128
 }
 
 /// Judges each bid by the last one before it for the same product; the first bids, whose products
-/// rise, have none. Where the earlier bids are good, their prices rise and their quantities move
+/// rise, have none. The place of each product's last bid is kept from the first bid on that is for no
+/// higher product than the one before it: nearly all sheets have none. Where the earlier bids are good, their prices rise and their quantities move
 /// one way, so that the last one tells whether the next price is higher and the next step goes on.
 /// Good bids ask for demands that take so many bidding units.
 fn judge(
@@ -129,19 +130,22 @@ fn judge(
         (first_fault (checks_of_bids setup.now.products prices.now demands.now bids.now))) }
 {
     let risen = judge_rising(setup, prices, demands, bids)?;
+    if risen.count == bids.len() {
+        return Ok(risen.taken);
+    }
     let products = setup.products.as_slice();
-    let mut places = Vec::new(alloc);
+    let mut places = last_places(alloc, bids, products.len(), risen.count)?;
     let mut near = 0;
     let mut taken = risen.taken;
     for i in risen.count..bids.len() {
         let bid = bids[i];
-        let last = last_before(bids, &mut places, products.len(), i, bid.product)?;
+        let last = last_bid(bids, places.as_slice(), bid.product);
         if let Some(fault) = bid_fault(products, prices, demands, &mut near, last, i as u64, &bid) {
             return Err(fault);
         }
         let product = bid.product as usize;
         taken = taken_with(taken, products[product].units, last, bid.quantity);
-        keep_place(&mut places, i, product);
+        places[product] = i as u16 + 1;
     }
     Ok(taken)
 }

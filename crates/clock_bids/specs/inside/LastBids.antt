@@ -1,11 +1,10 @@
 -- The last bid for each product before a place of a sheet, as a pass over the bids knows it.
---     AreLastPlaces products bids place places      no place is kept and the bids rise by product, or the place of each product's last bid is kept
-use Rattle.std.specs.Prelude.{◌≡◌, ◌≢◌, ℕ, List, [], map, take}
-use Rattle.std.specs.List.Sorted.{IsNonDecreasingBy}
+--     AreLastPlaces products bids place places      the place of each product's last bid is kept
+use Rattle.std.specs.Prelude.{◌≡◌, ℕ, List, length, map, take}
 use Rattle.clock_bids.specs.declared.sheet.Bid.{Bid}
 use Rattle.clock_bids.specs.inside.Chains.{bid_at, last_bids}
 
--- where no place is kept the bids before the place stand by rising product, and else the places are those of the products' last bids
+-- there is a place for each product, and there stands its last bid, of those before a place
 pub record AreLastPlaces (products : ℕ) (bids : List Bid) (place : ℕ) (places : List ℕ) : Type 0 where
-  pub rising : places ≡ [] → IsNonDecreasingBy (λ bid. bid.product) (take place bids)
-  pub table : places ≢ [] → map (bid_at bids) places ≡ last_bids products (take place bids)
+  pub each : length places ≡ products
+  pub table : map (bid_at bids) places ≡ last_bids products (take place bids)

@@ -1,4 +1,4 @@
-use Rattle.std.proofs.Common.{◌≡◌, ◌<◌, [], length, take, ◌∙◌, sym, ap, arith, get_or, set}
+use Rattle.std.proofs.Common.{◌<◌, [], length, take, ◌∙◌, sym, ap, arith, get_or, set}
 use Rattle.clock_bids.specs.Sheet.{asked_demands}
 use Rattle.clock_bids.proofs.Tables.{no_bid, asked_demands-nil, asked_demands-more, length-asked_demands}
 use Rattle.clock_bids.proofs.demands.asked_demands.Goals as goal
