@@ -66,14 +66,11 @@ impl<'a> Holdings<'a> {
         self.demands.row(bidder as usize)
     }
 
-    /// All demands, in a grid of their own: in the memory of one that is no longer needed, where there is one.
-    pub(crate) fn grid(&self, alloc: Global, old: Option<Grid>) -> Result<Grid, NoMemory>
-        ensures { IfOk result (λ grid. grid ≡ map (λ holding. holding.demands) self.now) }
+    /// All demands.
+    pub(crate) fn grid(&self) -> &'a Grid
+        ensures { result.now ≡ map (λ holding. holding.demands) self.now }
     {
-        match old {
-            Some(old) => old.renewed(alloc, self.demands),
-            None => self.demands.copy(alloc),
-        }
+        self.demands
     }
 
     /// Each bidder's eligibility.
