@@ -1,12 +1,18 @@
 -- Laws of what a replay document means.
-use Rattle.std.proofs.Common.{◌≡◌, Some, None, Ok, Err, refl}
+use Rattle.std.proofs.Common.{◌≡◌, true, false, List, Option, Some, None, Result, Ok, Err, refl, ap}
+use Rattle.std.specs.Prelude.{codes, ok_or, option_and_then}
 use Rattle.serde_json.specs.Data.{Data}
+use Rattle.serde_json.specs.Find.{get}
+use Rattle.clock_json.specs.Tree.{items_at, has_members, each}
 use Rattle.clock_terms.specs.Faults.{first_fault, unless}
 use Rattle.clock_terms.specs.Limits.{SetupFields}
+use Rattle.clock_setup.specs.declared.fault.SetupFault.{SetupFault}
 use Rattle.clock_setup.specs.SetupDocument.{setup_of}
 use Rattle.clock_replays.specs.declared.fault.ScriptFault.{ScriptFault}
-use Rattle.clock_replays.specs.declared.fault.ScriptFault.TheVariants.{Shape}
-use Rattle.clock_replays.specs.ReplayShape.{ReplayParts, parts_of}
+use Rattle.clock_replays.specs.declared.fault.ScriptFault.TheVariants.{Shape, Setup}
+use Rattle.clock_replays.specs.declared.script.Script.{Script}
+use Rattle.clock_replays.specs.declared.closing.Closing.{Closing}
+use Rattle.clock_replays.specs.ReplayShape.{ReplayParts, script_of, closing_from, parts_of}
 use Rattle.clock_replays.specs.ReplayChecks.{replay_checks}
 use Rattle.clock_replays.specs.ReplayDocument.{replay_with, in_replay, replay_of}
 
@@ -26,3 +32,45 @@ pub replay_setup : (value : Data) (parts : ReplayParts) (fault : ScriptFault) �
     → in_replay (setup_of parts.setup) ≡ Err fault → replay_of value ≡ Err fault
 unfolding replay_of
 replay_setup value parts fault read refused = rw (read, refused) refl
+
+-- ---- a document of another shape, by what is not there
+
+abbrev pub scripts_in : Data → Option (List Script)
+scripts_in value = option_and_then (each script_of) (items_at (codes "scripts") value)
+
+abbrev pub closings_in : Data → Option (List Closing)
+closings_in value = option_and_then (each closing_from) (items_at (codes "closings") value)
+
+pub no_setup : (value : Data) → get (codes "setup") value ≡ None → replay_of value ≡ Err Shape
+unfolding parts_of
+no_setup value none = replay_shape value (rw none refl)
+
+pub no_scripts : (value setup : Data) → get (codes "setup") value ≡ Some setup → scripts_in value ≡ None → replay_of value ≡ Err Shape
+unfolding parts_of
+no_scripts value setup held none = replay_shape value (rw (held, none) refl)
+
+pub no_closings : (value setup : Data) (scripts : List Script) → get (codes "setup") value ≡ Some setup → scripts_in value ≡ Some scripts
+    → closings_in value ≡ None → replay_of value ≡ Err Shape
+unfolding parts_of
+no_closings value setup scripts held known none = replay_shape value (rw (held, known, none) refl)
+
+pub other_members : (value setup : Data) (scripts : List Script) (closings : List Closing) → get (codes "setup") value ≡ Some setup
+    → scripts_in value ≡ Some scripts → closings_in value ≡ Some closings → has_members 3 value ≡ false → replay_of value ≡ Err Shape
+unfolding parts_of
+other_members value setup scripts closings held known last other = replay_shape value (rw (held, known, last, other) refl)
+
+-- the parts of a document that is of the shape
+pub parts_read : (value setup : Data) (scripts : List Script) (closings : List Closing) → get (codes "setup") value ≡ Some setup
+    → scripts_in value ≡ Some scripts → closings_in value ≡ Some closings → has_members 3 value ≡ true
+    → parts_of value ≡ Some (record { setup = setup; scripts = scripts; closings = closings })
+unfolding parts_of
+parts_read value setup scripts closings held known last whole = rw (held, known, last, whole) refl
+
+-- where a value is asked for by `ok_or`, there is none if that is an error
+pub not_there : {A E : Type 0} (read : Option A) (told fault : E) → Err fault ≡ ok_or read told → (read ≡ None) × (fault ≡ told)
+not_there None told fault is = (refl, cc)
+not_there (Some found) told fault is = absurd (cc)
+
+-- a set-up that is refused
+pub in_setup : (answer : Result SetupFields SetupFault) (fault : SetupFault) → answer ≡ Err fault → in_replay answer ≡ Err (Setup fault)
+in_setup answer fault is = ap in_replay is

@@ -7,7 +7,6 @@ ghost use Rattle.clock_replays.specs.ReplayChecks.{limit_checks, replay_checks, 
 
 use crate::closing::Closing;
 use crate::fault::ScriptFault;
-use crate::limit_lists::LimitLists;
 use crate::script::Script;
 use clock_bodies::is_of_version;
 use clock_setup::{Product, Setup, SetupFault};
@@ -59,12 +58,16 @@ fn are_limits(product: &Product, limits: &[u64]) -> bool
     limits.len() as u64 <= product.cap && never_rises(limits)
 }
 
-/// The least product for which a bidder's limits are none.
-fn limits_fault(bidder: u64, products: &[Product], limits: &LimitLists) -> Option<ScriptFault>
-    requires { length limits.now ≡ length products.now }
-    ensures fault { result ≡ first_fault (in_turn (limit_checks bidder) 0 (zip products.now limits.now)) }
+/// The first fault of a bidder's script: the least product for which its limits are none.
+#[tactic(auto, unfolding(crate::specs::ReplayChecks::script_checks))]
+fn script_fault(bidder: u64, products: &[Product], script: &Script) -> Option<ScriptFault>
+    requires { rules.has_lists (length products.now) script.now ≡ true }
+    ensures fault { result ≡ first_fault (script_checks products.now bidder script.now) }
     ensures held { result ≢ Some (ScriptFault.Setup SetupFault.NoMemory) }
 {
+    let Script::Sincere(limits) = script else {
+        return None;
+    };
     let mut walk = limits.walk();
     for product in 0..limits.count() {
         if !are_limits(&products[product], walk.list(product)) {
@@ -72,19 +75,6 @@ fn limits_fault(bidder: u64, products: &[Product], limits: &LimitLists) -> Optio
         }
     }
     None
-}
-
-/// The first fault of a bidder's script.
-#[tactic(auto, unfolding(crate::specs::ReplayChecks::script_checks))]
-fn script_fault(bidder: u64, products: &[Product], script: &Script) -> Option<ScriptFault>
-    requires { rules.has_lists (length products.now) script.now ≡ true }
-    ensures fault { result ≡ first_fault (script_checks products.now bidder script.now) }
-    ensures held { result ≢ Some (ScriptFault.Setup SetupFault.NoMemory) }
-{
-    match script {
-        Script::Literal(_) => None,
-        Script::Sincere(limits) => limits_fault(bidder, products, limits),
-    }
 }
 
 /// The first fault of the scripts, by rising bidder.

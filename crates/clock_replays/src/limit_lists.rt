@@ -55,12 +55,16 @@ impl LimitLists {
         self.rows.count
     }
 
-    /// The limits, to be looked up product by product.
+    /// The limits, to be looked up product by product. Nothing was looked for yet.
     #[inline(always)]
     pub fn walk(&self) -> LimitWalk<'_>
         ensures { result ≡ self.now }
     {
-        LimitWalk::of(&self.rows)
+        LimitWalk {
+            rows: &self.rows,
+            product: 0,
+            place: 0,
+        }
     }
 }
 

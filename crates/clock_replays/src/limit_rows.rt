@@ -19,10 +19,7 @@ pub(crate) struct LimitRows {
 fn short_of(number: usize) -> Result<u32, NoMemory>
     ensures { IfOk result (λ short. short ≡ number) }
 {
-    match u32::try_from(number) {
-        Ok(short) => Ok(short),
-        Err(_) => Err(NoMemory),
-    }
+    u32::try_from(number).map_err(|_| NoMemory)
 }
 
 impl LimitRows {
@@ -59,10 +56,7 @@ impl LimitRows {
         ensures limits { OnOk result (kept_limits self.new ≡ kept_limits self.old ++ replicate count []) }
         ensures kept { OnOk result (AreKept self.new) }
     {
-        let Some(after) = self.count.checked_add(count) else {
-            return Err(NoMemory);
-        };
-        self.count = after;
+        self.count = self.count.checked_add(count).ok_or(NoMemory)?;
         Ok(())
     }
 

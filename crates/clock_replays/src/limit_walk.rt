@@ -2,7 +2,7 @@ ghost use Rattle.std.specs.Prelude.{◌≡◌, ◌<◌, ◌≤◌, ◌∷◌, le
 ghost use Rattle.clock_terms.specs.Demands.{row_of};
 ghost use Rattle.clock_replays.specs.EndedRows.{rows_from};
 ghost use Rattle.clock_replays.specs.inside.EndedRows.{AreEnds};
-ghost use Rattle.clock_replays.specs.inside.KeptLimits.{AreKept, IsPlaceOf, kept_limits};
+ghost use Rattle.clock_replays.specs.inside.KeptLimits.{IsPlaceOf};
 
 use crate::limit_rows::LimitRows;
 use std::marker::Model;
@@ -13,10 +13,10 @@ use std::marker::Model;
 /// Contracts see the list of the limits.
 #[derive(Drop)]
 pub struct LimitWalk<'a> {
-    rows: &'a LimitRows,
-    product: usize,
+    pub(crate) rows: &'a LimitRows,
+    pub(crate) product: usize,
     /// Where the rows begin that are not of a lesser product.
-    place: usize,
+    pub(crate) place: usize,
 }
 
 impl<'a> Model for LimitWalk<'a> {
@@ -71,19 +71,6 @@ fn first_from(products: &[u32], from: usize, product: usize) -> usize
 }
 
 impl<'a> LimitWalk<'a> {
-    /// Nothing was looked for yet.
-    #[inline(always)]
-    pub(crate) fn of(rows: &'a LimitRows) -> LimitWalk<'a>
-        requires { AreKept rows.now }
-        ensures { result ≡ kept_limits rows.now }
-    {
-        LimitWalk {
-            rows,
-            product: 0,
-            place: 0,
-        }
-    }
-
     /// The limits for a product. One below the product before is looked for from the first on.
     #[inline(always)]
     pub fn list(&mut self, product: usize) -> &'a [u64]

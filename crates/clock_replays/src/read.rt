@@ -1,36 +1,23 @@
 ghost use Rattle.std.specs.Prelude.{◌≡◌, ◌≢◌, Ok, IfOk, IfErr};
 ghost use Rattle.serde_json.specs.View.{view};
 ghost use Rattle.clock_terms.specs.Faults.{IsRefusal, first_fault, unless};
-ghost use Rattle.clock_setup.specs.SetupDocument as document;
 ghost use Rattle.clock_replays.specs.Replays.{IsReplay, ReplayFields};
 ghost use Rattle.clock_replays.specs.ReplayChecks.{replay_checks};
-ghost use Rattle.clock_replays.specs.ReplayDocument.{document_replay, in_replay, replay_of};
+ghost use Rattle.clock_replays.specs.ReplayDocument.{document_replay, replay_of};
 
 use crate::checks::replay_fault;
 use crate::closing::Closings;
+use crate::closing_scan::ClosingReader;
 use crate::fault::ScriptFault;
 use crate::replay::Replay;
 use crate::replay_scan::FoundReplay;
-use crate::replay_tree::replay_entries;
+use crate::replay_tree::ScriptReader;
 use crate::script::Scripts;
-use clock_json::tree::read_value;
+use clock_json::tree::{each_at, has_members, read_value};
 use clock_json::{ScanStop, scanned_text};
 use clock_setup::{Setup, SetupFault, setup_of};
 use serde_json::Value;
 use std::alloc::Global;
-
-/// The set-up under a document's key, its faults as those of the document.
-fn held_setup(alloc: Global, value: &Value) -> Result<Setup, ScriptFault>
-    ensures ok { IfOk result (λ setup. document.setup_of (view value.now) ≡ Ok setup) }
-    ensures err { IfErr result (IsRefusal ScriptFault.NoMemory (in_replay (document.setup_of (view value.now)))) }
-    ensures held { IfErr result (λ fault. fault ≢ ScriptFault.Setup SetupFault.NoMemory) }
-{
-    match setup_of(alloc, value) {
-        Ok(setup) => Ok(setup),
-        Err(SetupFault::NoMemory) => Err(ScriptFault::NoMemory),
-        Err(fault) => Err(ScriptFault::Setup(fault)),
-    }
-}
 
 /// The replay of a set-up, or the first fault of what is looked at behind it.
 fn compared(setup: Setup, scripts: Scripts, closings: Closings) -> Result<Replay, ScriptFault>
@@ -51,17 +38,22 @@ fn compared(setup: Setup, scripts: Scripts, closings: Closings) -> Result<Replay
 }
 
 /// The replay that a JSON value means, or its first fault.
-#[tactic(auto, using(crate::proofs::DocumentLaws::replay_shape))]
 fn replay_in(alloc: Global, value: &Value) -> Result<Replay, ScriptFault>
     ensures ok { IfOk result (λ replay. replay_of (view value.now) ≡ Ok replay) }
     ensures err { IfErr result (IsRefusal ScriptFault.NoMemory (replay_of (view value.now))) }
     ensures held { IfErr result (λ fault. fault ≢ ScriptFault.Setup SetupFault.NoMemory) }
 {
-    let Some(entries) = replay_entries(alloc, value)? else {
+    let held = value.get("setup").ok_or(ScriptFault::Shape)?;
+    let scripts = each_at(alloc, value, "scripts", &ScriptReader)?.ok_or(ScriptFault::Shape)?;
+    let closings = each_at(alloc, value, "closings", &ClosingReader)?.ok_or(ScriptFault::Shape)?;
+    if !has_members(value, 3) {
         return Err(ScriptFault::Shape);
-    };
-    let setup = held_setup(alloc, entries.setup)?;
-    compared(setup, entries.scripts, entries.closings)
+    }
+    match setup_of(alloc, held) {
+        Ok(setup) => compared(setup, scripts, closings),
+        Err(SetupFault::NoMemory) => Err(ScriptFault::NoMemory),
+        Err(fault) => Err(ScriptFault::Setup(fault)),
+    }
 }
 
 /// The replay that the bytes of a document mean, or the document's first fault.

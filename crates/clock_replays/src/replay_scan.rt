@@ -52,14 +52,10 @@ impl<'v> ScannedMembers<'v> for FoundReplay {
     }
 
     fn whole(self) -> Option<ScannedReplay> {
-        let (Some(held), Some(scripts), Some(closings)) = (self.held, self.scripts, self.closings)
-        else {
-            return None;
-        };
         Some(ScannedReplay {
-            held,
-            scripts,
-            closings,
+            held: self.held?,
+            scripts: self.scripts?,
+            closings: self.closings?,
         })
     }
 }

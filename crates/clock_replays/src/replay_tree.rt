@@ -1,12 +1,9 @@
-ghost use Rattle.std.specs.Prelude.{◌≡◌, Some, IfOk, option_map, option_and_then, codes};
-ghost use Rattle.serde_json.specs.View.{view};
-ghost use Rattle.clock_json.specs.Tree.{each, items_at, row_of};
 ghost use Rattle.clock_replays.specs.ReplayShape as shape;
 
-use crate::closing::{Closing, Closings};
+use crate::closing::Closing;
 use crate::closing_scan::ClosingReader;
 use crate::limit_lists::LimitLists;
-use crate::script::{BidList, Script, Scripts};
+use crate::script::{BidList, Script};
 use crate::script_scan::SheetReader;
 use clock_bodies::{BidReader, TieReader, increments_of};
 use clock_device::NoMemory;
@@ -36,19 +33,9 @@ impl<'v> ValueReader<'v> for SheetReader {
     }
 }
 
-/// The limits of a sincere script.
-fn limits_at(alloc: Global, value: &Value) -> Result<Option<LimitLists>, NoMemory>
-    ensures { IfOk result (λ limits. limits ≡ option_and_then (each row_of) (items_at (codes "limits") (view value.now))) }
-{
-    match each_at(alloc, value, "limits", &RowReader)? {
-        Some(lists) => Ok(Some(LimitLists::from_lists(alloc, lists.as_slice())?)),
-        None => Ok(None),
-    }
-}
-
 /// What a bidder does is read by its kind.
 #[derive(Drop)]
-struct ScriptReader;
+pub(crate) struct ScriptReader;
 
 #[tactic(auto, unfolding(crate::specs::ReplayShape::script_of))]
 impl<'v> ValueReader<'v> for ScriptReader {
@@ -67,10 +54,14 @@ impl<'v> ValueReader<'v> for ScriptReader {
             let sheets = each_at(alloc, value, "sheets", &SheetReader)?;
             return Ok(sheets.map(Script::Literal));
         }
-        if kind == "sincere" {
-            return Ok(limits_at(alloc, value)?.map(Script::Sincere));
+        if kind != "sincere" {
+            return Ok(None);
         }
-        Ok(None)
+        let Some(lists) = each_at(alloc, value, "limits", &RowReader)? else {
+            return Ok(None);
+        };
+        let limits = LimitLists::from_lists(alloc, lists.as_slice())?;
+        Ok(Some(Script::Sincere(limits)))
     }
 }
 
@@ -90,37 +81,4 @@ impl<'v> ValueReader<'v> for ClosingReader {
         };
         Ok(has_members(value, 2).then_some(Closing { increments, ties }))
     }
-}
-
-/// A replay document of the right shape, with its set-up not yet read and nothing compared.
-#[derive(Drop)]
-pub(crate) struct ReplayEntries<'v> {
-    pub setup: &'v Value,
-    pub scripts: Scripts,
-    pub closings: Closings,
-}
-
-/// A replay document of the right shape.
-#[tactic(auto, unfolding(crate::specs::ReplayShape::parts_of))]
-pub(crate) fn replay_entries(
-    alloc: Global,
-    value: &Value,
-) -> Result<Option<ReplayEntries<'_>>, NoMemory>
-    ensures { IfOk result (λ entries. option_map (λ parts. record { setup = view parts.setup.now; scripts = parts.scripts; closings = parts.closings }) entries
-        ≡ shape.parts_of (view value.now)) }
-{
-    let Some(setup) = value.get("setup") else {
-        return Ok(None);
-    };
-    let Some(scripts) = each_at(alloc, value, "scripts", &ScriptReader)? else {
-        return Ok(None);
-    };
-    let Some(closings) = each_at(alloc, value, "closings", &ClosingReader)? else {
-        return Ok(None);
-    };
-    Ok(has_members(value, 3).then_some(ReplayEntries {
-        setup,
-        scripts,
-        closings,
-    }))
 }
