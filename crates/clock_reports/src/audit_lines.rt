@@ -52,23 +52,9 @@ fn with_audited(
         (zip sheets.now digests.now)) }
 {
     for (index, sheet) in sheets.iter().enumerate() {
-        text = with_round(text, setup, sheet, &digests[index])?;
+        text = with_sheet_lines(text, setup, sheet)?;
+        push_closed(&mut text, sheet.round, &digests[index])?;
     }
-    Ok(text)
-}
-
-/// A text, and behind it the lines of a round, with the digest of its closing behind them.
-fn with_round(
-    text: Text,
-    setup: &Setup,
-    sheet: &RoundSheet,
-    digest: &Digits,
-) -> Result<Text, NoMemory>
-    requires { length sheet.now.lines ≡ length setup.now.products }
-    ensures { IfOk result (λ lines. lines ≡ text ++ words.audited_round setup.now.products (sheet.now, digest.now)) }
-{
-    let mut text = with_sheet_lines(text, setup, sheet)?;
-    push_closed(&mut text, sheet.round, digest)?;
     Ok(text)
 }
 

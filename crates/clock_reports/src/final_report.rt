@@ -10,23 +10,15 @@ use clock_house::House;
 use clock_posting::{Line, Lines, RoundSheet};
 use std::alloc::Global;
 
-/// An equal line, whose prices are prices.
-fn line_copy(line: &Line) -> Line
-    ensures same { result ≡ line.now }
-    ensures priced { IsPricedLine result }
-{
-    prove!(line.start.get() >= 1 && line.clock.get() >= 1 && line.posted.get() >= 1);
-    *line
-}
-
-/// Equal lines.
+/// Equal lines, whose prices are prices.
 fn lines_copy(alloc: Global, lines: &[Line]) -> Result<Lines, NoMemory>
     ensures same { IfOk result (λ copy. copy ≡ lines.now) }
     ensures priced { IfOk result (All IsPricedLine) }
 {
     let mut copy = Vec::with_capacity(alloc, lines.len())?;
     for line in lines {
-        copy.push(line_copy(line))?;
+        prove!(line.start.get() >= 1 && line.clock.get() >= 1 && line.posted.get() >= 1);
+        copy.push(*line)?;
     }
     Ok(Lines::from_vec(copy))
 }

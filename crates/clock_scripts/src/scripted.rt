@@ -1,7 +1,7 @@
 //! The requests of scripted bidders and of the operator.
 
 ghost use Rattle.std.specs.Prelude.{◌≡◌, ◌<◌, ◌≤◌, ◌-◌, false, length, drop, codes, IfOk, IfSome, OnOk, Some, None, if◌then◌else◌};
-ghost use Rattle.std.specs.Prelude.{option_copied, option_map, slice_index_or};
+ghost use Rattle.std.specs.Prelude.{option_map, slice_index_or};
 ghost use Rattle.clock_terms.specs.Limits.{IsToken};
 ghost use Rattle.clock_house.specs.History.{bidder_at};
 ghost use Rattle.clock_house.specs.House.{standing_in, holding_in};
@@ -10,7 +10,6 @@ ghost use Rattle.clock_replays.specs.Replays.{IsScript, IsLimits};
 ghost use Rattle.clock_scripts.specs.Sincere.{sincere_sheet};
 ghost use Rattle.clock_scripts.specs.RequestTexts.{request_text, put_text};
 ghost use Rattle.clock_scripts.specs.Pieces.{AwaitsBody, Writes, WritesIf};
-ghost use Rattle.clock_scripts.specs.inside.SincereSheets.{IsSincere, sheet_of as bids_of};
 
 use crate::pieces::{Pieces, Written};
 use crate::request_writer::push_close_body;
@@ -30,23 +29,6 @@ fn token_of(setup: &Setup, bidder: u32) -> &[u8]
     setup.bidders.as_slice()[bidder as usize].token.as_slice()
 }
 
-/// The operator's token.
-fn operator_token(setup: &Setup) -> &[u8]
-    ensures { result.now ≡ setup.now.operator }
-{
-    setup.operator.as_slice()
-}
-
-/// The sheet of a round in a list of sheets, from round 1 on.
-fn sheet_of(sheets: &[Option<BidList>], round: u64) -> Option<&BidList>
-    ensures { option_copied result ≡ slice_index_or sheets.now (round - 1) None }
-{
-    match sheets.get(round.saturating_sub(1) as usize) {
-        Some(Some(bids)) => Some(bids),
-        _ => None,
-    }
-}
-
 impl Pieces {
     /// Writes the head of the request by which the holder of a token puts a sheet, whose body stands behind all others from
     /// a place on.
@@ -59,19 +41,6 @@ impl Pieces {
     {
         law_head_of_grammar();
         self.end_request(b"PUT /v1/me/bids", token, body)
-    }
-
-    /// Writes the request by which the holder of a token puts the sheet of a sincere bidder.
-    fn put_sincere(&mut self, token: &[u8], sheet: &Sincere<'_>) -> Result<Written, NoMemory>
-        requires token { IsToken token.now }
-        requires sheet { IsSincere sheet.now }
-        ensures writes { IfOk result (Writes self.old self.new
-            (put_text token.now sheet.now.own.round (bids_of sheet.now))) }
-        ensures awaits { IfOk result (AwaitsBody self.new) }
-    {
-        let start = self.bodies.text.len();
-        sheet.push(&mut self.bodies)?;
-        self.end_put(token, start)
     }
 
     /// Writes the sheet that a sincere bidder puts.
@@ -91,16 +60,17 @@ impl Pieces {
         ensures awaits { IfOk result (AwaitsBody self.new) }
     {
         house.law_of_house();
-        let setup = house.setup();
         let sheet = Sincere {
             prices: house.prices().as_slice(),
             own: house.own(bidder),
             limits,
         };
-        self.put_sincere(token_of(setup, bidder), &sheet)
+        let start = self.bodies.text.len();
+        sheet.push(&mut self.bodies)?;
+        self.end_put(token_of(house.setup(), bidder), start)
     }
 
-    /// Writes the sheet of a round in a list of sheets, by the holder of a token, if there is one.
+    /// Writes the sheet of a round in a list of sheets, from round 1 on, by the holder of a token, if there is one.
     fn write_literal(
         &mut self,
         token: &[u8],
@@ -112,14 +82,14 @@ impl Pieces {
             (option_map (put_text token.now round) (slice_index_or sheets.now (round - 1) None))) }
         ensures awaits { IfOk result (λ written. IfSome written (AwaitsBody self.new)) }
     {
-        match sheet_of(sheets, round) {
-            None => Ok(None),
-            Some(bids) => {
+        match sheets.get(round.saturating_sub(1) as usize) {
+            Some(Some(bids)) => {
                 let start = self.bodies.text.len();
                 self.bodies.push_sheet(round, bids.as_slice())?;
                 let written = self.end_put(token, start)?;
                 Ok(Some(written))
             }
+            _ => Ok(None),
         }
     }
 
@@ -161,7 +131,7 @@ impl Pieces {
             (rules.scripted_close house.now.setup house.now.closed closing.now)) }
     {
         let round = house.round();
-        let token = operator_token(house.setup());
+        let token = house.setup().operator.as_slice();
         let start = self.bodies.text.len();
         let ties = closing.ties.as_slice();
         push_close_body(&mut self.bodies.text, round, &closing.increments, ties)?;

@@ -193,17 +193,6 @@ impl Sincere<'_> {
         Ok(())
     }
 
-    /// Adds its bids.
-    fn push_bids(&self, bodies: &mut Bodies) -> Result<(), NoMemory>
-        requires { IsSincere self.now }
-        ensures { OnOk result (Adds (bids_text (sheet_of self.now)) bodies.old.text.items bodies.new.text.items) }
-    {
-        if self.own.round == 1 {
-            return self.push_first(bodies);
-        }
-        self.push_later(bodies)
-    }
-
     /// Adds the body of the sheet.
     pub(crate) fn push(&self, bodies: &mut Bodies) -> Result<(), NoMemory>
         requires { IsSincere self.now }
@@ -211,7 +200,11 @@ impl Sincere<'_> {
             bodies.old.text.items bodies.new.text.items) }
     {
         let start = bodies.open_sheet()?;
-        self.push_bids(bodies)?;
+        if self.own.round == 1 {
+            self.push_first(bodies)?;
+        } else {
+            self.push_later(bodies)?;
+        }
         bodies.close_sheet(start, self.own.round)
     }
 }

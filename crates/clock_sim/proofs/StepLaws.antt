@@ -126,6 +126,14 @@ no_further first second old new fault one = record {
   comes = λ texts stands other. ap (λ answer. answer >>= second) (one.comes texts stands other);
 }
 
+-- the sheets of a round were put, and it is closed
+pub puts_then_close : {U T : Type 0} (scripts : List Script) (closing : Closing) (old mid new : HouseFields) (done : U) (result : Result T SimFault)
+    → MakesStep (after_puts old.setup 0 scripts) old mid (Ok done) → MakesStep (after_close mid.setup closing) mid new result
+    → MakesStep (after_round old.setup scripts closing) old new result
+puts_then_close scripts closing old mid new done result puts closed =
+    and_then (after_puts old.setup 0 scripts) (after_close old.setup closing) old mid new done result puts
+    (subst (λ (setup : SetupFields). MakesStep (after_close setup closing) mid new result) puts.setup closed)
+
 -- ---- steps on their way
 
 pub record IsOnWay (whole rest : Step) (initial now : HouseFields) : Type 0 where

@@ -126,34 +126,8 @@ impl Group {
         Ok(())
     }
 
-    /// Sends a group that is full.
-    fn send_full<P: Processor>(&mut self, hub: &mut Hub<P>) -> Result<(), SimFault>
-        requires { IsUnderWay hub.old self.old }
-        ensures { ComesUnderWay (after_group hub.old.house.setup (requests_in self.old)) hub.old hub.new self.new
-            result }
-    {
-        if self.waiting.len() >= MOST_WAITING {
-            return self.send_all(hub);
-        }
-        Ok(())
-    }
-
-    /// Sends a request by itself, after those that wait.
-    fn send_alone<P: Processor>(&mut self, hub: &mut Hub<P>, turn: Turn) -> Result<(), SimFault>
-        requires { IsNext hub.old self.old turn }
-        ensures { ComesUnderWay (with_turn hub.old.house.setup self.old turn) hub.old hub.new self.new result }
-    {
-        self.send_all(hub)?;
-        send(
-            hub,
-            Some(turn.bidder),
-            turn.round,
-            self.pieces.head(&turn.written),
-            self.pieces.body(&turn.written),
-        )
-    }
-
-    /// A request joins the group, which is sent where it is full. One that is answered at its head goes by itself.
+    /// A request joins the group, which is sent where it is full. One that is answered at its head goes by itself, after
+    /// those that wait.
     pub(crate) fn take_turn<P: Processor>(
         &mut self,
         hub: &mut Hub<P>,
@@ -164,9 +138,19 @@ impl Group {
         ensures { ComesUnderWay (with_turn hub.old.house.setup self.old turn) hub.old hub.new self.new result }
     {
         if !turn.written.needs_body() {
-            return self.send_alone(hub, turn);
+            self.send_all(hub)?;
+            return send(
+                hub,
+                Some(turn.bidder),
+                turn.round,
+                self.pieces.head(&turn.written),
+                self.pieces.body(&turn.written),
+            );
         }
         self.join(hub, turn)?;
-        self.send_full(hub)
+        if self.waiting.len() >= MOST_WAITING {
+            return self.send_all(hub);
+        }
+        Ok(())
     }
 }

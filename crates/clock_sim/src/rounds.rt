@@ -1,7 +1,6 @@
 //! The rounds of a replay: each bidder's sheet, then the closing.
 
-ghost use Rattle.std.specs.Prelude.{◌≡◌, ◌<◌, ◌≤◌, length, true, OnOk};
-ghost use Rattle.clock_terms.specs.Limits.{most_bidders};
+ghost use Rattle.std.specs.Prelude.{◌≡◌, ◌<◌, length, true, OnOk};
 ghost use Rattle.clock_house.specs.House.{standing_in};
 ghost use Rattle.clock_sim.specs.Rehearsal as rules;
 ghost use Rattle.clock_replays.specs.Replays.{IsScript};
@@ -14,20 +13,6 @@ use crate::sim_fault::SimFault;
 use clock_front::Hub;
 use clock_processor::Processor;
 use clock_replays::{Closing, Script};
-
-/// The round that is played.
-fn current_round<P: Processor>(hub: &Hub<P>) -> u64
-    ensures { result ≡ (standing_in hub.now.house).round }
-{
-    hub.front().house().round()
-}
-
-/// Whether the auction has ended.
-fn has_ended<P: Processor>(hub: &Hub<P>) -> bool
-    ensures { result ≡ (standing_in hub.now.house).ended }
-{
-    hub.front().house().ended()
-}
 
 /// A bidder puts the sheet that its script gives, if any: the request joins the group, or what went before is sent.
 fn put_scripted<P: Processor>(
@@ -42,7 +27,7 @@ fn put_scripted<P: Processor>(
     ensures { ComesUnderWay (with_put hub.old.house.setup (requests_in group.old) bidder script.now) hub.old hub.new
         group.new result }
 {
-    let round = current_round(hub);
+    let round = hub.front().house().round();
     group.make_room();
     let written = group.pieces.write_put(hub.front().house(), bidder, script)?;
     match written {
@@ -58,13 +43,6 @@ fn put_scripted<P: Processor>(
     }
 }
 
-/// The bidders are few enough to be numbered. It does nothing when it runs.
-fn law_few_bidders<P: Processor>(hub: &Hub<P>)
-    ensures { length hub.now.house.setup.bidders ≤ most_bidders }
-{
-    hub.front().house().law_of_house();
-}
-
 /// The bidders put their sheets, in the order of their numbers.
 fn put_all<P: Processor>(
     hub: &mut Hub<P>,
@@ -75,7 +53,8 @@ fn put_all<P: Processor>(
     requires going { IsGoing hub.old.house }
     ensures { MakesStep (rules.after_puts hub.old.house.setup 0 scripts.now) hub.old.house hub.new.house result }
 {
-    law_few_bidders(hub);
+    // the bidders are few enough to be numbered
+    hub.front().house().law_of_house();
     group.clear();
     for (bidder, script) in scripts.iter().enumerate() {
         put_scripted(hub, group, bidder as u32, script)?;
@@ -91,7 +70,7 @@ fn close_scripted<P: Processor>(
 ) -> Result<(), SimFault>
     ensures { MakesStep (rules.after_close hub.old.house.setup closing.now) hub.old.house hub.new.house result }
 {
-    let round = current_round(hub);
+    let round = hub.front().house().round();
     group.make_room();
     let written = group.pieces.write_close(hub.front().house(), closing)?;
     send(
@@ -103,23 +82,7 @@ fn close_scripted<P: Processor>(
     )
 }
 
-/// The bidders put their sheets, and the round is closed.
-fn play_round<P: Processor>(
-    hub: &mut Hub<P>,
-    group: &mut Group,
-    scripts: &[Script],
-    closing: &Closing,
-) -> Result<(), SimFault>
-    requires scripts { AreScriptsOf hub.old.house.setup scripts.now }
-    requires going { IsGoing hub.old.house }
-    ensures { MakesStep (rules.after_round hub.old.house.setup scripts.now closing.now) hub.old.house
-        hub.new.house result }
-{
-    put_all(hub, group, scripts)?;
-    close_scripted(hub, group, closing)
-}
-
-/// Plays round after round until the end of the auction.
+/// Plays round after round until the end of the auction: in each the bidders put their sheets, and it is closed.
 pub(crate) fn play<P: Processor>(
     hub: &mut Hub<P>,
     group: &mut Group,
@@ -133,8 +96,9 @@ pub(crate) fn play<P: Processor>(
     ensures ended { OnOk result ((standing_in hub.new.house).ended ≡ true) }
 {
     for closing in closings {
-        play_round(hub, group, scripts, closing)?;
-        if has_ended(hub) {
+        put_all(hub, group, scripts)?;
+        close_scripted(hub, group, closing)?;
+        if hub.front().house().ended() {
             return Ok(());
         }
     }

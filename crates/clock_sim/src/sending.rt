@@ -11,24 +11,15 @@ use clock_front::{Conn, Fed, Hub, HubFault, Reply};
 use clock_http::{Code, law_decided_once, law_one_head};
 use clock_processor::Processor;
 
-/// The fault of a request that was refused: that of a bidder, or of the operator.
-fn refused_by(sender: Option<u64>, round: u64, code: Code) -> SimFault
-    ensures { result ≡ rules.refused_by sender round code }
-{
-    match sender {
-        Some(bidder) => SimFault::Refused(bidder, round, code),
-        None => SimFault::Closing(round, code),
-    }
-}
-
-/// What the code of a reply is told as.
+/// What the code of a reply is told as: a refusal as the fault of a bidder, or of the operator.
 fn told(code: Code, sender: Option<u64>, round: u64) -> Result<(), SimFault>
     ensures { IsTold code (rules.refused_by sender round code) result }
 {
-    match code {
-        Code::Done => Ok(()),
-        Code::Memory => Err(SimFault::NoMemory),
-        _ => Err(refused_by(sender, round, code)),
+    match (code, sender) {
+        (Code::Done, _) => Ok(()),
+        (Code::Memory, _) => Err(SimFault::NoMemory),
+        (_, Some(bidder)) => Err(SimFault::Refused(bidder, round, code)),
+        (_, None) => Err(SimFault::Closing(round, code)),
     }
 }
 

@@ -19,12 +19,6 @@ use clock_reports::{Report, final_text, report_so_far};
 use clock_terms::Setup;
 use std::alloc::Global;
 
-/// The requests of an auction, of which none is written yet.
-fn no_requests<P: Processor>(alloc: Global, hub: &Hub<P>) -> Result<Group, NoMemory> {
-    let setup = hub.front().house().setup();
-    Group::new(alloc, setup.products.as_slice().len())
-}
-
 /// A front and no connection yet, for an auction of a set-up.
 fn hub_of<P: Processor>(alloc: Global, setup: Setup, processor: P) -> Result<Hub<P>, NoMemory>
     ensures first { IfOk result (λ hub. StandsForTexts [] hub.house) }
@@ -49,7 +43,8 @@ fn play_out<P: Processor>(
     ensures err { IfErr result (IsRefusal faults.NoMemory
         (rules.simulated (replay_of hub.old.house scripts.now closings.now))) }
 {
-    let mut group = no_requests(alloc, hub)?;
+    let products = hub.front().house().setup().products.as_slice().len();
+    let mut group = Group::new(alloc, products)?;
     play(hub, &mut group, scripts, closings)?;
     Ok(())
 }

@@ -1,6 +1,6 @@
 use Rattle.std.proofs.Common.{◌≡◌, ◌++◌, refl, ap, ◌∙◌}
 use Rattle.std.proofs.lemmas.Result.{err_from_is_err_and}
-use Rattle.clock_house.specs.House.{HouseFields}
+use Rattle.clock_house.specs.House.{HouseFields, standing_in}
 use Rattle.clock_scripts.specs.ScriptedRequests.{scripted_close}
 use Rattle.clock_scripts.specs.Pieces.{text_at}
 use Rattle.clock_sim.specs.Rehearsal.{after_close}
@@ -14,10 +14,10 @@ returns-in_err-written g c =
 
 pub returns : goal.returns
 returns g c =
-    let house_is = c.house.ensures ∙ c.front.ensures in
+    let house_is = c.house-2.ensures ∙ c.front-2.ensures in
     let pieces : c.head.result.now ++ c.body.result.now ≡ text_at c.write_close.new.self c.in_ok-written.written =
     (λ k. c.head.ensures k ++ c.body.ensures k) in
-    round_closed c.args.hub.now.house c.send.new.hub.house c.args.closing.now (c.head.result.now ++ c.body.result.now) c.current_round-round.result
+    round_closed c.args.hub.now.house c.send.new.hub.house c.args.closing.now (c.head.result.now ++ c.body.result.now) c.round-round.result
     c.send.result
     (pieces ∙ c.in_ok-written.ensures.reads ∙ ap (λ (house : HouseFields). scripted_close house.setup house.closed c.args.closing.now) house_is)
-    c.current_round-round.ensures c.send.ensures
+    (c.round-round.ensures.is ∙ ap (λ (house : HouseFields). (standing_in house).round) (c.house.ensures ∙ c.front.ensures)) c.send.ensures

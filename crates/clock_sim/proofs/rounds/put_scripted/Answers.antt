@@ -1,6 +1,7 @@
-use Rattle.std.proofs.Common.{Option, refl, subst, ◌∙◌}
+use Rattle.std.proofs.Common.{Option, ap, refl, subst, ◌∙◌}
 use Rattle.std.specs.Prelude.{IfSome}
 use Rattle.std.proofs.lemmas.Result.{err_from_is_err_and}
+use Rattle.clock_house.specs.House.{HouseFields, standing_in}
 use Rattle.clock_scripts.specs.declared.pieces.Written.{Written}
 use Rattle.clock_scripts.specs.Pieces.{AwaitsBody}
 use Rattle.clock_sim.specs.inside.Groups.{requests_in, with_put}
@@ -17,8 +18,8 @@ returns-in_err-written g c =
 pub take_turn-requires-clause-next : goal.take_turn-requires-clause-next
 take_turn-requires-clause-next g c =
     written_next c.args.hub.now c.args.group.now c.make_room.new.self c.write_put.new.self _ c.args.bidder c.args.script.now c.in_ok-written.written
-    c.requires.under_way c.make_room.ensures.waits (c.house.ensures ∙ c.front.ensures) c.in_ok-written.ensures.writes c.in-Some.written
-    c.current_round-round.result c.in-Some.is
+    c.requires.under_way c.make_room.ensures.waits (c.house-2.ensures ∙ c.front-2.ensures) c.in_ok-written.ensures.writes c.in-Some.written
+    c.round-round.result c.in-Some.is
 
 pub take_turn-requires-clause-awaits : goal.take_turn-requires-clause-awaits
 take_turn-requires-clause-awaits g c =
@@ -27,10 +28,10 @@ take_turn-requires-clause-awaits g c =
 pub returns-in-Some : goal.returns-in-Some
 returns-in-Some g c =
     turn_taken c.args.hub.now c.args.group.now c.make_room.new.self c.write_put.new.self _ c.args.bidder c.args.script.now c.in_ok-written.written
-    c.requires.under_way c.make_room.ensures.waits (c.house.ensures ∙ c.front.ensures) c.in_ok-written.ensures.writes c.in-Some.written
-    c.current_round-round.result c.take_turn.new.hub c.take_turn.new.self c.take_turn.result c.in-Some.is c.current_round-round.ensures c.take_turn.ensures
+    c.requires.under_way c.make_room.ensures.waits (c.house-2.ensures ∙ c.front-2.ensures) c.in_ok-written.ensures.writes c.in-Some.written
+    c.round-round.result c.take_turn.new.hub c.take_turn.new.self c.take_turn.result c.in-Some.is (c.round-round.ensures.is ∙ ap (λ (house : HouseFields). (standing_in house).round) (c.house.ensures ∙ c.front.ensures)) c.take_turn.ensures
 
 pub returns-in-None : goal.returns-in-None
 returns-in-None g c =
     turn_passed c.args.hub.now c.args.group.now c.make_room.new.self c.write_put.new.self _ c.args.bidder c.args.script.now c.in_ok-written.written
-    c.requires.under_way c.make_room.ensures.waits (c.house.ensures ∙ c.front.ensures) c.in_ok-written.ensures.writes _ c.in-None.is
+    c.requires.under_way c.make_room.ensures.waits (c.house-2.ensures ∙ c.front-2.ensures) c.in_ok-written.ensures.writes _ c.in-None.is
