@@ -2,7 +2,7 @@
 
 ghost use Rattle.std.specs.Prelude.{◌≡◌, ◌≤◌, ◌-◌, length, drop, IfOk};
 ghost use Rattle.clock_scripts.specs.RequestTexts.{request_text};
-ghost use Rattle.clock_scripts.specs.Pieces.{HoldsNothing, IsPlaceIn, IsWrittenIn, Writes, is_awaited, piece_at};
+ghost use Rattle.clock_scripts.specs.Pieces.{HoldsNothing, IsWrittenIn, Writes, is_awaited, piece_at};
 ghost use Rattle.clock_scripts.specs.inside.Heads.{HasHead};
 
 use crate::request_writer::push_head;
@@ -31,14 +31,6 @@ pub struct Pieces {
     heads: Vec<u8>,
     /// The bodies, and behind them that of the request that is being written.
     pub(crate) bodies: Bodies,
-}
-
-/// A piece of a text.
-fn piece_of<'a>(text: &'a [u8], place: &Place) -> &'a [u8]
-    requires { IsPlaceIn text.now place.now }
-    ensures { result.now ≡ piece_at text.now place.now }
-{
-    &text[place.start..place.end]
 }
 
 impl Written {
@@ -100,7 +92,7 @@ impl Pieces {
         requires { IsWrittenIn self.now written.now }
         ensures { result.now ≡ piece_at self.now.heads.items written.now.head }
     {
-        piece_of(self.heads.as_slice(), &written.head)
+        &self.heads.as_slice()[written.head.start..written.head.end]
     }
 
     /// The body of a request.
@@ -108,6 +100,6 @@ impl Pieces {
         requires { IsWrittenIn self.now written.now }
         ensures { result.now ≡ piece_at self.now.bodies.text.items written.now.body }
     {
-        piece_of(self.bodies.text.as_slice(), &written.body)
+        &self.bodies.text.as_slice()[written.body.start..written.body.end]
     }
 }

@@ -5,7 +5,6 @@ ghost use Rattle.serde_json.specs.Written.{compact_text};
 ghost use Rattle.clock_views.specs.Values.{whole, list_of, Adds};
 ghost use Rattle.clock_scripts.specs.RequestTexts as texts;
 ghost use Rattle.clock_scripts.specs.inside.Arrays.{array_ended, with_comma};
-ghost use Rattle.clock_scripts.specs.inside.RequestTexts.{increments_text};
 
 use clock_device::NoMemory;
 use clock_order::Tie;
@@ -80,23 +79,7 @@ fn push_ties(text: &mut Vec<u8>, ties: &[Tie]) -> Result<(), NoMemory>
     Ok(())
 }
 
-/// Adds the increments of a closing, under their key.
-fn push_increments(text: &mut Vec<u8>, increments: &Increments) -> Result<(), NoMemory>
-    ensures { OnOk result (Adds (increments_text increments.now) text.old.items text.new.items) }
-{
-    match increments {
-        Increments::Single(increment) => {
-            push_number(text, b"\"increment\":", *increment)?;
-        }
-        Increments::PerProduct(increments) => {
-            push_label(text, b"\"increments\":")?;
-            push_numbers(text, increments.as_slice())?;
-        }
-    }
-    Ok(())
-}
-
-/// Adds the body of a closing.
+/// Adds the body of a closing, its increments under their key.
 pub(crate) fn push_close_body(
     text: &mut Vec<u8>,
     round: u64,
@@ -106,7 +89,13 @@ pub(crate) fn push_close_body(
     ensures { OnOk result (Adds (texts.written_close round increments.now ties.now) text.old.items text.new.items) }
 {
     push_label(text, b"{")?;
-    push_increments(text, increments)?;
+    match increments {
+        Increments::Single(increment) => push_number(text, b"\"increment\":", *increment)?,
+        Increments::PerProduct(increments) => {
+            push_label(text, b"\"increments\":")?;
+            push_numbers(text, increments.as_slice())?;
+        }
+    }
     push_number(text, b",\"round\":", round)?;
     push_label(text, b",\"ties\":")?;
     push_ties(text, ties)?;

@@ -109,10 +109,7 @@ impl Pieces {
         ensures awaits { IfOk result (λ written. IfSome written (AwaitsBody self.new)) }
     {
         match script {
-            Script::Sincere(limits) => {
-                let written = self.write_sincere(house, bidder, limits)?;
-                Ok(Some(written))
-            }
+            Script::Sincere(limits) => Ok(Some(self.write_sincere(house, bidder, limits)?)),
             Script::Literal(sheets) => {
                 let token = token_of(house.setup(), bidder);
                 let written = self.write_literal(token, house.round(), sheets.as_slice())?;

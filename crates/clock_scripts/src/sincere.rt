@@ -39,16 +39,6 @@ fn last_leaving(pair: &PricePair, limits: &[u64], blocks: usize) -> Option<u64>
     }
 }
 
-/// Whether the block before one that leaves at a price does not leave there.
-fn is_last(price: u64, next: Option<u64>) -> bool
-    ensures { result ≡ one_by_one.is_last price next }
-{
-    match next {
-        None => true,
-        Some(next) => next != price,
-    }
-}
-
 /// Adds the bid at the price at which a block leaves, where the block before does not leave there.
 fn push_block(
     bodies: &mut Bodies,
@@ -63,7 +53,7 @@ fn push_block(
     let Some(price) = price else {
         return Ok(());
     };
-    if !is_last(price, next) {
+    if next == Some(price) {
         return Ok(());
     }
     bodies.push_own_bid(&Bid {
