@@ -37,13 +37,8 @@ pub fn final_text<P>(alloc: Global, house: &House<P>) -> Result<Text, NoMemory>
     let empty = empty_text(alloc, house)?;
     let mut text = with_closed_rounds(empty, house)?;
     let last = sheet_at(house, house.closed_rounds() - 1);
-    push_wins(
-        alloc,
-        &mut text,
-        house.setup(),
-        last.lines.as_slice(),
-        house.demands(),
-    )?;
+    let lines = last.lines.as_slice();
+    push_wins(alloc, &mut text, house.setup(), lines, house.demands())?;
     Ok(text)
 }
 

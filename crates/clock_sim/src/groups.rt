@@ -90,13 +90,8 @@ impl Group {
         ensures { MakesStep (after_group hub.old.house.setup (requests_in self.now)) hub.old.house hub.new.house result }
     {
         for one in &self.waiting {
-            send_body(
-                hub,
-                one.conn,
-                Some(one.turn.bidder),
-                one.turn.round,
-                self.pieces.body(&one.turn.written),
-            )?;
+            let body = self.pieces.body(&one.turn.written);
+            send_body(hub, one.conn, Some(one.turn.bidder), one.turn.round, body)?;
         }
         Ok(())
     }
@@ -139,13 +134,9 @@ impl Group {
     {
         if !turn.written.needs_body() {
             self.send_all(hub)?;
-            return send(
-                hub,
-                Some(turn.bidder),
-                turn.round,
-                self.pieces.head(&turn.written),
-                self.pieces.body(&turn.written),
-            );
+            let head = self.pieces.head(&turn.written);
+            let body = self.pieces.body(&turn.written);
+            return send(hub, Some(turn.bidder), turn.round, head, body);
         }
         self.join(hub, turn)?;
         if self.waiting.len() >= MOST_WAITING {

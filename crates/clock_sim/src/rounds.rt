@@ -73,13 +73,9 @@ fn close_scripted<P: Processor>(
     let round = hub.front().house().round();
     group.make_room();
     let written = group.pieces.write_close(hub.front().house(), closing)?;
-    send(
-        hub,
-        None,
-        round,
-        group.pieces.head(&written),
-        group.pieces.body(&written),
-    )
+    let head = group.pieces.head(&written);
+    let body = group.pieces.body(&written);
+    send(hub, None, round, head, body)
 }
 
 /// Plays round after round until the end of the auction: in each the bidders put their sheets, and it is closed.

@@ -60,12 +60,8 @@ fn played<P: Processor>(
     ensures ok { IfOk result (λ report. rules.simulated replay.now ≡ Ok report) }
     ensures err { IfErr result (IsRefusal faults.NoMemory (rules.simulated replay.now)) }
 {
-    play_out(
-        alloc,
-        hub,
-        replay.scripts.as_slice(),
-        replay.closings.as_slice(),
-    )?;
+    let scripts = replay.scripts.as_slice();
+    play_out(alloc, hub, scripts, replay.closings.as_slice())?;
     Ok(report_so_far(alloc, hub.front().house())?)
 }
 

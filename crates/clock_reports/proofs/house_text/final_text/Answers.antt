@@ -32,10 +32,10 @@ returns g c =
     omega (arith, c.closed_rounds.ensures, length-map (reverse house.closed) (λ (closed : ClosedRound). closed.sheet), length-reverse house.closed) in
     let is : slice_index_or sheets (length sheets - 1) none ≡ last =
     index_got sheets (length sheets - 1) last none (ap (λ n. slice_get sheets n) (sym count) ∙ c.sheet_at-last.ensures.is) in
-    let lines : c.as_slice.result.now ≡ (slice_index_or sheets (length sheets - 1) none).lines =
-    c.as_slice.ensures ∙ ap (λ (sheet : RoundSheet). sheet.lines) (sym is) in
+    let lines : c.as_slice-lines.result.now ≡ (slice_index_or sheets (length sheets - 1) none).lines =
+    c.as_slice-lines.ensures ∙ ap (λ (sheet : RoundSheet). sheet.lines) (sym is) in
     c.in_ok-push_wins.ensures
-    ∙ ap (λ (text : List ℕ). text ++ flat_map (won_text c.as_slice.result.now) (zip c.setup.result.now.bidders c.demands.result.now))
+    ∙ ap (λ (text : List ℕ). text ++ flat_map (won_text c.as_slice-lines.result.now) (zip c.setup.result.now.bidders c.demands.result.now))
     (c.in_ok-text.ensures ∙ ap (λ (text : List ℕ). text ++ rounds) c.in_ok-empty.ensures)
     ∙ ap (λ (list : List Line). rounds ++ flat_map (won_text list) (zip c.setup.result.now.bidders c.demands.result.now)) lines
     ∙ ap (λ (setup : SetupFields). rounds ++ flat_map (won_text (slice_index_or sheets (length sheets - 1) none).lines)

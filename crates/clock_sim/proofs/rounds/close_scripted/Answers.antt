@@ -15,9 +15,9 @@ returns-in_err-written g c =
 pub returns : goal.returns
 returns g c =
     let house_is = c.house-2.ensures ∙ c.front-2.ensures in
-    let pieces : c.head.result.now ++ c.body.result.now ≡ text_at c.write_close.new.self c.in_ok-written.written =
-    (λ k. c.head.ensures k ++ c.body.ensures k) in
-    round_closed c.args.hub.now.house c.send.new.hub.house c.args.closing.now (c.head.result.now ++ c.body.result.now) c.round-round.result
+    let pieces : c.head-head.result.now ++ c.body-body.result.now ≡ text_at c.write_close.new.self c.in_ok-written.written =
+    (λ k. c.head-head.ensures k ++ c.body-body.ensures k) in
+    round_closed c.args.hub.now.house c.send.new.hub.house c.args.closing.now (c.head-head.result.now ++ c.body-body.result.now) c.round-round.result
     c.send.result
     (pieces ∙ c.in_ok-written.ensures.reads ∙ ap (λ (house : HouseFields). scripted_close house.setup house.closed c.args.closing.now) house_is)
     (c.round-round.ensures.is ∙ ap (λ (house : HouseFields). (standing_in house).round) (c.house.ensures ∙ c.front.ensures)) c.send.ensures

@@ -13,13 +13,13 @@ returns-then-not-needs_body g c =
     let group = c.args.self.now in
     let next = c.send_all.new.self in
     let same = c.in_ok-send_all.ensures.pieces in
-    let text : c.head.result.now ++ c.body.result.now ≡ text_at group.pieces c.args.turn.written =
+    let text : c.head-head.result.now ++ c.body-body.result.now ≡ text_at group.pieces c.args.turn.written =
     ap₂ (λ (head body : List ℕ). head ++ body)
-    (c.head.ensures ∙ ap (λ (pieces : Pieces). piece_at pieces.heads.items c.args.turn.written.head) same)
-    (c.body.ensures ∙ ap (λ (pieces : Pieces). piece_at pieces.bodies.text.items c.args.turn.written.body) same) in
+    (c.head-head.ensures ∙ ap (λ (pieces : Pieces). piece_at pieces.heads.items c.args.turn.written.head) same)
+    (c.body-body.ensures ∙ ap (λ (pieces : Pieces). piece_at pieces.bodies.text.items c.args.turn.written.body) same) in
     subst (λ (sent : List ℕ). ComesUnderWay (with_request old.house.setup (requests_in group) c.args.turn.bidder c.args.turn.round sent) old c.send.new.hub next
     c.send.result) text
-    (sent_alone group next c.args.turn.bidder c.args.turn.round (c.head.result.now ++ c.body.result.now) old c.send_all.new.hub c.send.new.hub _ c.send.result
+    (sent_alone group next c.args.turn.bidder c.args.turn.round (c.head-head.result.now ++ c.body-body.result.now) old c.send_all.new.hub c.send.new.hub _ c.send.result
     c.requires.next.under_way (subst ClosesNoRound (sym text) c.requires.next.closes) c.in_ok-send_all.ensures.step c.in_ok-send_all.ensures.none c.send.ensures)
 
 pub returns-then-len-ge-MOST_WAITING : goal.returns-then-len-ge-MOST_WAITING
