@@ -1,4 +1,4 @@
-ghost use Rattle.std.specs.Prelude.{◌≡◌, ◌<◌, ◌≤◌, ◌∷◌, length, slice_index};
+ghost use Rattle.std.specs.Prelude.{◌≡◌, ◌<◌, ◌≤◌, length, slice_index};
 ghost use Rattle.clock_terms.specs.Demands.{row_of};
 ghost use Rattle.clock_replays.specs.EndedRows.{rows_from};
 ghost use Rattle.clock_replays.specs.inside.EndedRows.{AreEnds};
@@ -33,24 +33,17 @@ impl<'a> Model for LimitWalk<'a> {
     ghost invariant = { λ w. AreKept w.rows.now × IsPlaceOf w.rows.now.products.items w.product w.place };
 }
 
-/// Where the row of a place begins: where the one before it ends.
-fn start_of(ends: &[u32], place: usize) -> usize
-    requires { place < length ends.now }
-    ensures { result ≡ slice_index (0 ∷ ends.now) place }
-{
-    if place == 0 {
-        return 0;
-    }
-    ends[place - 1] as usize
-}
-
-/// The row of a place.
+/// The row of a place, which begins where the one before it ends.
 fn row_at<'a>(ends: &[u32], numbers: &'a [u64], place: usize) -> &'a [u64]
     requires place { place < length ends.now }
     requires ends { AreEnds 0 ends.now (length numbers.now) }
     ensures { result.now ≡ row_of (rows_from 0 ends.now numbers.now) place }
 {
-    let start = start_of(ends, place);
+    let start = if place == 0 {
+        0
+    } else {
+        ends[place - 1] as usize
+    };
     let end = ends[place] as usize;
     &numbers[start..end]
 }

@@ -1,15 +1,24 @@
-use Rattle.std.proofs.Common.{◌-◌, ◌≤◌, ℕ, length, take, drop, slice_index_or, sym, subst, ap, ◌∙◌, rules}
+use Rattle.std.proofs.Common.{◌≡◌, ◌∷◌, ◌-◌, ◌≤◌, ℕ, length, take, drop, slice_index_or, sym, subst, ap, ◌∙◌, rules}
 use Rattle.clock_replays.proofs.EndedRowLaws.{row_at, end_within}
+use Rattle.clock_replays.proofs.limit_walk.row_at.Goals.{then-place-eq0, else-place-eq0}
 use Rattle.clock_replays.proofs.limit_walk.row_at.Goals as goal
 
 pub slice_bounds-result-count : goal.slice_bounds-result-count
 slice_bounds-result-count c =
-    let order = subst (λ (start : ℕ). start ≤ slice_index_or c.args.ends.now c.args.place 0) (sym c.start_of-start.ensures)
+    let begins : c.if-place-eq0.start ≡ slice_index_or (0 ∷ c.args.ends.now) c.args.place 0 = elim c.if-place-eq0.branch [
+      | then-place-eq0 w ↦ search rules
+      | else-place-eq0 w ↦ search rules
+    ] in
+    let order = subst (λ (start : ℕ). start ≤ slice_index_or c.args.ends.now c.args.place 0) (sym begins)
     (end_within 0 c.args.ends.now (length c.args.numbers.now) c.args.place c.requires.ends c.requires.place).0 in search rules
 
 pub slice_bounds-result-start : goal.slice_bounds-result-start
 slice_bounds-result-start c =
-    let order = subst (λ (start : ℕ). start ≤ slice_index_or c.args.ends.now c.args.place 0) (sym c.start_of-start.ensures)
+    let begins : c.if-place-eq0.start ≡ slice_index_or (0 ∷ c.args.ends.now) c.args.place 0 = elim c.if-place-eq0.branch [
+      | then-place-eq0 w ↦ search rules
+      | else-place-eq0 w ↦ search rules
+    ] in
+    let order = subst (λ (start : ℕ). start ≤ slice_index_or c.args.ends.now c.args.place 0) (sym begins)
     (end_within 0 c.args.ends.now (length c.args.numbers.now) c.args.place c.requires.ends c.requires.place).0 in search rules
 
 pub slice_bounds-result-end : goal.slice_bounds-result-end
@@ -18,5 +27,9 @@ slice_bounds-result-end c =
 
 pub returns : goal.returns
 returns c =
-    ap (λ (start : ℕ). take (slice_index_or c.args.ends.now c.args.place 0 - start) (drop start c.args.numbers.now)) c.start_of-start.ensures
+    let begins : c.if-place-eq0.start ≡ slice_index_or (0 ∷ c.args.ends.now) c.args.place 0 = elim c.if-place-eq0.branch [
+      | then-place-eq0 w ↦ search rules
+      | else-place-eq0 w ↦ search rules
+    ] in
+    ap (λ (start : ℕ). take (slice_index_or c.args.ends.now c.args.place 0 - start) (drop start c.args.numbers.now)) begins
     ∙ sym (row_at 0 c.args.ends.now c.args.numbers.now c.args.place c.requires.place)
