@@ -1,14 +1,13 @@
 ghost use Rattle.std.specs.Prelude.{◌≡◌, ◌≤◌, ◌++◌, ℕ, All, IfOk, OnOk, length, decimal, codes, zip};
 ghost use Rattle.std.specs.List.{flat_map};
 ghost use Rattle.clock_terms.specs.Limits.{IsRow, most_products, most_supply};
-ghost use Rattle.clock_posting.specs.SheetText.{sheet_text};
 ghost use Rattle.clock_reports.specs.inside.Reports.{IsReport};
 ghost use Rattle.clock_reports.specs.inside.WonLines.{none_held};
 ghost use Rattle.clock_reports.specs.ReportText as words;
 
 use crate::report::Report;
 use clock_device::{NoMemory, Text};
-use clock_posting::{Line, RoundSheet, with_sheet_lines};
+use clock_posting::{Line, with_sheet_lines};
 use clock_terms::{Bidder, Grid, Row, Setup};
 use std::alloc::Global;
 
@@ -27,20 +26,12 @@ pub fn report_text(alloc: Global, report: &Report) -> Result<Text, NoMemory>
     ensures { IfOk result (λ text. text ≡ words.report_text report.now) }
 {
     let sheets = report.sheets.as_slice();
-    let mut text = with_rounds(Text::new(alloc), &report.setup, sheets)?;
+    let mut text = Text::new(alloc);
+    for sheet in sheets {
+        text = with_sheet_lines(text, &report.setup, sheet)?;
+    }
     let lines = sheets[sheets.len() - 1].lines.as_slice();
     push_wins(alloc, &mut text, &report.setup, lines, &report.grid)?;
-    Ok(text)
-}
-
-/// A text, and behind it the lines of the rounds.
-fn with_rounds(mut text: Text, setup: &Setup, sheets: &[RoundSheet]) -> Result<Text, NoMemory>
-    requires { All (λ sheet. length sheet.lines ≡ length setup.now.products) sheets.now }
-    ensures { IfOk result (λ lines. lines ≡ text ++ flat_map (sheet_text setup.now.products) sheets.now) }
-{
-    for sheet in sheets {
-        text = with_sheet_lines(text, setup, sheet)?;
-    }
     Ok(text)
 }
 

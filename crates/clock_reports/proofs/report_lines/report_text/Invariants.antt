@@ -1,9 +1,9 @@
 use Rattle.std.proofs.Common.{◌≡◌, ◌++◌, drop}
 use Rattle.std.specs.List.{flat_map}
 use Rattle.clock_posting.specs.SheetText.{sheet_text}
-use Rattle.clock_reports.proofs.report_lines.with_rounds.Given as goal
+use Rattle.clock_reports.proofs.report_lines.report_text.Given as goal
 
 -- with the lines of the other rounds it is the whole text
 abbrev pub invariant-loop-sheet : goal.invariant-loop-sheet
 invariant-loop-sheet l =
-    l.text ++ flat_map (sheet_text l.setup.products) (drop l.sheet-index l.sheets) ≡ l.initial.text ++ flat_map (sheet_text l.setup.products) l.sheets
+    l.text ++ flat_map (sheet_text l.report.setup.products) (drop l.sheet-index l.report.sheets) ≡ flat_map (sheet_text l.report.setup.products) l.report.sheets
