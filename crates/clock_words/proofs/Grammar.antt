@@ -1,9 +1,8 @@
 -- What clap promises of a parse, said of the program's own grammar.
 use Rattle.std.proofs.Common.{◌≡◌, ◌≢◌, ◌∷◌, [], inl, inr, true, false, List, Option, None, refl, subst, ap₂, ◌∙◌}
 use Rattle.std.specs.Prelude.{IfErr, IfOk, Result, Ok, Err}
-use Rattle.clap.specs.Words.{AddsArg, AddsSubcommand, App, FailsBy, HasKind, HasMatchesOf, Kinds, Rule, Text, fault_of, is_simple, is_simple_and_free}
-use Rattle.clap.specs.Words.{kind_of, rule_of, subcommand_of, subcommand_rows_of, with_rule, with_subcommand}
-use Rattle.clap.specs.declared.builder.arg.Arg.{Arg}
+use Rattle.clap.specs.Words.{AddsSubcommand, App, FailsBy, HasKind, HasMatchesOf, Kinds, Text, fault_of, is_simple, is_simple_and_free}
+use Rattle.clap.specs.Words.{kind_of, subcommand_of, subcommand_rows_of, with_subcommand}
 use Rattle.clap.specs.declared.builder.command.Command.{Command}
 use Rattle.clap.specs.declared.error.Error.{Error}
 use Rattle.clap.specs.declared.error.kind.ErrorKind.TheVariants.{OutOfMemory}
@@ -11,15 +10,6 @@ use Rattle.clap.specs.declared.parser.matches.ArgMatches.{ArgMatches}
 use Rattle.clap.proofs.OnLiterals.{clap_on_literals}
 use Rattle.clock_words.specs.Words.{grammar, unless_refused}
 use Rattle.clock_words.specs.inside.Commands.{IsCommand}
-
--- an option was added
-pub with_one : {E : Type 0} (app : App) (rule : Rule) (command : Command) (option : Arg) (result : Result Command E) → option.global ≡ false
-    → IsCommand app command → rule_of option ≡ rule → IfOk result (AddsArg command option) → IfOk result (IsCommand (with_rule app rule))
-with_one app rule command option (Ok made) local is is_rule added = record {
-  shape = added.shape local ∙ ap₂ with_rule is.shape is_rule;
-  local = rw (added.globals, is.local, local) refl;
-}
-with_one app rule command option (Err refused) local is is_rule added = tt
 
 -- a command was added
 pub with_below : {E : Type 0} (app sub : App) (command below : Command) (result : Result Command E) → IsCommand app command → IsCommand sub below

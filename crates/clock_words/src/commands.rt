@@ -1,6 +1,6 @@
 //! The commands and options of the program, as clap is told of them.
 ghost use Rattle.std.specs.Prelude.{◌≡◌, false, IfOk};
-ghost use Rattle.clap.specs.Words.{App, Rule, new_app, rule_of, with_rule, with_subcommand};
+ghost use Rattle.clap.specs.Words.{App, new_app, rule_of, with_subcommand};
 ghost use Rattle.clock_words.specs.Words.{files_grammar, grammar, increment_option, needed_rule, number_rule, option_rule};
 ghost use Rattle.clock_words.specs.Words.{prices_grammar, program_alone_grammar, serve_grammar};
 ghost use Rattle.clock_words.specs.inside.Commands.{IsCommand};
@@ -88,42 +88,18 @@ fn named<'a>(alloc: Global, name: &'a str, about: &'a str, help: &'a str) -> Com
     Command::new(alloc, name).about(about).after_help(help)
 }
 
-/// A command that was made, with one option more.
-fn with_option<'a>(
-    made: Result<Command<'a>, AllocError>,
-    option: Arg<'a>,
-) -> Result<Command<'a>, AllocError>
-    requires { option.global ≡ false }
-    ensures { (app : App) (rule : Rule) → IfOk made.entry (IsCommand app) → rule_of option.entry ≡ rule
-        → IfOk result (IsCommand (with_rule app rule)) }
-{
-    match made {
-        Ok(command) => command.arg(option),
-        Err(refused) => {
-            drop(option);
-            Err(refused)
-        }
-    }
-}
-
-/// A command that was made, with one command more below it.
+/// A command with one more below it, where that was made.
 fn with_command<'a>(
-    made: Result<Command<'a>, AllocError>,
+    command: Command<'a>,
     below: Result<Command<'a>, AllocError>,
 ) -> Result<Command<'a>, AllocError>
-    ensures { (app sub : App) → IfOk made.entry (IsCommand app) → IfOk below.entry (IsCommand sub)
+    ensures { (app sub : App) → IsCommand app command.entry → IfOk below.entry (IsCommand sub)
         → IfOk result (IsCommand (with_subcommand app sub.top)) }
 {
-    match made {
-        Ok(command) => match below {
-            Ok(below) => command.subcommand(below),
-            Err(refused) => {
-                drop(command);
-                Err(refused)
-            }
-        },
+    match below {
+        Ok(below) => command.subcommand(below),
         Err(refused) => {
-            drop(below);
+            drop(command);
             Err(refused)
         }
     }
@@ -134,10 +110,7 @@ fn prices_command<'a>(alloc: Global, helps: &'a NumberHelps) -> Result<Command<'
     ensures { IfOk result (IsCommand prices_grammar) }
 {
     let about = "Prints each product's opening price and next clock price";
-    with_option(
-        Ok(named(alloc, "prices", about, PRICES_HELP)),
-        percent_option(alloc, helps.increment.as_str()),
-    )
+    named(alloc, "prices", about, PRICES_HELP).arg(percent_option(alloc, helps.increment.as_str()))
 }
 
 /// `serve` and its options.
@@ -145,15 +118,13 @@ fn serve_command<'a>(alloc: Global, helps: &'a NumberHelps) -> Result<Command<'a
     ensures { IfOk result (IsCommand serve_grammar) }
 {
     let about = "Takes the bids and closings of an auction on a port of 127.0.0.1";
-    let serve = named(alloc, "serve", about, SERVE_HELP);
-    let with_setup = with_option(Ok(serve), needed_option(alloc, "setup", SETUP_FILE));
-    let port = number_option(alloc, "port", MOST_PORT, helps.port.as_str());
-    let with_port = with_option(with_setup, port);
-    let help = helps.connections.as_str();
-    let connections = number_option(alloc, "connections", MOST_CONNECTIONS, help);
-    let with_connections = with_option(with_port, connections);
+    let served = helps.connections.as_str();
     let kept = "The file in which accepted sheets and closings are kept";
-    with_option(with_connections, option(alloc, "journal", "FILE", kept))
+    named(alloc, "serve", about, SERVE_HELP)
+        .arg(needed_option(alloc, "setup", SETUP_FILE))?
+        .arg(number_option(alloc, "port", MOST_PORT, helps.port.as_str()))?
+        .arg(number_option(alloc, "connections", MOST_CONNECTIONS, served))?
+        .arg(option(alloc, "journal", "FILE", kept))
 }
 
 /// A command of a set-up document and a journal.
@@ -165,10 +136,10 @@ fn files_command<'a>(
 ) -> Result<Command<'a>, AllocError>
     ensures { IfOk result (IsCommand (files_grammar name.now)) }
 {
-    let files = named(alloc, name, about, help);
-    let with_setup = with_option(Ok(files), needed_option(alloc, "setup", SETUP_FILE));
     let kept = "The file in which accepted sheets and closings were kept";
-    with_option(with_setup, needed_option(alloc, "journal", kept))
+    named(alloc, name, about, help)
+        .arg(needed_option(alloc, "setup", SETUP_FILE))?
+        .arg(needed_option(alloc, "journal", kept))
 }
 
 /// The program without its commands.
@@ -187,14 +158,14 @@ fn program_alone<'a>(alloc: Global) -> Result<Command<'a>, AllocError>
 pub fn program<'a>(alloc: Global, helps: &'a NumberHelps) -> Result<Command<'a>, AllocError>
     ensures { IfOk result (IsCommand grammar) }
 {
-    let priced = with_command(program_alone(alloc), prices_command(alloc, helps));
+    let priced = with_command(program_alone(alloc)?, prices_command(alloc, helps))?;
     let about = "Prints the sheet of round 1";
-    let opened = with_command(priced, Ok(named(alloc, "opening", about, OPENING_HELP)));
+    let opened = priced.subcommand(named(alloc, "opening", about, OPENING_HELP))?;
     let about = "Plays an auction of scripted bidders and prints its rounds and what each won";
-    let replayed = with_command(opened, Ok(named(alloc, "replay", about, REPLAY_HELP)));
-    let served = with_command(replayed, serve_command(alloc, helps));
+    let replayed = opened.subcommand(named(alloc, "replay", about, REPLAY_HELP))?;
+    let served = with_command(replayed, serve_command(alloc, helps))?;
     let about = "Prints what a journal holds, text by text";
-    let told = with_command(served, files_command(alloc, "journal", about, JOURNAL_HELP));
+    let told = with_command(served, files_command(alloc, "journal", about, JOURNAL_HELP))?;
     let about =
         "Recounts an auction from its journal and prints its rounds and what each bidder won";
     with_command(told, files_command(alloc, "audit", about, AUDIT_HELP))

@@ -84,14 +84,13 @@ fn job_in(matches: &ArgMatches) -> Option<Job>
     ensures limits { IfSome result IsJob }
 {
     let (name, options) = matches.subcommand()?;
-    if name == "prices" {
-        Some(Job::Prices(number_in(options, "increment", LEAST_INCREMENT, MOST_INCREMENT)?))
-    } else if name == "opening" {
-        Some(Job::Opening)
-    } else if name == "replay" {
-        Some(Job::Replay)
-    } else {
-        None
+    match name {
+        "prices" => {
+            Some(Job::Prices(number_in(options, "increment", LEAST_INCREMENT, MOST_INCREMENT)?))
+        }
+        "opening" => Some(Job::Opening),
+        "replay" => Some(Job::Replay),
+        _ => None,
     }
 }
 
@@ -174,14 +173,11 @@ fn task_in<'a>(matches: &ArgMatches<'a>) -> Option<FileTask<'a>>
     ensures { option_map task_told result ≡ task_met (subcommand_rows_of matches.now) }
 {
     let (name, options) = matches.subcommand()?;
-    if name == "serve" {
-        Some(FileTask::Serve(serving_with(options)?))
-    } else if name == "journal" {
-        Some(FileTask::Journal(files_with(options)?))
-    } else if name == "audit" {
-        Some(FileTask::Audit(files_with(options)?))
-    } else {
-        None
+    match name {
+        "serve" => Some(FileTask::Serve(serving_with(options)?)),
+        "journal" => Some(FileTask::Journal(files_with(options)?)),
+        "audit" => Some(FileTask::Audit(files_with(options)?)),
+        _ => None,
     }
 }
 
