@@ -1,5 +1,5 @@
 -- A closing that was prepared is the closing that was asked for; what is told of a first fault; what is no command.
-use Rattle.std.proofs.Common.{◌≡◌, ◌≢◌, ℕ, List, Option, Result, Ok, Err, refl, sym, ◌∙◌, ap, subst}
+use Rattle.std.proofs.Common.{◌≡◌, ℕ, List, Option, Result, Ok, Err, refl, sym, ◌∙◌, ap, subst}
 use Rattle.clock_terms.specs.Limits.{SetupFields}
 use Rattle.clock_terms.specs.declared.increments.Increments.{Increments}
 use Rattle.clock_bids.specs.declared.sheet.Bid.{Bid}
@@ -12,8 +12,6 @@ use Rattle.clock_house.specs.Prepared.{PreparedClosing, FitsClosing}
 use Rattle.std.specs.Prelude.{IfOk, OnOk}
 use Rattle.clock_closing.specs.declared.fault.CloseFault.TheVariants.{NoMemory}
 use Rattle.clock_views.specs.Refusals.{shown_close}
-use Rattle.clock_bodies.specs.declared.body_fault.BodyFault.{BodyFault}
-use Rattle.clock_bodies.specs.declared.body_fault.BodyFault.TheVariants as body_faults
 use Rattle.clock_http.specs.Replies.{Answer}
 use Rattle.clock_front.specs.Outcomes.{Outcome, close_outcome, done, refused, answer_of}
 use Rattle.clock_views.specs.OperatorPages.{closed_value}
@@ -74,10 +72,3 @@ other_followed house = record {
 
 pub none_followed : (command : Command) (house : HouseFields) → command ≡ other → IsFollowedBy command house house
 none_followed command house is = subst (λ c. IsFollowedBy c house house) (sym is) (other_followed house)
-
--- a body with a fault is no command
-pub fault_followed : {A N B : Type 0} (of : Result B BodyFault → Command) (told : Result A N) (fault : BodyFault) (body : Result B BodyFault)
-    (house : HouseFields) → OnOk told (fault ≢ body_faults.NoMemory) → (fault ≢ body_faults.NoMemory → body ≡ Err fault)
-    → of (Err fault) ≡ other → OnOk told (IsFollowedBy (of body) house house)
-fault_followed of (Ok reply) fault body house known is none = none_followed (of body) house (ap of (is known) ∙ none)
-fault_followed of (Err e) fault body house known is none = tt

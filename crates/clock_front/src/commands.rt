@@ -87,24 +87,6 @@ fn put_sheet<P: Processor>(
     }
 }
 
-/// The reply to a body that a bidder puts as its sheet.
-fn put<P: Processor>(
-    alloc: Global,
-    house: &mut House<P>,
-    bidder: u32,
-    body: &[u8],
-) -> Result<Reply, NoMemory>
-    requires { bidder < length house.old.setup.bidders }
-    ensures reply { IfOk result (λ reply. reply ≡ answer_of (told.put_to house.old bidder (put_body body.now))) }
-    ensures followed { OnOk result (IsFollowedBy (told.put_command bidder (put_body body.now)) house.old house.new) }
-    ensures still { OnErr result (StandsStill house.old house.new) }
-{
-    match read_put(alloc, body) {
-        Ok(sheet) => put_sheet(alloc, house, bidder, sheet),
-        Err(fault) => refused_body(alloc, fault),
-    }
-}
-
 /// A sheet of a bidder is put, and whoever is none is told so.
 pub(crate) fn answer_put<P: Processor>(
     alloc: Global,
@@ -119,7 +101,10 @@ pub(crate) fn answer_put<P: Processor>(
     ensures still { OnErr result (StandsStill house.old house.new) }
 {
     match bidder_of(asker) {
-        Ok(bidder) => Ok(put(alloc, house, bidder, body)?),
+        Ok(bidder) => match read_put(alloc, body) {
+            Ok(sheet) => Ok(put_sheet(alloc, house, bidder, sheet)?),
+            Err(fault) => Ok(refused_body(alloc, fault)?),
+        },
         Err(away) => turn_away(alloc, away),
     }
 }
@@ -176,21 +161,6 @@ fn closing_of(alloc: Global, setup: &Setup, body: &[u8]) -> Result<CloseBody, Bo
     }
 }
 
-/// The reply to a body by which the operator closes a round.
-fn close<P: Processor>(alloc: Global, house: &mut House<P>, body: &[u8]) -> Result<Reply, NoMemory>
-    ensures reply { IfOk result (λ reply. reply
-        ≡ answer_of (told.close_to house.old (in_version house.old.setup.version (close_body body.now)))) }
-    ensures followed { OnOk result
-        (IsFollowedBy (told.close_command (in_version house.old.setup.version (close_body body.now)))
-        house.old house.new) }
-    ensures still { OnErr result (StandsStill house.old house.new) }
-{
-    match closing_of(alloc, house.setup(), body) {
-        Ok(closing) => close_round(alloc, house, &closing),
-        Err(fault) => refused_body(alloc, fault),
-    }
-}
-
 /// The operator closes a round, and whoever is not the operator is told so.
 pub(crate) fn answer_close<P: Processor>(
     alloc: Global,
@@ -204,7 +174,10 @@ pub(crate) fn answer_close<P: Processor>(
     ensures still { OnErr result (StandsStill house.old house.new) }
 {
     match operator_of(asker) {
-        Ok(()) => Ok(close(alloc, house, body)?),
+        Ok(()) => match closing_of(alloc, house.setup(), body) {
+            Ok(closing) => Ok(close_round(alloc, house, &closing)?),
+            Err(fault) => Ok(refused_body(alloc, fault)?),
+        },
         Err(why) => turn_away(alloc, why),
     }
 }

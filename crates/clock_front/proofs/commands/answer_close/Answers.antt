@@ -1,4 +1,5 @@
-use Rattle.std.proofs.Common.{◌≡◌, ap, refl, sym}
+use Rattle.std.proofs.Common.{◌≡◌, Err, ap, refl, subst, sym}
+use Rattle.clock_terms.specs.Limits.{SetupFields}
 use Rattle.clock_bodies.specs.CloseBodies.{close_body, in_version}
 use Rattle.clock_front.specs.Requests.{close}
 use Rattle.clock_front.specs.Outcomes.{answer_of, close_to, outcome, refused}
@@ -8,6 +9,15 @@ use Rattle.clock_front.proofs.FrontLaws.{told_as, if_done, if_refused}
 use Rattle.clock_front.proofs.OutcomeLaws.{close_other}
 use Rattle.clock_front.proofs.PrivateLaws.{refusal_want}
 use Rattle.clock_front.proofs.commands.answer_close.Goals as goal
+
+-- a body with a fault is no command
+pub returns-in_ok-refused_body-in-Err-closing_of-clause-followed : goal.returns-in_ok-refused_body-in-Err-closing_of-clause-followed
+returns-in_ok-refused_body-in-Err-closing_of-clause-followed g c =
+    let house = c.args.house.now in
+    let is : in_version house.setup.version (close_body c.args.body.now) ≡ Err c.in-Err-closing_of.fault =
+    subst (λ (setup : SetupFields). in_version setup.version (close_body c.args.body.now) ≡ Err c.in-Err-closing_of.fault) c.setup.ensures
+    (c.in-Err-closing_of.ensures.err c.in_ok-refused_body-in-Err-closing_of.ensures.known) in
+    none_followed _ house (rw (c.in-Ok.ensures.ok, is) refl)
 
 -- whoever is not the operator is told so
 pub returns-in-Err : goal.returns-in-Err

@@ -9,6 +9,11 @@ use Rattle.clock_front.proofs.OutcomeLaws.{put_other}
 use Rattle.clock_front.proofs.PrivateLaws.{refusal_want}
 use Rattle.clock_front.proofs.commands.answer_put.Goals as goal
 
+-- a body with a fault is no command
+pub returns-in_ok-refused_body-in-Err-read_put-clause-followed : goal.returns-in_ok-refused_body-in-Err-read_put-clause-followed
+returns-in_ok-refused_body-in-Err-read_put-clause-followed g c =
+    none_followed _ c.args.house.now (rw (c.in-Ok.ensures.ok, c.in-Err-read_put.ensures.err c.in_ok-refused_body-in-Err-read_put.ensures.known) refl)
+
 -- whoever is no bidder is told so
 pub returns-in-Err : goal.returns-in-Err
 returns-in-Err g c =
