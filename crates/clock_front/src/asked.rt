@@ -32,28 +32,6 @@ pub(crate) enum Asked<'a> {
     Close(&'a [u8]),
 }
 
-/// What is asked of a page by one of its methods.
-fn asked_of_page<'a>(page: Page, head: &Head<'a>, body: &'a [u8]) -> Asked<'a>
-    ensures { shown_asked result ≡ spec.ask_of_page page (shown_head head.now) body.now }
-{
-    match page {
-        Page::Status => Asked::Read(PageAsked::Status),
-        Page::Products => Asked::Read(PageAsked::Products),
-        Page::Sheet => Asked::Read(PageAsked::Sheet(last_segment(head.path))),
-        Page::Account => Asked::Read(PageAsked::Account),
-        Page::Bids => {
-            if head.is_put() {
-                Asked::Put(body)
-            } else {
-                Asked::Read(PageAsked::Bids)
-            }
-        }
-        Page::Slip => Asked::Read(PageAsked::Slip(last_segment(head.path))),
-        Page::Close => Asked::Close(body),
-        Page::Results => Asked::Read(PageAsked::Results),
-    }
-}
-
 /// What a request asks for, by its path and method.
 pub(crate) fn asked_of<'a>(routes: &Routes, head: &Head<'a>, body: &'a [u8]) -> Asked<'a>
     ensures { shown_asked result ≡ spec.ask_by_route (page_of head.now.path.now) (shown_head head.now) body.now }
@@ -64,5 +42,15 @@ pub(crate) fn asked_of<'a>(routes: &Routes, head: &Head<'a>, body: &'a [u8]) -> 
     if !page.has_method(head.method) {
         return Asked::Read(PageAsked::NoMethod(page));
     }
-    asked_of_page(page, head, body)
+    match page {
+        Page::Status => Asked::Read(PageAsked::Status),
+        Page::Products => Asked::Read(PageAsked::Products),
+        Page::Sheet => Asked::Read(PageAsked::Sheet(last_segment(head.path))),
+        Page::Account => Asked::Read(PageAsked::Account),
+        Page::Bids if head.is_put() => Asked::Put(body),
+        Page::Bids => Asked::Read(PageAsked::Bids),
+        Page::Slip => Asked::Read(PageAsked::Slip(last_segment(head.path))),
+        Page::Close => Asked::Close(body),
+        Page::Results => Asked::Read(PageAsked::Results),
+    }
 }
