@@ -17,7 +17,7 @@ use std::alloc::Global;
 /// A hub whose connections are numbered from 0 as they are asked for.
 #[derive(Drop)]
 pub struct NumberedHub<P> {
-    hub: Hub<P>,
+    pub hub: Hub<P>,
     conns: Items<Option<Conn>>,
 }
 
@@ -108,12 +108,5 @@ impl<P: Processor> NumberedHub<P> {
             Event::Piece(number, piece) => self.feed(*number, piece.as_slice()),
             Event::Finish(number) => Ok(self.finish(*number)),
         }
-    }
-
-    /// The front that answers.
-    pub fn front(&self) -> &Front<P>
-        ensures { result.now ≡ self.now.hub.house }
-    {
-        self.hub.front()
     }
 }

@@ -66,7 +66,7 @@ fn take_each<P: Processor>(
     requires new { StandsForTexts [] hub.old.hub.house }
     ensures { IfOk result (IsEventRun hub.old.hub.house.setup events.now) }
 {
-    hub.front().house().law_of_house();
+    hub.hub.front().house().law_of_house();
     let mut replies = EventReplies::new(alloc);
     for event in events {
         if let Some(reply) = hub.take_event(event)? {
