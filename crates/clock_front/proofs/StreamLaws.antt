@@ -1,9 +1,26 @@
 -- How a stream is served, and what that has made of a front.
-use Rattle.std.proofs.Common.{ℕ, List, [], ◌∷◌, inl, inr, arith}
+use Rattle.std.proofs.Common.{◌≡◌, ◌⊎◌, ℕ, List, [], ◌∷◌, inl, inr, sym, ◌∙◌, subst, arith}
+use Rattle.clock_device.specs.Told.{Reading}
+use Rattle.clock_connections.specs.Arrivals.{HasArrived, HasNoRoom}
 use Rattle.clock_house.specs.House.{HouseFields}
-use Rattle.clock_front.specs.Fronts.{AnswersText, StandsForTexts}
+use Rattle.clock_front.specs.FixedReplies.{no_memory}
+use Rattle.clock_front.specs.Fronts.{AnswersText, IsStruckOut, StandsForTexts}
+use Rattle.clock_front.specs.Private.{IsPrivateReply}
 use Rattle.clock_http.specs.Replies.{Answer}
-use Rattle.clock_front.specs.Streamed.{HasServed}
+use Rattle.clock_front.specs.Streamed.{HasServed, IsAnswerTo}
+
+-- the text that was read is answered
+pub answer_read : (reading : Reading) (text : List ℕ) (told answer : Answer) (old new mid : HouseFields) → answer ≡ told → mid ≡ new
+    → HasArrived reading text → AnswersText text told old new → (IsStruckOut text told ⊎ IsPrivateReply text old told)
+    → IsAnswerTo reading answer old mid
+answer_read reading text told answer old new mid is same arrived answers private =
+    subst (λ (one : Answer). IsAnswerTo reading one old mid) (sym is)
+    (subst (λ (house : HouseFields). IsAnswerTo reading told old house) (sym same) (inl (text, arrived, answers, private)))
+
+-- there was no memory for it
+pub answer_unread : (reading : Reading) (told answer : Answer) (old mid : HouseFields) → answer ≡ told → mid ≡ old → HasNoRoom reading
+    → told ≡ no_memory → IsAnswerTo reading answer old mid
+answer_unread reading told answer old mid is same room none = inr (room, is ∙ none, same)
 
 -- a text was answered
 pub served_one : (text : List ℕ) (answer : Answer) (old new : HouseFields) → AnswersText text answer old new

@@ -1,40 +1,17 @@
-ghost use Rattle.std.specs.Prelude.{◌≡◌, ◌≤◌, ℕ, List, MatchOption};
-ghost use Rattle.clock_device.specs.Told.{IsUnread, IsUnused, Reading};
+ghost use Rattle.std.specs.Prelude.{◌≡◌, ◌≤◌, ℕ, List};
+ghost use Rattle.clock_device.specs.Told.{IsUnread, IsUnused};
 ghost use Rattle.clock_connections.specs.Arrivals.{most_request_reads};
 ghost use Rattle.clock_front.specs.Fronts.{StandsForTexts};
-ghost use Rattle.clock_front.specs.Streamed.{HasServed, IsAnswerTo, IsServed, IsLeftUnread};
+ghost use Rattle.clock_front.specs.Streamed.{HasServed, IsServed};
 
 use crate::fixed_replies::no_memory_reply;
 use crate::front::Front;
 use crate::stream_fault::StreamFault;
 use clock_connections::{Unread, read_request};
 use clock_device::{Sink, Source, write_all};
-use clock_http::{Code, Reply};
+use clock_http::Code;
 use clock_processor::Processor;
 use std::alloc::Global;
-
-/// The reply to the request that a source brings, and none where no request could be read.
-fn answer_source<P: Processor, R: Source>(
-    alloc: Global,
-    front: &mut Front<P>,
-    source: &mut R,
-) -> Option<Reply>
-    requires { IsUnread (R.told source.old) }
-    ensures answered { let reading : Reading = record {
-      before = R.told source.old;
-      after = R.told source.new;
-    } in MatchOption result (IsLeftUnread reading front.old front.new) (λ reply. IsAnswerTo reading reply
-        front.old front.new) }
-    ensures stands { (texts : List (List ℕ)) → StandsForTexts texts front.old → HasServed 1 texts front.new }
-    ensures calls { (R.told source.new).calls ≤ most_request_reads }
-    ensures setup { front.new.setup ≡ front.old.setup }
-{
-    match read_request(alloc, source) {
-        Ok(request) => Some(front.answer_framed(request.framing())),
-        Err(Unread::Memory) => Some(no_memory_reply()),
-        Err(Unread::Read) => None,
-    }
-}
 
 /// Reads one request, answers it, and writes its reply. What the request did is told by the code of the reply.
 ///
@@ -55,8 +32,10 @@ pub fn serve_stream<P: Processor, R: Source, W: Sink>(
     ensures calls { (R.told source.new).calls ≤ most_request_reads }
     ensures setup { front.new.setup ≡ front.old.setup }
 {
-    let Some(reply) = answer_source(alloc, front, source) else {
-        return Err(StreamFault::Read);
+    let reply = match read_request(alloc, source) {
+        Ok(request) => front.answer_framed(request.framing()),
+        Err(Unread::Memory) => no_memory_reply(),
+        Err(Unread::Read) => return Err(StreamFault::Read),
     };
     let code = reply.code();
     match write_all(sink, reply.bytes()) {
