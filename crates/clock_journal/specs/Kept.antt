@@ -16,12 +16,13 @@ pub record Keeps (digest : List ℕ) (texts : List (List ℕ)) (written synced :
   pub chain_is : chain ≡ last_link digest texts
   pub fit : AllFit texts
 
--- what contracts see of a journal
+-- what contracts see of a journal: the last number stays while its file is only added to
 pub record JournalState : Type 0 where
   pub written : Option (List ℕ)
   pub synced : Option (List ℕ)
   pub has_failed : Bool
   pub chain : List ℕ
+  pub uncut : ℕ
 
 -- it has these texts, and all of them are on its disk
 abbrev pub HasTexts : List ℕ → List (List ℕ) → JournalState → Type 0

@@ -6,8 +6,9 @@ use clock_device::Failed;
 
 /// A file that is added to and cut off, and whose bytes can be put on the disk for good.
 ///
-/// Contracts see the bytes that stand in it and those that are synced, where it tells them, and whether a call has
-/// failed. A stop of the machine leaves all that is synced, and of the rest some front.
+/// Contracts see the bytes that stand in it and those that are synced, where it tells them, whether a call has failed,
+/// and a number that stays while it is only added to. A stop of the machine leaves all that is synced, and of what was
+/// added since some front.
 pub trait Durable {
     ghost written: { Self → Option (List ℕ) };
 
@@ -15,10 +16,14 @@ pub trait Durable {
 
     ghost has_failed: { Self → Bool };
 
+    /// Of what it becomes when the file is cut off nothing is said.
+    ghost uncut: { Self → ℕ };
+
     /// Adds bytes at the end, or a front of them where it fails.
     fn append(&mut self, bytes: &[u8]) -> Result<(), Failed>
         ensures written { WritesText (written self.old) (written self.new) bytes.now result }
         ensures synced { synced self.new ≡ synced self.old }
+        ensures uncut { uncut self.new ≡ uncut self.old }
         ensures failed { has_failed self.new ≡ (has_failed self.old || is_err result) };
 
     /// Puts all bytes that stand in it on the disk.
@@ -26,11 +31,14 @@ pub trait Durable {
         ensures written { written self.new ≡ written self.old }
         ensures ok { OnOk result (synced self.new ≡ written self.old) }
         ensures err { OnErr result (synced self.new ≡ synced self.old) }
+        ensures uncut { uncut self.new ≡ uncut self.old }
         ensures failed { has_failed self.new ≡ (has_failed self.old || is_err result) };
 
-    /// Cuts the file off at a place, for good. Where all that stood in it was on the disk, what is left is.
+    /// Cuts the file off at a place, for good. All that stands in it is on the disk before, so that a stop leaves what
+    /// stood up to the place; and what is left is on the disk afterwards.
     fn cut(&mut self, place: usize) -> Result<(), Failed>
+        requires { synced self.old ≡ written self.old }
         ensures written { CutsTo (written self.old) (written self.new) place result }
-        ensures synced { OnOk result (synced self.old ≡ written self.old → synced self.new ≡ written self.new) }
+        ensures synced { OnOk result (synced self.new ≡ written self.new) }
         ensures failed { has_failed self.new ≡ (has_failed self.old || is_err result) };
 }

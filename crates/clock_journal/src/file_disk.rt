@@ -40,6 +40,8 @@ impl<F: Write + OpenFile> Durable for FileDisk<F> {
 
     ghost has_failed = { λ disk. disk };
 
+    ghost uncut = { λ disk. 0 };
+
     fn append(&mut self, bytes: &[u8]) -> Result<(), Failed> {
         if self.file.write_all(bytes).is_err() {
             self.has_failed = true;

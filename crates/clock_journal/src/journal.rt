@@ -1,4 +1,4 @@
-ghost use Rattle.std.specs.Prelude.{◌≡◌, ◌++◌, ◌||◌, [], ◌∷◌, List, ℕ, OnOk, IfOk, Some, false, is_err, length};
+ghost use Rattle.std.specs.Prelude.{◌≡◌, ◌++◌, ◌||◌, [], ◌∷◌, List, ℕ, OnOk, OnErr, IfOk, Some, false, is_err, length};
 ghost use Rattle.clock_device.specs.Streams.{WritesText};
 ghost use Rattle.clock_journal.specs.Disks.{MayBeLeft};
 ghost use Rattle.clock_journal.specs.Format.{Fits, link, record_of};
@@ -17,7 +17,7 @@ use std::marker::Model;
 /// A journal whose records so far are on the disk.
 ///
 /// Contracts see what stands on its disk and what of that is synced, where the disk tells it, whether a call of it has
-/// failed, and the digest of the last text.
+/// failed, whether its file was only added to, and the digest of the last text.
 #[derive(Drop)]
 pub struct Journal<D: Durable> {
     disk: D,
@@ -33,6 +33,7 @@ impl<D: Durable> Model for Journal<D> {
       written = D.written j.disk;
       synced = D.synced j.disk;
       has_failed = D.has_failed j.disk;
+      uncut = D.uncut j.disk;
       chain = j.chain;
     } };
 }
@@ -42,6 +43,7 @@ fn append_record<D: Durable>(disk: &mut D, chain: &Link, text: &[u8]) -> Result<
     requires { Fits text.now }
     ensures written { WritesText (D.written disk.old) (D.written disk.new) (record_of chain.now text.now) result }
     ensures synced { D.synced disk.new ≡ D.synced disk.old }
+    ensures uncut { D.uncut disk.new ≡ D.uncut disk.old }
     ensures link { IfOk result (λ digest. digest ≡ link chain.now text.now) }
     ensures failed { D.has_failed disk.new ≡ (D.has_failed disk.old || is_err result) }
 {
@@ -59,6 +61,7 @@ impl<D: Durable> Journal<D> {
         D: Drop,
         requires unfailed { D.has_failed disk ≡ false }
         ensures kept { D.written disk ≡ Some [] → IfOk result (λ journal. HasTexts digest [] journal) }
+        ensures uncut { IfOk result (λ journal. journal.uncut ≡ D.uncut disk) }
         ensures unfailed { IfOk result (λ journal. journal.has_failed ≡ false) }
     {
         let mut disk = disk;
@@ -81,6 +84,7 @@ impl<D: Durable> Journal<D> {
         ensures unfailed { IfOk result (λ journal. journal.has_failed ≡ false) }
     {
         let mut disk = disk;
+        // a stop while it is cut off leaves what stood up to that place, if that was on the disk
         disk.sync()?;
         disk.cut(recovered.end)?;
         if recovered.end == 0 {
@@ -90,9 +94,9 @@ impl<D: Durable> Journal<D> {
         Ok(Journal { disk, chain })
     }
 
-    /// Adds a text. At `Ok` it is on the disk: no stop of the machine takes it. At `Err` it may be there or not, and
-    /// the journal is to be opened anew: nothing more can be added to this one, since a sync that failed says nothing
-    /// when it is tried again.
+    /// Adds a text. At `Ok` it is on the disk: no stop of the machine takes it. At `Err` it may be there or not, all
+    /// that was on the disk is, and the journal is to be opened anew: nothing more can be added to this one, since a
+    /// sync that failed says nothing when it is tried again. The file is only added to.
     ///
     /// It takes no memory.
     pub fn append(&mut self, text: &[u8]) -> Result<(), Failed>
@@ -103,6 +107,8 @@ impl<D: Durable> Journal<D> {
         ensures any_moment { (digest : List ℕ) (texts : List (List ℕ)) → HasTexts digest texts self.old
             → (left : List ℕ) → MayBeLeft self.old.synced self.new.written left
             → LeavesTexts digest left (texts ++ text.now ∷ []) (length texts) }
+        ensures on_disk { OnErr result (self.new.synced ≡ self.old.synced) }
+        ensures uncut { self.new.uncut ≡ self.old.uncut }
         ensures link { OnOk result (self.new.chain ≡ link self.old.chain text.now) }
         ensures failed { self.new.has_failed ≡ is_err result }
     {
@@ -127,6 +133,7 @@ impl<D: Durable> Journal<D> {
         ensures written { D.written result.now ≡ self.now.written }
         ensures synced { D.synced result.now ≡ self.now.synced }
         ensures failed { D.has_failed result.now ≡ self.now.has_failed }
+        ensures uncut { D.uncut result.now ≡ self.now.uncut }
     {
         &self.disk
     }

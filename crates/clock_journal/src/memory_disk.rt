@@ -56,6 +56,8 @@ impl Durable for MemoryDisk {
 
     ghost has_failed = { λ disk. disk.has_failed };
 
+    ghost uncut = { λ disk. 0 };
+
     fn append(&mut self, bytes: &[u8]) -> Result<(), Failed> {
         let free = self.room.saturating_sub(self.bytes.len());
         let count = free.min(bytes.len());

@@ -19,4 +19,4 @@ returns-clause-kept g c bytes texts is placed =
     kept_when_cut c.args.digest bytes texts c.args.recovered written (g.D.Durable.synced c.cut.new.self) c.if-recovered-eq0.false placed
     (cut_is (g.D.Durable.written c.args.disk) (g.D.Durable.written c.sync.new.self) written bytes c.args.recovered.end
     c.sync.ensures.written is c.in_ok-cut.ensures.written)
-    (c.in_ok-cut.ensures.synced (c.in_ok-sync.ensures.ok ∙ sym c.sync.ensures.written))
+    c.in_ok-cut.ensures.synced
