@@ -7,6 +7,7 @@ use Rattle.clock_journal.specs.Crash.{LeavesTexts, ReadsSome}
 use Rattle.clock_journal.specs.Disks.{MayBeLeft}
 use Rattle.clock_journal.specs.Kept.{JournalState, HasTexts, file_of}
 use Rattle.clock_journal.proofs.Moments.{every_front}
+use Rattle.clock_keeping.specs.Keeping.{LeavesOneMore}
 
 take_all : {A : Type 0} (xs : List A) → take (length xs) xs ≡ xs
 take_all [] = refl
@@ -45,8 +46,10 @@ left_all digest texts journal left has may =
     (subst (λ (bytes : Option (List ℕ)). MayBeLeft journal.synced bytes left) has.file may))
 
 -- which is no more than these and one text further
-pub untouched : (digest : List ℕ) (texts : List (List ℕ)) (text : List ℕ) (journal : JournalState) (left : List ℕ) → HasTexts digest texts journal
-    → MayBeLeft journal.synced journal.written left → LeavesTexts digest left (texts ++ text ∷ []) (length texts)
-untouched digest texts text journal left has may =
-    let leaves = left_all digest texts journal left has may in
-    record { headed = leaves.headed; reads = wider digest _ texts (text ∷ []) (length texts) leaves.reads }
+pub untouched : (text : List ℕ) (journal : JournalState) → LeavesOneMore text journal journal
+untouched text journal = record {
+  added_to = refl;
+  moments = λ digest texts has left may.
+      let leaves = left_all digest texts journal left has may in
+      record { headed = leaves.headed; reads = wider digest _ texts (text ∷ []) (length texts) leaves.reads };
+}

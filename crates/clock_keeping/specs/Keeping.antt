@@ -1,7 +1,7 @@
 -- An auction whose accepted texts are kept in a journal. (Own rule: what is refused or only read is not kept.)
 --     is_get text      a whole request by GET
 --     IsAccepted text answer      the text was accepted as a sheet or a closing
---     LeavesOneMore text old new      a stop leaves the texts that were there, and at most this one more
+--     LeavesOneMore text old new      the file was only added to, and a stop leaves the texts that were there, and at most this one more
 --     IsInStep digest texts journal house      the journal has these texts on its disk, and the house stands for them
 --     IsKept digest past text answer journal old new      how a text is answered and kept
 --     IsTakenUp digest bytes recovered house      the house stands for all texts of a file
@@ -41,11 +41,11 @@ pub record IsAccepted (text : List ℕ) (answer : Answer) : Type 0 where
 abbrev pub StandsForKept : List (List ℕ) → HouseFields → Type 0
 StandsForKept texts house = StandsForTexts (onto texts []) house
 
--- whatever texts the journal had, a stop at any moment since leaves these, and at most this one more
-abbrev pub LeavesOneMore : List ℕ → JournalState → JournalState → Type 0
-LeavesOneMore text old new =
-    (digest : List ℕ) (texts : List (List ℕ)) → HasTexts digest texts old
-    → (left : List ℕ) → MayBeLeft old.synced new.written left → LeavesTexts digest left (texts ++ text ∷ []) (length texts)
+-- the file was only added to, and whatever texts the journal had, a stop at any moment since leaves these, and at most this one more
+pub record LeavesOneMore (text : List ℕ) (old new : JournalState) : Type 0 where
+  pub added_to : new.uncut ≡ old.uncut
+  pub moments : (digest : List ℕ) (texts : List (List ℕ)) → HasTexts digest texts old
+      → (left : List ℕ) → MayBeLeft old.synced new.written left → LeavesTexts digest left (texts ++ text ∷ []) (length texts)
 
 -- the journal has these texts, the oldest first, all of them on its disk; and the house stands for them
 pub record IsInStep (digest : List ℕ) (texts : List (List ℕ)) (journal : JournalState) (house : HouseFields) : Type 0 where

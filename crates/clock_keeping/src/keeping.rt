@@ -41,6 +41,7 @@ fn keep<D: Durable>(journal: &mut Journal<D>, text: &[u8]) -> Result<(), Failed>
     ensures kept { (digest : List ℕ) (texts : List (List ℕ)) → HasTexts digest texts journal.old
         → OnOk result (HasTexts digest (texts ++ text.now ∷ []) journal.new) }
     ensures moments { LeavesOneMore text.now journal.old journal.new }
+    ensures on_disk { OnErr result (journal.new.synced ≡ journal.old.synced) }
     ensures ok { OnOk result (journal.new.has_failed ≡ false) }
     ensures err { OnErr result ((journal.new.has_failed ≡ true) ⊎ (Fits text.now → ⊥)) }
 {
@@ -54,7 +55,8 @@ fn keep<D: Durable>(journal: &mut Journal<D>, text: &[u8]) -> Result<(), Failed>
 /// or a closing it is in the journal, on the disk, before the reply is given out.
 ///
 /// At `Err` the text could not be kept: nothing is to be replied, and neither the front nor the journal to be used any
-/// more. It comes where a call of the disk has failed, and for a text that no journal takes.
+/// more. All that was on the disk is. It comes where a call of the disk has failed, and for a text that no journal
+/// takes.
 pub fn answer_and_keep<P: Processor, D: Durable>(
     front: &mut Front<P>,
     journal: &mut Journal<D>,
@@ -69,6 +71,7 @@ pub fn answer_and_keep<P: Processor, D: Durable>(
     ensures kept { (digest : List ℕ) (past : List (List ℕ)) → IsInStep digest past journal.old front.old
         → IfOk result (λ reply. IsKept digest past text.now reply journal.new front.old front.new) }
     ensures moments { LeavesOneMore text.now journal.old journal.new }
+    ensures on_disk { OnErr result (journal.new.synced ≡ journal.old.synced) }
     ensures ok { OnOk result (journal.new.has_failed ≡ false) }
     ensures err { OnErr result ((journal.new.has_failed ≡ true) ⊎ (Fits text.now → ⊥)) }
 {

@@ -33,14 +33,15 @@ module _ (takes : List ℕ → Type 0) (count : ℕ) (first mid last : Option (L
   }
 
   told_are_kept : (text : List ℕ) (digest : List ℕ) (past : List (List ℕ)) → IsInStep digest past journal_old old
-      → LeavesOneMore text journal_mid journal_new → HasKeptTold digest past before.exchanges text journal_new old
-  told_are_kept text digest past in_step moments =
+      → LeavesOneMore text journal_mid journal_new → journal_new.synced ≡ journal_mid.synced → HasKeptTold digest past before.exchanges text journal_new old
+  told_are_kept text digest past in_step leaves on_disk =
       let so_far = before.served.kept digest past in_step in
       record {
         end = so_far.end;
         walks = so_far.walks;
+        on_disk = on_disk ∙ so_far.in_step.has.synced_is ∙ so_far.in_step.has.file;
         left_ones = λ left may.
-            moments digest so_far.end so_far.in_step.has left
+            leaves.moments digest so_far.end so_far.in_step.has left
             (subst (λ (bytes : Option (List ℕ)). MayBeLeft bytes journal_new.written left)
             (sym (so_far.in_step.has.synced_is ∙ so_far.in_step.has.file)) may);
       }
@@ -52,8 +53,9 @@ module _ (takes : List ℕ → Type 0) (count : ℕ) (first mid last : Option (L
     arrived = unkept.0.arrived;
     failed = unkept.0.failed;
     silent = unkept.1;
+    added_to = unkept.0.moments.added_to ∙ before.served.added_to;
     replied = λ past stands. let so_far = before.served.replied past stands in (so_far.end, so_far.walks);
-    kept = λ digest past in_step. told_are_kept unkept.0.text digest past in_step unkept.0.moments;
+    kept = λ digest past in_step. told_are_kept unkept.0.text digest past in_step unkept.0.moments unkept.0.on_disk;
   }
 
   -- it ends the run

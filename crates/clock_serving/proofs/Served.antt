@@ -119,9 +119,16 @@ module _ (one : Exchange) (journal_old journal_new : JournalState) (old new : Ho
     in_step_still digest past in_step unanswered.1 kept,
   )
 
+  -- the file was only added to
+  added_one : IsServed one journal_old journal_new old new → journal_new.uncut ≡ journal_old.uncut
+  added_one (inl (answer, inl told, written)) = told.added_to
+  added_one (inl (answer, inr (room, is, still, kept), written)) = ap (λ (journal : JournalState). journal.uncut) kept
+  added_one (inr ((unanswered, kept), silent)) = ap (λ (journal : JournalState). journal.uncut) kept
+
 -- none was served yet
 pub served_none : (journal : JournalState) (house : HouseFields) → AreServed [] journal journal house house
 served_none journal house = record {
+  added_to = refl;
   replied = λ past stands. record { end = past; walks = refl; stands = stands };
   kept = λ digest past in_step. record {
     end = past;
@@ -139,6 +146,7 @@ pub served_more : (exchanges : List Exchange) (one : Exchange) (journal_old jour
     → IsSetup old.setup → mid.setup ≡ old.setup → AreServed exchanges journal_old journal_mid old mid → IsServed one journal_mid journal_new mid new
     → AreServed (exchanges ++ one ∷ []) journal_old journal_new old new
 served_more exchanges one journal_old journal_mid journal_new old mid new limits same before served = record {
+  added_to = added_one one journal_mid journal_new mid new old.setup limits same served ∙ before.added_to;
   replied = λ past stands.
       let so_far = before.replied past stands in
       let next = replied_one one journal_mid journal_new mid new old.setup limits same so_far.end so_far.stands served in

@@ -29,4 +29,4 @@ Closes old new reading writing = HasClosed old new (record { reading = reading; 
 
 -- a journal of which nothing is told, and no call failed: nothing is kept
 abbrev pub no_journal : JournalState
-no_journal = record { written = None; synced = None; has_failed = false; chain = [] }
+no_journal = record { written = None; synced = None; has_failed = false; chain = []; uncut = 0 }

@@ -80,8 +80,9 @@ pub record HasKept (digest : List ℕ) (past : List (List ℕ)) (exchanges : Lis
   pub in_step : IsInStep digest end journal_new new
   pub moments : (left : List ℕ) → MayBeLeft journal_old.synced journal_new.written left → LeavesTexts digest left end (length past)
 
--- these connections were served in order, whatever texts there were
+-- these connections were served in order, whatever texts there were, and the file was only added to
 pub record AreServed (exchanges : List Exchange) (journal_old journal_new : JournalState) (old new : HouseFields) : Type 0 where
+  pub added_to : journal_new.uncut ≡ journal_old.uncut
   pub replied : (past : List (List ℕ)) → StandsForTexts past old → HasReplied past exchanges old new
   pub kept : (digest : List ℕ) (past : List (List ℕ)) → IsInStep digest past journal_old old → HasKept digest past exchanges journal_old journal_new old new
 
@@ -89,15 +90,17 @@ pub record AreServed (exchanges : List Exchange) (journal_old journal_new : Jour
 pub record HasKeptTold (digest : List ℕ) (past : List (List ℕ)) (served : List Exchange) (text : List ℕ) (journal : JournalState) (old : HouseFields) : Type 0 where
   pub end : List (List ℕ)
   pub walks : Walks (KeepsText old.setup) past served end
+  pub on_disk : journal.synced ≡ Some (file_of digest end)
   pub left_ones : (left : List ℕ) → MayBeLeft (Some (file_of digest end)) journal.written left → LeavesTexts digest left (end ++ text ∷ []) (length end)
 
--- after these connections the text of the last one could not be kept, since a call of the disk failed or it is none that is taken; and
--- nothing was written on it
+-- after these connections the text of the last one could not be kept, since a call of the disk failed or it is none that is taken;
+-- nothing was written on it, and the file was only added to
 pub record EndsUnkept (takes : List ℕ → Type 0) (served : List Exchange) (last : Exchange) (journal_old journal_new : JournalState) (old : HouseFields) : Type 0 where
   pub text : List ℕ
   pub arrived : HasArrived last.reading text
   pub failed : (journal_new.has_failed ≡ true) ⊎ (takes text → ⊥)
   pub silent : WritesNothing last.writing
+  pub added_to : journal_new.uncut ≡ journal_old.uncut
   pub replied : (past : List (List ℕ)) → StandsForTexts past old → (end : List (List ℕ)) × Walks (RepliesTo old.setup) past served end
   pub kept : (digest : List ℕ) (past : List (List ℕ)) → IsInStep digest past journal_old old → HasKeptTold digest past served text journal_new old
 

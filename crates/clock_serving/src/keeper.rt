@@ -25,7 +25,7 @@ pub trait Keeper {
     /// sheet or a closing it is kept before the reply is given out.
     ///
     /// At `Err` the text could not be kept: nothing is to be replied, and neither the front nor this is to be used any
-    /// more.
+    /// more. All that was on the disk is.
     fn answer<P: Processor>(
         &mut self,
         front: &mut Front<P>,
@@ -39,6 +39,7 @@ pub trait Keeper {
         ensures kept { (digest : List ℕ) (past : List (List ℕ)) → IsInStep digest past (journal self.old) front.old
             → IfOk result (λ reply. IsKept digest past text.now reply (journal self.new) front.old front.new) }
         ensures moments { LeavesOneMore text.now (journal self.old) (journal self.new) }
+        ensures on_disk { OnErr result ((journal self.new).synced ≡ (journal self.old).synced) }
         ensures ok { OnOk result ((journal self.new).has_failed ≡ false) }
         ensures err { OnErr result (((journal self.new).has_failed ≡ true) ⊎ (takes text.now → ⊥)) };
 

@@ -30,6 +30,7 @@ pub record AnswersAndKeeps (reading : Reading) (answer : Answer) (journal_old jo
   pub arrived : HasArrived reading text
   pub answers : AnswersText text answer old new
   pub kept : (digest : List ℕ) (past : List (List ℕ)) → IsInStep digest past journal_old old → IsKept digest past text answer journal_new old new
+  pub added_to : journal_new.uncut ≡ journal_old.uncut
 
 -- or there was no memory for it, the reply says so, and nothing has changed
 abbrev pub IsAnswered : Reading → Answer → JournalState → JournalState → HouseFields → HouseFields → Type 0
@@ -43,12 +44,13 @@ IsServed one journal_old journal_new old new =
     ((answer : Answer) × IsAnswered one.reading answer journal_old journal_new old new × WritesReply one.writing answer)
     ⊎ (IsLeftAlone one.reading journal_old journal_new old new × WritesNothing one.writing)
 
--- the text that was read could not be kept: a stop leaves the texts before it, and at most this one more
+-- the text that was read could not be kept: what was on the disk is, and a stop leaves the texts before it, and at most this one more
 pub record FailsToKeep (takes : List ℕ → Type 0) (reading : Reading) (journal_old journal_new : JournalState) : Type 0 where
   pub text : List ℕ
   pub arrived : HasArrived reading text
   pub failed : (journal_new.has_failed ≡ true) ⊎ (takes text → ⊥)
   pub moments : LeavesOneMore text journal_old journal_new
+  pub on_disk : journal_new.synced ≡ journal_old.synced
 
 -- and nothing was written
 abbrev pub IsUnkept : (List ℕ → Type 0) → Exchange → JournalState → JournalState → Type 0

@@ -13,7 +13,7 @@ returns-then-not-is_change-clause-kept g c digest past in_step =
     (subst (λ (code : Code). (code ≡ Done → ⊥) ⊎ (is_get c.args.text.now ≡ true)) c.code.ensures (c.is_change.ensures.none c.if-not-is_change.true))
 
 pub returns-then-not-is_change-clause-moments : goal.returns-then-not-is_change-clause-moments
-returns-then-not-is_change-clause-moments g c digest past has left may = untouched digest past c.args.text.now c.args.journal.now left has may
+returns-then-not-is_change-clause-moments g c = untouched c.args.text.now c.args.journal.now
 
 pub returns-in-Ok-clause-kept : goal.returns-in-Ok-clause-kept
 returns-in-Ok-clause-kept g c digest past in_step =

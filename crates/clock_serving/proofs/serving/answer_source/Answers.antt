@@ -14,6 +14,7 @@ returns-in-Ok-answer-clause-answered g c =
       arrived = arrived _ c.in-Ok.request c.as_slice.result.now c.as_slice.ensures c.in-Ok.ensures.arrival;
       answers = c.in-Ok-answer.ensures.answered;
       kept = c.in-Ok-answer.ensures.kept;
+      added_to = c.in-Ok-answer.ensures.moments.added_to;
     })
 
 pub returns-in-Ok-clause-answered : goal.returns-in-Ok-clause-answered
@@ -22,4 +23,5 @@ returns-in-Ok-clause-answered g c = record {
   arrived = arrived _ c.in-Ok.request c.as_slice.result.now c.as_slice.ensures c.in-Ok.ensures.arrival;
   failed = c.in-Err.ensures.err;
   moments = c.in-Err.ensures.moments;
+  on_disk = c.in-Err.ensures.on_disk;
 }
