@@ -4,18 +4,23 @@
 --     closing_digests first setup texts      the digests of the texts that closed a round, in digits, the oldest first
 --     IsRecounted first texts house chain digests      the auction stands for the texts, with the digests of its closings
 --     IsRecountOf setup first bytes ..      the same for all texts of a file
+--     IsUnrecounted setup first bytes told      a fault is told of a file that has it
 --     audited setup first texts      what an audit prints of the rounds
-use Rattle.std.specs.Prelude.{◌≡◌, ◌++◌, ℕ, Bool, true, false, List, [], ◌∷◌, length, nat_lt}
+use Rattle.std.specs.Prelude.{◌≡◌, ◌++◌, ℕ, Bool, true, false, List, [], ◌∷◌, drop, length, nat_lt}
 use Rattle.hex.specs.Hex.{encode_lower}
 use Rattle.clock_terms.specs.Limits.{SetupFields}
 use Rattle.clock_closing.specs.declared.closed_round.ClosedRound.{ClosedRound}
 use Rattle.clock_house.specs.History.{history}
 use Rattle.clock_house.specs.House.{HouseFields}
 use Rattle.clock_front.specs.Fronts.{StandsForTexts, commands_of}
-use Rattle.clock_journal.specs.Format.{link}
+use Rattle.clock_commands.specs.FaultLines.{of_journal}
+use Rattle.clock_commands.specs.declared.fault.Fault.{Fault}
+use Rattle.clock_journal.specs.Format.{head_length, link}
 use Rattle.clock_journal.specs.Reading.{onto}
-use Rattle.clock_journal.specs.Recovering.{IsPlaced}
+use Rattle.clock_journal.specs.Recovering.{IsPlaced, IsRefusal, IsRefusedRightly}
+use Rattle.clock_journal.specs.declared.fault.JournalFault.{JournalFault}
 use Rattle.clock_journal.specs.declared.recovered.Recovered.{Recovered}
+use Rattle.clock_keeping.specs.Keeping.{IsRefused}
 use Rattle.clock_reports.specs.FinalReport.{report_of}
 use Rattle.clock_reports.specs.ReportText.{audit_text}
 
@@ -57,6 +62,13 @@ pub record IsRecountOf (setup : SetupFields) (first bytes : List ℕ) (house : H
   pub placed : IsPlaced first bytes texts recovered
   pub same : house.setup ≡ setup
   pub recounted : IsRecounted first (onto texts []) house chain digests
+
+-- the fault is one of such a file, and a text that is told as refused is refused behind those before it
+pub record IsUnrecounted (setup : SetupFields) (first bytes : List ℕ) (told : Fault) : Type 0 where
+  pub fault : JournalFault
+  pub told_is : told ≡ of_journal fault
+  pub is : IsRefusal first bytes fault
+  pub rightly : IsRefusedRightly (IsRefused setup) (λ past. past ≡ []) first (drop head_length bytes) (length bytes) fault
 
 -- the lines of the closed rounds, each with the digest of its closing, and what each bidder won where the auction has ended
 abbrev pub text_of_rounds : SetupFields → List ClosedRound → List (List ℕ) → List ℕ

@@ -1,13 +1,12 @@
 //! `audit`: an auction that is recounted from its set-up document and its journal alone.
-ghost use Rattle.std.specs.Prelude.{◌≡◌, ◌++◌, [], ◌∷◌, List, ℕ, IfOk, OnOk};
-ghost use Rattle.hex.specs.Hex.{encode_lower};
+ghost use Rattle.std.specs.Prelude.{◌≡◌, [], List, ℕ, IfOk, IfErr};
 ghost use Rattle.clock_front.specs.Fronts.{StandsForTexts};
 ghost use Rattle.clock_keeping.specs.Keeping.{IsRefused};
-ghost use Rattle.clock_auction.specs.Audits.{IsRecounted, IsRecountOf, IsSomeRecount, audited};
+ghost use Rattle.clock_auction.specs.Audits.{IsRecounted, IsRecountOf, IsSomeRecount, IsUnrecounted, audited};
 
 use crate::digests::digits_of;
 use clock_commands::Fault;
-use clock_device::{NoMemory, Text};
+use clock_device::Text;
 use clock_front::Front;
 use clock_http::Code;
 use clock_journal::{Link, Machine, Untaken, link_of, recover};
@@ -46,31 +45,26 @@ impl Machine for Recount {
         self.chain = link_of(&self.chain, text);
         self.texts = self.texts.saturating_add(1);
         if before < self.front.house().closed_rounds() {
-            return match remember(&mut self.digests, &self.chain) {
+            return match self.digests.push(digits_of(&self.chain)) {
                 Ok(()) => Ok(()),
-                Err(NoMemory) => Err(Untaken::NoMemory),
+                Err(_) => Err(Untaken::NoMemory),
             };
         }
         Ok(())
     }
 }
 
-/// Remembers the digest of a closing.
-fn remember(digests: &mut Vec<Digits>, chain: &Link) -> Result<(), NoMemory>
-    ensures { OnOk result (digests.new.items ≡ digests.old.items ++ encode_lower chain.now ∷ []) }
-{
-    digests.push(digits_of(chain))?;
-    Ok(())
-}
-
 impl Recount {
     /// How many texts were taken, and the digest of the last.
-    pub fn end(&self) -> (u64, Link) {
+    pub fn end(&self) -> (u64, Link)
+        ensures { result ≡ (self.now.texts, self.now.chain) }
+    {
         (self.texts, self.chain)
     }
 }
 
-/// An auction that was recounted from the bytes of its journal, for the set-up document of a digest.
+/// An auction that was recounted from the bytes of its journal, for the set-up document of a digest; or the fault of a
+/// file that is no such journal.
 pub fn recounted(
     alloc: Global,
     front: Front<Woken>,
@@ -78,8 +72,9 @@ pub fn recounted(
     bytes: &[u8],
 ) -> Result<Recount, Fault>
     requires { StandsForTexts [] front }
-    ensures { IfOk result (λ recount. IsRecountOf front.setup first bytes.now recount.front recount.chain
+    ensures ok { IfOk result (λ recount. IsRecountOf front.setup first bytes.now recount.front recount.chain
         recount.digests.items) }
+    ensures err { IfErr result (IsUnrecounted front.setup first bytes.now) }
 {
     let mut recount = Recount {
         front,

@@ -1,13 +1,14 @@
 //! An auction that is served with a journal: its file is taken over before the port is listened on.
-ghost use Rattle.std.specs.Prelude.{◌≡◌, [], IfOk, false};
+ghost use Rattle.std.specs.Prelude.{◌≡◌, [], IfOk, Some, false};
 ghost use Rattle.clock_front.specs.Fronts.{StandsForTexts};
+ghost use Rattle.clock_auction.specs.Starts.{IsGoingOn};
 
 use crate::closings::Telling;
 use crate::digests::Hex;
 use crate::serve::{file_bytes, front_in, listening};
 use crate::serving::serve_kept_on;
 use clock_commands::Fault;
-use clock_journal::{FileDisk, Journal, Link, Recovered, digest_of};
+use clock_journal::{Durable, FileDisk, Journal, Link, digest_of};
 use clock_keeping::{Auction, take_up};
 use clock_queue::Woken;
 use clock_words::Serving;
@@ -15,8 +16,12 @@ use std::alloc::Global;
 use std::fs::{File, OpenOptions, TryLockError};
 use std::io::{self, Read};
 use std::net::{Net, TcpListener, TcpStream};
+use std::os::fd::AsRawFd;
 use std::os::unix::fs::OpenOptionsExt;
 use std::rt::Files;
+
+/// The number of standard output among the files of the process.
+const STANDARD_OUTPUT: i32 = 1;
 
 /// Serves an auction of the set-up in a file, and keeps it in a journal: takes the journal over, tells how many texts
 /// it has and the digest of the last, listens on 127.0.0.1, and serves so many connections, one after the other. The
@@ -42,7 +47,7 @@ where
     served
 }
 
-/// The journal in a file that was taken over and is held by this server alone.
+/// The journal in a file that is held by this server alone, and which a loss of power leaves in its folder.
 fn taken_over<R>(
     rt: &R,
     auction: &mut Auction<Woken>,
@@ -55,16 +60,46 @@ where
     ensures unfailed { IfOk result (λ journal. journal.has_failed ≡ false) }
 {
     let (file, bytes) = opened(rt, path)?;
-    let taken = take_up(auction, &digest, bytes.as_slice());
-    let size = bytes.len();
+    let disk = FileDisk::new(file);
+    let went_on = go_on(rt, auction, disk, digest, bytes.as_slice());
     drop(bytes);
-    match taken {
+    let journal = went_on?;
+    match sync_folder(rt, path) {
+        Ok(()) => Ok(journal),
+        Err(fault) => {
+            drop(journal);
+            Err(fault)
+        }
+    }
+}
+
+/// Takes an auction up from all bytes of a disk, whatever kind of disk it is, and goes on with the journal there.
+fn go_on<R: Eprint, D: Durable>(
+    rt: &R,
+    auction: &mut Auction<Woken>,
+    disk: D,
+    digest: Link,
+    bytes: &[u8],
+) -> Result<Journal<D>, Fault>
+where
+    D: Drop,
+    requires fresh { StandsForTexts [] auction.old.front }
+    requires unfailed { D.has_failed disk ≡ false }
+    ensures in_step { D.written disk ≡ Some bytes.now
+        → IfOk result (λ journal. IsGoingOn digest bytes.now journal auction.new.front) }
+    ensures unfailed { IfOk result (λ journal. journal.has_failed ≡ false) }
+    ensures setup { auction.new.front.setup ≡ auction.old.front.setup }
+{
+    match take_up(auction, &digest, bytes) {
         Ok(recovered) => {
-            tell_cut(rt, recovered.end, size);
-            resumed(rt, file, digest, recovered, path)
+            tell_cut(rt, recovered.end, bytes.len());
+            match Journal::resume(disk, digest, recovered) {
+                Ok(journal) => Ok(journal),
+                Err(_) => Err(Fault::Journal),
+            }
         }
         Err(fault) => {
-            drop(file);
+            drop(disk);
             Err(Fault::from(fault))
         }
     }
@@ -120,30 +155,6 @@ where
     listening(rt, port)
 }
 
-/// The journal that goes on, and whose file a loss of power leaves in its folder.
-fn resumed<R>(
-    rt: &R,
-    file: File,
-    digest: Link,
-    recovered: Recovered,
-    path: &str,
-) -> Result<Journal<FileDisk<File>>, Fault>
-where
-    R: Files<File = File>,
-    ensures unfailed { IfOk result (λ journal. journal.has_failed ≡ false) }
-{
-    match Journal::resume(FileDisk::new(file), digest, recovered) {
-        Ok(journal) => match sync_folder(rt, path) {
-            Ok(()) => Ok(journal),
-            Err(fault) => {
-                drop(journal);
-                Err(fault)
-            }
-        },
-        Err(_) => Err(Fault::Journal),
-    }
-}
-
 /// The file, which is made where there is none, readable by its owner alone, and locked; and all its bytes.
 fn opened<R>(rt: &R, path: &str) -> Result<(File, Vec<u8>), Fault>
 where
@@ -163,8 +174,12 @@ where
     }
 }
 
-/// All bytes of a file of a disk, which is locked before they are read.
+/// All bytes of a file of a disk, which is locked before they are read. Where standard output was closed when the program
+/// began, the file has its number, and what is told would be written behind the texts.
 fn locked_bytes(alloc: Global, file: &File) -> Result<Vec<u8>, Fault> {
+    if file.as_raw_fd() == STANDARD_OUTPUT {
+        return Err(Fault::Output);
+    }
     if !is_plain(file) {
         return Err(Fault::Journal);
     }
@@ -185,12 +200,22 @@ pub fn is_plain(file: &File) -> bool {
 
 /// All bytes of the file, from its beginning.
 pub fn bytes_of(alloc: Global, file: &File) -> Result<Vec<u8>, Fault> {
-    let mut bytes = Vec::new(alloc);
+    let Ok(mut bytes) = Vec::with_capacity(alloc, room_of(file)) else {
+        return Err(Fault::Memory);
+    };
     let mut reader = file;
     match reader.read_to_end(&mut bytes) {
         Ok(_) => Ok(bytes),
         Err(error) if error.kind() == io::ErrorKind::OutOfMemory => Err(Fault::Memory),
         Err(_) => Err(Fault::Journal),
+    }
+}
+
+/// How many bytes the file has now, and one more: with room for these its end is found without a growth.
+fn room_of(file: &File) -> usize {
+    match file.metadata() {
+        Ok(metadata) => (metadata.len() as usize).saturating_add(1),
+        Err(_) => 0,
     }
 }
 

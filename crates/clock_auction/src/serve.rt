@@ -1,6 +1,7 @@
 //! `serve`: an auction on a port of this machine.
-ghost use Rattle.std.specs.Prelude.{[], IfOk};
+ghost use Rattle.std.specs.Prelude.{◌≡◌, [], IfOk, Ok};
 ghost use Rattle.clock_front.specs.Fronts.{StandsForTexts};
+ghost use Rattle.clock_setup.specs.SetupDocument.{document_setup};
 
 use clock_commands::{Fault, read_all, setup_in};
 use clock_device::{FromReader, Text};
@@ -30,7 +31,8 @@ where
 
 /// The front of a set-up document, before its first text.
 pub fn front_in(alloc: Global, document: Text) -> Result<Front<Woken>, Fault>
-    ensures { IfOk result (StandsForTexts []) }
+    ensures stands { IfOk result (StandsForTexts []) }
+    ensures setup { IfOk result (λ front. document_setup document ≡ Ok front.setup) }
 {
     let setup = setup_in(alloc, document.as_slice());
     drop(document);

@@ -30,9 +30,9 @@ where
     drop(bytes);
     let listing = listed?;
     let end = listing.end();
-    let told = written(out, listing.text());
+    let told = write_all(out, listing.text());
     drop(listing);
-    told?;
+    told.or(Err(Fault::Output))?;
     tell_journal(rt, end.0, end.1)
 }
 
@@ -49,9 +49,9 @@ where
     let made = audit_of(rt.alloc(), &recount);
     drop(recount);
     let text = made?;
-    let told = written(out, text.as_slice());
+    let told = write_all(out, text.as_slice());
     drop(text);
-    told?;
+    told.or(Err(Fault::Output))?;
     tell_journal(rt, end.0, end.1)
 }
 
@@ -83,13 +83,5 @@ fn journal_bytes<R: Files<File = File> + Alloc<A = Global>>(
     match File::open(rt, path) {
         Ok(file) if is_plain(&file) => bytes_of(rt.alloc(), &file),
         _ => Err(Fault::Journal),
-    }
-}
-
-/// Writes a text.
-fn written(out: &mut impl Sink, text: &[u8]) -> Result<(), Fault> {
-    match write_all(out, text) {
-        Ok(()) => Ok(()),
-        Err(_) => Err(Fault::Output),
     }
 }
