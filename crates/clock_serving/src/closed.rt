@@ -1,18 +1,14 @@
-ghost use Rattle.std.specs.Prelude.{◌≡◌, [], Some};
-ghost use Rattle.clock_device.specs.Told.{unread, unused};
-ghost use Rattle.clock_device.specs.SourceState.{source_told};
-ghost use Rattle.clock_device.specs.SinkState.{sink_told};
+ghost use Rattle.std.specs.Prelude.{◌≡◌, Some};
 
-use crate::connections::Connection;
 use clock_device::{ListSink, ListSource};
 use std::marker::Model;
 
 /// A connection in memory that was closed. Contracts see what was read and written on it.
 #[derive(Drop)]
 pub struct Closed<'a> {
-    offered: &'a [u8],
-    source: ListSource<'a>,
-    sink: ListSink,
+    pub(crate) offered: &'a [u8],
+    pub(crate) source: ListSource<'a>,
+    pub(crate) sink: ListSink,
 }
 
 impl<'a> Model for Closed<'a> {
@@ -31,24 +27,6 @@ impl<'a> Model for Closed<'a> {
 }
 
 impl<'a> Closed<'a> {
-    /// The connection whose source had these bytes where it was taken.
-    pub(crate) fn new(
-        offered: &'a [u8],
-        connection: Connection<ListSource<'a>, ListSink>,
-    ) -> Closed<'a>
-        ensures { result ≡ record {
-          reading = record { before = unread (Some offered.now); after = source_told connection.entry.source };
-          writing = record { before = unused (Some []); after = sink_told connection.entry.sink };
-        } }
-    {
-        let Connection { source, sink } = connection;
-        Closed {
-            offered,
-            source,
-            sink,
-        }
-    }
-
     /// The bytes that were written on it.
     pub fn written(&self) -> &[u8]
         ensures { Some result.now ≡ self.now.writing.after.taken }

@@ -117,6 +117,10 @@ impl<'a> Connections for Listed<'a> {
             (record { before = unused (Some []); after = sink_told connection.entry.sink }) }
     {
         self.is_open = false;
-        self.closed.push(Closed::new(self.offered, connection));
+        self.closed.push(Closed {
+            offered: self.offered,
+            source: connection.source,
+            sink: connection.sink,
+        });
     }
 }
