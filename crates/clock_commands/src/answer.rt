@@ -3,8 +3,7 @@ ghost use Rattle.clock_terms.specs.Demands.{IsGrid};
 ghost use Rattle.clock_terms.specs.Faults.{IsRefusal};
 ghost use Rattle.clock_terms.specs.Increments.{IsIncrement};
 ghost use Rattle.clock_setup.specs.SetupDocument.{document_setup};
-ghost use Rattle.clock_commands.specs.Answers.{answer_to, first_round, played, read_in};
-ghost use Rattle.clock_sim.specs.Rehearsal.{simulated};
+ghost use Rattle.clock_commands.specs.Answers.{answer_to, first_round, read_in};
 ghost use Rattle.clock_words.specs.Words.{IsJob};
 
 use crate::fault::Fault;
@@ -88,18 +87,6 @@ fn opening_answer(alloc: Global, document: &[u8]) -> Result<Text, Fault>
     }
 }
 
-/// The report of a replay, or why it did not come to its end.
-fn report_lines(alloc: Global, replay: Replay) -> Result<Text, Fault>
-    ensures ok { IfOk result (λ text. played (simulated replay) ≡ Ok text) }
-    ensures err { IfErr result (IsRefusal Fault.Memory (played (simulated replay))) }
-{
-    match replay_text(alloc, replay) {
-        Ok(text) => Ok(text),
-        Err(SimFault::NoMemory) => Err(Fault::Memory),
-        Err(fault) => Err(Fault::Simulation(fault)),
-    }
-}
-
 /// The report of the replay that a document means, which is let go before the auction is played.
 fn replay_answer(alloc: Global, document: Text) -> Result<Text, Fault>
     ensures ok { IfOk result (λ text. answer_to Job.Replay document ≡ Ok text) }
@@ -108,7 +95,11 @@ fn replay_answer(alloc: Global, document: Text) -> Result<Text, Fault>
     let read = read_replay(alloc, document.as_slice());
     drop(document);
     match read {
-        Ok(replay) => report_lines(alloc, replay),
+        Ok(replay) => match replay_text(alloc, replay) {
+            Ok(text) => Ok(text),
+            Err(SimFault::NoMemory) => Err(Fault::Memory),
+            Err(fault) => Err(Fault::Simulation(fault)),
+        },
         Err(ScriptFault::NoMemory) => Err(Fault::Memory),
         Err(fault) => Err(Fault::Script(fault)),
     }
