@@ -13,6 +13,10 @@ code_added : (text : List ℕ) (code : Option Code) → with_code text code ≡ 
 code_added text None = rw append-nil refl
 code_added text (Some code) = refl
 
--- the words in the order in which they are written
-pub one_by_one : (words : Words) → text_of_words words ≡ words.0.now ++ (behind words.1 ++ (behind words.2 ++ code_behind words.3))
+one_by_one : (words : Words) → text_of_words words ≡ words.0.now ++ (behind words.1 ++ (behind words.2 ++ code_behind words.3))
 one_by_one words = rw (code_added, number_added, number_added) (simp append_assoc)
+
+-- the words in the order in which they are written, and what stands behind them
+pub line_of_words : (words : Words) (rest : List ℕ)
+    → text_of_words words ++ rest ≡ words.0.now ++ (behind words.1 ++ (behind words.2 ++ (code_behind words.3 ++ rest)))
+line_of_words words rest = rw (one_by_one words) (simp append_assoc)

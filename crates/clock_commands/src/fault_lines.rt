@@ -21,18 +21,11 @@ pub fn write_fault<W: Sink>(sink: &mut W, fault: Fault) -> Result<(), Failed>
 {
     let words = words_of(fault);
     write_all(sink, b"fault: ")?;
-    write_words(sink, &words)?;
-    write_all(sink, b"\n")
-}
-
-fn write_words<W: Sink>(sink: &mut W, words: &Words) -> Result<(), Failed>
-    ensures bytes { WritesText (W.told sink.old).taken (W.told sink.new).taken (text_of_words words.now) result }
-    ensures failed { (W.told sink.new).has_failed ≡ ((W.told sink.old).has_failed || is_err result) }
-{
     write_all(sink, words.0.as_bytes())?;
     write_behind(sink, words.1)?;
     write_behind(sink, words.2)?;
-    write_code_behind(sink, words.3)
+    write_code_behind(sink, words.3)?;
+    write_all(sink, b"\n")
 }
 
 /// Writes a space and a number, where there is one.
