@@ -1,6 +1,7 @@
 -- What a quick reading finds of a closing, in serde_json's terms.
 --     ties_data ties      a list of tie numbers, as a value
 --     close_value increments round ties      a closing that names its round, or none, as a value
+--     close_members found      its keys, where they are known
 --     close_fields found, scanned_data close      its keys, each with what was found, and the value of a whole one
 use Rattle.std.specs.Prelude.{ℕ, List, [], ◌∷◌, map, Option, Some, option_map, codes}
 use Rattle.serde_json.specs.Data.{Data, object, array}

@@ -13,6 +13,10 @@ use std::alloc::Global;
 /// How many bytes a bid and its comma take at least.
 const LEAST_BID: usize = 37;
 
+/// For how many bids room is taken ahead at most: for those of the longest sheet that can stand, and one more. The list
+/// is kept while the sheet is in force, however much white space its text had.
+const MOST_AHEAD: usize = 8_193;
+
 /// What was found of a bid so far.
 #[derive(Clone, Copy, Default)]
 struct FoundBid {
@@ -104,7 +108,7 @@ fn bids(alloc: Global, scan: &mut Scan<'_>) -> Result<Items<Bid>, ScanStop>
     if !scan.opens_array() {
         return Err(ScanStop::Unusual);
     }
-    let mut list = with_room(alloc, scan.bytes_left() / LEAST_BID)?;
+    let mut list = with_room(alloc, MOST_AHEAD.min(scan.bytes_left() / LEAST_BID))?;
     compact_bids(scan, &mut list)?;
     'items: while !scan.closes_array() {
         let next = BidReader::part(alloc, scan)?;

@@ -1,22 +1,31 @@
-use Rattle.std.proofs.Common.{◌≡◌, ◌⊎◌, true, sym, ◌∙◌, subst}
-use Rattle.clock_http.specs.declared.code.Code.{Code}
+use Rattle.std.proofs.Common.{◌≡◌, ◌⊎◌, inl, inr, true, sym, ◌∙◌, rules}
+use denote.Enum.Bare.{differs_false, differs_true}
+use Rattle.clock_http.specs.contracts.code.Code.{the_type}
 use Rattle.clock_http.specs.declared.code.Code.TheVariants.{Done}
 use Rattle.clock_keeping.specs.Keeping.{is_get}
 use Rattle.clock_keeping.proofs.KeptLaws.{kept, passed_over}
 use Rattle.clock_keeping.proofs.Untouched.{untouched}
 use Rattle.clock_keeping.proofs.keeping.answer_and_keep.Goals as goal
+use Rattle.clock_keeping.proofs.keeping.answer_and_keep.Goals.{then-ne-via-then-ne, then-ne-via-else-ne+then-is_get}
 
-pub returns-then-not-is_change-clause-kept : goal.returns-then-not-is_change-clause-kept
-returns-then-not-is_change-clause-kept g c digest past in_step =
+pub returns-then-ne-clause-kept : goal.returns-then-ne-clause-kept
+returns-then-ne-clause-kept g c digest past in_step =
+    let why : (c.answer_known-reply.result.code ≡ Done → ⊥) ⊎ (is_get c.args.text.now ≡ true) = elim c.then-ne.branch [
+      | then-ne-via-then-ne w ↦ inl (λ done. differs_true the_type _ _ (sym c.ne.ensures ∙ w.if-ne.true) (c.code.ensures ∙ done))
+      | then-ne-via-else-ne+then-is_get w ↦ inr (sym w.is_get.ensures ∙ w.if-is_get.true)
+    ] in
     passed_over digest past c.args.text.now c.answer_known-reply.result c.args.front.now c.answer_known-reply.new.self _ in_step
-    c.answer_known-reply.ensures.answered c.answer_known-reply.ensures.setup
-    (subst (λ (code : Code). (code ≡ Done → ⊥) ⊎ (is_get c.args.text.now ≡ true)) c.code.ensures (c.is_change.ensures.none c.if-not-is_change.true))
+    c.answer_known-reply.ensures.answered c.answer_known-reply.ensures.setup why
 
-pub returns-then-not-is_change-clause-moments : goal.returns-then-not-is_change-clause-moments
-returns-then-not-is_change-clause-moments g c = untouched c.args.text.now c.args.journal.now
+pub returns-then-ne-clause-moments : goal.returns-then-ne-clause-moments
+returns-then-ne-clause-moments g c = untouched c.args.text.now c.args.journal.now
+
+pub returns-then-is_empty-clause-moments : goal.returns-then-is_empty-clause-moments
+returns-then-is_empty-clause-moments g c = untouched c.args.text.now c.args.journal.now
 
 pub returns-in-Ok-clause-kept : goal.returns-in-Ok-clause-kept
 returns-in-Ok-clause-kept g c digest past in_step =
     kept digest past c.args.text.now c.answer_known-reply.result c.args.front.now c.answer_known-reply.new.self _
     (c.in-Ok.ensures.kept digest past in_step.has) in_step.stands c.answer_known-reply.ensures.answered
-    (sym c.code.ensures ∙ (c.is_change.ensures.accepted c.if-not-is_change.false).0) (c.is_change.ensures.accepted c.if-not-is_change.false).1
+    (sym c.code.ensures ∙ differs_false the_type (search rules) _ _ (sym c.ne.ensures ∙ c.if-ne.false))
+    (sym c.is_get.ensures ∙ c.if-is_get.false)
