@@ -3,7 +3,7 @@ use Rattle.std.proofs.Common.{◌≡◌, ◌≤◌, ◌⊎◌, inl, inr, ℕ, Li
 use Rattle.std.specs.Prelude.{◌||◌, Result, Ok, Err, false, is_err}
 use Rattle.std.proofs.Math.Seq.{take-append_seam}
 use Rattle.clock_device.specs.Streams.{WritesText}
-use Rattle.clock_device.specs.Told.{IsUnused, SinkTold, Writing}
+use Rattle.clock_device.specs.Told.{IsUnused, Reading, SinkTold, Writing}
 use Rattle.clock_device.specs.Writings.{WritesNothing}
 use Rattle.clock_device.proofs.Streams.{same_bytes}
 use Rattle.clock_terms.specs.Limits.{SetupFields, IsSetup}
@@ -20,7 +20,7 @@ use Rattle.clock_journal.proofs.Moments.{every_front}
 use Rattle.clock_keeping.specs.Keeping.{IsInStep, IsKept}
 use Rattle.clock_serving.specs.Exchanges.{Exchange}
 use Rattle.clock_serving.specs.Serving.{AreServed, KeepsText, RepliesTo, Walks, WritesReply}
-use Rattle.clock_serving.specs.inside.Served.{IsServed}
+use Rattle.clock_serving.specs.inside.Served.{IsAnswered, IsServed}
 use Rattle.clock_front.proofs.RunLaws.{right}
 use Rattle.clock_serving.proofs.Walking.{all_behind, walks_on}
 
@@ -34,6 +34,15 @@ reply_written writing answer (Err fault) bytes fresh failed = inr (record { byte
 -- no write was made
 pub nothing_written : (told : SinkTold) → IsUnused told → WritesNothing (record { before = told; after = told })
 nothing_written told unused = record { unused = unused; bytes = same_bytes told.taken }
+
+-- what is known of an answer, said of an equal one
+pub answered_as : (reading : Reading) (told answer : Answer) (journal_old journal_new journal_mid : JournalState) (old new mid : HouseFields)
+    → answer ≡ told → journal_mid ≡ journal_new → mid ≡ new → IsAnswered reading told journal_old journal_new old new
+    → IsAnswered reading answer journal_old journal_mid old mid
+answered_as reading told answer journal_old journal_new journal_mid old new mid is kept same answered =
+    subst (λ (one : Answer). IsAnswered reading one journal_old journal_mid old mid) (sym is)
+    (subst (λ (journal : JournalState). IsAnswered reading told journal_old journal old mid) (sym kept)
+    (subst (λ (house : HouseFields). IsAnswered reading told journal_old journal_new old house) (sym same) answered))
 
 -- of a journal to which texts were added a stop has left those that were there, and of the others the first
 pub left_since : (digest : List ℕ) (past more : List (List ℕ)) (journal_old journal_new : JournalState) (left : List ℕ)

@@ -1,46 +1,16 @@
-ghost use Rattle.std.specs.Prelude.{◌≡◌, ◌≤◌, ℕ, List, OnOk, MatchOption, MatchResult, false, length};
-ghost use Rattle.clock_device.specs.Told.{IsUnread, IsUnused, Reading};
+ghost use Rattle.std.specs.Prelude.{◌≡◌, ◌≤◌, ℕ, List, OnOk, MatchResult, false, length};
+ghost use Rattle.clock_device.specs.Told.{IsUnread, IsUnused};
 ghost use Rattle.clock_serving.specs.Exchanges.{Exchange, HasClosed};
 ghost use Rattle.clock_serving.specs.Serving.{EndsServing, is_accept_fault};
-ghost use Rattle.clock_serving.specs.inside.Served.{EndsOne, FailsToKeep, IsAnswered, IsLeftAlone, IsServed, IsUnkept};
+ghost use Rattle.clock_serving.specs.inside.Served.{EndsOne, IsServed, IsUnkept};
 
 use crate::connections::Connections;
 use crate::fault::ServeFault;
 use crate::keeper::Keeper;
 use clock_device::{Failed, Sink, Source, write_all};
-use clock_front::{Front, Reply, Unread, no_memory_reply, read_request};
+use clock_front::{Front, Unread, no_memory_reply, read_request};
 use clock_processor::Processor;
 use std::alloc::Global;
-
-/// The reply to the request that a source brings, kept where it was accepted; and none where no request could be read.
-fn answer_source<P: Processor, K: Keeper, R: Source>(
-    alloc: Global,
-    front: &mut Front<P>,
-    keeper: &mut K,
-    source: &mut R,
-) -> Result<Option<Reply>, Failed>
-    requires unread { IsUnread (R.told source.old) }
-    requires unfailed { (K.journal keeper.old).has_failed ≡ false }
-    ensures answered { let reading : Reading = record {
-      before = R.told source.old;
-      after = R.told source.new;
-    } in MatchResult result
-        (λ given. MatchOption given
-        (IsLeftAlone reading (K.journal keeper.old) (K.journal keeper.new) front.old front.new)
-        (λ answer. IsAnswered reading answer (K.journal keeper.old) (K.journal keeper.new) front.old front.new))
-        (λ failed. FailsToKeep K.takes reading (K.journal keeper.old) (K.journal keeper.new)) }
-    ensures unfailed { OnOk result ((K.journal keeper.new).has_failed ≡ false) }
-    ensures setup { front.new.setup ≡ front.old.setup }
-{
-    match read_request(alloc, source) {
-        Ok(request) => match keeper.answer(front, request.as_slice(), request.progress()) {
-            Ok(reply) => Ok(Some(reply)),
-            Err(failed) => Err(failed),
-        },
-        Err(Unread::Memory) => Ok(Some(no_memory_reply())),
-        Err(Unread::Read) => Ok(None),
-    }
-}
 
 /// Reads one request, answers it, keeps it where it was accepted as a sheet or a closing, and then writes its reply.
 fn serve_one<P: Processor, K: Keeper, R: Source, W: Sink>(
@@ -62,15 +32,14 @@ fn serve_one<P: Processor, K: Keeper, R: Source, W: Sink>(
     ensures unfailed { OnOk result ((K.journal keeper.new).has_failed ≡ false) }
     ensures setup { front.new.setup ≡ front.old.setup }
 {
-    match answer_source(alloc, front, keeper, source) {
-        Ok(Some(reply)) => {
-            // a fault ends this connection alone: what its request has done is told by the front
-            let _fault = write_all(sink, reply.bytes());
-            Ok(())
-        }
-        Ok(None) => Ok(()),
-        Err(failed) => Err(failed),
-    }
+    let reply = match read_request(alloc, source) {
+        Ok(request) => keeper.answer(front, request.as_slice(), request.progress())?,
+        Err(Unread::Memory) => no_memory_reply(),
+        Err(Unread::Read) => return Ok(()),
+    };
+    // a fault ends this connection alone: what its request has done is told by the front
+    let _fault = write_all(sink, reply.bytes());
+    Ok(())
 }
 
 /// Tells of a round that was closed since.

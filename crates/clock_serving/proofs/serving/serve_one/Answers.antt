@@ -1,19 +1,52 @@
-use Rattle.std.proofs.Common.{inl, inr}
-use Rattle.clock_serving.proofs.Served.{nothing_written, reply_written}
+use Rattle.std.proofs.Common.{◌≡◌, List, ℕ, ap, inl, inr, refl, sym, subst}
+use Rattle.std.proofs.lemmas.Result.{err_from_is_err_and}
+use Rattle.clock_device.specs.Told.{Reading}
+use Rattle.clock_connections.specs.Arrivals.{HasArrived}
+use Rattle.clock_serving.specs.inside.Served.{IsAnswered}
+use Rattle.clock_serving.proofs.Served.{answered_as, nothing_written, reply_written}
 use Rattle.clock_serving.proofs.serving.serve_one.Goals as goal
+use Rattle.clock_serving.proofs.serving.serve_one.Goals.{in-Ok+in_ok-reply-in-Ok, in-Err-Memory}
 
-pub returns-in-Ok-Some-clause-served : goal.returns-in-Ok-Some-clause-served
-returns-in-Ok-Some-clause-served g c =
-    inl (
-      c.in-Ok-Some.reply,
-      (rw c.in-Ok-Some.field-0-is at c.in-Ok-Some.ensures.answered),
-      reply_written _ c.in-Ok-Some.reply c.write_all-fault.result (rw c.bytes.ensures at c.write_all-fault.ensures.bytes) c.requires.unused.unfailed
-          c.write_all-fault.ensures.failed,
+-- the bytes that are looked at are those of the request
+arrived : (reading : Reading) (request text : List ℕ) → text ≡ request → HasArrived reading request → HasArrived reading text
+arrived reading request text same has = subst (λ (bytes : List ℕ). HasArrived reading bytes) (sym same) has
+
+pub returns-in_err-reply-in-Ok-clause-served : goal.returns-in_err-reply-in-Ok-clause-served
+returns-in_err-reply-in-Ok-clause-served g c =
+    let p = err_from_is_err_and c.from_residual.result c.from_residual.ensures.1 in
+    rw p.1 (
+      record {
+        text = c.as_slice.result.now;
+        arrived = arrived _ c.in-Ok.request c.as_slice.result.now c.as_slice.ensures c.in-Ok.ensures.arrival;
+        failed = c.in_err-reply-in-Ok.ensures.err;
+        moments = c.in_err-reply-in-Ok.ensures.moments;
+        on_disk = c.in_err-reply-in-Ok.ensures.on_disk;
+      },
+      nothing_written _ c.requires.unused,
     )
 
-pub returns-in-Ok-None-clause-served : goal.returns-in-Ok-None-clause-served
-returns-in-Ok-None-clause-served g c =
-    inr ((rw c.in-Ok-None.field-0-is at c.in-Ok-None.ensures.answered), nothing_written _ c.requires.unused)
-
-pub returns-in-Err-clause-served : goal.returns-in-Err-clause-served
-returns-in-Err-clause-served g c = (c.in-Err.ensures.answered, nothing_written _ c.requires.unused)
+pub returns-clause-served : goal.returns-clause-served
+returns-clause-served g c =
+    let journal = g.K.Keeper.journal in
+    let join = c.match-read_request in
+    let reading : Reading = record { before = g.R.Source.told c.args.source.now; after = g.R.Source.told c.read_request.new.source } in
+    let answered : IsAnswered reading join.reply (journal c.args.keeper.now) (journal join.keeper) c.args.front.now join.front = elim join.branch [
+      | in-Ok+in_ok-reply-in-Ok w ↦ answered_as reading _ join.reply (journal c.args.keeper.now) (journal w.answer.new.self)
+          (journal join.keeper) c.args.front.now w.answer.new.front join.front w.reply-is (ap journal w.keeper-is) w.front-is
+          (inl (record {
+            text = w.as_slice.result.now;
+            arrived = arrived _ w.in-Ok.request w.as_slice.result.now w.as_slice.ensures w.in-Ok.ensures.arrival;
+            answers = w.in_ok-reply-in-Ok.ensures.answered;
+            kept = w.in_ok-reply-in-Ok.ensures.kept;
+            added_to = w.in_ok-reply-in-Ok.ensures.moments.added_to;
+          }))
+      | in-Err-Memory w ↦ answered_as reading w.no_memory_reply-reply.result join.reply (journal c.args.keeper.now) (journal c.args.keeper.now)
+          (journal join.keeper) c.args.front.now c.args.front.now join.front w.reply-is (ap journal w.keeper-is) w.front-is
+          (inr (rw w.in-Err-Memory.field-0-is at w.in-Err-Memory.ensures.arrival, w.no_memory_reply-reply.ensures, refl, refl))
+    ] in
+    inl (
+      join.reply,
+      answered,
+      reply_written _ join.reply c.write_all-fault.result (rw c.bytes.ensures at c.write_all-fault.ensures.bytes) c.requires.unused.unfailed
+          c.write_all-fault.ensures.failed,
+    )
