@@ -192,10 +192,7 @@ fn locked_bytes(alloc: Global, file: &File) -> Result<Vec<u8>, Fault> {
 
 /// Whether it is a file of a disk: a device may have bytes without end.
 pub fn is_plain(file: &File) -> bool {
-    match file.metadata() {
-        Ok(metadata) => metadata.is_file(),
-        Err(_) => false,
-    }
+    matches!(file.metadata(), Ok(metadata) if metadata.is_file())
 }
 
 /// All bytes of the file, from its beginning.
@@ -239,8 +236,5 @@ fn folder_of(path: &str) -> &str {
 /// Tells how many texts were taken over, and the digest of the last.
 pub fn tell_journal<R: Print>(rt: &R, texts: u64, chain: Link) -> Result<(), Fault> {
     let digest = Hex(chain);
-    match println!(rt; "journal {texts} {digest}") {
-        Ok(()) => Ok(()),
-        Err(_) => Err(Fault::Output),
-    }
+    println!(rt; "journal {texts} {digest}").or(Err(Fault::Output))
 }
