@@ -74,7 +74,7 @@ where
 }
 
 /// Takes an auction up from all bytes of a disk, whatever kind of disk it is, and goes on with the journal there.
-fn go_on<R: Eprint, D: Durable>(
+pub fn go_on<R: Eprint, D: Durable>(
     rt: &R,
     auction: &mut Auction<Woken>,
     disk: D,
