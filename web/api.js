@@ -1,6 +1,6 @@
 // The server's routes. A token stays in the object that asks, in this tab's memory, and goes nowhere but into the request's header.
 
-// how long an answer is awaited: the closing of a very large auction may take most of a minute
+// how long an answer is awaited: the closing of a very large auction may take some minutes
 const SECONDS = 20;
 const CLOSING_SECONDS = 300;
 

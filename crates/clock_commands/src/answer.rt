@@ -40,6 +40,7 @@ pub fn setup_in(alloc: Global, document: &[u8]) -> Result<Setup, Fault>
     }
 }
 
+/// The lines of opening and next prices for the set-up that a document means, or its first fault.
 fn prices_answer(alloc: Global, increment: u64, document: &[u8]) -> Result<Text, Fault>
     requires { IsJob (Job.Prices increment) }
     ensures ok { IfOk result (λ text. answer_to (Job.Prices increment) document.now ≡ Ok text) }
@@ -72,6 +73,7 @@ fn first_lines(alloc: Global, opening: &Opening) -> Result<Text, Fault>
     }
 }
 
+/// The sheet of round 1 for the demands of an opening document, or its first fault.
 fn opening_answer(alloc: Global, document: &[u8]) -> Result<Text, Fault>
     ensures ok { IfOk result (λ text. answer_to Job.Opening document.now ≡ Ok text) }
     ensures err { IfErr result (IsRefusal Fault.Memory (answer_to Job.Opening document.now)) }

@@ -52,6 +52,7 @@ fn write_code_behind<W: Sink>(sink: &mut W, code: Option<Code>) -> Result<(), Fa
     write_all(sink, code.text().as_bytes())
 }
 
+/// The words behind `fault:` for any fault.
 fn words_of(fault: Fault) -> Words
     ensures { text_of_words result ≡ fault_words fault }
 {
@@ -77,6 +78,7 @@ fn words_of(fault: Fault) -> Words
     }
 }
 
+/// The words for a fault of an opening document.
 fn words_of_opening(fault: OpeningFault) -> Words
     ensures { text_of_words result ≡ opening_words fault }
 {
@@ -91,6 +93,7 @@ fn words_of_opening(fault: OpeningFault) -> Words
     }
 }
 
+/// The words for a fault of a replay document.
 fn words_of_script(fault: ScriptFault) -> Words
     ensures { text_of_words result ≡ script_words fault }
 {
@@ -104,6 +107,7 @@ fn words_of_script(fault: ScriptFault) -> Words
     }
 }
 
+/// The words for a replay that did not come to its end.
 fn words_of_simulation(fault: SimFault) -> Words
     ensures { text_of_words result ≡ simulation_words fault }
 {
@@ -117,6 +121,7 @@ fn words_of_simulation(fault: SimFault) -> Words
     }
 }
 
+/// The words for a fault of a set-up document.
 fn words_of_setup(fault: SetupFault) -> Words
     ensures { text_of_words result ≡ setup_words fault }
 {
@@ -131,6 +136,7 @@ fn words_of_setup(fault: SetupFault) -> Words
     }
 }
 
+/// The words for a value of a set-up document that is out of its limits.
 fn words_of_range(place: Place) -> Words
     ensures { text_of_words result ≡ codes "setup_range " ++ place_words place }
 {

@@ -47,7 +47,7 @@ fn refused_body(alloc: Global, fault: BodyFault) -> Result<Reply, NoMemory>
     }
 }
 
-/// That a sheet of so many bids was accepted.
+/// The reply that a sheet of so many bids was accepted.
 fn accepted(alloc: Global, round: u64, bids: u64) -> Result<Reply, NoMemory>
     ensures { IfOk result (λ reply. reply ≡ answer_of (told.done (accepted_value round bids))) }
 {
@@ -87,7 +87,7 @@ fn put_sheet<P: Processor>(
     }
 }
 
-/// A sheet of a bidder is put, and whoever is none is told so.
+/// Puts the sheet of a bidder; whoever is no bidder is told so.
 pub(crate) fn answer_put<P: Processor>(
     alloc: Global,
     house: &mut House<P>,
@@ -109,7 +109,7 @@ pub(crate) fn answer_put<P: Processor>(
     }
 }
 
-/// That a round was closed.
+/// The reply that a round was closed.
 fn closed(alloc: Global, round: u64, ended: bool) -> Result<Reply, NoMemory>
     ensures { IfOk result (λ reply. reply ≡ answer_of (told.done (closed_value round ended))) }
 {
@@ -161,7 +161,7 @@ fn closing_of(alloc: Global, setup: &Setup, body: &[u8]) -> Result<CloseBody, Bo
     }
 }
 
-/// The operator closes a round, and whoever is not the operator is told so.
+/// Closes a round for the operator; whoever is not the operator is told so.
 pub(crate) fn answer_close<P: Processor>(
     alloc: Global,
     house: &mut House<P>,

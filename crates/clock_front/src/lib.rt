@@ -1,10 +1,9 @@
-//! Requests as whole bytes: where one ends, what it asks for, and the bytes of its reply.
+//! An auction that answers requests: whose a request is, what it does, and the bytes of its reply.
 //!
 //! [`Front::answer`] replies to one text and [`run`] to a list of them, as the auction stands after the texts before.
-//! [`frame`] says what a text of bytes is when it has come so far, and [`Progress`] is what is known of a text that
-//! comes in pieces. Both are functions of the text alone, so however a text comes, it is decided alike. [`Hub`] takes
-//! requests that come in pieces over connections that stand at once, and [`run_events`] a whole list of such pieces.
-//! [`serve_stream`] reads one request out of a source, as far as it is needed, and writes its reply to a sink.
+//! [`Hub`] takes requests that come in pieces over connections that stand at once, and [`run_events`] a whole list of
+//! such pieces. [`serve_stream`] reads one request out of a source, as far as it is needed, and writes its reply to a
+//! sink. Where a request ends is a matter of its bytes alone, and of clock_http.
 #![tactic(auto)]
 
 mod asked;

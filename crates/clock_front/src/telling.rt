@@ -1,4 +1,4 @@
-//! Which page an asker is told.
+//! Which page is told to whom: everybody's, a bidder's own, the operator's, or that it is refused.
 
 ghost use Rattle.std.specs.Prelude.{◌≡◌, ◌<◌, ℕ, length, IfOk, IfErr, OnOk, OnErr};
 ghost use Rattle.clock_front.specs.inside.Askers.{IsKnown};

@@ -102,7 +102,7 @@ pub(crate) fn push_close_body(
     push_label(text, b"}")
 }
 
-/// Adds the head of a request of a line, with a token, before a body of so many bytes.
+/// Adds the head of a request: its method and path, its token, and the length of the body that follows.
 pub(crate) fn push_head(
     text: &mut Vec<u8>,
     line: &[u8],

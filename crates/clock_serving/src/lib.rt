@@ -1,12 +1,12 @@
 //! The loop of a server: connections that are taken one after the other, with one request each.
 //!
-//! [`serve_all`] serves them by a front. Where they come from is a [`Connections`]: a [`Listening`] on a port of the
-//! machine, or a [`Listed`] in memory. Where accepted texts are kept is a [`Keeper`]: a journal, or [`Unkept`].
+//! [`serve_all`] serves them by a front. What they are taken from is an [`Acceptor`]: a [`Listening`] on a port of
+//! the machine, or a [`Listed`] in memory. Where accepted texts are kept is a [`Keeper`]: a journal, or [`Unkept`].
 //! [`serve_on`] is both of a port, where nothing is kept.
 #![tactic(auto)]
 
+mod acceptor;
 mod closed;
-mod connections;
 mod fault;
 mod keeper;
 mod laws;
@@ -15,8 +15,8 @@ mod listening;
 mod port;
 mod serving;
 
+pub use acceptor::{Acceptor, Connection};
 pub use closed::Closed;
-pub use connections::{Connection, Connections};
 pub use fault::ServeFault;
 pub use keeper::{Keeper, Unkept};
 pub use laws::law_told_bytes;

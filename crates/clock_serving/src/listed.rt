@@ -4,8 +4,8 @@ ghost use Rattle.clock_device.specs.SourceState.{source_told};
 ghost use Rattle.clock_device.specs.SinkState.{sink_told};
 ghost use Rattle.clock_serving.specs.Exchanges.{Closes};
 
+use crate::acceptor::{Acceptor, Connection};
 use crate::closed::Closed;
-use crate::connections::{Connection, Connections};
 use clock_device::{Bounded, Failed, ListSink, ListSource, NoMemory, Stop};
 use std::alloc::Global;
 use std::marker::Model;
@@ -72,7 +72,7 @@ impl<'a> Listed<'a> {
     }
 }
 
-impl<'a> Connections for Listed<'a> {
+impl<'a> Acceptor for Listed<'a> {
     type Reader = ListSource<'a>;
 
     type Writer = ListSink;

@@ -1,7 +1,7 @@
 ghost use Rattle.std.specs.Prelude.{◌≡◌, None, false};
 ghost use Rattle.clock_device.specs.Told.{unread, unused};
 
-use crate::connections::{Connection, Connections};
+use crate::acceptor::{Acceptor, Connection};
 use clock_device::{Failed, FromReader, ToWriter};
 use std::net::{TcpListener, TcpStream};
 
@@ -16,9 +16,9 @@ pub struct Listening<'a> {
 impl<'a> Listening<'a> {
     /// No connection was taken yet.
     pub fn new(listener: &'a TcpListener) -> Listening<'a>
-        ensures open { ⟦<Listening<'a> as Connections>⟧.is_open result ≡ false }
-        ensures closed { ⟦<Listening<'a> as Connections>⟧.closed result ≡ None }
-        ensures unfailed { ⟦<Listening<'a> as Connections>⟧.has_failed result ≡ false }
+        ensures open { ⟦<Listening<'a> as Acceptor>⟧.is_open result ≡ false }
+        ensures closed { ⟦<Listening<'a> as Acceptor>⟧.closed result ≡ None }
+        ensures unfailed { ⟦<Listening<'a> as Acceptor>⟧.has_failed result ≡ false }
     {
         Listening {
             listener,
@@ -28,7 +28,7 @@ impl<'a> Listening<'a> {
     }
 }
 
-impl Connections for Listening<'_> {
+impl Acceptor for Listening<'_> {
     type Reader = FromReader<TcpStream>;
 
     type Writer = ToWriter<TcpStream>;

@@ -4,7 +4,7 @@ ghost use Rattle.clock_serving.specs.Exchanges.{Exchange, HasClosed};
 ghost use Rattle.clock_serving.specs.Serving.{EndsServing, is_accept_fault};
 ghost use Rattle.clock_serving.specs.inside.Served.{EndsOne, IsServed, IsUnkept};
 
-use crate::connections::Connections;
+use crate::acceptor::Acceptor;
 use crate::fault::ServeFault;
 use crate::keeper::Keeper;
 use clock_device::{Failed, Sink, Source, write_all};
@@ -52,7 +52,7 @@ fn tell_closing<K: Keeper>(keeper: &mut K, before: u64, after: u64)
 }
 
 /// Takes the next connection, serves it and closes it.
-fn serve_next<P: Processor, K: Keeper, C: Connections>(
+fn serve_next<P: Processor, K: Keeper, C: Acceptor>(
     alloc: Global,
     front: &mut Front<P>,
     keeper: &mut K,
@@ -88,7 +88,7 @@ fn serve_next<P: Processor, K: Keeper, C: Connections>(
 /// alone.
 ///
 /// It waits for each connection, and for each peer, as long as these take.
-pub fn serve_all<P: Processor, K: Keeper, C: Connections>(
+pub fn serve_all<P: Processor, K: Keeper, C: Acceptor>(
     alloc: Global,
     front: &mut Front<P>,
     keeper: &mut K,

@@ -21,7 +21,7 @@ static SETUP_FILE: &str = "The file of the set-up document";
 pub const MOST_PORT: u64 = 65_535;
 
 /// How many connections `serve` takes at most.
-pub const MOST_CONNECTIONS: u64 = 1_000_000;
+pub const MOST_SERVED: u64 = 1_000_000;
 
 /// What is said of each number that an option takes.
 #[derive(Drop)]
@@ -38,7 +38,7 @@ pub fn number_helps(alloc: Global) -> Result<NumberHelps, AllocError> {
     Ok(NumberHelps {
         increment: number_help(alloc, rise, LEAST_INCREMENT, MOST_INCREMENT)?,
         port: number_help(alloc, "The port of 127.0.0.1", 1, MOST_PORT)?,
-        connections: number_help(alloc, served, 1, MOST_CONNECTIONS)?,
+        connections: number_help(alloc, served, 1, MOST_SERVED)?,
     })
 }
 
@@ -123,7 +123,7 @@ fn serve_command<'a>(alloc: Global, helps: &'a NumberHelps) -> Result<Command<'a
     named(alloc, "serve", about, SERVE_HELP)
         .arg(needed_option(alloc, "setup", SETUP_FILE))?
         .arg(number_option(alloc, "port", MOST_PORT, helps.port.as_str()))?
-        .arg(number_option(alloc, "connections", MOST_CONNECTIONS, served))?
+        .arg(number_option(alloc, "connections", MOST_SERVED, served))?
         .arg(option(alloc, "journal", "FILE", kept))
 }
 

@@ -6,7 +6,7 @@ ghost use Rattle.clock_words.specs.Words.{IsJob, files_from, files_told, given, 
 ghost use Rattle.clock_words.specs.Words.{serving_from, serving_told, task_met, task_of, task_told};
 ghost use Rattle.clock_words.specs.inside.Commands.{within_limits as limited};
 
-use crate::commands::{MOST_CONNECTIONS, MOST_PORT, NumberHelps, number_helps, program};
+use crate::commands::{MOST_PORT, MOST_SERVED, NumberHelps, number_helps, program};
 use clap::error::ErrorKind;
 use clap::{ArgMatches, Error};
 use clock_money::{LEAST_INCREMENT, MOST_INCREMENT};
@@ -150,7 +150,7 @@ fn serving_with<'a>(options: &ArgMatches<'a>) -> Option<Serving<'a>>
 {
     let setup = text_in(options, "setup")?;
     let port = number_in(options, "port", 1, MOST_PORT)?;
-    let connections = number_in(options, "connections", 1, MOST_CONNECTIONS)?;
+    let connections = number_in(options, "connections", 1, MOST_SERVED)?;
     Some(Serving {
         setup,
         port: port as u16,

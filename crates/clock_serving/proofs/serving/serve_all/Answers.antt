@@ -14,7 +14,7 @@ pub loop-connection-init : goal.loop-connection-init
 loop-connection-init g c = record {
   served = record {
     exchanges = [];
-    closed = closed_none (g.C.Connections.closed c.args.connections.now);
+    closed = closed_none (g.C.Acceptor.closed c.args.connections.now);
     counted = refl;
     served = served_none (g.K.Keeper.journal c.args.keeper.now) c.args.front.now;
   };
@@ -26,7 +26,7 @@ loop-connection-init g c = record {
 
 pub returns-in-Err-clause-served : goal.returns-in-Err-clause-served
 returns-in-Err-clause-served g c =
-    let closed = g.C.Connections.closed in
+    let closed = g.C.Acceptor.closed in
     let journal = g.K.Keeper.journal in
     let loop = c.loop-connection in
     ends_by g.K.Keeper.takes loop._connection (closed c.args.connections.now) (closed loop.connections) (closed c.serve_next.new.connections)
@@ -36,7 +36,7 @@ returns-in-Err-clause-served g c =
 
 pub loop-connection-preserved : goal.loop-connection-preserved
 loop-connection-preserved g c =
-    let closed = g.C.Connections.closed in
+    let closed = g.C.Acceptor.closed in
     let journal = g.K.Keeper.journal in
     let loop = c.loop-connection in
     record {

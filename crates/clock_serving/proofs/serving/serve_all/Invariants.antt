@@ -5,10 +5,10 @@ use Rattle.clock_serving.proofs.serving.serve_all.Given as goal
 -- so many connections were served, none is open, each could be taken, and no call of the disk has failed
 abbrev pub invariant-loop-connection : goal.invariant-loop-connection
 invariant-loop-connection g l = record {
-  served : HasServed l._connection (g.C.Connections.closed l.initial.connections) (g.C.Connections.closed l.connections)
+  served : HasServed l._connection (g.C.Acceptor.closed l.initial.connections) (g.C.Acceptor.closed l.connections)
       (g.K.Keeper.journal l.initial.keeper) (g.K.Keeper.journal l.keeper) l.initial.front l.front;
   unfailed : (g.K.Keeper.journal l.keeper).has_failed ≡ false;
-  closed : g.C.Connections.is_open l.connections ≡ false;
-  taken : g.C.Connections.has_failed l.connections ≡ false;
+  closed : g.C.Acceptor.is_open l.connections ≡ false;
+  taken : g.C.Acceptor.has_failed l.connections ≡ false;
   setup : l.front.setup ≡ l.initial.front.setup;
 }

@@ -15,8 +15,8 @@ returns-in-Ok-kept-clause-ends g c =
       writing = record { before = sink.told c.in-Ok.one.sink; after = sink.told c.serve_one-kept.new.sink };
     } in (
       one,
-      closed_one (g.C.Connections.closed c.args.connections.now) (g.C.Connections.closed c.accept.new.self) (g.C.Connections.closed c.close.new.self)
-          (g.C.Connections.offer c.accept.new.self) one.reading one.writing
+      closed_one (g.C.Acceptor.closed c.args.connections.now) (g.C.Acceptor.closed c.accept.new.self) (g.C.Acceptor.closed c.close.new.self)
+          (g.C.Acceptor.offer c.accept.new.self) one.reading one.writing
           c.in-Ok.ensures.closed c.in-Ok.ensures.source c.in-Ok.ensures.sink c.close.ensures.closed,
       subst (λ (kept : JournalState). IsServed one (journal c.args.keeper.now) kept c.args.front.now c.serve_one-kept.new.front)
           (sym c.tell_closing.ensures) c.in-Ok-kept.ensures.served,
@@ -31,8 +31,8 @@ returns-in-Err-clause-ends g c =
       writing = record { before = sink.told c.in-Ok.one.sink; after = sink.told c.serve_one-kept.new.sink };
     } in (
       one,
-      closed_one (g.C.Connections.closed c.args.connections.now) (g.C.Connections.closed c.accept.new.self) (g.C.Connections.closed c.close.new.self)
-          (g.C.Connections.offer c.accept.new.self) one.reading one.writing
+      closed_one (g.C.Acceptor.closed c.args.connections.now) (g.C.Acceptor.closed c.accept.new.self) (g.C.Acceptor.closed c.close.new.self)
+          (g.C.Acceptor.offer c.accept.new.self) one.reading one.writing
           c.in-Ok.ensures.closed c.in-Ok.ensures.source c.in-Ok.ensures.sink c.close.ensures.closed,
       c.in-Err.ensures.served,
     )

@@ -11,11 +11,11 @@ pub struct Connection<R, W> {
     pub sink: W,
 }
 
-/// Connections that are taken one after the other, each closed before the next.
+/// What connections are taken from, one after the other, each closed before the next.
 ///
 /// Contracts see whether one is open, what it had where it was taken, and what was read and written on each that was
 /// closed, where it tells them: a source and a sink belong to one connection, since no two are open at once.
-pub trait Connections {
+pub trait Acceptor {
     type Reader: Source;
 
     type Writer: Sink;
