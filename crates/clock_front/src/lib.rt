@@ -24,7 +24,7 @@ mod unanswered;
 
 pub use clock_bodies::{BodyFault, CloseBody, PutBody, read_close, read_put};
 pub use clock_connections::{Conn, Event, HubFault, Unread, read_request};
-pub use clock_http::{Arriving, EndedHead, Framing, Head, Page, Progress, Reply, frame};
+pub use clock_http::{Framing, Head, Page, Progress, Reply, frame};
 pub use events::EventReply;
 pub use fed::Fed;
 pub use fixed_replies::no_memory_reply;
