@@ -39,8 +39,10 @@ kill -KILL "$process"
 within "after SIGKILL it is started again" another_than "$process"
 within "and goes on with the sheet" keeps
 process=$(main_process)
+inode=$(stat -c %i $journal)
 kill -TERM "$process"
 within "after SIGTERM it is started again" another_than "$process"
+expect "its journal was written anew" test "$(stat -c %i $journal)" != "$inode"
 within "and goes on with the sheet" keeps
 systemctl reset-failed $unit
 mkdir -p /etc/systemd/system/$unit.d
@@ -62,6 +64,13 @@ expect "and goes on with the sheet" keeps
 systemctl stop $unit
 expect "it can be stopped" test "$(systemctl is-active $unit)" = inactive
 expect "the log tells what the journal has" told_in_log "journal 1 "
+inode=$(stat -c %i $journal)
+flock $journal sleep 3 &
+sleep 1
+systemctl start $unit
+within "where another has the journal it waits its turn" keeps
+expect "and the file was left until then" told_in_log "journal_busy"
+systemctl stop $unit
 
 printf x | dd of=$journal bs=1 seek=20 conv=notrunc status=none
 systemctl reset-failed $unit
