@@ -66,11 +66,14 @@ impl<'a> Holdings<'a> {
         self.demands.row(bidder as usize)
     }
 
-    /// All demands.
-    pub(crate) fn grid(&self) -> &'a Grid
-        ensures { result.now ≡ map (λ holding. holding.demands) self.now }
+    /// All demands, in a grid of their own: in the memory of one that is no longer needed, where there is one.
+    pub(crate) fn grid(&self, alloc: Global, old: Option<Grid>) -> Result<Grid, NoMemory>
+        ensures { IfOk result (λ grid. grid ≡ map (λ holding. holding.demands) self.now) }
     {
-        self.demands
+        match old {
+            Some(old) => old.renewed(alloc, self.demands),
+            None => self.demands.copy(alloc),
+        }
     }
 
     /// Each bidder's eligibility.

@@ -17,7 +17,7 @@ use crate::prepared::Prepared;
 use clock_bids::{Own, Sheet};
 use clock_order::{Tie, Ties};
 use clock_processor::Processor;
-use clock_terms::{Increments, Prices, Setup};
+use clock_terms::{Grid, Increments, Prices, Setup};
 use std::alloc::Global;
 use std::marker::Model;
 
@@ -68,7 +68,8 @@ impl<'a> OpenRound<'a> {
     }
 
     /// Closes the round: settles it by a processor, and makes its sheet, its slips and the next prices. An increment is a
-    /// percentage from 1 to 50; there is one for all products, or one for each.
+    /// percentage from 1 to 50; there is one for all products, or one for each. A grid that is no longer needed may be given: the
+    /// demands are settled in its memory.
     ///
     /// The refusals, in this order: an increment is not 1 to 50, or the list has not one for each product; the tie numbers
     /// have a fault; the auction would go on, and a product can have no next clock price. Want of memory may come in place
@@ -79,14 +80,21 @@ impl<'a> OpenRound<'a> {
         processor: &P,
         increments: &Increments,
         ties: &[Tie],
+        old: Option<Grid>,
     ) -> Result<Prepared, CloseFault>
         ensures asked { IfOk result (λ prepared. (prepared.round ≡ self.now.before.standing.round)
             × (prepared.increments ≡ increments.now) × (prepared.ties ≡ ties.now)) }
         ensures answer { Answers (closing_now self.now increments.now ties.now) result }
         ensures memory { result ≢ Err (CloseFault.Tie tie_faults.NoMemory) }
     {
-        let asked = self.asked(alloc, increments, ties)?;
-        let results = self.results(alloc, processor, &asked)?;
+        let asked = match self.asked(alloc, increments, ties) {
+            Ok(asked) => asked,
+            Err(fault) => {
+                drop(old);
+                return Err(fault);
+            }
+        };
+        let results = self.results(alloc, processor, &asked, old)?;
         Ok(Prepared {
             round: self.round,
             asked,

@@ -73,15 +73,26 @@ fn zero_rows(alloc: Global, bidders: usize, products: usize) -> Result<Vec<Row>,
     Ok(rows)
 }
 
-/// Equal rows.
-fn rows_copy(alloc: Global, rows: &[Row]) -> Result<Vec<Row>, NoMemory>
-    ensures { IfOk result (λ copy. copy.items ≡ rows.now) }
+/// Rows that are equal to others, in the memory of old ones as far as that reaches.
+fn rows_like(alloc: Global, old: Vec<Row>, others: &[Row]) -> Result<Vec<Row>, NoMemory>
+    ensures { IfOk result (λ rows. rows.items ≡ others.now) }
 {
-    let mut copy = Vec::with_capacity(alloc, rows.len())?;
-    for row in rows {
-        copy.push(row.copy(alloc)?)?;
+    let mut old = old.into_iter();
+    let mut rows = Vec::with_capacity(alloc, others.len())?;
+    for row in others {
+        rows.push(row_like(alloc, old.next(), row)?)?;
     }
-    Ok(copy)
+    Ok(rows)
+}
+
+/// A row that is equal to another, in the memory of an old one if there is one.
+fn row_like(alloc: Global, old: Option<Row>, other: &Row) -> Result<Row, NoMemory>
+    ensures { IfOk result (λ row. row ≡ other.now) }
+{
+    match old {
+        Some(old) => old.renewed(other),
+        None => other.copy(alloc),
+    }
 }
 
 impl Grid {
@@ -109,10 +120,21 @@ impl Grid {
     pub fn copy(&self, alloc: Global) -> Result<Grid, NoMemory>
         ensures { IfOk result (λ copy. copy ≡ self.now) }
     {
-        let rows = rows_copy(alloc, self.rows.as_slice())?;
+        let rows = rows_like(alloc, Vec::new(alloc), self.rows.as_slice())?;
         Ok(Grid {
             rows,
             totals: self.totals.copy(alloc)?,
+        })
+    }
+
+    /// A grid that is equal to another, in the memory of this one as far as that reaches.
+    pub fn renewed(self, alloc: Global, other: &Grid) -> Result<Grid, NoMemory>
+        ensures { IfOk result (λ grid. grid ≡ other.now) }
+    {
+        let rows = rows_like(alloc, self.rows, other.rows.as_slice())?;
+        Ok(Grid {
+            rows,
+            totals: other.totals.copy(alloc)?,
         })
     }
 

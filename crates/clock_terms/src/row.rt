@@ -68,16 +68,33 @@ impl Row {
         })
     }
 
+    /// A row that is equal to another, in the memory of this one as far as that reaches.
+    pub fn renewed(self, other: &Row) -> Result<Row, NoMemory>
+        ensures { IfOk result (λ row. row ≡ other.now) }
+    {
+        Row::like(self.held, self.starts, other)
+    }
+
     /// An equal row.
     pub fn copy(&self, alloc: Global) -> Result<Row, NoMemory>
         ensures { IfOk result (λ copy. copy ≡ self.now) }
     {
-        let mut held = Vec::with_capacity(alloc, self.count)?;
-        held.extend_from_slice(self.held.as_slice())?;
+        Row::like(Vec::new(alloc), Vec::new(alloc), self)
+    }
+
+    /// A row that is equal to another, in the memory of these lists as far as that reaches.
+    fn like(mut held: Vec<HeldDemand>, mut starts: Vec<u16>, other: &Row) -> Result<Row, NoMemory>
+        ensures { IfOk result (λ row. row ≡ other.now) }
+    {
+        held.clear();
+        held.reserve(other.count)?;
+        held.extend_from_slice(other.held.as_slice())?;
+        starts.clear();
+        starts.extend_from_slice(other.starts.as_slice())?;
         Ok(Row {
-            count: self.count,
+            count: other.count,
             held,
-            starts: Vec::from_slice(alloc, self.starts.as_slice())?,
+            starts,
         })
     }
 

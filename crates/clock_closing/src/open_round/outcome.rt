@@ -32,15 +32,23 @@ impl OpenRound<'_> {
         alloc: Global,
         processor: &P,
         asked: &Asked,
+        old: Option<Grid>,
     ) -> Result<Results, CloseFault>
         requires { AreIncrements (length self.now.setup.products) asked.now.increments }
         ensures { ComesTo (posted_now self.now asked.now.increments asked.now.ties) result }
     {
         if self.round == 1 {
+            drop(old);
             return self.first_results(alloc, &asked.increments);
         }
-        let requests = self.requests(alloc, &asked.ties)?;
-        let settled = self.settled(alloc, processor, &requests)?;
+        let requests = match self.requests(alloc, &asked.ties) {
+            Ok(requests) => requests,
+            Err(none) => {
+                drop(old);
+                return Err(CloseFault::from(none));
+            }
+        };
+        let settled = self.settled(alloc, processor, &requests, old)?;
         let posting = post(
             alloc,
             self.setup,
@@ -119,12 +127,14 @@ impl OpenRound<'_> {
         Ok(changes)
     }
 
-    /// The demands that the settling of these requests leaves, and what is left of each.
+    /// The demands that the settling of these requests leaves, and what is left of each. They are settled in the memory of a grid
+    /// that is no longer needed, where there is one.
     fn settled<P: Processor>(
         &self,
         alloc: Global,
         processor: &P,
         requests: &Changes,
+        old: Option<Grid>,
     ) -> Result<Settled, NoMemory>
         requires later { 2 ≤ self.now.before.standing.round }
         requires requests { AreRequests self.now.before requests.now }
@@ -136,8 +146,15 @@ impl OpenRound<'_> {
             (eligibilities_of self.now.before) settled.grid) }
         ensures each { IfOk result (λ settled. length settled.left ≡ length requests.now) }
     {
-        let eligibilities = self.holdings.eligibilities(alloc)?;
-        let board = Board::new(alloc, self.setup, &eligibilities, self.holdings.grid())?;
+        let eligibilities = match self.holdings.eligibilities(alloc) {
+            Ok(list) => list,
+            Err(none) => {
+                drop(old);
+                return Err(none);
+            }
+        };
+        let grid = self.holdings.grid(alloc, old)?;
+        let board = Board::on(alloc, self.setup, &eligibilities, grid)?;
         processor.settle(alloc, board, requests)
     }
 }

@@ -57,7 +57,8 @@ invariant_of-self g c =
           ∙ ap (λ (one : ClosedRound). (standing_after one.sheet).prices) done
           ∙ sym (ap (λ (closed : List ClosedRound). (standing c.self.inside.setup.products closed).prices) added);
       demands_are =
-          c.into_results-closed.ensures.consistent.demands
+          c.replace.ensures.after
+          ∙ c.into_results-closed.ensures.consistent.demands
           ∙ ap (λ (one : ClosedRound). demands_of one.slips) done
           ∙ next_demands c.self.inside.setup asked.closed (reverse c.self.inside.rounds.items)
           (closed_slips house asked.round asked.increments asked.ties asked.closed fits)

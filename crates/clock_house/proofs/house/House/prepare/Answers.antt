@@ -21,8 +21,8 @@ returns-in_err-check_current-clause-history g c =
     closing_same c.args.self.now c.args.round c.args.increments.now c.args.ties.now commands stands
     ∙ c.in_err-check_current.ensures.err c.args.increments.now c.args.ties.now)
 
-pub returns-in_err-make_room-clause-stands : goal.returns-in_err-make_room-clause-stands
-returns-in_err-make_room-clause-stands g c = still_unchanged c.args.self.now c.make_room.new.self c.make_room.ensures.same
+pub returns-in_err-old-clause-stands : goal.returns-in_err-old-clause-stands
+returns-in_err-old-clause-stands g c = still_unchanged c.args.self.now c.make_room.new.self c.make_room.ensures.same
 
 pub open_round-requires : goal.open_round-requires
 open_round-requires g c =
