@@ -174,8 +174,8 @@ where
     }
 }
 
-/// All bytes of a file of a disk, which is locked before they are read. Where standard output was closed when the program
-/// began, the file has its number, and what is told would be written behind the texts.
+/// All bytes of a file of a disk, which is locked before they are read. Where standard output was closed when the
+/// program began, the file has its number, and what is told would be written behind the texts.
 fn locked_bytes(alloc: Global, file: &File) -> Result<Vec<u8>, Fault> {
     if file.as_raw_fd() == STANDARD_OUTPUT {
         return Err(Fault::Output);

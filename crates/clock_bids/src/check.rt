@@ -108,11 +108,11 @@ fn activity_limit(setup: &Setup, round: u64, eligibility: u64) -> u128
     }
 }
 
-/// Judges each bid by the last one before it for the same product; the first bids, whose products
-/// rise, have none. The place of each product's last bid is kept from the first bid on that is for no
-/// higher product than the one before it: nearly all sheets have none. Where the earlier bids are good, their prices rise and their quantities move
-/// one way, so that the last one tells whether the next price is higher and the next step goes on.
-/// Good bids ask for demands that take so many bidding units.
+/// Judges each bid by the last one before it for the same product; the first bids, whose products rise, have none. The
+/// place of each product's last bid is kept from the first bid on that is for no higher product than the one before it:
+/// nearly all sheets have none. Where the earlier bids are good, their prices rise and their quantities move one way,
+/// so that the last one tells whether the next price is higher and the next step goes on. Good bids ask for demands
+/// that take so many bidding units.
 fn judge(
     alloc: Global,
     setup: &Setup,
@@ -214,8 +214,8 @@ fn taken_with(taken: u64, units: u64, last: Option<Bid>, quantity: u64) -> u64
     }
 }
 
-/// The fault of the bid at a place of the sheet, by the last bid before it for the same product. Most sheets stand by rising
-/// product, so what is held is looked for near where it was found for the bid before.
+/// The fault of the bid at a place of the sheet, by the last bid before it for the same product. Most sheets stand by
+/// rising product, so what is held is looked for near where it was found for the bid before.
 fn bid_fault(
     products: &[Product],
     prices: &[PricePair],

@@ -7,7 +7,8 @@ use crate::sheet::Bid;
 use clock_device::NoMemory;
 use std::alloc::Global;
 
-/// For each product the place of the last bid for it, of those before a place, counted from 1 on, or 0 where there is none.
+/// For each product the place of the last bid for it, of those before a place, counted from 1 on, or 0 where there is
+/// none.
 #[inline(never)]
 pub(crate) fn last_places(
     alloc: Global,

@@ -81,8 +81,8 @@ impl<'v> PartReader<'v> for BidReader {
     }
 }
 
-/// The bids that are next, behind those of a list, as far as they are written without white space, their keys in the order of
-/// their bytes, and with a comma behind each. They are read by several bytes at a time.
+/// The bids that are next, behind those of a list, as far as they are written without white space, their keys in the
+/// order of their bytes, and with a comma behind each. They are read by several bytes at a time.
 #[inline(never)]
 fn compact_bids(scan: &mut Scan<'_>, list: &mut Vec<Bid>) -> Result<(), ScanStop>
     ensures { OnOk result ((bids : List Bid) × (list.new.items ≡ list.old.items ++ bids)

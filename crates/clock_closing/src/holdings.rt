@@ -8,8 +8,8 @@ use clock_terms::{Amounts, Grid, Row, Setup};
 use std::alloc::Global;
 use std::marker::Model;
 
-/// What each bidder holds before a round: its eligibility and its demands, by its slip of the last closed round, or by its
-/// row of the set-up where none is closed. Contracts see the list of the holdings.
+/// What each bidder holds before a round: its eligibility and its demands, by its slip of the last closed round, or by
+/// its row of the set-up where none is closed. Contracts see the list of the holdings.
 #[derive(Drop)]
 pub struct Holdings<'a> {
     setup: &'a Setup,
@@ -30,8 +30,8 @@ impl<'a> Model for Holdings<'a> {
 }
 
 impl<'a> Holdings<'a> {
-    /// The holdings by the slips of the last closed round, or by the set-up where none is closed. There is a slip for each
-    /// bidder, and the demands are those that are held, for quick reading.
+    /// The holdings by the slips of the last closed round, or by the set-up where none is closed. There is a slip for
+    /// each bidder, and the demands are those that are held, for quick reading.
     pub fn new(setup: &'a Setup, last: Option<&'a Slips>, demands: &'a Grid) -> Holdings<'a>
         requires each { length (holdings_before setup.now.products setup.now.bidders (option_copied last))
             ≡ length setup.now.bidders }

@@ -1,7 +1,7 @@
 //! The closing of a round: from what stands before it to its sheet, its slips and the prices of the next round.
 //!
-//! An [`OpenRound`] has all that the closing of a round goes by, and [`OpenRound::close`] settles it. What came before is
-//! no matter here: neither earlier rounds, nor who put which sheet when.
+//! An [`OpenRound`] has all that the closing of a round goes by, and [`OpenRound::close`] settles it. What came before
+//! is no matter here: neither earlier rounds, nor who put which sheet when.
 #![tactic(auto)]
 
 mod asked;

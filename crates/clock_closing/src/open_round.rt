@@ -22,7 +22,8 @@ use std::alloc::Global;
 use std::marker::Model;
 
 /// A round of an auction that goes on, with all that its closing goes by: the set-up, the number of the round and its
-/// prices, what each bidder holds, and the sheets in force (ascending clock auction, the FCC's procedures for Auction 105).
+/// prices, what each bidder holds, and the sheets in force (ascending clock auction, the FCC's procedures for Auction
+/// 105).
 ///
 /// Contracts see the set-up, and where the auction stands, what is held and the sheets.
 #[derive(Drop)]
@@ -46,8 +47,8 @@ impl<'a> Model for OpenRound<'a> {
 }
 
 impl<'a> OpenRound<'a> {
-    /// A round that goes on. There are a pair of prices for each product, and a holding and a sheet or none for each bidder;
-    /// all of them are in order.
+    /// A round that goes on. There are a pair of prices for each product, and a holding and a sheet or none for each
+    /// bidder; all of them are in order.
     pub fn new(
         setup: &'a Setup,
         round: u64,
@@ -67,13 +68,13 @@ impl<'a> OpenRound<'a> {
         }
     }
 
-    /// Closes the round: settles it by a processor, and makes its sheet, its slips and the next prices. An increment is a
-    /// percentage from 1 to 50; there is one for all products, or one for each. A grid that is no longer needed may be given: the
-    /// demands are settled in its memory.
+    /// Closes the round: settles it by a processor, and makes its sheet, its slips and the next prices. An increment is
+    /// a percentage from 1 to 50; there is one for all products, or one for each. A grid that is no longer needed may
+    /// be given: the demands are settled in its memory.
     ///
-    /// The refusals, in this order: an increment is not 1 to 50, or the list has not one for each product; the tie numbers
-    /// have a fault; the auction would go on, and a product can have no next clock price. Want of memory may come in place
-    /// of any answer.
+    /// The refusals, in this order: an increment is not 1 to 50, or the list has not one for each product; the tie
+    /// numbers have a fault; the auction would go on, and a product can have no next clock price. Want of memory may
+    /// come in place of any answer.
     pub fn close<P: Processor>(
         &self,
         alloc: Global,

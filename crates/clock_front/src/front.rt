@@ -139,8 +139,8 @@ impl<P: Processor> Front<P> {
         }
     }
 
-    /// The reply to a text that is framed so, after which the input has ended. It is that of [`Front::answer`]; head and
-    /// body need not stand together.
+    /// The reply to a text that is framed so, after which the input has ended. It is that of [`Front::answer`]; head
+    /// and body need not stand together.
     pub fn answer_framed(&mut self, framing: Framing<'_>) -> Reply
         requires { (text : List ℕ) × IsFramed text framing }
         ensures answered { (text : List ℕ) → IsFramed text framing.entry → AnswersText text result self.old self.new }

@@ -76,9 +76,9 @@ fn take_each<P: Processor>(
     Ok(replies)
 }
 
-/// Answers the requests that come in pieces over connections, in the order in which they are complete, as [`run`] answers
-/// their texts. There is no memory where a connection, a piece or a list found none; a request that finds none while it
-/// is answered has a reply that says so.
+/// Answers the requests that come in pieces over connections, in the order in which they are complete, as [`run`]
+/// answers their texts. There is no memory where a connection, a piece or a list found none; a request that finds none
+/// while it is answered has a reply that says so.
 pub fn run_events<P: Processor>(
     alloc: Global,
     setup: Setup,

@@ -23,8 +23,8 @@ pub fn sheet_lines(alloc: Global, setup: &Setup, sheet: &RoundSheet) -> Result<T
     with_sheet_lines(Text::new(alloc), setup, sheet)
 }
 
-/// A text, and behind it the lines that tell a round's sheet, as [`sheet_lines`] has them. The text is taken over, so that
-/// none is left with a part of the lines where there is no memory.
+/// A text, and behind it the lines that tell a round's sheet, as [`sheet_lines`] has them. The text is taken over, so
+/// that none is left with a part of the lines where there is no memory.
 pub fn with_sheet_lines(mut text: Text, setup: &Setup, sheet: &RoundSheet) -> Result<Text, NoMemory>
     requires { length sheet.now.lines ≡ length setup.now.products }
     ensures { IfOk result (λ lines. lines ≡ text ++ sheet_text setup.now.products sheet.now) }

@@ -74,7 +74,8 @@ pub(crate) fn line_of(change: &Change) -> usize
     }
 }
 
-/// The line that may have room once a request is applied: after a reduction its bidder's, after an increase its product's.
+/// The line that may have room once a request is applied: after a reduction its bidder's, after an increase its
+/// product's.
 pub(crate) fn woken_line(change: &Change) -> usize
     ensures { result ≡ lines.woken_line change.now }
 {

@@ -83,8 +83,8 @@ impl<'a> Queue<'a> {
         Ok(())
     }
 
-    /// Tests a request, which was the first of those that are ready. With room it is applied by its whole room, and what
-    /// is left of it waits; without room it waits whole.
+    /// Tests a request, which was the first of those that are ready. With room it is applied by its whole room, and
+    /// what is left of it waits; without room it waits whole.
     fn test(&mut self, changes: &[Change], place: usize) -> Result<(), NoMemory>
         requires queue { IsQueue changes.now (with_first place self.old) }
         requires counts { StaysWithinTests changes.now (with_first place self.old) }

@@ -1,4 +1,5 @@
-//! Replay documents: a set-up, a script for each bidder, and the closings in order. What a document means, and its first fault.
+//! Replay documents: a set-up, a script for each bidder, and the closings in order. What a document means, and its
+//! first fault.
 #![tactic(auto)]
 
 mod checks;

@@ -14,8 +14,8 @@ use std::marker::Model;
 /// For each product a list of prices that never rises: the one at place k, from 0, is the price in whole dollars up to
 /// which block k is wanted.
 ///
-/// Contracts see the list of these lists, and nothing of how it is kept: a bidder has limits for few of the products, and
-/// only for those a row is kept. The rows stand by rising product.
+/// Contracts see the list of these lists, and nothing of how it is kept: a bidder has limits for few of the products,
+/// and only for those a row is kept. The rows stand by rising product.
 #[derive(Drop)]
 pub struct LimitLists {
     rows: LimitRows,

@@ -5,8 +5,8 @@ ghost use Rattle.clock_replays.specs.inside.KeptLimits.{AreKept, kept_limits};
 use clock_device::NoMemory;
 use std::alloc::Global;
 
-/// The limits for so many products. Most have none: those of the others stand as rows in one list, by rising product, each
-/// with its product and with the place where it ends beside it.
+/// The limits for so many products. Most have none: those of the others stand as rows in one list, by rising product,
+/// each with its product and with the place where it ends beside it.
 #[derive(Drop)]
 pub(crate) struct LimitRows {
     pub(crate) count: usize,

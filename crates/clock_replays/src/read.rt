@@ -60,10 +60,10 @@ fn replay_in(alloc: Global, value: &Value) -> Result<Replay, ScriptFault>
 ///
 /// The document is `{"closings":[CLOSING,..],"scripts":[SCRIPT,..],"setup":SETUP}` with a script for each bidder and a
 /// set-up as [`read_setup`](clock_setup::read_setup) reads it. A closing is `{"increment":N,"ties":[[B,P,N],..]}`, in
-/// version 2 with `"increments":[N,..]` in place of `"increment"`. A script is `{"kind":"literal","sheets":[SHEET,..]}`,
-/// where a sheet is null or a list of bids `{"price":N,"product":N,"quantity":N}`, or
-/// `{"kind":"sincere","limits":[[N,..],..]}` with a list of limits for each product, which never rises and is at most as
-/// long as the product's cap.
+/// version 2 with `"increments":[N,..]` in place of `"increment"`. A script is
+/// `{"kind":"literal","sheets":[SHEET,..]}`, where a sheet is null or a list of bids
+/// `{"price":N,"product":N,"quantity":N}`, or `{"kind":"sincere","limits":[[N,..],..]}` with a list of limits for each
+/// product, which never rises and is at most as long as the product's cap.
 ///
 /// [`ScriptFault`] has the faults in the order in which they are looked at. Nothing is kept of a document that is
 /// refused.

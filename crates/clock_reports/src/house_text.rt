@@ -17,8 +17,8 @@ use std::alloc::Global;
 /// How many bytes a line of a product takes, about.
 const LINE_ROOM: usize = 48;
 
-/// A text with room for the report, about: a line for each product of each closed round. It is taken at once, since a long
-/// text that grows is copied, and both stand in memory.
+/// A text with room for the report, about: a line for each product of each closed round. It is taken at once, since a
+/// long text that grows is copied, and both stand in memory.
 fn empty_text<P>(alloc: Global, house: &House<P>) -> Result<Text, NoMemory>
     ensures { IfOk result (λ text. text ≡ []) }
 {

@@ -71,8 +71,8 @@ fn push_none_held(text: &mut Text, none: &[u8], products: usize) -> Result<(), N
     text.extend_from_slice(&none[..2 * products])
 }
 
-/// Adds demands by product, each with a space behind it. Nothing is looked at but what is held; the others are copied out
-/// of the text of as many products of which none is.
+/// Adds demands by product, each with a space behind it. Nothing is looked at but what is held; the others are copied
+/// out of the text of as many products of which none is.
 fn push_demands(text: &mut Text, none: &[u8], demands: &Row) -> Result<(), NoMemory>
     requires { none.now ≡ none_held (length demands.now) }
     ensures { OnOk result (text.new ≡ text.old ++ flat_map (λ demand. decimal demand ++ codes " ") demands.now) }

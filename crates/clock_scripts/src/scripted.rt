@@ -30,8 +30,8 @@ fn token_of(setup: &Setup, bidder: u32) -> &[u8]
 }
 
 impl Pieces {
-    /// Writes the head of the request by which the holder of a token puts a sheet, whose body stands behind all others from
-    /// a place on.
+    /// Writes the head of the request by which the holder of a token puts a sheet, whose body stands behind all others
+    /// from a place on.
     fn end_put(&mut self, token: &[u8], body: usize) -> Result<Written, NoMemory>
         requires body { body ≤ length self.old.bodies.text.items }
         requires token { IsToken token.now }

@@ -1,5 +1,5 @@
-//! The bodies of sheets, and the texts of bids: but for the quantity they are the same for all who bid for a product at one
-//! price.
+//! The bodies of sheets, and the texts of bids: but for the quantity they are the same for all who bid for a product at
+//! one price.
 
 ghost use Rattle.std.specs.Prelude.{◌≡◌, ◌≤◌, ◌++◌, ℕ, List, [], true, codes, decimal, length, take, OnOk, IfOk};
 ghost use Rattle.clock_bids.specs.declared.sheet.Bid.{Bid};
@@ -13,8 +13,8 @@ use clock_device::NoMemory;
 use std::alloc::Global;
 use std::marker::Model;
 
-/// How many bytes of a start are kept: those of prices below 10^12 and of products below 10,000. It is a number of whole
-/// vectors, since as many bytes are copied of each start.
+/// How many bytes of a start are kept: those of prices below 10^12 and of products below 10,000. It is a number of
+/// whole vectors, since as many bytes are copied of each start.
 const START_ROOM: usize = 48;
 
 /// What stands ahead of the quantity in the last bid for a product, if one was written, with zeros behind it.
@@ -165,8 +165,8 @@ impl Bodies {
         push_quantity(&mut self.text, bid.quantity)
     }
 
-    /// Adds a bid at a price of its own, with a comma behind it. Its start is not kept: nobody else bids at that price, and the
-    /// one that is kept serves the next bidder.
+    /// Adds a bid at a price of its own, with a comma behind it. Its start is not kept: nobody else bids at that price,
+    /// and the one that is kept serves the next bidder.
     pub(crate) fn push_own_bid(&mut self, bid: &Bid) -> Result<(), NoMemory>
         ensures { OnOk result (Adds (bid_text bid.now) self.old.text.items self.new.text.items) }
     {

@@ -86,7 +86,8 @@ fn push_leaving(
     Ok(())
 }
 
-/// Adds the bids for a product of which so many blocks are held, in a later round: one that keeps them where none leaves.
+/// Adds the bids for a product of which so many blocks are held, in a later round: one that keeps them where none
+/// leaves.
 #[inline(always)]
 fn push_held(
     bodies: &mut Bodies,
@@ -140,8 +141,8 @@ fn push_opening(
     })
 }
 
-/// What the sheet of a sincere bidder follows from: the prices of the round, what it holds, and its limits, a list for each
-/// product that never rises.
+/// What the sheet of a sincere bidder follows from: the prices of the round, what it holds, and its limits, a list for
+/// each product that never rises.
 #[derive(Drop)]
 pub(crate) struct Sincere<'a> {
     /// The prices of the round, a pair for each product.

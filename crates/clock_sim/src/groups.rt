@@ -121,8 +121,8 @@ impl Group {
         Ok(())
     }
 
-    /// A request joins the group, which is sent where it is full. One that is answered at its head goes by itself, after
-    /// those that wait.
+    /// A request joins the group, which is sent where it is full. One that is answered at its head goes by itself,
+    /// after those that wait.
     pub(crate) fn take_turn<P: Processor>(
         &mut self,
         hub: &mut Hub<P>,

@@ -1,5 +1,5 @@
-//! What a round comes to: in the first round the sheets' quantities stand as demands, in a later one all bidders' requests are
-//! settled in their order.
+//! What a round comes to: in the first round the sheets' quantities stand as demands, in a later one all bidders'
+//! requests are settled in their order.
 
 ghost use Rattle.std.specs.Prelude.{◌≡◌, ◌<◌, ◌≤◌, length, flat_map, AllPairs, IfOk};
 ghost use Rattle.clock_terms.specs.Limits.{IsRow};
@@ -127,8 +127,8 @@ impl OpenRound<'_> {
         Ok(changes)
     }
 
-    /// The demands that the settling of these requests leaves, and what is left of each. They are settled in the memory of a grid
-    /// that is no longer needed, where there is one.
+    /// The demands that the settling of these requests leaves, and what is left of each. They are settled in the memory
+    /// of a grid that is no longer needed, where there is one.
     fn settled<P: Processor>(
         &self,
         alloc: Global,
