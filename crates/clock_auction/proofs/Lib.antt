@@ -1,2 +1,2 @@
 mod AuditLaws
-mod Recounts
+mod ListingLaws

@@ -2,7 +2,7 @@
 --     chain_of first texts      the digest of the newest text
 --     closed_after setup texts      the rounds that texts have closed
 --     closing_digests first setup texts      the digests of the texts that closed a round, in digits, the oldest first
---     IsRecounted first texts house chain digests      the auction stands for the texts, with the digests of its closings
+--     IsRecounted first texts house chain count digests      the auction stands for the texts, counted, with the digests of its closings
 --     IsRecountOf setup first bytes ..      the same for all texts of a file
 --     IsUnrecounted setup first bytes told      a fault is told of a file that has it
 --     audited setup first texts      what an audit prints of the rounds
@@ -20,7 +20,7 @@ use Rattle.clock_journal.specs.Reading.{onto}
 use Rattle.clock_journal.specs.Recovering.{IsPlaced, IsRefusal, IsRefusedRightly}
 use Rattle.clock_journal.specs.declared.fault.JournalFault.{JournalFault}
 use Rattle.clock_journal.specs.declared.recovered.Recovered.{Recovered}
-use Rattle.clock_keeping.specs.Keeping.{IsRefused}
+use Rattle.clock_keeping.specs.Keeping.{IsRefused, counted}
 use Rattle.clock_reports.specs.FinalReport.{report_of}
 use Rattle.clock_reports.specs.ReportText.{audit_text}
 
@@ -45,23 +45,24 @@ closing_digests first setup [] = []
 closing_digests first setup (text ∷ past) =
     with_digest_if (closes setup text past) (closing_digests first setup past) (chain_of first (text ∷ past))
 
--- the auction stands for the texts, and the digests are those of the texts
-pub record IsRecounted (first : List ℕ) (texts : List (List ℕ)) (house : HouseFields) (chain : List ℕ) (digests : List (List ℕ)) : Type 0 where
+-- the auction stands for the texts, so many are they, and the digests are those of the texts
+pub record IsRecounted (first : List ℕ) (texts : List (List ℕ)) (house : HouseFields) (chain : List ℕ) (count : ℕ) (digests : List (List ℕ)) : Type 0 where
   pub stands : StandsForTexts texts house
   pub chain_is : chain ≡ chain_of first texts
+  pub count_is : count ≡ counted texts
   pub digests_are : digests ≡ closing_digests first house.setup texts
 
 -- the same of some texts and some set-up document
-abbrev pub IsSomeRecount : HouseFields → List ℕ → List (List ℕ) → Type 0
-IsSomeRecount house chain digests = (first : List ℕ) × (texts : List (List ℕ)) × IsRecounted first texts house chain digests
+abbrev pub IsSomeRecount : HouseFields → List ℕ → ℕ → List (List ℕ) → Type 0
+IsSomeRecount house chain count digests = (first : List ℕ) × (texts : List (List ℕ)) × IsRecounted first texts house chain count digests
 
 -- the file is the journal of these texts, but for a torn tail, and the auction stands for all of them
-pub record IsRecountOf (setup : SetupFields) (first bytes : List ℕ) (house : HouseFields) (chain : List ℕ) (digests : List (List ℕ)) : Type 0 where
+pub record IsRecountOf (setup : SetupFields) (first bytes : List ℕ) (house : HouseFields) (chain : List ℕ) (count : ℕ) (digests : List (List ℕ)) : Type 0 where
   pub texts : List (List ℕ)
   pub recovered : Recovered
   pub placed : IsPlaced first bytes texts recovered
   pub same : house.setup ≡ setup
-  pub recounted : IsRecounted first (onto texts []) house chain digests
+  pub recounted : IsRecounted first (onto texts []) house chain count digests
 
 -- the fault is one of such a file, and a text that is told as refused is refused behind those before it
 pub record IsUnrecounted (setup : SetupFields) (first bytes : List ℕ) (told : Fault) : Type 0 where

@@ -31,7 +31,8 @@ impl Machine for Recount {
 
     ghost rules = { λ recount. (recount.front.setup, recount.first) };
 
-    ghost stands_for = { λ recount texts. IsRecounted recount.first texts recount.front recount.chain recount.digests.items };
+    ghost stands_for = { λ recount texts. IsRecounted recount.first texts recount.front recount.chain recount.texts
+        recount.digests.items };
 
     ghost refuses = { λ rules texts text. IsRefused rules.0 texts text };
 
@@ -73,7 +74,7 @@ pub fn recounted(
 ) -> Result<Recount, Fault>
     requires { StandsForTexts [] front }
     ensures ok { IfOk result (λ recount. IsRecountOf front.setup first bytes.now recount.front recount.chain
-        recount.digests.items) }
+        recount.texts recount.digests.items) }
     ensures err { IfErr result (IsUnrecounted front.setup first bytes.now) }
 {
     let mut recount = Recount {
@@ -83,29 +84,23 @@ pub fn recounted(
         texts: 0,
         digests: Vec::new(alloc),
     };
-    match recover(&mut recount, &first, bytes) {
-        Ok(_) => Ok(recount),
-        Err(fault) => {
-            drop(recount);
-            Err(Fault::from(fault))
-        }
-    }
+    recover(&mut recount, &first, bytes)?;
+    Ok(recount)
 }
 
 /// The rounds that are closed, each with the digest of its closing, and what each bidder won where the auction has
 /// ended.
 pub fn audit_of(alloc: Global, recount: &Recount) -> Result<Text, Fault>
-    requires { IsSomeRecount recount.now.front recount.now.chain recount.now.digests.items }
-    ensures { (first : List ℕ) (texts : List (List ℕ))
-        → IsRecounted first texts recount.now.front recount.now.chain recount.now.digests.items
+    requires { IsSomeRecount recount.now.front recount.now.chain recount.now.texts recount.now.digests.items }
+    ensures ok { (first : List ℕ) (texts : List (List ℕ))
+        → IsRecounted first texts recount.now.front recount.now.chain recount.now.texts recount.now.digests.items
         → IfOk result (λ text. text ≡ audited recount.now.front.setup first texts) }
+    ensures err { IfErr result (λ fault. fault ≡ Fault.Memory) }
 {
     let house = recount.front.house();
     if house.closed_rounds() == 0 {
         return Ok(Text::new(alloc));
     }
     let report = report_so_far(alloc, house)?;
-    let text = audit_text(alloc, &report, recount.digests.as_slice());
-    drop(report);
-    Ok(text?)
+    Ok(audit_text(alloc, &report, recount.digests.as_slice())?)
 }

@@ -1,6 +1,5 @@
 //! A journal of which each closing is told on standard output.
-ghost use Rattle.std.specs.Prelude.{◌≡◌};
-ghost use Rattle.clock_journal.specs.Format.{Fits};
+ghost use Rattle.std.specs.Prelude.{◌≡◌, None};
 
 use crate::digests::Hex;
 use clock_device::Failed;
@@ -12,7 +11,7 @@ use std::marker::Model;
 
 /// A journal that tells each closing with its digest.
 ///
-/// Contracts see the journal.
+/// Contracts see the journal. Which closings were told is not seen, as standard output tells none.
 #[derive(Drop)]
 pub struct Telling<'a, R, D: Durable> {
     rt: &'a R,
@@ -39,7 +38,7 @@ impl<'a, R, D: Durable> Telling<'a, R, D> {
 impl<R: Print, D: Durable> Keeper for Telling<'_, R, D> {
     ghost journal = { λ telling. telling };
 
-    ghost takes = { Fits };
+    ghost told = { λ telling. None };
 
     fn answer<P: Processor>(
         &mut self,

@@ -1,4 +1,8 @@
 //! `journal`: what a journal holds, text by text.
+ghost use Rattle.std.specs.Prelude.{◌≡◌, ◌++◌, List, ℕ, IfErr, IfOk, OnOk, []};
+ghost use Rattle.clock_auction.specs.Listings.{IsListed, IsListingOf, IsUnlisted};
+ghost use Rattle.clock_auction.specs.Listings.{digest_line, listed, spaced, text_listed};
+
 use crate::digests::digits_of;
 use clock_commands::Fault;
 use clock_device::{NoMemory, Text};
@@ -8,6 +12,7 @@ use std::alloc::Global;
 /// The text of a listing so far, and where the next record stands.
 #[derive(Drop)]
 pub struct Listing {
+    first: Link,
     text: Text,
     chain: Link,
     texts: u64,
@@ -15,16 +20,22 @@ pub struct Listing {
 }
 
 impl Machine for Listing {
-    ghost rules = { λ listing. tt };
+    ghost Rules = { List ℕ };
 
-    ghost stands_for = { λ listing texts. Unit {0} };
+    ghost rules = { λ listing. listing.first };
+
+    ghost stands_for = { λ listing texts. IsListed listing.first texts listing.text listing.chain listing.texts
+        listing.place };
 
     ghost refuses = { λ rules texts text. ⊥ };
 
     fn take(&mut self, text: &[u8]) -> Result<(), Untaken> {
         self.chain = link_of(&self.chain, text);
         self.texts = self.texts.saturating_add(1);
-        match self.list(text) {
+        let place = self.place;
+        let length = (text.len() as u64).saturating_add(BEFORE_TEXT as u64);
+        self.place = place.saturating_add(length);
+        match push_text(&mut self.text, self.texts, place, &self.chain, text) {
             Ok(()) => Ok(()),
             Err(_) => Err(Untaken::NoMemory),
         }
@@ -32,61 +43,81 @@ impl Machine for Listing {
 }
 
 impl Listing {
-    /// Adds the line of a record and its text, as it came.
-    fn list(&mut self, text: &[u8]) -> Result<(), NoMemory> {
-        let size = text.len() as u64;
-        self.text.extend_from_slice(b"text ")?;
-        for number in [self.texts, self.place, size] {
-            self.text.push_number(number)?;
-            self.text.push(b' ')?;
-        }
-        push_digits(&mut self.text, &self.chain)?;
-        self.text.extend_from_slice(text)?;
-        self.text.push(b'\n')?;
-        let length = size.saturating_add(BEFORE_TEXT as u64);
-        self.place = self.place.saturating_add(length);
-        Ok(())
-    }
-
     /// The text of the listing.
-    pub fn text(&self) -> &[u8] {
+    pub fn text(&self) -> &[u8]
+        ensures { result.now ≡ self.now.text }
+    {
         self.text.as_slice()
     }
 
     /// How many texts were found, and the digest of the last.
-    pub fn end(&self) -> (u64, Link) {
+    pub fn end(&self) -> (u64, Link)
+        ensures { result ≡ (self.now.texts, self.now.chain) }
+    {
         (self.texts, self.chain)
     }
 }
 
 /// A line with the digest of the set-up document.
-fn setup_line(alloc: Global, first: &Link) -> Result<Text, NoMemory> {
+fn setup_line(alloc: Global, first: &Link) -> Result<Text, NoMemory>
+    ensures { IfOk result (λ text. text ≡ listed first.now []) }
+{
     let mut text = Text::new(alloc);
     text.extend_from_slice(b"setup ")?;
     push_digits(&mut text, first)?;
     Ok(text)
 }
 
+/// Adds the line of a record and its text, as it came.
+fn push_text(
+    shown: &mut Text,
+    number: u64,
+    place: u64,
+    digest: &Link,
+    text: &[u8],
+) -> Result<(), NoMemory>
+    ensures { OnOk result (shown.new ≡ shown.old ++ text_listed number place digest.now text.now) }
+{
+    shown.extend_from_slice(b"text ")?;
+    push_spaced(shown, number)?;
+    push_spaced(shown, place)?;
+    push_spaced(shown, text.len() as u64)?;
+    push_digits(shown, digest)?;
+    shown.extend_from_slice(text)?;
+    shown.push(b'\n')?;
+    Ok(())
+}
+
+/// Adds a number and a space.
+fn push_spaced(text: &mut Text, number: u64) -> Result<(), NoMemory>
+    ensures { OnOk result (text.new ≡ text.old ++ spaced number) }
+{
+    text.push_number(number)?;
+    text.push(b' ')
+}
+
 /// Ends a line with a digest.
-fn push_digits(text: &mut Text, digest: &Link) -> Result<(), NoMemory> {
+fn push_digits(text: &mut Text, digest: &Link) -> Result<(), NoMemory>
+    ensures { OnOk result (text.new ≡ text.old ++ digest_line digest.now) }
+{
     text.extend_from_slice(digits_of(digest).as_slice())?;
     text.push(b'\n')
 }
 
 /// The digest of the set-up document, and for each text of a journal the line `text NUMBER PLACE LENGTH DIGEST`, with
 /// its place in the file, and then its bytes and a line feed.
-pub fn listing_of(alloc: Global, first: Link, bytes: &[u8]) -> Result<Listing, Fault> {
+pub fn listing_of(alloc: Global, first: Link, bytes: &[u8]) -> Result<Listing, Fault>
+    ensures ok { IfOk result (λ listing. IsListingOf first bytes.now listing.text listing.chain listing.texts
+        listing.place) }
+    ensures err { IfErr result (IsUnlisted first bytes.now) }
+{
     let mut listing = Listing {
+        first,
         text: setup_line(alloc, &first)?,
         chain: first,
         texts: 0,
         place: HEAD_LENGTH as u64,
     };
-    match recover(&mut listing, &first, bytes) {
-        Ok(_) => Ok(listing),
-        Err(fault) => {
-            drop(listing);
-            Err(Fault::from(fault))
-        }
-    }
+    recover(&mut listing, &first, bytes)?;
+    Ok(listing)
 }

@@ -1,7 +1,7 @@
 //! An auction that is served with a journal: its file is taken over before the port is listened on.
-ghost use Rattle.std.specs.Prelude.{◌≡◌, [], IfOk, Some, false};
+ghost use Rattle.std.specs.Prelude.{◌≡◌, [], IfErr, IfOk, Some, false};
 ghost use Rattle.clock_front.specs.Fronts.{StandsForTexts};
-ghost use Rattle.clock_auction.specs.Starts.{IsGoingOn};
+ghost use Rattle.clock_auction.specs.Starts.{IsGoingOn, IsNotGoingOn};
 
 use crate::closings::Telling;
 use crate::digests::Hex;
@@ -60,17 +60,9 @@ where
     ensures unfailed { IfOk result (λ journal. journal.has_failed ≡ false) }
 {
     let (file, bytes) = opened(rt, path)?;
-    let disk = FileDisk::new(file);
-    let went_on = go_on(rt, auction, disk, digest, bytes.as_slice());
-    drop(bytes);
-    let journal = went_on?;
-    match sync_folder(rt, path) {
-        Ok(()) => Ok(journal),
-        Err(fault) => {
-            drop(journal);
-            Err(fault)
-        }
-    }
+    let journal = go_on(rt, auction, FileDisk::new(file), digest, bytes.as_slice())?;
+    sync_folder(rt, path)?;
+    Ok(journal)
 }
 
 /// Takes an auction up from all bytes of a disk, whatever kind of disk it is, and goes on with the journal there.
@@ -86,22 +78,17 @@ where
     requires fresh { StandsForTexts [] auction.old.front }
     requires unfailed { D.has_failed disk ≡ false }
     ensures in_step { D.written disk ≡ Some bytes.now
-        → IfOk result (λ journal. IsGoingOn digest bytes.now journal auction.new.front) }
+        → IfOk result (λ journal. IsGoingOn digest bytes.now journal auction.new.front auction.new.texts) }
+    ensures err { IfErr result (IsNotGoingOn auction.old.front.setup digest bytes.now auction.new.front
+        auction.new.texts) }
     ensures unfailed { IfOk result (λ journal. journal.has_failed ≡ false) }
     ensures setup { auction.new.front.setup ≡ auction.old.front.setup }
 {
-    match take_up(auction, &digest, bytes) {
-        Ok(recovered) => {
-            tell_cut(rt, recovered.end, bytes.len());
-            match Journal::resume(disk, digest, recovered) {
-                Ok(journal) => Ok(journal),
-                Err(_) => Err(Fault::Journal),
-            }
-        }
-        Err(fault) => {
-            drop(disk);
-            Err(Fault::from(fault))
-        }
+    let recovered = take_up(auction, &digest, bytes)?;
+    tell_cut(rt, recovered.end, bytes.len());
+    match Journal::resume(disk, digest, recovered) {
+        Ok(journal) => Ok(journal),
+        Err(_) => Err(Fault::Journal),
     }
 }
 
@@ -125,34 +112,17 @@ where
     R: Print + Net<Listener = TcpListener, Stream = TcpStream> + Alloc<A = Global>,
     requires { journal.has_failed ≡ false }
 {
-    match tell_and_listen(rt, auction.texts, *journal.chain(), serving.port) {
-        Ok(listener) => {
-            let mut telling = Telling::new(rt, journal);
-            let served = serve_kept_on(
-                rt.alloc(),
-                &mut auction.front,
-                &mut telling,
-                &listener,
-                serving.connections,
-            );
-            drop(listener);
-            drop(telling);
-            Ok(served?)
-        }
-        Err(fault) => {
-            drop(journal);
-            Err(fault)
-        }
-    }
-}
-
-/// Tells what was taken over, and listens.
-fn tell_and_listen<R>(rt: &R, texts: u64, chain: Link, port: u16) -> Result<TcpListener, Fault>
-where
-    R: Print + Net<Listener = TcpListener, Stream = TcpStream>,
-{
-    tell_journal(rt, texts, chain)?;
-    listening(rt, port)
+    tell_journal(rt, auction.texts, *journal.chain())?;
+    let listener = listening(rt, serving.port)?;
+    let mut telling = Telling::new(rt, journal);
+    serve_kept_on(
+        rt.alloc(),
+        &mut auction.front,
+        &mut telling,
+        &listener,
+        serving.connections,
+    )?;
+    Ok(())
 }
 
 /// The file, which is made where there is none, readable by its owner alone, and locked; and all its bytes.
@@ -165,13 +135,8 @@ where
     let Ok(file) = how.open(rt, path) else {
         return Err(Fault::Journal);
     };
-    match locked_bytes(rt.alloc(), &file) {
-        Ok(bytes) => Ok((file, bytes)),
-        Err(fault) => {
-            drop(file);
-            Err(fault)
-        }
-    }
+    let bytes = locked_bytes(rt.alloc(), &file)?;
+    Ok((file, bytes))
 }
 
 /// All bytes of a file of a disk, which is locked before they are read. Where standard output was closed when the

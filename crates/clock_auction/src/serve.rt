@@ -1,7 +1,9 @@
 //! `serve`: an auction on a port of this machine.
-ghost use Rattle.std.specs.Prelude.{◌≡◌, [], IfOk, Ok};
+ghost use Rattle.std.specs.Prelude.{◌≡◌, [], IfErr, IfOk, Ok};
+ghost use Rattle.clock_terms.specs.Faults.{IsRefusal};
 ghost use Rattle.clock_front.specs.Fronts.{StandsForTexts};
 ghost use Rattle.clock_setup.specs.SetupDocument.{document_setup};
+ghost use Rattle.clock_commands.specs.Answers.{read_in};
 
 use clock_commands::{Fault, read_all, setup_in};
 use clock_device::{FromReader, Text};
@@ -33,10 +35,11 @@ where
 pub fn front_in(alloc: Global, document: Text) -> Result<Front<Woken>, Fault>
     ensures stands { IfOk result (StandsForTexts []) }
     ensures setup { IfOk result (λ front. document_setup document ≡ Ok front.setup) }
+    ensures err { IfErr result (IsRefusal Fault.Memory (read_in (document_setup document))) }
 {
-    let setup = setup_in(alloc, document.as_slice());
+    let setup = setup_in(alloc, document.as_slice())?;
     drop(document);
-    Ok(Front::new(alloc, setup?, Woken)?)
+    Ok(Front::new(alloc, setup, Woken)?)
 }
 
 /// Listens on a port, tells it, and serves connections by a front.
@@ -45,9 +48,8 @@ where
     R: Print + Net<Listener = TcpListener, Stream = TcpStream> + Alloc<A = Global>,
 {
     let listener = listening(rt, serving.port)?;
-    let served = serve_on(rt.alloc(), front, &listener, serving.connections);
-    drop(listener);
-    Ok(served?)
+    serve_on(rt.alloc(), front, &listener, serving.connections)?;
+    Ok(())
 }
 
 /// The port of this machine, listened on, which is told on standard output.
@@ -58,13 +60,8 @@ where
     let Ok(listener) = TcpListener::bind(rt, (Ipv4Addr::LOCALHOST, port)) else {
         return Err(Fault::Bind);
     };
-    match println!(rt; "ready {port}") {
-        Ok(()) => Ok(listener),
-        Err(_) => {
-            drop(listener);
-            Err(Fault::Output)
-        }
-    }
+    println!(rt; "ready {port}").or(Err(Fault::Output))?;
+    Ok(listener)
 }
 
 /// All bytes of a file.

@@ -1,8 +1,7 @@
 //! The loop over the connections of a port, with a journal.
-ghost use Rattle.std.specs.Prelude.{◌≡◌, List, false};
+ghost use Rattle.std.specs.Prelude.{◌≡◌, List, None, false};
 ghost use Rattle.clock_serving.specs.Exchanges.{Exchange};
 ghost use Rattle.clock_serving.specs.Serving.{EndsServing};
-ghost use Rattle.clock_journal.specs.Format.{Fits};
 
 use crate::closings::Telling;
 use clock_front::Front;
@@ -22,8 +21,8 @@ pub fn serve_kept_on<P: Processor, R: Print, D: Durable>(
     connections: u64,
 ) -> Result<(), ServeFault>
     requires unfailed { journal.old.has_failed ≡ false }
-    ensures served { (exchanges : List Exchange) × EndsServing Fits connections exchanges journal.old journal.new
-        front.old front.new result }
+    ensures served { (exchanges : List Exchange) × EndsServing connections exchanges None None journal.old
+        journal.new front.old front.new result }
     ensures setup { front.new.setup ≡ front.old.setup }
 {
     serve_all(

@@ -26,14 +26,10 @@ where
     let first = digest_of(document.as_slice());
     drop(document);
     let bytes = journal_bytes(rt, named.journal)?;
-    let listed = listing_of(rt.alloc(), first, bytes.as_slice());
-    drop(bytes);
-    let listing = listed?;
-    let end = listing.end();
-    let told = write_all(out, listing.text());
-    drop(listing);
-    told.or(Err(Fault::Output))?;
-    tell_journal(rt, end.0, end.1)
+    let listing = listing_of(rt.alloc(), first, bytes.as_slice())?;
+    write_all(out, listing.text()).or(Err(Fault::Output))?;
+    let (texts, chain) = listing.end();
+    tell_journal(rt, texts, chain)
 }
 
 /// Prints an auction that is recounted from its journal.
@@ -45,14 +41,13 @@ where
     let first = digest_of(document.as_slice());
     let front = front_in(rt.alloc(), document)?;
     let recount = recounted_of(rt, front, first, named.journal)?;
-    let end = recount.end();
+    let (texts, chain) = recount.end();
     let made = audit_of(rt.alloc(), &recount);
+    // let go by a call: at the end of the scope it would be proved part by part
     drop(recount);
     let text = made?;
-    let told = write_all(out, text.as_slice());
-    drop(text);
-    told.or(Err(Fault::Output))?;
-    tell_journal(rt, end.0, end.1)
+    write_all(out, text.as_slice()).or(Err(Fault::Output))?;
+    tell_journal(rt, texts, chain)
 }
 
 /// An auction that was recounted from the file of its journal.
@@ -60,14 +55,10 @@ fn recounted_of<R>(rt: &R, front: Front<Woken>, first: Link, path: &str) -> Resu
 where
     R: Files<File = File> + Alloc<A = Global>,
     requires { StandsForTexts [] front }
-    ensures { IfOk result (λ recount. IsSomeRecount recount.front recount.chain recount.digests.items) }
+    ensures { IfOk result (λ recount. IsSomeRecount recount.front recount.chain recount.texts recount.digests.items) }
 {
     match journal_bytes(rt, path) {
-        Ok(bytes) => {
-            let recount = recounted(rt.alloc(), front, first, bytes.as_slice());
-            drop(bytes);
-            recount
-        }
+        Ok(bytes) => recounted(rt.alloc(), front, first, bytes.as_slice()),
         Err(fault) => {
             drop(front);
             Err(fault)

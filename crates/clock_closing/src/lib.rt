@@ -4,8 +4,8 @@
 //! is no matter here: neither earlier rounds, nor who put which sheet when.
 #![tactic(auto)]
 
-mod asked;
 mod closed_round;
+mod closing_inputs;
 mod fault;
 mod holdings;
 mod open_round;

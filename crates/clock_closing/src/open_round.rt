@@ -10,7 +10,7 @@ ghost use Rattle.clock_closing.specs.inside.Postings.{IsAsked};
 mod outcome;
 mod slips;
 
-use crate::asked::{Asked, copy_of};
+use crate::closing_inputs::{ClosingInputs, copy_of};
 use crate::fault::CloseFault;
 use crate::holdings::Holdings;
 use crate::prepared::Prepared;
@@ -109,7 +109,7 @@ impl<'a> OpenRound<'a> {
         alloc: Global,
         increments: &Increments,
         ties: &[Tie],
-    ) -> Result<Asked, CloseFault>
+    ) -> Result<ClosingInputs, CloseFault>
         ensures asked { IfOk result (IsAsked self.now increments.now ties.now) }
         ensures refused { IfErr result (IsRefusal CloseFault.NoMemory (closing_now self.now increments.now ties.now)) }
         ensures memory { result ≢ Err (CloseFault.Tie tie_faults.NoMemory) }
@@ -120,7 +120,7 @@ impl<'a> OpenRound<'a> {
         }
         let copy = copy_of(alloc, increments)?;
         let ties = Ties::new(alloc, setup, ties)?;
-        Ok(Asked {
+        Ok(ClosingInputs {
             increments: copy,
             ties,
         })

@@ -1,7 +1,7 @@
 ghost use Rattle.std.specs.Prelude.{◌≡◌};
 ghost use Rattle.clock_closing.specs.Results.{AreConsistent};
 
-use crate::asked::Asked;
+use crate::closing_inputs::ClosingInputs;
 use crate::results::Results;
 use std::marker::Model;
 
@@ -12,7 +12,7 @@ use std::marker::Model;
 #[derive(Drop)]
 pub struct Prepared {
     pub(crate) round: u64,
-    pub(crate) asked: Asked,
+    pub(crate) asked: ClosingInputs,
     pub(crate) results: Results,
 }
 

@@ -39,7 +39,7 @@ module _ (reading : Reading) (mid : SourceTold) (front : List ℕ)
       → (text : List ℕ) → IsStepOf mid.left reading.after.left front text (Ok done) → HasArrived reading text
   arrived done is_done fails text any =
       let step = subst (λ (d : Bool). IsStepOf mid.left reading.after.left front text (Ok d)) is_done any in
-      (front, step.0, record { is = step.1.added; by_need = by_need step.0 step.1.read; ends = step.2; unfailed = fails ∙ rw unfailed refl })
+      (front, step.0, record { is = step.1.added; by_need = by_need step.0 step.1.read; short = step.1.short; ends = step.2; unfailed = fails ∙ rw unfailed refl })
 
   -- that read was for nothing
   pub stopped : (cause : Unread) → reading.after.has_failed ≡ (mid.has_failed || is_read_fault {A = Bool} (Err cause))

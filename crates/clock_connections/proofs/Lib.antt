@@ -1,3 +1,4 @@
 mod ArrivalLaws
+pub mod LengthLaws
 pub mod WaitingLaws
 pub mod NumberLaws

@@ -1,4 +1,4 @@
--- How the bytes of a request come out of a source. Own limit: 2,000,000 reads.
+-- How the bytes of a request come out of a source. Own limits: 2,000,000 reads, of 16,384 bytes at most.
 --     IsReadByNeed reading front last      bytes that still needed more were read, and then these by the last read
 --     HasArrived reading text      the text was read: it is decided, or the input ended behind it
 --     IsNotRead reading      no request was read: a read failed, or all were made
@@ -16,8 +16,12 @@ use Rattle.clock_connections.specs.declared.arrival.Unread.TheVariants as unread
 abbrev pub most_request_reads : ℕ
 most_request_reads = 2000000
 
--- every read was needed: the bytes that came before the last read still needed more, and each read but the last took one of
--- them at least or was interrupted
+-- how many bytes one read brings at most
+abbrev pub most_piece : ℕ
+most_piece = 16384
+
+-- every read was needed: the bytes that came before the last read still needed more, and each read but the last took
+-- one of them at least or was interrupted
 pub record IsReadByNeed (reading : Reading) (front last : List ℕ) : Type 0 where
   pub read : HasRead reading.before.left reading.after.left (front ++ last)
   pub needed : needs_more front ≡ true
@@ -31,6 +35,7 @@ IsLast left text last = IsDecided text ⊎ ((last ≡ []) × IsReadOut left)
 pub record Arrives (reading : Reading) (text front last : List ℕ) : Type 0 where
   pub is : text ≡ front ++ last
   pub by_need : IsReadByNeed reading front last
+  pub short : length last ≤ most_piece
   pub ends : IsLast reading.after.left text last
   pub unfailed : reading.after.has_failed ≡ false
 
@@ -53,8 +58,8 @@ IsNotRead reading =
 abbrev pub HasNoRoom : Reading → Type 0
 HasNoRoom reading = (front : List ℕ) × (last : List ℕ) × IsReadByNeed reading front last × (reading.after.has_failed ≡ false)
 
--- how reading a request ends: with its text; where a read failed or all reads were made; or for want of memory. An interrupted
--- read is none of these, so it is tried again
+-- how reading a request ends: with its text; where a read failed or all reads were made; or for want of memory. An
+-- interrupted read is none of these, so it is tried again
 abbrev pub EndsArrival : Reading → Result (List ℕ) Unread → Type 0
 EndsArrival reading (Ok text) = HasArrived reading text
 EndsArrival reading (Err unread.Read) = IsNotRead reading

@@ -3,7 +3,7 @@ ghost use Rattle.clock_device.specs.Calls.{count_after};
 ghost use Rattle.clock_device.specs.Told.{IsUnread};
 ghost use Rattle.clock_http.specs.Framing.{needs_more};
 ghost use Rattle.clock_device.specs.inside.Readings.{GrowsByOneAtMost};
-ghost use Rattle.clock_connections.specs.Arrivals.{most_request_reads, EndsArrival};
+ghost use Rattle.clock_connections.specs.Arrivals.{most_piece, most_request_reads, EndsArrival};
 ghost use Rattle.clock_connections.specs.inside.Arrivals.{IsStepOf, is_read_fault};
 
 use clock_device::{NoMemory, Source, Stop, room_for_read};
@@ -43,6 +43,7 @@ fn read_once<R: Source>(
     request: &mut Arriving,
 ) -> Result<bool, Unread>
     requires room { 0 < length piece.old }
+    requires short { length piece.old ≤ most_piece }
     requires needed { needs_more request.old ≡ true }
     requires uncounted { (R.told source.old).interruptions < most_request_reads }
     ensures step { IsStepOf (R.told source.old).left (R.told source.new).left request.old request.new result }

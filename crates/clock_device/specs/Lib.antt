@@ -1,5 +1,6 @@
 pub mod Bounded
 pub mod Calls
+pub mod Lends
 pub mod Decimal
 pub mod Streams
 pub mod Told

@@ -13,8 +13,8 @@ pub record SourceTold : Type 0 where
   pub interruptions : ℕ
   pub has_failed : Bool
 
--- the bytes that were taken, where the sink tells them; how many writes were made, a number that stays at the greatest u64; and
--- whether one of them failed
+-- the bytes that were taken, where the sink tells them; how many writes were made, a number that stays at the greatest
+-- u64; and whether one of them failed
 pub record SinkTold : Type 0 where
   pub taken : Option (List ℕ)
   pub calls : ℕ

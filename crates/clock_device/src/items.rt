@@ -1,11 +1,13 @@
 ghost use Rattle.std.specs.Prelude.{◌≡◌, [], ◌∷◌, ◌++◌, ◌<◌, ◌↔◌, length, replicate, slice_set, IsTrue, OnOk, OnErr};
 ghost use Rattle.std.specs.Prelude.{IfOk};
+ghost use Rattle.std.specs.Borrow.{sem};
+ghost use Rattle.clock_device.specs.Lends.{lends_slice};
 
 use crate::bounded::Bounded;
 use crate::no_memory::NoMemory;
 use std::alloc::Global;
 use std::marker::Model;
-use std::ops::DerefSlice;
+use std::ops::{DerefSlice, DerefSliceMut};
 
 /// A list that owns its items, and is read as a slice of them is. Contracts see the list of the
 /// items.
@@ -83,6 +85,14 @@ impl<T> Items<T> {
         self.held.as_slice()
     }
 
+    /// The items in order, to be changed in their places.
+    pub fn as_mut_slice(&mut self) -> &mut [T]
+        ensures* writes_back { sem 𝓛 (lends_slice T.row self.entry result) }
+        ensures value { result.now ≡ self.old }
+    {
+        self.held.as_mut_slice()
+    }
+
     /// Puts an item in the place of another, which is dropped.
     pub fn set(&mut self, place: usize, item: T)
     where
@@ -101,6 +111,15 @@ impl<T> DerefSlice for Items<T> {
 
     fn deref(&self) -> &[T] {
         self.as_slice()
+    }
+}
+
+impl<T> DerefSliceMut for Items<T> {
+    fn deref_mut(&mut self) -> &mut [T]
+        ensures* writes_back { sem 𝓛 (lends_slice T.row self.entry result) }
+        ensures value { result.now ≡ self.old }
+    {
+        self.as_mut_slice()
     }
 }
 

@@ -1,4 +1,4 @@
-//! Owned lists, bytes in and out, and want of memory: what every crate of the auction stands on.
+//! Owned lists, bytes in and out, and want of memory: what most crates of the auction stand on.
 #![tactic(auto)]
 
 mod bounded;

@@ -1,4 +1,5 @@
 mod PageLaws
+mod PublicLaws
 mod Examples
 mod TokenLaws
 mod OutcomeLaws

@@ -11,10 +11,10 @@ use Rattle.clock_http.specs.Replies.{Answer}
 use Rattle.clock_bodies.specs.declared.put_body.PutBody.{PutBody}
 use Rattle.clock_bodies.specs.declared.close_body.CloseBody.{CloseBody}
 use Rattle.clock_bodies.specs.declared.body_fault.BodyFault.{BodyFault}
-use Rattle.clock_front.specs.declared.tokens.Asker.{Asker}
-use Rattle.clock_front.specs.declared.tokens.Asker.TheVariants.{Nobody, Operator, Bidder}
-use Rattle.clock_front.specs.declared.asked.PageAsked.{PageAsked}
-use Rattle.clock_front.specs.declared.asked.PageAsked.TheVariants as reading
+use Rattle.clock_front.specs.declared.front.tokens.Asker.{Asker}
+use Rattle.clock_front.specs.declared.front.tokens.Asker.TheVariants.{Nobody, Operator, Bidder}
+use Rattle.clock_front.specs.declared.front.asked.PageAsked.{PageAsked}
+use Rattle.clock_front.specs.declared.front.asked.PageAsked.TheVariants as reading
 use Rattle.clock_front.specs.Requests as asked
 use Rattle.clock_front.specs.inside.ShownAsked.{shown_reading}
 use Rattle.clock_front.specs.Outcomes.{Outcome, answer_of, done, refused, page_or_no_round, command_of}
@@ -34,23 +34,8 @@ turned answer away outcome is told = told ∙ sym (ap answer_of is)
 pub reading_other : (setup : SetupFields) (asker : Asker) (what : PageAsked) → command_of setup asker (shown_reading what) ≡ other
 reading_other setup Nobody what = refl
 reading_other setup Operator reading.NoPage = refl
-reading_other setup Operator (reading.NoMethod page) = refl
-reading_other setup Operator reading.Status = refl
-reading_other setup Operator reading.Products = refl
-reading_other setup Operator (reading.Sheet segment) = refl
-reading_other setup Operator reading.Account = refl
-reading_other setup Operator reading.Bids = refl
-reading_other setup Operator (reading.Slip segment) = refl
-reading_other setup Operator reading.Results = refl
 reading_other setup (Bidder b) reading.NoPage = refl
-reading_other setup (Bidder b) (reading.NoMethod page) = refl
-reading_other setup (Bidder b) reading.Status = refl
-reading_other setup (Bidder b) reading.Products = refl
-reading_other setup (Bidder b) (reading.Sheet segment) = refl
-reading_other setup (Bidder b) reading.Account = refl
-reading_other setup (Bidder b) reading.Bids = refl
-reading_other setup (Bidder b) (reading.Slip segment) = refl
-reading_other setup (Bidder b) reading.Results = refl
+reading_other setup _ _ = refl
 
 pub away_other : (setup : SetupFields) (asker : Asker) (code : Code) → command_of setup asker (asked.turned_away code) ≡ other
 away_other setup Nobody code = refl

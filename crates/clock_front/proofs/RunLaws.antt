@@ -1,13 +1,14 @@
--- A run goes on by one text, and each right reply is private.
+-- A run goes on by one text, and each right reply is private, or public.
 use Rattle.std.proofs.Common.{◌≡◌, ℕ, List, [], ◌∷◌, ◌++◌, refl, ◌∙◌, ap, subst, inl, inr}
 use Rattle.clock_terms.specs.Limits.{SetupFields, IsSetup}
 use Rattle.clock_http.specs.Replies.{Answer}
 use Rattle.clock_house.specs.House.{HouseFields}
 use Rattle.clock_front.specs.Fronts.{reply, StandsForTexts, AnswersText}
 use Rattle.clock_front.specs.Headline.{IsRight, Runs}
+use Rattle.clock_front.proofs.PublicLaws.{told_alike}
 use Rattle.clock_front.proofs.TextViews.{answered_from_view, isolated}
 
--- a right reply is private
+-- a right reply is private, or public
 pub right : (setup : SetupFields) (limits : IsSetup setup) (past : List (List ℕ)) (text : List ℕ) (one : Answer)
     → one ≡ reply setup past text → IsRight setup past text one
 right setup limits past text one is = record {
@@ -17,6 +18,7 @@ right setup limits past text one is = record {
     elsewhere = λ other number other_past other_tokens other_lt alike. is
         ∙ isolated setup other bidder number past other_past text limits.tokens other_tokens lt other_lt alike own;
   };
+  public = λ none other other_past other_none same seen. is ∙ told_alike setup other past other_past text none other_none same seen;
 }
 
 -- the next text was replied to, or it found no memory

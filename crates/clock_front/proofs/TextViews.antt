@@ -24,8 +24,8 @@ use Rattle.clock_views.specs.BidderPages.{bids_value, slip_value}
 use Rattle.clock_bodies.specs.declared.put_body.PutBody.{PutBody}
 use Rattle.clock_bodies.specs.declared.close_body.CloseBody.{CloseBody}
 use Rattle.clock_bodies.specs.declared.body_fault.BodyFault.{BodyFault}
-use Rattle.clock_front.specs.declared.tokens.Asker.{Asker}
-use Rattle.clock_front.specs.declared.tokens.Asker.TheVariants as who
+use Rattle.clock_front.specs.declared.front.tokens.Asker.{Asker}
+use Rattle.clock_front.specs.declared.front.tokens.Asker.TheVariants as who
 use Rattle.clock_front.specs.Askers.{asker, HasOwnTokens}
 use Rattle.clock_http.specs.Decimals.{plain_number}
 use Rattle.clock_front.specs.Requests.{Ask, request_of}
@@ -54,17 +54,7 @@ own_put_seen setup b auction round sent = ap (λ t. cond t (own_put sent.round s
 own_seen : (setup : SetupFields) (b : ℕ) (auction : Auction) (asked : Ask) →
     seen_of setup b auction (command_of setup (who.Bidder b) asked) ≡ sheet_put asked
 own_seen setup b auction (ask.put (Ok sent)) = own_put_seen setup b auction 0 sent
-own_seen setup b auction (ask.put (Err fault)) = refl
-own_seen setup b auction (ask.turned_away code) = refl
-own_seen setup b auction (ask.no_method page) = refl
-own_seen setup b auction ask.status = refl
-own_seen setup b auction ask.products = refl
-own_seen setup b auction (ask.sheet segment) = refl
-own_seen setup b auction ask.account = refl
-own_seen setup b auction ask.bids = refl
-own_seen setup b auction (ask.slip segment) = refl
-own_seen setup b auction (ask.close sent) = refl
-own_seen setup b auction ask.results = refl
+own_seen setup b auction _ = refl
 
 -- of what others do the accepted closings are seen, and nothing else
 closing_seen_again : (b : ℕ) (closing : Result ClosedRound CloseFault) → typed_view (closings_of (seen_closing b closing)) ≡ seen_closing b closing
@@ -136,16 +126,8 @@ module _ (setup : PublicSetup) (row : Bidder) (standing_now : Standing) (held : 
   unfolding known_outcome
   same_rounds (ask.slip segment) = same_slip (plain_number segment)
   same_rounds (ask.sheet segment) = same_sheet (plain_number segment)
-  same_rounds (ask.turned_away why) = refl
-  same_rounds (ask.no_method page) = refl
-  same_rounds ask.status = refl
-  same_rounds ask.products = refl
-  same_rounds ask.account = refl
-  same_rounds ask.bids = refl
   same_rounds (ask.put (Ok body)) = refl
-  same_rounds (ask.put (Err fault)) = refl
-  same_rounds (ask.close body) = refl
-  same_rounds ask.results = refl
+  same_rounds _ = refl
 
 -- ---- what a bidder is told in the whole run
 module _ (setup : SetupFields) (b : ℕ) (lt : b < length setup.bidders) (commands : List Command) where
@@ -191,15 +173,8 @@ module _ (setup : SetupFields) (b : ℕ) (lt : b < length setup.bidders) (comman
   told_of_known (ask.slip segment) = ap page_or_no_round (named_slip (plain_number segment))
   told_of_known (ask.sheet segment) = ap page_or_no_round (named_sheet (plain_number segment))
   told_of_known ask.bids = ap (λ sheet. done (bids_value (standing setup.products (history setup commands).closed).round sheet)) own_sheet
-  told_of_known (ask.turned_away why) = refl
-  told_of_known (ask.no_method page) = refl
-  told_of_known ask.status = refl
-  told_of_known ask.products = refl
-  told_of_known ask.account = refl
   told_of_known (ask.put (Ok body)) = refl
-  told_of_known (ask.put (Err fault)) = refl
-  told_of_known (ask.close body) = refl
-  told_of_known ask.results = refl
+  told_of_known _ = refl
 
   -- what is known in the run is what the view tells
   pub told_of_view : (asked : Ask) →
@@ -233,18 +208,8 @@ module _ (setup : SetupFields) (b : ℕ) (lt : b < length setup.bidders) (comman
 told_by_known : (setup : PublicSetup) (row : Bidder) (view : List Seen) (asked : Ask) →
     known_outcome setup row (known_from setup row view) asked ≡ bidder_outcome setup row view asked
 unfolding known_outcome bidder_outcome
-told_by_known setup row view (ask.turned_away why) = refl
-told_by_known setup row view (ask.no_method page) = refl
-told_by_known setup row view ask.status = refl
-told_by_known setup row view ask.products = refl
-told_by_known setup row view (ask.sheet segment) = refl
-told_by_known setup row view ask.account = refl
-told_by_known setup row view ask.bids = refl
 told_by_known setup row view (ask.put (Ok body)) = refl
-told_by_known setup row view (ask.put (Err fault)) = refl
-told_by_known setup row view (ask.slip segment) = refl
-told_by_known setup row view (ask.close body) = refl
-told_by_known setup row view ask.results = refl
+told_by_known setup row view _ = refl
 
 -- ---- the headline
 

@@ -12,8 +12,8 @@ use Rattle.clock_http.specs.Framing.{needs_more}
 use Rattle.clock_http.specs.Replies.{Answer}
 use Rattle.clock_front.specs.Fronts.{AnswersText, IsStruckOut}
 use Rattle.clock_front.specs.Private.{IsPrivateReply}
-use Rattle.clock_front.specs.declared.fed.Fed.{Fed}
-use Rattle.clock_front.specs.declared.fed.Fed.TheVariants.{More, Reply}
+use Rattle.clock_front.specs.declared.hub.fed.Fed.{Fed}
+use Rattle.clock_front.specs.declared.hub.fed.Fed.TheVariants.{More, Reply}
 
 -- the house of the front, and the connections
 pub record HubFields : Type 0 where

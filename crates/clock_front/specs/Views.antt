@@ -1,4 +1,4 @@
--- What one bidder sees of a list of request texts, and what it is answered by that alone.
+-- What one bidder sees of a list of request texts, and what it is answered by that alone; and what everybody sees.
 --     is_own row text      the request is the bidder's: its head has the bidder's token
 --     SeenText      an own request, or an accepted closing as the round's sheet and the bidder's slip
 --     text_view setup bidder past      the run, the newest first, with every request struck out that is not the bidder's own,
@@ -6,7 +6,9 @@
 --     bidder_outcome setup row view ask      what a bidder is told by its sheets and closings: no rival, and no number
 --         of bidders, is an argument
 --     answer setup row view text      the reply to an own request, by the public set-up, the bidder's row and its view
-use Rattle.std.specs.Prelude.{ℕ, Bool, false, List, [], ◌∷◌, ◌++◌, if◌then◌else◌, Option, option_map, option_and_then, Ok, Err}
+--     IsOfNobody setup text      the request has no token, or one that nobody of the set-up has
+--     public_view setup past      what everybody sees of the run: the sheets of the closed rounds
+use Rattle.std.specs.Prelude.{◌≡◌, ℕ, Bool, false, List, [], ◌∷◌, ◌++◌, map, if◌then◌else◌, Option, option_map, option_and_then, Ok, Err}
 use Rattle.std.specs.Option.{option_map_or}
 use Rattle.clock_terms.specs.declared.setup.Bidder.{Bidder}
 use Rattle.clock_terms.specs.Limits.{SetupFields, PublicSetup}
@@ -23,6 +25,8 @@ use Rattle.clock_views.specs.BidderPages.{account_value, bids_value, slip_value}
 use Rattle.clock_http.specs.Heads.{same_bytes}
 use Rattle.clock_http.specs.Decimals.{plain_number}
 use Rattle.clock_http.specs.Replies.{Answer}
+use Rattle.clock_front.specs.declared.front.tokens.Asker.TheVariants.{Nobody}
+use Rattle.clock_front.specs.Askers.{asker}
 use Rattle.clock_front.specs.Requests.{Ask, request_of}
 use Rattle.clock_front.specs.Requests as asked
 use Rattle.clock_front.specs.Outcomes.{Outcome, done, refused, not_allowed, answer_of, body_code, page_or_no_round, put_outcome}
@@ -98,3 +102,13 @@ bidder_outcome setup row view asked.results = refused (alone code.Role)
 -- the reply to an own request
 abbrev pub answer : PublicSetup → Bidder → List SeenText → List ℕ → Answer
 answer setup row view text = answer_of (bidder_outcome setup row (typed_view view) (request_of text).ask)
+
+-- ---- what everybody sees
+
+-- the request has no token, or one that nobody of the set-up has
+abbrev pub IsOfNobody : SetupFields → List ℕ → Type 0
+IsOfNobody setup text = asker setup (request_of text).token ≡ Nobody
+
+-- what everybody sees of all texts: the sheets of the closed rounds, the newest first
+abbrev pub public_view : SetupFields → List (List ℕ) → List RoundSheet
+public_view setup past = map (λ closed. closed.sheet) (history setup (commands_of setup past)).closed

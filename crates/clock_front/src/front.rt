@@ -12,23 +12,30 @@ ghost use Rattle.clock_front.specs.inside.Private.{IsToldAsker};
 ghost use Rattle.clock_front.specs.Requests.{request_of};
 ghost use Rattle.clock_http.specs.Shown.{IsFramed, Knows, shown_framing};
 ghost use Rattle.clock_front.specs.inside.ShownAsked.{shown_asked};
-ghost use Rattle.clock_front.specs.inside.HeldTokens.{IsTableOf};
-ghost use Rattle.clock_front.specs.inside.KeptPage.{IsProductsPage};
 
-use crate::asked::{Asked, asked_of};
-use crate::commands::{answer_close, answer_put};
-use crate::fixed_replies::{fixed_reply, no_memory_reply};
-use crate::telling::{tell, turn_away};
-use crate::tokens::{Asker, Tokens, asker_of, tokens_of};
-use crate::unanswered::Unanswered;
+mod asked;
+mod commands;
+mod fixed_replies;
+mod pages;
+mod telling;
+mod tokens;
+mod unanswered;
+
+use crate::front::asked::{Asked, asked_of};
+use crate::front::commands::{answer_close, answer_put};
+use crate::front::fixed_replies::fixed_reply;
+use crate::front::telling::{tell, turn_away};
+use crate::front::tokens::{Asker, Tokens, asker_of, tokens_of};
 use clock_device::{NoMemory, Text};
 use clock_house::House;
 use clock_http::{Code, Framing, Progress, Reply, Routes, frame};
 use clock_processor::Processor;
 use clock_terms::Setup;
 use clock_views::{Refusal, products_page};
+pub use fixed_replies::no_memory_reply;
 use std::alloc::Global;
 use std::marker::Model;
+pub use unanswered::Unanswered;
 
 /// An auction house that is asked by texts of HTTP.
 ///
@@ -56,37 +63,22 @@ impl<P> Model for Front<P> {
     ghost invariant = { λ f. IsTableOf f.house.setup f.tokens.entries × IsProductsPage f.house.setup f.products };
 }
 
-/// Whose the tokens of a set-up are, the routes of all pages, and the page of products, which never changes.
-fn tables(alloc: Global, setup: &Setup) -> Result<(Tokens, Routes, Text), NoMemory>
-    ensures tokens { IfOk result (λ all. IsTableOf setup.now all.0.entries) }
-    ensures page { IfOk result (λ all. IsProductsPage setup.now all.2) }
-{
-    let tokens = tokens_of(alloc, setup)?;
-    let routes = Routes::new(alloc)?;
-    let products = products_page(alloc, setup)?;
-    Ok((tokens, routes, products))
-}
-
 impl<P: Processor> Front<P> {
     /// A front before its first text: it stands for the empty list.
     pub fn new(alloc: Global, setup: Setup, processor: P) -> Result<Front<P>, NoMemory>
         ensures setup { IfOk result (λ front. front.setup ≡ setup) }
         ensures stands { IfOk result (StandsForTexts []) }
     {
-        let house = House::new(alloc, setup, processor)?;
-        match tables(alloc, house.setup()) {
-            Ok((tokens, routes, products)) => Ok(Front {
-                alloc,
-                house,
-                routes,
-                tokens,
-                products,
-            }),
-            Err(refused) => {
-                drop(house);
-                Err(refused)
-            }
-        }
+        let tokens = tokens_of(alloc, &setup)?;
+        let routes = Routes::new(alloc)?;
+        let products = products_page(alloc, &setup)?;
+        Ok(Front {
+            alloc,
+            house: House::new(alloc, setup, processor)?,
+            routes,
+            tokens,
+            products,
+        })
     }
 
     /// What an asker asks for is told or done, or it is told why not.

@@ -3,15 +3,17 @@ ghost use Rattle.clock_front.specs.Fronts.{IsCutShort};
 ghost use Rattle.clock_http.specs.Framing.{needs_more};
 ghost use Rattle.clock_connections.specs.Connections.{text_of, IsConnected, IsConnectFault};
 ghost use Rattle.clock_front.specs.Hubs.{IsFed, IsFeedFault, IsAnswered, IsFinishFault};
-ghost use Rattle.clock_front.specs.declared.fed.Fed.TheVariants as fed;
+ghost use Rattle.clock_front.specs.declared.hub.fed.Fed.TheVariants as fed;
 ghost use Rattle.clock_front.specs.inside.Hubs.{hub_of};
 
-use crate::fed::Fed;
+mod fed;
+
 use crate::front::Front;
 use clock_connections::{Conn, Connections, HubFault};
 use clock_device::NoMemory;
 use clock_http::Reply;
 use clock_processor::Processor;
+pub use fed::Fed;
 use std::alloc::Global;
 use std::marker::Model;
 

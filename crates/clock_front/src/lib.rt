@@ -6,31 +6,15 @@
 //! sink. Where a request ends is a matter of its bytes alone, and of clock_http.
 #![tactic(auto)]
 
-mod asked;
-mod commands;
-mod events;
-mod fed;
-mod fixed_replies;
 mod front;
 mod hub;
-mod numbered;
-mod pages;
 mod runs;
 mod stream;
-mod stream_fault;
-mod telling;
-mod tokens;
-mod unanswered;
 
 pub use clock_bodies::{BodyFault, CloseBody, PutBody, read_close, read_put};
 pub use clock_connections::{Conn, Event, HubFault, Unread, read_request};
 pub use clock_http::{Framing, Head, Page, Progress, Reply, frame};
-pub use events::EventReply;
-pub use fed::Fed;
-pub use fixed_replies::no_memory_reply;
-pub use front::Front;
-pub use hub::Hub;
-pub use runs::{EventReplies, Replies, run, run_events};
-pub use stream::serve_stream;
-pub use stream_fault::StreamFault;
-pub use unanswered::Unanswered;
+pub use front::{Front, Unanswered, no_memory_reply};
+pub use hub::{Fed, Hub};
+pub use runs::{EventReplies, EventReply, Replies, run, run_events};
+pub use stream::{StreamFault, serve_stream};

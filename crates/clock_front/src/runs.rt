@@ -3,14 +3,17 @@ ghost use Rattle.clock_front.specs.Fronts.{StandsForTexts};
 ghost use Rattle.clock_front.specs.Headline.{IsRun, IsEventRun};
 ghost use Rattle.clock_connections.specs.inside.Numbers.{Stands};
 
-use crate::events::EventReply;
+mod events;
+mod numbered;
+
 use crate::front::Front;
-use crate::numbered::NumberedHub;
+use crate::runs::numbered::NumberedHub;
 use clock_connections::Event;
 use clock_device::{Items, NoMemory, Text};
 use clock_http::Reply;
 use clock_processor::Processor;
 use clock_terms::Setup;
+pub use events::EventReply;
 use std::alloc::Global;
 
 /// Replies in the order of their requests.
@@ -40,7 +43,8 @@ fn answer_each<P: Processor>(
 ///
 /// A reply of want of memory has done nothing, and its text is struck out. Every other reply is the right one; to a
 /// bidder's own request it is a function of the public set-up, the bidder's row and what the bidder sees of the run, so
-/// that every other run in which a bidder sees the same gives it the same bytes.
+/// that every other run in which a bidder sees the same gives it the same bytes. To a request with no token, or with one
+/// that nobody has, it is a function of the public set-up and the sheets of the closed rounds.
 pub fn run<P: Processor>(
     alloc: Global,
     setup: Setup,

@@ -4,13 +4,14 @@ ghost use Rattle.clock_connections.specs.Arrivals.{most_request_reads};
 ghost use Rattle.clock_front.specs.Fronts.{StandsForTexts};
 ghost use Rattle.clock_front.specs.Streamed.{HasServed, IsServed};
 
-use crate::fixed_replies::no_memory_reply;
-use crate::front::Front;
-use crate::stream_fault::StreamFault;
+mod fault;
+
+use crate::front::{Front, no_memory_reply};
 use clock_connections::{Unread, read_request};
 use clock_device::{Sink, Source, write_all};
 use clock_http::Code;
 use clock_processor::Processor;
+pub use fault::StreamFault;
 use std::alloc::Global;
 
 /// Reads one request, answers it, and writes its reply. What the request did is told by the code of the reply.

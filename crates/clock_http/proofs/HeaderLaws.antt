@@ -9,7 +9,7 @@ use Rattle.httparse.specs.declared.spans.Span.{Span}
 use Rattle.httparse.specs.declared.spans.HeaderSpan.{HeaderSpan}
 use Rattle.httparse.specs.Spans.{header_bytes, span_bytes, IsWithin}
 use Rattle.clock_http.specs.Heads.{same_bytes}
-use Rattle.clock_http.specs.declared.headers.Lines.{Lines}
+use Rattle.clock_http.specs.declared.headers.HeaderLines.{HeaderLines}
 use Rattle.clock_http.specs.HeaderLines.{is_named, values_of, length_from, within_limit, unless_coded, bearer, token_from}
 use Rattle.clock_http.specs.inside.HeadFields.{Pairs, AreLinesOf}
 
@@ -44,7 +44,7 @@ last_only (x ∷ []) a b e = absurd cc
 last_only (x ∷ (y ∷ rest)) a b e = absurd cc
 
 -- a line of the name
-pub line_added : (text wanted name : List ℕ) (pairs : Pairs) (lines new : Lines) (value : Span) → AreLinesOf text wanted pairs lines
+pub line_added : (text wanted name : List ℕ) (pairs : Pairs) (lines new : HeaderLines) (value : Span) → AreLinesOf text wanted pairs lines
     → IsWithin (length text) value → is_named wanted (name, span_bytes text value) ≡ true → new ≡ record { count = lines.count + 1; value = value }
     → AreLinesOf text wanted (pairs ++ (name, span_bytes text value) ∷ []) new
 line_added text wanted name pairs lines new value are inside is made =
@@ -57,7 +57,7 @@ line_added text wanted name pairs lines new value are inside is made =
     })
 
 -- a line of another name
-pub line_passed : (text wanted name bytes : List ℕ) (pairs : Pairs) (lines : Lines) → AreLinesOf text wanted pairs lines
+pub line_passed : (text wanted name bytes : List ℕ) (pairs : Pairs) (lines : HeaderLines) → AreLinesOf text wanted pairs lines
     → is_named wanted (name, bytes) ≡ false → AreLinesOf text wanted (pairs ++ (name, bytes) ∷ []) lines
 line_passed text wanted name bytes pairs lines are is =
     let same = values_more wanted name bytes pairs false is ∙ append-nil (values_of wanted pairs) in
@@ -68,7 +68,7 @@ line_passed text wanted name bytes pairs lines are is =
     }
 
 -- one header more
-pub header_taken : (text wanted name : List ℕ) (headers : List HeaderSpan) (i : ℕ) (d : HeaderSpan) (lines new : Lines) → i < length headers
+pub header_taken : (text wanted name : List ℕ) (headers : List HeaderSpan) (i : ℕ) (d : HeaderSpan) (lines new : HeaderLines) → i < length headers
     → name ≡ span_bytes text (get_or headers i d).name
     → ((text : List ℕ) (pairs : Pairs) → AreLinesOf text wanted pairs lines → IsWithin (length text) (get_or headers i d).value
     → AreLinesOf text wanted (pairs ++ (name, span_bytes text (get_or headers i d).value) ∷ []) new)

@@ -9,5 +9,4 @@ pub mod ProgressLaws
 pub mod FramedLaws
 mod RoutePages
 mod RouteLaws
-mod ReplyLaws
 mod Examples

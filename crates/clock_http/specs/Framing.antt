@@ -4,9 +4,11 @@
 --     needs_more text      it is incomplete
 --     IsDecided text      the text is a request or refused, whatever follows
 --     head_in text      the head of a text, also where its body is refused or still to come
---     known text      what is kept of a text so far: nothing but its length, its head while its body still comes, all, or a refusal
+--     known text      what is kept of a text so far: nothing but its length, its head while its body still comes, all,
+--         or a refusal
 --     advanced known text      what is known of a longer text, by what was known of its beginning
--- The order of the refusals is this server's own. They are looked at only once a head has ended, or where it is too long.
+-- The order of the refusals is this server's own. They are looked at only once a head has ended, or where it is too
+-- long.
 use Rattle.std.specs.Prelude.{◌≡◌, ℕ, ◌+◌, ◌-◌, Bool, true, false, List, length, take, drop, if◌then◌else◌, ◌==◌, nat_lt, Option, Some, None, option_and_then, Result}
 use Rattle.std.specs.Prelude.{Ok, Err}
 use Rattle.std.specs.List.{before_first}
@@ -66,7 +68,8 @@ pub data Framing : Type 0 where
   refusal : Code → Framing
   whole : Head → List ℕ → Framing
 
--- a head of n bytes and the body that its lines tell, once that has come; bytes after the body are no part of the request
+-- a head of n bytes and the body that its lines tell, once that has come; bytes after the body are no part of the
+-- request
 abbrev pub framed_head : ℕ → List ℕ → Result (Head × ℕ) Code → Framing
 framed_head n text (Err fault) = refusal fault
 framed_head n text (Ok read) = if nat_lt (length text) (n + read.1) then incomplete else whole read.0 (take read.1 (drop n text))
@@ -104,8 +107,8 @@ head_in text = option_and_then (λ n. ok_head (ended_head (take n text))) (head_
 
 -- ---- what is known of a text so far
 
--- no head has ended among so many bytes, which are all; a head, its length and its body's, part of which is still to come;
--- the same with a body that has come; a refusal
+-- no head has ended among so many bytes, which are all; a head, its length and its body's, part of which is still to
+-- come; the same with a body that has come; a refusal
 pub data Known : Type 0 where
   unended : ℕ → Known
   waiting : Head → ℕ → ℕ → Known

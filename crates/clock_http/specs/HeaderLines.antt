@@ -1,5 +1,5 @@
--- What the header lines of a head say of its body's length and of its sender. Names are compared without regard to case;
--- a value stands without the spaces and tabs at its ends.
+-- What the header lines of a head say of its body's length and of its sender. Names are compared without regard to
+-- case; a value stands without the spaces and tabs at its ends.
 --     values_of name pairs      the values of the lines of one name, in their order
 --     body_length pairs      how long the body is, or why that can't be told
 --     token_of pairs      what stands behind the word Bearer, in the one line that may have a token

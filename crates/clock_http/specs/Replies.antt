@@ -1,5 +1,5 @@
--- The bytes of a reply (RFC 9112, sections 4 and 5; RFC 9110 for the header lines). Every line ends with CR LF, and nothing
--- stands behind the page.
+-- The bytes of a reply (RFC 9112, sections 4 and 5; RFC 9110 for the header lines). Every line ends with CR LF, and
+-- nothing stands behind the page.
 --     reply_bytes code allowed page      a reply: its status, the methods of the page that was asked for, and its text
 --     Answer      a code and the bytes of its reply
 use Rattle.std.specs.Prelude.{ℕ, List, [], ◌++◌, length, Option, Some, None, codes, decimal}

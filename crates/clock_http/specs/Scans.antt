@@ -1,5 +1,5 @@
--- Where a head ends and how its lines end, by the bytes alone (RFC 9112, section 2.2, in this server's profile: a line ends
--- with CR LF and with nothing else).
+-- Where a head ends and how its lines end, by the bytes alone (RFC 9112, section 2.2, in this server's profile: a line
+-- ends with CR LF and with nothing else).
 --     head_length text      how many bytes there are up to and with the first empty line
 --     line_ends bytes      how many lines end
 --     is_loose bytes      the bytes begin with a line end, or an LF stands without a CR before it

@@ -147,8 +147,7 @@ impl Arriving {
         make_room(&mut self.room, piece.len(), self.progress.awaited())?;
         append(&mut self.room, piece)?;
         self.count = self.room.len();
-        let short = look_on(&mut self.room, &mut self.progress, &mut self.quiet);
-        Ok(short)
+        Ok(look_on(&mut self.room, &mut self.progress, &mut self.quiet))
     }
 
     /// What the bytes are.

@@ -58,13 +58,13 @@ pub enum Code {
     OverActivity,
     /// The increments are not those that a closing may have.
     Increment,
+    /// There are more tie numbers than a closing may have.
+    TooManyTies,
     /// A tie number is for no bidder or no product of the set-up. The page shows its place in the
     /// list, from 0, as it does for the next code.
     TieRange,
     /// A tie number's bidder and product stand earlier in the list.
     TieRepeated,
-    /// There are more tie numbers than a closing may have.
-    TooManyTies,
     /// The next clock price of a product would be too high. The page shows the product's number.
     PriceLimit,
     /// The head is longer, or has more lines, than may be sent.
@@ -118,9 +118,9 @@ impl Code {
             Code::KeepPrice => "keep_price",
             Code::OverActivity => "over_activity",
             Code::Increment => "increment",
+            Code::TooManyTies => "too_many_ties",
             Code::TieRange => "tie_range",
             Code::TieRepeated => "tie_repeated",
-            Code::TooManyTies => "too_many_ties",
             Code::PriceLimit => "price_limit",
             Code::LongHead => "long_head",
             Code::Coding => "coding",
@@ -153,9 +153,9 @@ impl Code {
             | Code::KeepPrice
             | Code::OverActivity
             | Code::Increment
+            | Code::TooManyTies
             | Code::TieRange
             | Code::TieRepeated
-            | Code::TooManyTies
             | Code::PriceLimit => StatusCode::UNPROCESSABLE_ENTITY,
             Code::LongHead => StatusCode::REQUEST_HEADER_FIELDS_TOO_LARGE,
             Code::Coding => StatusCode::NOT_IMPLEMENTED,

@@ -1,13 +1,11 @@
-ghost use Rattle.std.specs.Prelude.{◌≡◌, ℕ, List, length, option_map, codes};
-ghost use Rattle.httparse.specs.Spans.{span_bytes};
+ghost use Rattle.std.specs.Prelude.{◌≡◌, ℕ, List, length, codes};
 ghost use Rattle.clock_http.specs.Framing.{needs_more as needs_more_of};
 ghost use Rattle.clock_http.specs.Heads.{same_bytes};
-ghost use Rattle.clock_http.specs.Shown.{Knows, IsFramed, IsHeadWithin, IsSomeWithin, shown_ended, shown_head, shown_bytes};
+ghost use Rattle.clock_http.specs.Shown.{Knows, IsFramed, IsHeadWithin, shown_ended, shown_head};
 
 use crate::code::Code;
 use crate::head::EndedHead;
 use crate::progress::Progress;
-use httparse::spans::Span;
 
 /// What is kept of a request's head. All parts are slices of its text.
 #[derive(Clone, Copy, Debug)]
@@ -40,17 +38,6 @@ impl Head<'_> {
     }
 }
 
-/// The bytes of a token, where there is one.
-fn token_in(text: &[u8], token: Option<Span>) -> Option<&[u8]>
-    requires { IsSomeWithin (length text.now) token }
-    ensures { shown_bytes result ≡ option_map (span_bytes text.now) token }
-{
-    match token {
-        Some(span) => Some(span.of(text)),
-        None => None,
-    }
-}
-
 /// The parts of an ended head.
 pub(crate) fn head_in(text: &[u8], head: EndedHead) -> Head<'_>
     requires { IsHeadWithin (length text.now) head }
@@ -59,7 +46,7 @@ pub(crate) fn head_in(text: &[u8], head: EndedHead) -> Head<'_>
     Head {
         method: head.method.of(text),
         path: head.path.of(text),
-        token: token_in(text, head.token),
+        token: head.token.map(|span| span.of(text)),
     }
 }
 

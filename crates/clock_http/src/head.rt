@@ -17,7 +17,8 @@ use httparse::spans::{EMPTY_HEADER_SPAN, HeaderSpan, RequestSpans, Span, parse_r
 /// The most header lines of a head.
 const LINE_LIMIT: usize = 64;
 
-/// How many header lines most heads have at most. Each place is cleared before it is written, so few are made for those.
+/// How many header lines most heads have at most. Each place is cleared before it is written, so few are made for
+/// those.
 const FEW_LINES: usize = 8;
 
 /// Where the parts of an ended head stand in its text, and how long it and its body are.

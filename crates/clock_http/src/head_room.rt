@@ -32,10 +32,7 @@ impl From<NoRoom> for NoMemory {
 fn with_head(page: u128) -> Option<usize>
     ensures { IfSome result (λ bytes. bytes ≡ HEAD_ROOM + page) }
 {
-    match usize::try_from(page) {
-        Ok(page) => HEAD_ROOM.checked_add(page),
-        Err(_) => None,
-    }
+    HEAD_ROOM.checked_add(usize::try_from(page).ok()?)
 }
 
 /// A text with room for a head, and behind it for a page of so many bytes. It is the only memory that the reply takes.
@@ -47,13 +44,11 @@ pub fn text_with_room(alloc: Global, page: u128) -> Result<Bounded<u8>, NoRoom>
     let Some(bytes) = with_head(page) else {
         return Err(NoRoom { page });
     };
-    match Text::with_capacity(alloc, bytes) {
-        Ok(mut text) => {
-            text.extend_from_slice(&[0; HEAD_ROOM]);
-            Ok(text)
-        }
-        Err(_) => Err(NoRoom { page }),
-    }
+    let Ok(mut text) = Text::with_capacity(alloc, bytes) else {
+        return Err(NoRoom { page });
+    };
+    text.extend_from_slice(&[0; HEAD_ROOM]);
+    Ok(text)
 }
 
 /// Writes bytes right before a place of a text, and tells where they begin.
@@ -65,8 +60,6 @@ pub(crate) fn put_before(text: &mut Text, end: usize, piece: &[u8]) -> usize
     ensures put { drop result text.new ≡ piece.now ++ drop end text.old }
 {
     let start = end - piece.len();
-    for (i, byte) in piece.iter().enumerate() {
-        text.set(start + i, *byte);
-    }
+    text[start..end].copy_from_slice(piece);
     start
 }

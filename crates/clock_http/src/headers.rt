@@ -25,7 +25,7 @@ const BEARER: &[u8] = b"bearer ";
 
 /// The header lines of one name: how many there are, and where the value of the last one stands.
 #[derive(Clone, Copy, Debug)]
-pub(crate) struct Lines {
+pub(crate) struct HeaderLines {
     count: usize,
     value: Span,
 }
@@ -33,20 +33,20 @@ pub(crate) struct Lines {
 /// The header lines that are looked at, each name's by themselves.
 #[derive(Clone, Copy, Debug)]
 pub(crate) struct Fields {
-    coding: Lines,
-    length: Lines,
-    authorization: Lines,
+    coding: HeaderLines,
+    length: HeaderLines,
+    authorization: HeaderLines,
 }
 
 /// No line of a name.
-const NO_LINES: Lines = Lines {
+const NO_LINES: HeaderLines = HeaderLines {
     count: 0,
     value: Span { start: 0, end: 0 },
 };
 
-impl Lines {
+impl HeaderLines {
     /// These, and the line of another name or of this one, which is told in letters of any case.
-    fn and(self, wanted: &[u8], name: &[u8], value: Span) -> Lines
+    fn and(self, wanted: &[u8], name: &[u8], value: Span) -> HeaderLines
         requires { self.count < usize.MAX }
         ensures lines { (text : List ℕ) (pairs : Pairs) → AreLinesOf text wanted.now pairs self
             → IsWithin (length text) value
@@ -54,7 +54,7 @@ impl Lines {
         ensures few { result.count ≤ self.count + 1 }
     {
         if name.eq_ignore_ascii_case(wanted) {
-            Lines {
+            HeaderLines {
                 count: self.count + 1,
                 value,
             }
@@ -116,10 +116,7 @@ fn token_start(value: &[u8]) -> Option<usize>
     ensures within { IfSome result (λ start. start ≤ length value.now) }
     ensures shown { option_map (λ start. drop start value.now) result ≡ lines.bearer value.now }
 {
-    if value.len() < BEARER.len() {
-        return None;
-    }
-    let (word, rest) = value.split_at(BEARER.len());
+    let (word, rest) = value.split_at_checked(BEARER.len())?;
     if word.eq_ignore_ascii_case(BEARER) {
         Some(BEARER.len() + leading_spaces(rest))
     } else {

@@ -1,4 +1,4 @@
-ghost use Rattle.std.specs.Prelude.{◌≡◌, ◌+◌, ◌≤◌, ◌<◌, ℕ, List, [], length, take, Some, None, nat_lt};
+ghost use Rattle.std.specs.Prelude.{◌≡◌, ◌+◌, ◌≤◌, ◌<◌, ℕ, List, [], length, take, Some, None};
 ghost use Rattle.clock_http.specs.Scans.{head_length as length_of_head};
 ghost use Rattle.clock_http.specs.Framing as spec;
 ghost use Rattle.clock_http.specs.Shown.{Knows, KnowsOfStart, IsHeadWithin, shown_ended, shown_progress, IsProgressWithin};
@@ -24,14 +24,6 @@ pub enum Progress {
     Refused(Code),
 }
 
-/// Whether the body of an ended head has not come whole in a text of so many bytes.
-fn awaits_body(head: &EndedHead, count: usize) -> bool
-    requires { head.now.length ≤ count }
-    ensures { result ≡ nat_lt count (head.now.length + head.now.body) }
-{
-    count - head.length < head.body
-}
-
 /// What is known where a head has ended in a text of so many bytes.
 fn with_body(head: EndedHead, count: usize) -> Progress
     requires { IsHeadWithin count head }
@@ -39,7 +31,7 @@ fn with_body(head: EndedHead, count: usize) -> Progress
         ≡ spec.known_with_body count (shown_ended text head) head.length head.body }
     ensures within { IsProgressWithin count result }
 {
-    if awaits_body(&head, count) {
+    if count - head.length < head.body {
         Progress::Waiting(head)
     } else {
         Progress::Complete(head)

@@ -1,6 +1,6 @@
 ghost use Rattle.std.specs.Prelude.{◌≡◌, ◌≤◌, ◌++◌, drop, length, codes};
 ghost use Rattle.clock_http.specs.Replies.{allow_line, challenge_line, reply_bytes};
-ghost use Rattle.clock_http.specs.inside.ReplyLines.{reason_of, status_line, lines_and_page};
+ghost use Rattle.clock_http.specs.inside.ReplyLines.{status_line, lines_and_page};
 
 use crate::code::Code;
 use crate::head_room::{HEAD_ROOM, put_before};
@@ -9,9 +9,15 @@ use clock_device::Text;
 use itoa::Buffer;
 use std::marker::Model;
 
+/// The most bytes of each piece of a head that depends on the code or the page: a reason phrase has 31.
+const LONGEST_PIECE: usize = 31;
+
+/// How many bytes of the room are left for the status line, when the other lines stand.
+const STATUS_ROOM: usize = 100;
+
 /// A text from a place on.
 #[derive(Drop)]
-struct Written {
+struct TextFrom {
     text: Text,
     start: usize,
     ghost within: { start ≤ length text },
@@ -19,25 +25,16 @@ struct Written {
 
 /// Bytes that are always the same, or that were written.
 #[derive(Drop)]
-enum Held {
+enum ReplyBytes {
     Constant(&'static [u8]),
-    Written(Written),
-}
-
-impl Written {
-    /// The bytes from that place on.
-    fn bytes(&self) -> &[u8]
-        ensures { result.now ≡ drop self.now.start self.now.text }
-    {
-        &self.text.as_slice()[self.start..]
-    }
+    Written(TextFrom),
 }
 
 /// What a request is answered with.
 #[derive(Drop)]
 pub struct Reply {
     code: Code,
-    held: Held,
+    held: ReplyBytes,
 }
 
 impl Model for Reply {
@@ -52,25 +49,20 @@ impl Model for Reply {
 /// The line that tells a page's methods, where another was asked for.
 fn allow_bytes(allowed: Option<Page>) -> &'static [u8]
     ensures bytes { result.now ≡ allow_line allowed }
-    ensures short { length result.now ≤ 20 }
+    ensures short { length result.now ≤ LONGEST_PIECE }
 {
     match allowed {
         None => b"",
         Some(Page::Bids) => b"allow: GET, PUT\r\n",
         Some(Page::Close) => b"allow: POST\r\n",
-        Some(Page::Status) => b"allow: GET\r\n",
-        Some(Page::Products) => b"allow: GET\r\n",
-        Some(Page::Sheet) => b"allow: GET\r\n",
-        Some(Page::Account) => b"allow: GET\r\n",
-        Some(Page::Slip) => b"allow: GET\r\n",
-        Some(Page::Results) => b"allow: GET\r\n",
+        Some(_) => b"allow: GET\r\n",
     }
 }
 
 /// The line that asks for a token, where one is missing, and the empty line.
 fn last_lines(code: Code) -> &'static [u8]
     ensures bytes { result.now ≡ challenge_line code ++ codes "\r\n" }
-    ensures short { length result.now ≤ 30 }
+    ensures short { length result.now ≤ LONGEST_PIECE }
 {
     if code == Code::Token {
         b"www-authenticate: Bearer\r\n\r\n"
@@ -79,19 +71,11 @@ fn last_lines(code: Code) -> &'static [u8]
     }
 }
 
-/// The words behind a status.
-fn reason(code: Code) -> &'static [u8]
-    ensures bytes { result.now ≡ reason_of code }
-    ensures short { length result.now ≤ 31 }
-{
-    code.reason().as_bytes()
-}
-
 /// Writes the header lines of a reply before its page, and tells where they begin.
 fn put_lines(text: &mut Text, code: Code, allowed: Option<Page>) -> usize
     requires { HEAD_ROOM ≤ length text.old }
     ensures bytes { drop result text.new ≡ lines_and_page code allowed (drop HEAD_ROOM text.old) }
-    ensures room { 100 ≤ result }
+    ensures room { STATUS_ROOM ≤ result }
     ensures within { result ≤ length text.new }
 {
     let page = text.as_slice().len() - HEAD_ROOM;
@@ -105,14 +89,14 @@ fn put_lines(text: &mut Text, code: Code, allowed: Option<Page>) -> usize
 
 /// Writes the status line before the other lines, and tells where it begins.
 fn put_status(text: &mut Text, lines: usize, code: Code) -> usize
-    requires room { 100 ≤ lines }
+    requires room { STATUS_ROOM ≤ lines }
     requires within { lines ≤ length text.old }
     ensures bytes { drop result text.new ≡ status_line code (drop lines text.old) }
     ensures within { result ≤ length text.new }
 {
     let mut number = Buffer::new();
     let end = put_before(text, lines, b"\r\n");
-    let words = put_before(text, end, reason(code));
+    let words = put_before(text, end, code.reason().as_bytes());
     let space = put_before(text, words, b" ");
     let status = put_before(text, space, number.format(code.status()).as_bytes());
     put_before(text, status, b"HTTP/1.1 ")
@@ -125,7 +109,7 @@ impl Reply {
     {
         Reply {
             code,
-            held: Held::Constant(bytes),
+            held: ReplyBytes::Constant(bytes),
         }
     }
 
@@ -138,7 +122,7 @@ impl Reply {
         let start = put_status(&mut text, lines, code);
         Reply {
             code,
-            held: Held::Written(Written { text, start }),
+            held: ReplyBytes::Written(TextFrom { text, start }),
         }
     }
 
@@ -154,8 +138,8 @@ impl Reply {
         ensures { result.now ≡ self.now.bytes }
     {
         match &self.held {
-            Held::Constant(bytes) => bytes,
-            Held::Written(written) => written.bytes(),
+            ReplyBytes::Constant(bytes) => bytes,
+            ReplyBytes::Written(written) => &written.text.as_slice()[written.start..],
         }
     }
 }

@@ -1,4 +1,4 @@
-ghost use Rattle.std.specs.Prelude.{◌≡◌, ◌+◌, ◌-◌, ◌*◌, [], IfOk, OnOk, Some, None};
+ghost use Rattle.std.specs.Prelude.{◌≡◌, ◌+◌, ◌-◌, ◌*◌, [], OnOk, Some, None};
 ghost use Rattle.clock_http.specs.Heads.{same_bytes};
 ghost use Rattle.clock_http.specs.Routes as spec;
 ghost use Rattle.clock_http.specs.inside.Routing as routing;
@@ -45,15 +45,6 @@ fn add_routes(router: &mut Router<Page>) -> Result<(), InsertError>
     Ok(())
 }
 
-/// The routes of all pages.
-fn router(alloc: Global) -> Result<Router<Page>, InsertError>
-    ensures { IfOk result (λ router. router ≡ routing.table) }
-{
-    let mut router = Router::new(alloc);
-    add_routes(&mut router)?;
-    Ok(router)
-}
-
 /// Whether a method is this one, its letters compared with regard to case.
 fn is_method(method: &[u8], wanted: Method) -> bool
     ensures { result ≡ same_bytes wanted method.now }
@@ -69,27 +60,8 @@ impl Page {
         match self {
             Page::Bids => is_method(method, Method::GET) || is_method(method, Method::PUT),
             Page::Close => is_method(method, Method::POST),
-            Page::Status => is_method(method, Method::GET),
-            Page::Products => is_method(method, Method::GET),
-            Page::Sheet => is_method(method, Method::GET),
-            Page::Account => is_method(method, Method::GET),
-            Page::Slip => is_method(method, Method::GET),
-            Page::Results => is_method(method, Method::GET),
+            _ => is_method(method, Method::GET),
         }
-    }
-}
-
-/// The page that a path names by the routes of all pages.
-fn page_at(router: &Router<Page>, path: &[u8]) -> Option<Page>
-    requires { router.now ≡ routing.table }
-    ensures { result ≡ spec.page_of path.now }
-{
-    let Ok(text) = std::str::from_utf8(path) else {
-        return None;
-    };
-    match router.at(text) {
-        Ok(found) => Some(*found.value),
-        Err(_) => None,
     }
 }
 
@@ -103,8 +75,9 @@ pub struct Routes {
 impl Routes {
     /// The routes of all pages.
     pub fn new(alloc: Global) -> Result<Routes, NoMemory> {
-        match router(alloc) {
-            Ok(router) => Ok(Routes { router }),
+        let mut router = Router::new(alloc);
+        match add_routes(&mut router) {
+            Ok(()) => Ok(Routes { router }),
             Err(_) => Err(NoMemory),
         }
     }
@@ -113,7 +86,13 @@ impl Routes {
     pub fn page_of(&self, path: &[u8]) -> Option<Page>
         ensures { result ≡ spec.page_of path.now }
     {
-        page_at(&self.router, path)
+        let Ok(text) = std::str::from_utf8(path) else {
+            return None;
+        };
+        match self.router.at(text) {
+            Ok(found) => Some(*found.value),
+            Err(_) => None,
+        }
     }
 }
 

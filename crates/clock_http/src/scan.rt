@@ -9,8 +9,8 @@ ghost use Rattle.clock_http.specs.Scans.{head_length as length_of_head, line_end
 
 use memchr::memchr;
 
-/// How many bytes there are up to and with the first empty line, where none begins before a place. It is looked for at each CR,
-/// since each begins with one.
+/// How many bytes there are up to and with the first empty line, where none begins before a place. It is looked for at
+/// each CR, since each begins with one.
 pub(crate) fn head_length(text: &[u8], start: usize) -> Option<usize>
     requires within { start ≤ length text.now }
     requires none { length_of_head text.now ≡ option_map (λ n. start + n) (length_of_head (drop start text.now)) }

@@ -3,8 +3,7 @@
 --     IsCut old new place      the bytes were cut off at the place
 --     CutsTo old new place result      how cutting ends
 --     MayBeLeftOfCut synced written place left      a stop may leave this while the bytes are cut off at the place
---     MemoryState      what contracts see of a disk in memory
-use Rattle.std.specs.Prelude.{◌≡◌, ◌≤◌, ◌⊎◌, ℕ, Bool, List, length, take, Option, Some, None, Result, Ok, Err}
+use Rattle.std.specs.Prelude.{◌≡◌, ◌≤◌, ◌⊎◌, ℕ, List, length, take, Option, Some, None, Result, Ok, Err}
 
 -- all that is synced, and a front of the rest; nothing is said of a file that does not tell its bytes
 abbrev pub MayBeLeft : Option (List ℕ) → Option (List ℕ) → List ℕ → Type 0
@@ -27,9 +26,3 @@ abbrev pub MayBeLeftOfCut : Option (List ℕ) → Option (List ℕ) → ℕ → 
 MayBeLeftOfCut (Some synced) (Some written) place left = (count : ℕ) × ((place ≤ count) ⊎ (length synced ≤ count)) × (left ≡ take count written)
 MayBeLeftOfCut (Some synced) None place left = ⊥
 MayBeLeftOfCut None written place left = ⊥
-
--- what contracts see of a disk in memory
-pub record MemoryState : Type 0 where
-  pub written : List ℕ
-  pub synced : List ℕ
-  pub has_failed : Bool

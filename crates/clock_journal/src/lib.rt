@@ -9,7 +9,6 @@ mod journal;
 mod laws;
 mod link;
 mod machine;
-mod memory_disk;
 mod record;
 mod recovered;
 mod recovery;
@@ -24,7 +23,6 @@ pub use laws::{
 };
 pub use link::{Link, digest_of, link_of};
 pub use machine::{Machine, Untaken};
-pub use memory_disk::MemoryDisk;
 pub use record::{BEFORE_TEXT, MOST_TEXT};
 pub use recovered::Recovered;
 pub use recovery::recover;

@@ -19,8 +19,8 @@ use Rattle.json.specs.Lex.{Class, Lexeme, Place, may_begin, may_close, token, co
 use Rattle.json.specs.Align.{is_blank}
 use Rattle.clock_json.specs.Left.{place_of}
 use Rattle.clock_json.specs.inside.Marks.{IsMark}
-use Rattle.clock_json.specs.declared.place.Place as kinds
-use Rattle.clock_json.specs.declared.place.Place.TheVariants as ours
+use Rattle.clock_json.specs.declared.expected.Expected.{Expected}
+use Rattle.clock_json.specs.declared.expected.Expected.TheVariants as ours
 use Rattle.json.proofs.Printed.Numbers.{lex-number, in_word-ended}
 use Rattle.json.proofs.Printed.Decimals.{IsNumber-decimal}
 
@@ -145,7 +145,7 @@ pub comma_follows : (ls ms : List Lexeme) → ls ≡ comma ∷ ms → punctuate 
 unfolding punctuate
 comma_follows ls ms is = ap (punctuate lexer.after_value) is
 
-pub nothing_left : (place : kinds.Place) (ls : List Lexeme) → may_begin (place_of place) ≡ false → ls ≡ [] → punctuate (place_of place) ls ≡ []
+pub nothing_left : (expected : Expected) (ls : List Lexeme) → may_begin (place_of expected) ≡ false → ls ≡ [] → punctuate (place_of expected) ls ≡ []
 unfolding punctuate
 nothing_left ours.Fresh ls h is = absurd (true≢false h)
 nothing_left ours.AfterValue ls h is = ap (punctuate lexer.after_value) is

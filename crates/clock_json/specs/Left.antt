@@ -3,15 +3,15 @@ use Rattle.std.specs.Prelude.{ℕ, List}
 use Rattle.json.specs.Token.{Token}
 use Rattle.json.specs.Lex as lexer
 use Rattle.json.specs.Lex.{lex, between, punctuate}
-use Rattle.clock_json.specs.declared.place.Place.{Place}
-use Rattle.clock_json.specs.declared.place.Place.TheVariants.{Fresh, AfterValue, AfterComma}
+use Rattle.clock_json.specs.declared.expected.Expected.{Expected}
+use Rattle.clock_json.specs.declared.expected.Expected.TheVariants.{Fresh, AfterValue, AfterComma}
 
 -- where the lexer stands
-abbrev pub place_of : Place → lexer.Place
+abbrev pub place_of : Expected → lexer.Place
 place_of Fresh = lexer.fresh
 place_of AfterValue = lexer.after_value
 place_of AfterComma = lexer.after_comma
 
--- the tokens of the bytes that are left, at a place
-abbrev pub left : Place → List ℕ → List Token
-left place text = punctuate (place_of place) (lex between text)
+-- the tokens of the bytes that are left, where this may stand next
+abbrev pub left : Expected → List ℕ → List Token
+left expected text = punctuate (place_of expected) (lex between text)

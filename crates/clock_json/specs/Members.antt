@@ -1,5 +1,6 @@
 -- Fields of an object: its keys by rising bytes, each with the value that was found, where one was.
---     value_at key fields, with_field key value fields      what was found at a key, and the fields with this found there
+--     value_at key fields      what was found at a key
+--     with_field key value fields      the fields with this found there
 --     is_field key fields      the key is one of theirs
 --     ReadsField      the value under one of the keys was read
 use Rattle.std.specs.Prelude.{◌≡◌, ℕ, List, [], ◌∷◌, Bool, true, false, Option, None}

@@ -1,5 +1,5 @@
--- What a JSON text means, by the tree of values that serde_json reads: the value that bytes are, and its parts. An object has a key once: where a document repeats
--- one, the reader keeps the last.
+-- What a JSON text means, by the tree of values that serde_json reads: the value that bytes are, and its parts. An
+-- object has a key once: where a document repeats one, the reader keeps the last.
 --     json bytes      the value that the bytes are
 --     number_at key value, text_at key value, items_at key value      the member of that kind at a key
 --     has_members count value      the value is an object of so many members

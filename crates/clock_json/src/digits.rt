@@ -1,7 +1,7 @@
 //! Numbers of digits alone, whose digits are counted sixteen at a time.
 ghost use Rattle.std.specs.Prelude.{◌≡◌, ◌+◌, ◌≤◌, ◌<◌, ◌^◌, false, drop, get_or, length, take, IfSome};
 ghost use Rattle.std.specs.Str.Parse.{AllDigits, digits_value};
-ghost use Rattle.clock_json.specs.inside.Digits.{AreDigits, IsNumberUpTo};
+ghost use Rattle.clock_json.specs.inside.Digits.{AreDigits, IsNumberUpTo, zero_digit};
 
 use std::simd::prelude::*;
 
@@ -22,13 +22,13 @@ fn digits_ahead(bytes: &[u8], at: usize) -> usize
     }
 }
 
-/// What the last of eight digits, the one before it and so on count. Behind it, nothing counts.
+/// What the first of eight digits, the one behind it and so on count. Behind the eight, nothing counts.
 const WEIGHTS: [u32; 16] = [
     10_000_000, 1_000_000, 100_000, 10_000, 1_000, 100, 10, 1, 0, 0, 0, 0, 0, 0, 0, 0,
 ];
 
-/// The number that the first of eight bytes write, which are digits. All eight are gone through, each by what it counts, since a
-/// loop that ends where the digits do is mostly guessed wrong.
+/// The number that the first of eight bytes write, which are digits. All eight are gone through, each by what it
+/// counts, since a loop that ends where the digits do is mostly guessed wrong.
 #[inline(always)]
 fn value_of(bytes: &[u8], at: usize, count: usize) -> u64
     requires room { at + 8 ≤ length bytes.now }
@@ -49,7 +49,7 @@ fn value_of(bytes: &[u8], at: usize, count: usize) -> u64
 /// Whether digits begin with a zero that is not the only one.
 #[inline(always)]
 pub(crate) fn has_leading_zero(first: u8, count: usize) -> bool
-    ensures { result ≡ false → first ≡ 48 → count ≡ 1 }
+    ensures { result ≡ false → first ≡ zero_digit → count ≡ 1 }
 {
     first == b'0' && count != 1
 }

@@ -1,15 +1,15 @@
-//! JSON texts (RFC 8259), read in two ways that agree. By bytes, without a tree of values, where they have the shape that
-//! is wanted: what is read is what `serde_json` reads, and where nothing is read, nothing is said of the text. And by
-//! `serde_json`'s tree ([`tree`]), which decides every text.
+//! JSON texts (RFC 8259), read in two ways that agree. By bytes, without a tree of values, where they have the shape
+//! that is wanted: what is read is what `serde_json` reads, and where nothing is read, nothing is said of the text. And
+//! by `serde_json`'s tree ([`tree`]), which decides every text.
 #![tactic(auto)]
 
 mod compact;
 mod digits;
+mod expected;
 mod lists;
 mod members;
 mod numbers;
 mod parts;
-mod place;
 mod plain;
 mod room;
 mod rows;

@@ -11,10 +11,10 @@ ghost use Rattle.clock_json.specs.Reading.{whole, numbers, Reads, ReadsAll};
 ghost use Rattle.clock_json.specs.inside.Marks.{IsMark};
 
 use crate::compact::{CompactBid, compact_bid_at};
-use crate::place::Place;
+use crate::expected::Expected;
 use crate::separated::{after_empties, numbers_at};
 use crate::stop::ScanStop;
-use crate::words::{after_space, after_value, byte_at, ends_text, null_at, number_at, quoted};
+use crate::words::{after_space, after_value, byte_at, decimal_at, ends_text, null_at, quoted};
 use std::marker::Model;
 
 /// A text that is being read. Contracts see the tokens that are still to come. A call that reads nothing may leave it
@@ -23,7 +23,7 @@ use std::marker::Model;
 pub struct Scan<'a> {
     bytes: &'a [u8],
     at: usize,
-    place: Place,
+    expected: Expected,
 }
 
 impl<'a> Model for Scan<'a> {
@@ -35,7 +35,7 @@ impl<'a> Model for Scan<'a> {
 
     ghost coded = { tokens_code };
 
-    ghost view = { λ s. left s.place (drop s.at s.bytes.now) };
+    ghost view = { λ s. left s.expected (drop s.at s.bytes.now) };
 }
 
 impl<'a> Scan<'a> {
@@ -46,7 +46,7 @@ impl<'a> Scan<'a> {
         Scan {
             bytes,
             at: 0,
-            place: Place::Fresh,
+            expected: Expected::Fresh,
         }
     }
 
@@ -62,11 +62,11 @@ impl<'a> Scan<'a> {
         ensures { (t : Token) → IsMark may_begin mark t fresh → IsTrue result → self.old ≡ t ∷ self.new }
     {
         let at = after_space(self.bytes, self.at);
-        if !self.place.may_begin() || byte_at(self.bytes, at) != mark {
+        if !self.expected.may_begin() || byte_at(self.bytes, at) != mark {
             return false;
         }
         self.at = at + 1;
-        self.place = Place::Fresh;
+        self.expected = Expected::Fresh;
         true
     }
 
@@ -77,14 +77,14 @@ impl<'a> Scan<'a> {
         ensures { (t : Token) → IsMark may_close mark t after_value
             → MatchBool result (self.old ≡ t ∷ self.new) (self.new ≡ self.old) }
     {
-        if !self.place.may_close() {
+        if !self.expected.may_close() {
             return false;
         }
         let at = after_space(self.bytes, self.at);
         if byte_at(self.bytes, at) != mark {
             return false;
         }
-        (self.place, self.at) = after_value(self.bytes, at + 1);
+        (self.expected, self.at) = after_value(self.bytes, at + 1);
         true
     }
 
@@ -126,7 +126,7 @@ impl<'a> Scan<'a> {
         ensures { IfOk result (λ key. self.old ≡ key_token key.now ∷ self.new) }
     {
         let at = after_space(self.bytes, self.at);
-        if !self.place.may_begin() {
+        if !self.expected.may_begin() {
             return Err(ScanStop::Unusual);
         }
         let (key, at) = quoted(self.bytes, at)?;
@@ -135,7 +135,7 @@ impl<'a> Scan<'a> {
             return Err(ScanStop::Unusual);
         }
         self.at = at + 1;
-        self.place = Place::Fresh;
+        self.expected = Expected::Fresh;
         Ok(key)
     }
 
@@ -146,11 +146,11 @@ impl<'a> Scan<'a> {
         ensures shorter { OnOk result (length self.new < length self.old) }
     {
         let at = after_space(self.bytes, self.at);
-        if !self.place.may_begin() {
+        if !self.expected.may_begin() {
             return Err(ScanStop::Unusual);
         }
-        let (n, at) = number_at(self.bytes, at)?;
-        (self.place, self.at) = after_value(self.bytes, at);
+        let (n, at) = decimal_at(self.bytes, at)?;
+        (self.expected, self.at) = after_value(self.bytes, at);
         Ok(n)
     }
 
@@ -161,12 +161,12 @@ impl<'a> Scan<'a> {
         ensures shorter { IfSome result (λ _. length self.new < length self.old) }
         ensures same { IfNone result (self.new ≡ self.old) }
     {
-        if !self.place.may_begin() {
+        if !self.expected.may_begin() {
             return None;
         }
         let (bid, at) = compact_bid_at(self.bytes, self.at)?;
         self.at = at;
-        self.place = Place::AfterComma;
+        self.expected = Expected::AfterComma;
         Some(bid)
     }
 
@@ -176,7 +176,7 @@ impl<'a> Scan<'a> {
         ensures { OnOk result ((row : List ℕ) × (list.new.items ≡ list.old.items ++ row)
             × ReadsAll 0 self.old (map whole row) self.new) }
     {
-        if !self.place.is_after_comma() {
+        if !self.expected.is_after_comma() {
             return Ok(());
         }
         let end = numbers_at(self.bytes, self.at, list)?;
@@ -190,7 +190,7 @@ impl<'a> Scan<'a> {
     pub fn empty_arrays(&mut self) -> usize
         ensures { ReadsAll 1 self.old (replicate result (numbers [])) self.new }
     {
-        if !self.place.is_after_comma() {
+        if !self.expected.is_after_comma() {
             return 0;
         }
         let (count, at) = after_empties(self.bytes, self.at);
@@ -204,13 +204,13 @@ impl<'a> Scan<'a> {
         ensures { MatchBool result (Reads 0 self.old null self.new) (self.new ≡ self.old) }
     {
         let at = after_space(self.bytes, self.at);
-        if !self.place.may_begin() {
+        if !self.expected.may_begin() {
             return false;
         }
         let Some(at) = null_at(self.bytes, at) else {
             return false;
         };
-        (self.place, self.at) = after_value(self.bytes, at);
+        (self.expected, self.at) = after_value(self.bytes, at);
         true
     }
 
@@ -221,7 +221,7 @@ impl<'a> Scan<'a> {
         ensures shorter { OnOk result (length self.new < length self.old) }
     {
         let at = after_space(self.bytes, self.at);
-        if !self.place.may_begin() {
+        if !self.expected.may_begin() {
             return Err(ScanStop::Unusual);
         }
         let (bytes, at) = quoted(self.bytes, at)?;
@@ -232,7 +232,7 @@ impl<'a> Scan<'a> {
         if !ends_text(byte_at(self.bytes, next)) {
             return Err(ScanStop::Unusual);
         }
-        (self.place, self.at) = after_value(self.bytes, at);
+        (self.expected, self.at) = after_value(self.bytes, at);
         Ok(text)
     }
 
@@ -241,6 +241,6 @@ impl<'a> Scan<'a> {
     pub fn ends(&self) -> bool
         ensures { IsTrue result → self.now ≡ [] }
     {
-        !self.place.may_begin() && after_space(self.bytes, self.at) >= self.bytes.len()
+        !self.expected.may_begin() && after_space(self.bytes, self.at) >= self.bytes.len()
     }
 }

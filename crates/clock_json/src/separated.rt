@@ -8,7 +8,7 @@ ghost use Rattle.clock_json.specs.Reading.{whole, numbers, ReadsAll};
 
 use crate::compact::has_room;
 use crate::digits::{digit_before, digits_up_to};
-use crate::place::Place;
+use crate::expected::Expected;
 use crate::room::push;
 use crate::stop::ScanStop;
 
@@ -39,8 +39,8 @@ fn number_and_comma(bytes: &[u8], at: usize) -> Option<(u64, usize)>
 #[inline(never)]
 pub(crate) fn numbers_at(bytes: &[u8], start: usize, list: &mut Vec<u64>) -> Result<usize, ScanStop>
     ensures { IfOk result (λ end. (row : List ℕ) × (list.new.items ≡ list.old.items ++ row)
-        × ReadsAll 0 (left Place.AfterComma (drop start bytes.now)) (map whole row)
-        (left Place.AfterComma (drop end bytes.now))) }
+        × ReadsAll 0 (left Expected.AfterComma (drop start bytes.now)) (map whole row)
+        (left Expected.AfterComma (drop end bytes.now))) }
 {
     let mut at = start;
     'numbers: while let Some((n, end)) = number_and_comma(bytes, at) {
@@ -64,8 +64,8 @@ fn has_empty(bytes: &[u8], at: usize) -> bool
 /// How many empty lists stand there with a comma right behind each, and where the last comma ends.
 #[inline(always)]
 pub(crate) fn after_empties(bytes: &[u8], start: usize) -> (usize, usize)
-    ensures { ReadsAll 1 (left Place.AfterComma (drop start bytes.now)) (replicate result.0 (numbers []))
-        (left Place.AfterComma (drop result.1 bytes.now)) }
+    ensures { ReadsAll 1 (left Expected.AfterComma (drop start bytes.now)) (replicate result.0 (numbers []))
+        (left Expected.AfterComma (drop result.1 bytes.now)) }
 {
     let mut at = start;
     let mut count = 0usize;

@@ -10,7 +10,7 @@ ghost use Rattle.serde_json.specs.Read.{read};
 ghost use Rattle.clock_json.specs.Left.{left};
 
 use crate::digits::digits_up_to;
-use crate::place::Place;
+use crate::expected::Expected;
 use crate::plain::plain_end;
 use crate::stop::ScanStop;
 
@@ -80,15 +80,15 @@ pub fn is_key(key: &[u8], word: &str) -> bool
 
 /// Passes the comma that may follow a value.
 #[inline(always)]
-pub(crate) fn after_value(bytes: &[u8], start: usize) -> (Place, usize)
+pub(crate) fn after_value(bytes: &[u8], start: usize) -> (Expected, usize)
     ensures { left result.0 (drop result.1 bytes.now)
         ≡ punctuate past_value (lex between (drop start bytes.now)) }
 {
     let at = after_space(bytes, start);
     if byte_at(bytes, at) == b',' {
-        (Place::AfterComma, at + 1)
+        (Expected::AfterComma, at + 1)
     } else {
-        (Place::AfterValue, at)
+        (Expected::AfterValue, at)
     }
 }
 
@@ -129,7 +129,7 @@ fn ends_word(byte: u8) -> bool
 /// The number there in its digits, with no zero before them, below 10^19, and where it ends. It stands apart: within a
 /// caller LLVM keeps the number in memory while its digits are read.
 #[inline(never)]
-pub(crate) fn number_at(bytes: &[u8], at: usize) -> Result<(u64, usize), ScanStop>
+pub(crate) fn decimal_at(bytes: &[u8], at: usize) -> Result<(u64, usize), ScanStop>
     ensures small { IfOk result (λ r. r.0 < 2 ^ 64) }
     ensures value { IfOk result (λ r. lex between (drop at bytes.now)
         ≡ token (number (decimal r.0)) ∷ lex between (drop r.1 bytes.now)) }

@@ -1,15 +1,30 @@
 -- How an answered text is kept, or passed over.
-use Rattle.std.proofs.Common.{◌≡◌, ◌⊎◌, inl, inr, ℕ, true, false, List, [], ◌∷◌, ◌++◌, refl, sym, ap, ◌∙◌, subst}
+use Rattle.std.proofs.Common.{◌≡◌, ◌≤◌, ◌⊎◌, inl, inr, ℕ, true, false, List, [], ◌∷◌, ◌++◌, refl, sym, ap, ◌∙◌, subst, length, arith}
 use Rattle.clock_house.specs.House.{HouseFields}
 use Rattle.clock_house.specs.History.{history}
-use Rattle.clock_http.specs.declared.code.Code.TheVariants.{Done, Memory}
+use Rattle.clock_http.specs.declared.code.Code.TheVariants.{CutShort, Done, Memory}
+use Rattle.clock_http.specs.Framing.{framing, needs_more}
 use Rattle.clock_http.specs.Replies.{Answer}
-use Rattle.clock_front.specs.Fronts.{AnswersText, IsStruckOut, StandsForTexts, reply, text_command, commands_of}
+use Rattle.clock_front.specs.Fronts.{AnswersText, IsCutShort, IsStruckOut, StandsForTexts, reply, text_command, commands_of}
 use Rattle.clock_journal.specs.Kept.{JournalState, HasTexts}
 use Rattle.clock_journal.specs.Reading.{onto}
 use Rattle.clock_keeping.specs.inside.Unchanged.{ChangesNothing}
 use Rattle.clock_keeping.specs.Keeping.{AsksNoChange, IsAccepted, IsInStep, IsKept, StandsForKept, is_get}
 use Rattle.clock_keeping.proofs.Unread.{gets_change_nothing, still_stands, refused_text, unasked_text}
+
+nothing_needs_more : needs_more [] ≡ true
+unfolding framing
+nothing_needs_more = refl
+
+-- the reply to a text that needed more is no page
+not_done : (answer : Answer) → IsCutShort answer → answer.code ≡ Done → ⊥
+not_done answer (inl cut) done = (let both : CutShort ≡ Done = ap (λ (a : Answer). a.code) (sym cut) ∙ done in cc)
+not_done answer (inr none) done = (let both : Memory ≡ Done = ap (λ (a : Answer). a.code) (sym none) ∙ done in cc)
+
+-- so a text that is accepted is not empty
+pub some_bytes : (text : List ℕ) (answer : Answer) → (needs_more text ≡ true → IsCutShort answer) → answer.code ≡ Done → 1 ≤ length text
+some_bytes [] answer short done = absurd (not_done answer (short nothing_needs_more) done)
+some_bytes (byte ∷ rest) answer short done = omega arith
 
 onto-push : (texts : List (List ℕ)) (text : List ℕ) (past : List (List ℕ)) → onto (texts ++ text ∷ []) past ≡ text ∷ onto texts past
 onto-push [] text past = refl

@@ -2,4 +2,4 @@ mod Still
 mod Unread
 mod Untouched
 mod KeptLaws
-mod TakenUp
+pub mod TakenUp

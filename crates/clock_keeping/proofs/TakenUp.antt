@@ -1,40 +1,60 @@
 -- What a machine has taken is what the auction stands for.
-use Rattle.std.proofs.Common.{◌≡◌, List, [], ℕ, Result, Ok, Err, MatchResult, sym, subst}
+use Rattle.std.proofs.Common.{◌≡◌, ◌+◌, List, [], ◌∷◌, ℕ, Result, Ok, Err, MatchResult, length, arith, sym, subst}
 use Rattle.clock_house.specs.House.{HouseFields}
 use Rattle.clock_front.specs.Fronts.{StandsForTexts}
+use Rattle.clock_journal.specs.Reading.{onto}
 use Rattle.clock_journal.specs.Recovering.{HasTaken, IsRecovered, IsRefusal, IsRefusedRightly, IsUntaken}
 use Rattle.clock_journal.specs.declared.fault.JournalFault.{JournalFault}
 use Rattle.clock_journal.specs.declared.recovered.Recovered.{Recovered}
 use Rattle.clock_journal.specs.declared.fault.JournalFault.TheVariants.{Unknown, Setup, Damaged, Refused, NoMemory}
-use Rattle.clock_keeping.specs.Keeping.{HasTakenUp, IsRefused, IsTakenUp}
+use Rattle.clock_keeping.specs.Keeping.{HasTakenUp, IsTakenUp, counted}
 
--- of what a stop has left
-pub has_taken_up : (old new : HouseFields) (texts : List (List ℕ)) (least : ℕ) (result : Result Recovered JournalFault) → StandsForTexts [] old
-    → MatchResult result (λ _. HasTaken (λ (all : List (List ℕ)). StandsForTexts all old) (λ (all : List (List ℕ)). StandsForTexts all new) texts least) IsUntaken
-    → MatchResult result (λ _. HasTakenUp texts least new) IsUntaken
-has_taken_up old new texts least (Ok recovered) stands taken =
-    record { count = taken.count; enough = taken.enough; most = taken.most; stands = taken.stands [] stands }
-has_taken_up old new texts least (Err fault) stands taken = taken
+-- the texts in the other order are as many
+pub length-onto : (texts past : List (List ℕ)) → length (onto texts past) ≡ length texts + length past
+length-onto [] past = omega arith
+length-onto (text ∷ texts) past = omega (arith, length-onto texts (text ∷ past))
 
--- of any file
-pub is_taken_up : (old new : HouseFields) (digest bytes : List ℕ) (result : Result Recovered JournalFault) → StandsForTexts [] old
-    → MatchResult result (IsRecovered (λ (all : List (List ℕ)). StandsForTexts all old) (λ (all : List (List ℕ)). StandsForTexts all new) digest bytes) (IsRefusal digest bytes)
-    → MatchResult result (λ recovered. IsTakenUp digest bytes recovered new) (IsRefusal digest bytes)
-is_taken_up old new digest bytes (Ok recovered) stands taken =
-    record { texts = taken.texts; placed = taken.placed; stands = taken.stands [] stands }
-is_taken_up old new digest bytes (Err fault) stands refusal = refusal
+-- the auction stands for some texts, and they are counted
+abbrev pub IsAt : HouseFields → ℕ → List (List ℕ) → Type 0
+IsAt house count texts = StandsForTexts texts house × (count ≡ counted texts)
 
--- a text that is refused
-pub refused_in : (old : HouseFields) (first bytes : List ℕ) (size : ℕ) (result : Result Recovered JournalFault) → StandsForTexts [] old
-    → MatchResult result (λ _. Unit {0}) (IsRefusedRightly (IsRefused old.setup) (λ (all : List (List ℕ)). StandsForTexts all old) first bytes size)
-    → MatchResult result (λ _. Unit {0}) (IsRefusedRightly (IsRefused old.setup) (λ (past : List (List ℕ)). past ≡ []) first bytes size)
-refused_in old first bytes size (Ok recovered) stands refused = tt
-refused_in old first bytes size (Err Unknown) stands refused = tt
-refused_in old first bytes size (Err Setup) stands refused = tt
-refused_in old first bytes size (Err (Damaged place)) stands refused = tt
-refused_in old first bytes size (Err (Refused place)) stands refused = record {
-  text = refused.text;
-  found = refused.found;
-  refused = λ past none. refused.refused past (subst (λ (all : List (List ℕ)). StandsForTexts all old) (sym none) stands);
-}
-refused_in old first bytes size (Err NoMemory) stands refused = tt
+module _ (old : List (List ℕ) → Type 0) (begun : old []) where
+  -- of what a stop has left
+  pub has_taken_up : (new : HouseFields) (count : ℕ) (texts : List (List ℕ)) (least : ℕ) (result : Result Recovered JournalFault)
+      → MatchResult result (λ _. HasTaken old (IsAt new count) texts least) IsUntaken → MatchResult result (λ _. HasTakenUp texts least new) IsUntaken
+  has_taken_up new count texts least (Ok recovered) taken =
+      record { count = taken.count; enough = taken.enough; most = taken.most; stands = (taken.stands [] begun).0 }
+  has_taken_up new count texts least (Err fault) taken = taken
+
+  -- of any file
+  pub is_taken_up : (new : HouseFields) (count : ℕ) (digest bytes : List ℕ) (result : Result Recovered JournalFault)
+      → MatchResult result (IsRecovered old (IsAt new count) digest bytes) (IsRefusal digest bytes)
+      → MatchResult result (λ recovered. IsTakenUp digest bytes recovered new count) (IsRefusal digest bytes)
+  is_taken_up new count digest bytes (Ok recovered) taken =
+      let now = taken.stands [] begun in
+      record {
+        texts = taken.texts;
+        placed = taken.placed;
+        stands = now.0;
+        count_is = omega (arith, now.1, length-onto taken.texts []);
+      }
+  is_taken_up new count digest bytes (Err fault) refusal = refusal
+
+  -- a text that is refused, of whatever refuses it
+  pub refused_first : (refuses : List (List ℕ) → List ℕ → Type 0) (first bytes : List ℕ) (size : ℕ) (fault : JournalFault)
+      → IsRefusedRightly refuses old first bytes size fault → IsRefusedRightly refuses (λ (past : List (List ℕ)). past ≡ []) first bytes size fault
+  refused_first refuses first bytes size Unknown refused = tt
+  refused_first refuses first bytes size Setup refused = tt
+  refused_first refuses first bytes size (Damaged place) refused = tt
+  refused_first refuses first bytes size (Refused place) refused = record {
+    text = refused.text;
+    found = refused.found;
+    refused = λ past none. refused.refused past (subst old (sym none) begun);
+  }
+  refused_first refuses first bytes size NoMemory refused = tt
+
+  pub refused_in : (refuses : List (List ℕ) → List ℕ → Type 0) (first bytes : List ℕ) (size : ℕ) (result : Result Recovered JournalFault)
+      → MatchResult result (λ _. Unit {0}) (IsRefusedRightly refuses old first bytes size)
+      → MatchResult result (λ _. Unit {0}) (IsRefusedRightly refuses (λ (past : List (List ℕ)). past ≡ []) first bytes size)
+  refused_in refuses first bytes size (Ok recovered) refused = tt
+  refused_in refuses first bytes size (Err fault) refused = refused_first refuses first bytes size fault refused

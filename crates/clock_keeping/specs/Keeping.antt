@@ -4,11 +4,12 @@
 --     LeavesOneMore text old new      the file was only added to, and a stop leaves the texts that were there, and at most this one more
 --     IsInStep digest texts journal house      the journal has these texts on its disk, and the house stands for them
 --     IsKept digest past text answer journal old new      how a text is answered and kept
---     IsTakenUp digest bytes recovered house      the house stands for all texts of a file
+--     counted texts      how many texts are counted. Own rule: a count stays at the greatest u64
+--     IsTakenUp digest bytes recovered house count      the house stands for all texts of a file, and they are counted
 --     HasTakenUp texts least house      it stands for the first of the texts, so many at least
 --     IsRefused setup texts text      after these texts a text is not accepted
 --     GetsChangeNothing      why a request by GET is not kept
-use Rattle.std.specs.Prelude.{◌≡◌, ◌⊎◌, ◌≤◌, ◌++◌, ℕ, Bool, true, false, List, [], ◌∷◌, length, take, bytes_eq, codes}
+use Rattle.std.specs.Prelude.{◌≡◌, ◌⊎◌, ◌≤◌, ◌++◌, ◌-◌, ◌^◌, min, ℕ, Bool, true, false, List, [], ◌∷◌, length, take, bytes_eq, codes}
 use Rattle.clock_terms.specs.Limits.{SetupFields}
 use Rattle.clock_house.specs.Command.{other}
 use Rattle.clock_house.specs.House.{HouseFields}
@@ -64,11 +65,16 @@ pub record IsKept (digest : List ℕ) (past : List (List ℕ)) (text : List ℕ)
   pub in_step : IsInStep digest texts journal new
   pub right : (answer ≡ reply old.setup (onto past []) text) ⊎ IsStruckOut text answer
 
--- the house stands for all texts of the file, which has them up to the place that is told
-pub record IsTakenUp (digest bytes : List ℕ) (recovered : Recovered) (house : HouseFields) : Type 0 where
+-- as many as there are
+abbrev pub counted : List (List ℕ) → ℕ
+counted texts = min (length texts) (2 ^ 64 - 1)
+
+-- the house stands for all texts of the file, which has them up to the place that is told; and so many are they
+pub record IsTakenUp (digest bytes : List ℕ) (recovered : Recovered) (house : HouseFields) (count : ℕ) : Type 0 where
   pub texts : List (List ℕ)
   pub placed : IsPlaced digest bytes texts recovered
   pub stands : StandsForKept texts house
+  pub count_is : count ≡ counted texts
 
 -- the house stands for the first of the texts, in order, none left out: so many of them at least
 pub record HasTakenUp (texts : List (List ℕ)) (least : ℕ) (house : HouseFields) : Type 0 where

@@ -1,8 +1,8 @@
-ghost use Rattle.std.specs.Prelude.{◌≡◌, ◌⊎◌, List, ℕ, IfOk, OnOk, OnErr, true, false};
+ghost use Rattle.std.specs.Prelude.{◌≡◌, ◌<◌, ◌⊎◌, List, ℕ, IfOk, OnOk, OnErr, length, true, false};
 ghost use Rattle.clock_http.specs.Shown.{Knows};
 ghost use Rattle.clock_front.specs.Fronts.{AnswersText, IsStruckOut};
 ghost use Rattle.clock_front.specs.Private.{IsPrivateReply};
-ghost use Rattle.clock_journal.specs.Format.{Fits};
+ghost use Rattle.clock_journal.specs.Format.{most_text};
 ghost use Rattle.clock_keeping.specs.Keeping.{IsInStep, IsKept, LeavesOneMore, is_get as is_get_of};
 
 use clock_device::Failed;
@@ -26,8 +26,8 @@ fn is_get(text: &[u8], progress: Progress) -> bool
 /// or a closing it is in the journal, on the disk, before the reply is given out.
 ///
 /// At `Err` the text could not be kept: nothing is to be replied, and neither the front nor the journal to be used any
-/// more. All that was on the disk is. It comes where a call of the disk has failed, and for a text that no journal
-/// takes.
+/// more. All that was on the disk is. It comes where a call of the disk has failed, and for a text that is longer than
+/// any that a journal takes.
 pub fn answer_and_keep<P: Processor, D: Durable>(
     front: &mut Front<P>,
     journal: &mut Journal<D>,
@@ -44,13 +44,13 @@ pub fn answer_and_keep<P: Processor, D: Durable>(
     ensures moments { LeavesOneMore text.now journal.old journal.new }
     ensures on_disk { OnErr result (journal.new.synced ≡ journal.old.synced) }
     ensures ok { OnOk result (journal.new.has_failed ≡ false) }
-    ensures err { OnErr result ((journal.new.has_failed ≡ true) ⊎ (Fits text.now → ⊥)) }
+    ensures err { OnErr result ((journal.new.has_failed ≡ true) ⊎ (most_text < length text.now)) }
 {
     let reply = front.answer_known(text, progress);
     if reply.code() != Code::Done || is_get(text, progress) {
         return Ok(reply);
     }
-    if text.is_empty() || text.len() > MOST_TEXT {
+    if text.len() > MOST_TEXT {
         return Err(Failed);
     }
     match journal.append(text) {

@@ -2,7 +2,7 @@ ghost use Rattle.std.specs.Prelude.{◌≡◌, [], List, ℕ, MatchResult, drop,
 ghost use Rattle.clock_front.specs.Fronts.{StandsForTexts};
 ghost use Rattle.clock_journal.specs.Crash.{LeavesTexts};
 ghost use Rattle.clock_journal.specs.Recovering.{IsRefusal, IsRefusedRightly, IsUntaken};
-ghost use Rattle.clock_keeping.specs.Keeping.{HasTakenUp, IsRefused, IsTakenUp};
+ghost use Rattle.clock_keeping.specs.Keeping.{HasTakenUp, IsRefused, IsTakenUp, counted};
 
 use clock_front::Front;
 use clock_http::Code;
@@ -23,7 +23,7 @@ impl<P: Processor> Machine for Auction<P> {
 
     ghost rules = { λ auction. auction.front.setup };
 
-    ghost stands_for = { λ auction texts. StandsForTexts texts auction.front };
+    ghost stands_for = { λ auction texts. StandsForTexts texts auction.front × (auction.texts ≡ counted texts) };
 
     ghost refuses = { λ setup texts text. IsRefused setup texts text };
 
@@ -52,7 +52,8 @@ pub fn take_up<P: Processor>(
     bytes: &[u8],
 ) -> Result<Recovered, JournalFault>
     requires { StandsForTexts [] auction.old.front }
-    ensures read { MatchResult result (λ recovered. IsTakenUp digest.now bytes.now recovered auction.new.front)
+    ensures read { MatchResult result
+        (λ recovered. IsTakenUp digest.now bytes.now recovered auction.new.front auction.new.texts)
         (IsRefusal digest.now bytes.now) }
     ensures crash { (texts : List (List ℕ)) (least : ℕ) → LeavesTexts digest.now bytes.now texts least
         → MatchResult result (λ _. HasTakenUp texts least auction.new.front) IsUntaken }
@@ -61,5 +62,6 @@ pub fn take_up<P: Processor>(
         (length bytes.now)) }
     ensures setup { auction.new.front.setup ≡ auction.old.front.setup }
 {
+    auction.texts = 0;
     recover(auction, digest, bytes)
 }

@@ -13,11 +13,11 @@ use std::marker::Model;
 ///
 /// Most lines are short, and up to four places stand in the line itself: only longer ones ask for memory.
 #[derive(Drop)]
-pub(crate) struct Lines {
+pub(crate) struct WaitingLines {
     lists: Vec<SmallVec<usize, 4>>,
 }
 
-impl Model for Lines {
+impl Model for WaitingLines {
     ghost use Rattle.std.specs.Prelude.{List, ℕ};
     ghost use Rattle.clock_queue.specs.inside.Lines.{places_of};
 
@@ -26,16 +26,16 @@ impl Model for Lines {
     ghost view = { λ a. places_of a.lists.items };
 }
 
-impl Lines {
+impl WaitingLines {
     /// So many lines, in which nobody waits.
-    pub(crate) fn new(alloc: Global, count: usize) -> Result<Lines, NoMemory>
+    pub(crate) fn new(alloc: Global, count: usize) -> Result<WaitingLines, NoMemory>
         ensures { IfOk result (λ new. new ≡ replicate count []) }
     {
         let mut lists = Vec::with_capacity(alloc, count)?;
         for _line in 0..count {
             lists.push(SmallVec::new(alloc))?;
         }
-        Ok(Lines { lists })
+        Ok(WaitingLines { lists })
     }
 
     /// Adds a place at the end of a line.

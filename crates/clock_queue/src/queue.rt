@@ -5,7 +5,7 @@ ghost use Rattle.clock_processor.specs.Requests.{CanSettle};
 ghost use Rattle.clock_queue.specs.inside.Queue as states;
 ghost use Rattle.clock_queue.specs.inside.Queue.{IsQueue, LeadsTo, SameTerms, StaysWithinTests, progress, progress_with, room_in, with_first, work};
 
-use crate::lines::{Lines, line_of, lines_for, woken_line};
+use crate::lines::{WaitingLines, line_of, lines_for, woken_line};
 use crate::ready::Ready;
 use clock_device::NoMemory;
 use clock_processor::{Board, Settled, amounts_of};
@@ -19,7 +19,7 @@ pub(crate) struct Queue<'a> {
     left: Amounts,
     admitted: usize,
     ready: Ready,
-    lines: Lines,
+    lines: WaitingLines,
 }
 
 impl<'a> Queue<'a> {
@@ -41,7 +41,7 @@ impl<'a> Queue<'a> {
             left: amounts_of(alloc, changes)?,
             admitted: 0,
             ready: Ready::new(alloc),
-            lines: Lines::new(alloc, lines_for(changes))?,
+            lines: WaitingLines::new(alloc, lines_for(changes))?,
         })
     }
 

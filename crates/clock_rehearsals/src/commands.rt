@@ -2,9 +2,10 @@
 //! compared by the gate on the built program.
 use crate::commands::Trouble::{Fault, Nothing, Output, Read, Room};
 use crate::comparing::assert_is;
+use crate::played::REPORT;
 use clock_commands::command;
 use clock_device::{ListSink, ListSource, Stop};
-use clock_setup::fixtures::ONE_PRODUCT;
+use clock_fixtures::ONE_PRODUCT;
 use std::alloc::Global;
 use std::process::Abort;
 
@@ -163,10 +164,6 @@ const SINCERE: &str =
 /// Three closings, after which these scripts come to an end.
 const CLOSINGS: &str =
     r#"{"increment":10,"ties":[]},{"increment":10,"ties":[]},{"increment":10,"ties":[]}"#;
-
-/// The report of these.
-const REPORT: &str =
-    "round 1\nA 100 100 100 3 110\nround 2\nA 100 110 110 3 121\nround 3\nA 110 121 115 - -\nwon X 1 115\nwon Y 1 115\n";
 
 /// Scripts and closings, and what their replay ends with.
 const REPLAYS: &[(&str, &str, Told<'static>)] = &[

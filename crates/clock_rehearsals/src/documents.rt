@@ -1,7 +1,7 @@
 //! What documents of replays mean.
 use crate::comparing::assert_is;
 use clock_device::Text;
-use clock_setup::fixtures::{GRANULES_AND_INCREMENTS, ONE_PRODUCT};
+use clock_fixtures::{GRANULES_AND_INCREMENTS, ONE_PRODUCT};
 use clock_setup::{Place, SetupFault};
 use clock_sim::{ScriptFault, read_replay};
 use std::alloc::Global;

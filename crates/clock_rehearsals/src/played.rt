@@ -3,9 +3,9 @@
 use crate::comparing::assert_is;
 use crate::documents::joined;
 use clock_device::Text;
+use clock_fixtures::ONE_PRODUCT;
 use clock_http::Code;
 use clock_processor::Plain;
-use clock_setup::fixtures::ONE_PRODUCT;
 use clock_sim::{
     Replay, Report, SimFault, read_replay, replay_text, report_text, simulate, simulate_with,
 };
@@ -26,7 +26,8 @@ const THREE_CLOSINGS: &str =
 
 const STEEP_CLOSING: &str = r#"[{"increment":51,"ties":[]}]"#;
 
-const REPORT: &str =
+/// The report where X leaves its two blocks at 120 and 115.
+pub const REPORT: &str =
     "round 1\nA 100 100 100 3 110\nround 2\nA 100 110 110 3 121\nround 3\nA 110 121 115 - -\nwon X 1 115\nwon Y 1 115\n";
 
 /// The text of a report, or the fault in its place.

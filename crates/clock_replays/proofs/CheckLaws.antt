@@ -2,9 +2,9 @@
 use Rattle.std.proofs.Common.{◌≡◌, ℕ, ◌+◌, ◌<◌, ◌≤◌, All, ◌&&◌, ◌==◌, Bool, true, false, nat_le, if◌then◌else◌, List, [], ◌∷◌, zero, suc, length}
 use Rattle.std.proofs.Common.{get_or, drop, zip, None, Some, refl, sym, ap, subst, ◌∙◌, arith}
 use Rattle.std.specs.Prelude.{EachIndex}
-use Rattle.std.specs.List.{list_all}
+use Rattle.std.specs.List.{IsAllAdjacentAnswer, list_all}
 use Rattle.std.proofs.lemmas.Bool.{and_parts, le-leb, leb-true, eqb-true}
-use Rattle.std.proofs.lemmas.List.{drop_more, get_or_default}
+use Rattle.std.proofs.lemmas.List.{get_or_default}
 use Rattle.std.proofs.lemmas.List.Elements.{All-nil, All-cons}
 use Rattle.std.proofs.lemmas.List.Kept.{AllPairs-cons}
 use Rattle.std.proofs.lemmas.List.Sums.{AllPass-from_list_all, list_all-from_AllPass}
@@ -38,26 +38,38 @@ absorbed true b c h = refl
 absorbed false true c h = let e = h refl in cc
 absorbed false false c h = refl
 
--- prices at most the last one that never rise
-abbrev pub go_on_below : ℕ → List ℕ → Bool
-go_on_below last prices = list_all (λ price. nat_le price last) prices && never_rises prices
+-- a price that is not above the one before it is above none of those before
+no_rise : (price next : ℕ) (rest : List ℕ) → nat_le next price ≡ true → never_rises (price ∷ next ∷ rest) ≡ never_rises (next ∷ rest)
+no_rise price next rest h =
+    ap (λ test. (test && list_all (λ p. nat_le p price) rest) && (list_all (λ p. nat_le p next) rest && never_rises rest)) h
+    ∙ absorbed _ _ _ (all_below next price rest (leb-true next price h))
 
--- before the first price any may come
-pub at_first : (last : ℕ) (prices : List ℕ) → ((k : ℕ) → k < length prices → get_or prices k 0 ≤ last) → go_on_below last prices ≡ never_rises prices
-at_first last prices all =
-    ap (λ test. test && never_rises prices)
-    (list_all-from_AllPass (λ price. nat_le price last) prices
-    (λ k d lt. le-leb _ last (subst (λ price. price ≤ last) (get_or_default prices k 0 d lt) (all k lt))))
+no_test : (test : Bool) → (test && false) ≡ false
+no_test true = refl
+no_test false = refl
 
-below_next : (last price : ℕ) (rest : List ℕ) → price ≤ last → go_on_below last (price ∷ rest) ≡ go_on_below price rest
-below_next last price rest h =
-    ap (λ test. (test && list_all (λ p. nat_le p last) rest) && (list_all (λ p. nat_le p price) rest && never_rises rest)) (le-leb price last h)
-    ∙ absorbed _ _ _ (all_below price last rest h)
+-- two prices that stand behind the first
+behind : (price : ℕ) (prices : List ℕ) (k d : ℕ) (test : Bool)
+    → test ≡ nat_le (get_or (price ∷ prices) (suc k + 1) d) (get_or (price ∷ prices) (suc k) d) → test ≡ nat_le (get_or prices (k + 1) d) (get_or prices k d)
+behind price prices k d test is =
+    let on : suc k + 1 ≡ suc (k + 1) = omega arith in
+    subst (λ (n : ℕ). test ≡ nat_le (get_or (price ∷ prices) n d) (get_or prices k d)) on is
 
--- the next price does not rise
-pub price_passed : (last : ℕ) (prices : List ℕ) (i : ℕ) → i < length prices → get_or prices i 0 ≤ last
-    → go_on_below last (drop i prices) ≡ go_on_below (get_or prices i 0) (drop (i + 1) prices)
-price_passed last prices i h le = ap (go_on_below last) (drop_more prices i 0 h) ∙ below_next last _ _ le
+-- whether each price and the next are in order tells whether none is above an earlier one
+pub told_by_next : (prices : List ℕ) (told : Bool) → IsAllAdjacentAnswer (λ earlier later b. b ≡ nat_le later earlier) prices told → told ≡ never_rises prices
+told_by_next [] true each = refl
+told_by_next [] false rise = absurd (omega (arith, rise.1))
+told_by_next (price ∷ []) true each = refl
+told_by_next (price ∷ []) false rise = absurd (omega (arith, rise.1))
+told_by_next (price ∷ next ∷ rest) true each =
+    told_by_next (next ∷ rest) true (λ k d within. behind price (next ∷ rest) k d true (each (suc k) d (omega (arith, within))))
+    ∙ sym (no_rise price next rest (sym (each 0 0 (omega arith))))
+told_by_next (price ∷ next ∷ rest) false (zero, within, rise) =
+    ap (λ test. (test && list_all (λ p. nat_le p price) rest) && never_rises (next ∷ rest)) (rise 0)
+told_by_next (price ∷ next ∷ rest) false (suc k, within, rise) =
+    sym (no_test (list_all (λ later. nat_le later price) (next ∷ rest)))
+    ∙ ap (λ test. list_all (λ later. nat_le later price) (next ∷ rest) && test)
+    (told_by_next (next ∷ rest) false (k, omega (arith, within), λ d. behind price (next ∷ rest) k d false (rise d)))
 
 -- the test tells what the prices do
 pub falling_of_test : (prices : List ℕ) → never_rises prices ≡ true → NeverRises prices
@@ -81,34 +93,30 @@ zip_at products limits i product prices same h first second =
     ap (λ x. (x, prices)) first ∙ ap (λ y. (get_or products i product, y)) second
     ∙ sym (get_or-zip products limits i (product, prices) within h)
 
--- what is read of equal lists stands in these
-walked : (limits walk : List (List ℕ)) (i : ℕ) (prices : List ℕ) → i < length limits → walk ≡ limits → prices ≡ row_of walk i → prices ≡ get_or limits i prices
-walked limits walk i prices h whole listed = listed ∙ ap (λ (lists : List (List ℕ)). row_of lists i) whole ∙ get_or_default limits i [] prices h
-
 one_list : (bidder i : ℕ) (product : Product) (prices : List ℕ) (b : Bool) → are_limits product prices ≡ b
     → first_fault (limit_checks bidder i (product, prices)) ≡ (if b then None else Some (Limits bidder i))
 unfolding limit_checks
 one_list bidder i product prices b is = rw is refl
 
 -- the next limits are none
-pub limits_failed : (bidder : ℕ) (products : List Product) (limits walk : List (List ℕ)) (i : ℕ) (product : Product) (prices : List ℕ)
-    → length limits ≡ length products → i < length limits → product ≡ get_or products i product → walk ≡ limits → prices ≡ row_of walk i
+pub limits_failed : (bidder : ℕ) (products : List Product) (limits : List (List ℕ)) (i : ℕ) (product : Product) (prices : List ℕ)
+    → length limits ≡ length products → i < length limits → product ≡ get_or products i product → prices ≡ row_of limits i
     → are_limits product prices ≡ false
     → first_fault (in_turn (limit_checks bidder) i (drop i (zip products limits))) ≡ Some (Limits bidder i)
-limits_failed bidder products limits walk i product prices same h first whole listed is =
+limits_failed bidder products limits i product prices same h first listed is =
     turn_failed (limit_checks bidder) (zip products limits) i (product, prices) (Limits bidder i)
-    (omega (arith, length-zip products limits)) (zip_at products limits i product prices same h first (walked limits walk i prices h whole listed))
+    (omega (arith, length-zip products limits)) (zip_at products limits i product prices same h first (listed ∙ get_or_default limits i [] prices h))
     (one_list bidder i product prices false is)
 
 -- the next limits are good
-pub limits_passed : (bidder : ℕ) (products : List Product) (limits walk : List (List ℕ)) (i : ℕ) (product : Product) (prices : List ℕ)
-    → length limits ≡ length products → i < length limits → product ≡ get_or products i product → walk ≡ limits → prices ≡ row_of walk i
+pub limits_passed : (bidder : ℕ) (products : List Product) (limits : List (List ℕ)) (i : ℕ) (product : Product) (prices : List ℕ)
+    → length limits ≡ length products → i < length limits → product ≡ get_or products i product → prices ≡ row_of limits i
     → are_limits product prices ≡ true
     → first_fault (in_turn (limit_checks bidder) i (drop i (zip products limits)))
     ≡ first_fault (in_turn (limit_checks bidder) (i + 1) (drop (i + 1) (zip products limits)))
-limits_passed bidder products limits walk i product prices same h first whole listed is =
+limits_passed bidder products limits i product prices same h first listed is =
     turn_passed (limit_checks bidder) (zip products limits) i (product, prices)
-    (omega (arith, length-zip products limits)) (zip_at products limits i product prices same h first (walked limits walk i prices h whole listed))
+    (omega (arith, length-zip products limits)) (zip_at products limits i product prices same h first (listed ∙ get_or_default limits i [] prices h))
     (one_list bidder i product prices true is)
 
 -- no limits are left

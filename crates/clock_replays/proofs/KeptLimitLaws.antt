@@ -1,5 +1,5 @@
 -- Laws of limits that are kept for the products that have some.
-use Rattle.std.proofs.Common.{◌≡◌, ◌≢◌, ℕ, ◌+◌, ◌<◌, ◌≤◌, ◌==◌, zero, suc, List, [], ◌∷◌, ◌++◌, length, map, get_or, replicate, if◌then◌else◌, refl, sym, ap, ap₂, subst, ◌∙◌, append_assoc, append-nil, arith}
+use Rattle.std.proofs.Common.{◌≡◌, ◌≢◌, ℕ, ◌+◌, ◌-◌, ◌<◌, ◌≤◌, ◌==◌, zero, suc, List, [], ◌∷◌, ◌++◌, length, map, get_or, replicate, if◌then◌else◌, refl, sym, ap, ap₂, subst, ◌∙◌, append_assoc, append-nil, arith}
 use Rattle.std.proofs.lemmas.Bool.{ne_eqb, eq-eqb}
 use Rattle.std.proofs.lemmas.List.FromFn.{length-map-range_with_len, get_or-map-range_with_len, map-range_with_len_more, fill_by_all}
 use Rattle.std.specs.List.{range_with_len, AllWithin}
@@ -75,6 +75,34 @@ missing from (limited ∷ products) (row ∷ rows) count product (suc place) ris
     behind limited products row rows product (λ same. omega (arith, same, smaller 0 0 (omega arith) (omega arith)))
     ∙ missing (limited + 1) products rows count product place rising.1 (λ k d low high. smaller (suc k) d (omega arith) (omega (arith, high)))
     (λ within. next (omega (arith, within)))
+
+at_least : (from : ℕ) (products : List ℕ) (count place : ℕ) → AreRising from products count → place < length products → from ≤ get_or products place 0
+unfolding AreRising
+at_least from [] count place rising within = absurd (omega (arith, within))
+at_least from (limited ∷ products) count zero rising within = rising.0
+at_least from (limited ∷ products) count (suc place) rising within =
+    omega (arith, rising.0, at_least (limited + 1) products count place rising.1 (omega (arith, within)))
+
+-- where a product is smaller, so are those before it
+smaller_up_to : (from : ℕ) (products : List ℕ) (count product place : ℕ) → AreRising from products count → place < length products
+    → get_or products place 0 < product → AllWithin (λ other. other < product) products 0 (place + 1)
+unfolding AreRising
+smaller_up_to from [] count product place rising within smaller k d low high = absurd (omega (arith, within))
+smaller_up_to from (limited ∷ products) count product zero rising within smaller zero d low high = smaller
+smaller_up_to from (limited ∷ products) count product zero rising within smaller (suc k) d low high = absurd (omega (arith, high))
+smaller_up_to from (limited ∷ products) count product (suc place) rising within smaller zero d low high =
+    omega (arith, smaller, at_least (limited + 1) products count place rising.1 (omega (arith, within)))
+smaller_up_to from (limited ∷ products) count product (suc place) rising within smaller (suc k) d low high =
+    smaller_up_to (limited + 1) products count product place rising.1 (omega (arith, within)) smaller k d (omega arith) (omega (arith, high))
+
+-- where the one ahead of a place is smaller, or none stands there, only smaller ones stand before it
+pub smaller_before : (products : List ℕ) (count product place : ℕ) → AreRising 0 products count → place ≤ length products
+    → (0 < place → get_or products (place - 1) 0 < product) → AllWithin (λ other. other < product) products 0 place
+smaller_before products count product zero rising within ahead k d low high = absurd (omega (arith, high))
+smaller_before products count product (suc place) rising within ahead k d low high =
+    let same : suc place - 1 ≡ place = omega arith in
+    smaller_up_to 0 products count product place rising (omega (arith, within))
+    (subst (λ (n : ℕ). get_or products n 0 < product) same (ahead (omega arith))) k d low (omega (arith, high))
 
 -- a row more is none of another product
 others : (products : List ℕ) (rows : List (List ℕ)) (new : ℕ) (row : List ℕ) (product : ℕ) → length products ≡ length rows → new ≢ product

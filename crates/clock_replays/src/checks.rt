@@ -41,14 +41,7 @@ fn have_lists(count: usize, scripts: &[Script]) -> bool
 fn never_rises(prices: &[u64]) -> bool
     ensures { result ≡ rules.never_rises prices.now }
 {
-    let mut last = u64::MAX;
-    for price in prices {
-        if *price > last {
-            return false;
-        }
-        last = *price;
-    }
-    true
+    prices.is_sorted_by(|earlier, later| later <= earlier)
 }
 
 /// Whether limits never rise and are at most as many as a product's cap.
@@ -68,9 +61,9 @@ fn script_fault(bidder: u64, products: &[Product], script: &Script) -> Option<Sc
     let Script::Sincere(limits) = script else {
         return None;
     };
-    let mut walk = limits.walk();
+    let mut from = 0;
     for product in 0..limits.count() {
-        if !are_limits(&products[product], walk.list(product)) {
+        if !are_limits(&products[product], limits.list(product, &mut from)) {
             return Some(ScriptFault::Limits(bidder, product as u64));
         }
     }

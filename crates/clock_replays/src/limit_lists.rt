@@ -1,10 +1,10 @@
 //! The limits of a sincere bidder, which are mostly none.
 ghost use Rattle.std.specs.Prelude.{◌≡◌, ◌<◌, length, IfOk, OnOk};
 ghost use Rattle.clock_json.specs.Reading.{rows, Reads};
+ghost use Rattle.clock_terms.specs.Demands.{row_of};
 ghost use Rattle.clock_replays.specs.inside.KeptLimits.{AreKept, kept_limits};
 
-use crate::limit_rows::LimitRows;
-use crate::limit_walk::LimitWalk;
+use crate::limit_rows::{LimitRows, row_at};
 use clock_device::NoMemory;
 use clock_json::{Scan, ScanStop};
 use clock_terms::Amounts;
@@ -55,16 +55,21 @@ impl LimitLists {
         self.rows.count
     }
 
-    /// The limits, to be looked up product by product. Nothing was looked for yet.
+    /// The limits for a product. Where products are asked for by rising number they are found sooner from where the
+    /// last ones were: that place is left in `from`, which is 0 at first. Any number there gives the same limits.
     #[inline(always)]
-    pub fn walk(&self) -> LimitWalk<'_>
-        ensures { result ≡ self.now }
+    pub fn list(&self, product: usize, from: &mut usize) -> &[u64]
+        requires { product < length self.now }
+        ensures { result.now ≡ row_of self.now product }
     {
-        LimitWalk {
-            rows: &self.rows,
-            product: 0,
-            place: 0,
+        let rows = &self.rows;
+        let place = rows.place_of(product, *from);
+        *from = place;
+        let products = rows.products.as_slice();
+        if place == products.len() || products[place] as usize != product {
+            return &[];
         }
+        row_at(rows.ends.as_slice(), rows.prices.as_slice(), place)
     }
 }
 

@@ -1,6 +1,9 @@
 //! Limits while they are read, one product after the other: rows of prices, for the products that have some.
-ghost use Rattle.std.specs.Prelude.{◌≡◌, [], ◌++◌, ◌∷◌, replicate, IfOk, OnOk};
-ghost use Rattle.clock_replays.specs.inside.KeptLimits.{AreKept, kept_limits};
+ghost use Rattle.std.specs.Prelude.{◌≡◌, ◌<◌, ◌≤◌, [], ◌++◌, ◌∷◌, length, replicate, slice_index, IfOk, OnOk};
+ghost use Rattle.clock_terms.specs.Demands.{row_of};
+ghost use Rattle.clock_replays.specs.EndedRows.{rows_from};
+ghost use Rattle.clock_replays.specs.inside.EndedRows.{AreEnds};
+ghost use Rattle.clock_replays.specs.inside.KeptLimits.{AreKept, IsPlaceOf, kept_limits};
 
 use clock_device::NoMemory;
 use std::alloc::Global;
@@ -77,4 +80,38 @@ impl LimitRows {
         self.count += 1;
         Ok(())
     }
+
+    /// The place of the first row that is of no lesser product, or how many rows there are. It is looked for from a
+    /// place on where the row ahead of that is of a lesser product, and else from the first.
+    #[inline(always)]
+    pub(crate) fn place_of(&self, product: usize, from: usize) -> usize
+        requires { AreKept self.now }
+        ensures place { IsPlaceOf self.now.products.items product result }
+        ensures first { result < length self.now.products.items → product ≤ slice_index self.now.products.items result }
+    {
+        let products = self.products.as_slice();
+        let mut place = from;
+        if place > products.len() || place > 0 && products[place - 1] as usize >= product {
+            place = 0;
+        }
+        'lesser: while place < products.len() && (products[place] as usize) < product {
+            place += 1;
+        }
+        place
+    }
+}
+
+/// The row of a place, which begins where the one before it ends.
+pub(crate) fn row_at<'a>(ends: &[u32], numbers: &'a [u64], place: usize) -> &'a [u64]
+    requires place { place < length ends.now }
+    requires ends { AreEnds 0 ends.now (length numbers.now) }
+    ensures { result.now ≡ row_of (rows_from 0 ends.now numbers.now) place }
+{
+    let start = if place == 0 {
+        0
+    } else {
+        ends[place - 1] as usize
+    };
+    let end = ends[place] as usize;
+    &numbers[start..end]
 }

@@ -20,7 +20,7 @@ use serde_json::Value;
 use std::alloc::Global;
 
 /// The replay of a set-up, or the first fault of what is looked at behind it.
-fn compared(setup: Setup, scripts: Scripts, closings: Closings) -> Result<Replay, ScriptFault>
+fn judged(setup: Setup, scripts: Scripts, closings: Closings) -> Result<Replay, ScriptFault>
     ensures ok { let all : ReplayFields = record { setup = setup; scripts = scripts; closings = closings } in
         IfOk result (λ replay. unless (first_fault (replay_checks all)) all ≡ Ok replay) }
     ensures err { let all : ReplayFields = record { setup = setup; scripts = scripts; closings = closings } in
@@ -50,7 +50,7 @@ fn replay_in(alloc: Global, value: &Value) -> Result<Replay, ScriptFault>
         return Err(ScriptFault::Shape);
     }
     match setup_of(alloc, held) {
-        Ok(setup) => compared(setup, scripts, closings),
+        Ok(setup) => judged(setup, scripts, closings),
         Err(SetupFault::NoMemory) => Err(ScriptFault::NoMemory),
         Err(fault) => Err(ScriptFault::Setup(fault)),
     }
@@ -75,7 +75,7 @@ pub fn read_replay(alloc: Global, bytes: &[u8]) -> Result<Replay, ScriptFault>
     ensures held { IfErr result (λ fault. fault ≢ ScriptFault.Setup SetupFault.NoMemory) }
 {
     match scanned_text::<FoundReplay>(alloc, bytes) {
-        Ok(found) => compared(found.held.setup, found.scripts, found.closings),
+        Ok(found) => judged(found.held.setup, found.scripts, found.closings),
         Err(ScanStop::NoMemory) => Err(ScriptFault::NoMemory),
         Err(ScanStop::Unusual) => {
             let value = read_value(alloc, bytes)?.ok_or(ScriptFault::NotJson)?;

@@ -1,13 +1,11 @@
 //! The text of an audit.
-ghost use Rattle.std.specs.Prelude.{◌≡◌, ◌≤◌, ◌++◌, All, IfOk, OnOk, length, codes, decimal, zip};
-ghost use Rattle.std.specs.List.{flat_map};
+ghost use Rattle.std.specs.Prelude.{◌≡◌, ◌≤◌, ◌++◌, IfOk, OnOk, length, codes, decimal};
 ghost use Rattle.clock_reports.specs.ReportText as words;
 
 use crate::report::Report;
 use crate::report_lines::push_wins;
 use clock_device::{NoMemory, Text};
-use clock_posting::{RoundSheet, with_sheet_lines};
-use clock_terms::Setup;
+use clock_posting::with_sheet_lines;
 use std::alloc::Global;
 
 /// A digest in digits of base 16.
@@ -29,32 +27,17 @@ pub fn audit_text(alloc: Global, report: &Report, digests: &[Digits]) -> Result<
     ensures { IfOk result (λ text. text ≡ words.audit_text report.now digests.now) }
 {
     let sheets = report.sheets.as_slice();
-    let mut text = with_audited(Text::new(alloc), &report.setup, sheets, digests)?;
+    let mut text = Text::new(alloc);
+    for (index, sheet) in sheets.iter().enumerate() {
+        text = with_sheet_lines(text, &report.setup, sheet)?;
+        push_closed(&mut text, sheet.round, &digests[index])?;
+    }
     let last = &sheets[sheets.len() - 1];
     if !last.ended {
         return Ok(text);
     }
     let lines = last.lines.as_slice();
     push_wins(alloc, &mut text, &report.setup, lines, &report.grid)?;
-    Ok(text)
-}
-
-/// A text, and behind it the lines of the rounds, each with the digest of its closing behind it.
-fn with_audited(
-    mut text: Text,
-    setup: &Setup,
-    sheets: &[RoundSheet],
-    digests: &[Digits],
-) -> Result<Text, NoMemory>
-    requires each { All (λ sheet. length sheet.lines ≡ length setup.now.products) sheets.now }
-    requires enough { length sheets.now ≤ length digests.now }
-    ensures { IfOk result (λ lines. lines ≡ text ++ flat_map (words.audited_round setup.now.products)
-        (zip sheets.now digests.now)) }
-{
-    for (index, sheet) in sheets.iter().enumerate() {
-        text = with_sheet_lines(text, setup, sheet)?;
-        push_closed(&mut text, sheet.round, &digests[index])?;
-    }
     Ok(text)
 }
 

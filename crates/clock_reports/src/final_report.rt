@@ -23,19 +23,6 @@ fn lines_copy(alloc: Global, lines: &[Line]) -> Result<Lines, NoMemory>
     Ok(Lines::from_vec(copy))
 }
 
-/// An equal sheet.
-fn sheet_copy(alloc: Global, sheet: &RoundSheet) -> Result<RoundSheet, NoMemory>
-    ensures same { IfOk result (λ copy. copy ≡ sheet.now) }
-    ensures priced { IfOk result (λ copy. All IsPricedLine copy.lines) }
-{
-    let lines = lines_copy(alloc, sheet.lines.as_slice())?;
-    Ok(RoundSheet {
-        round: sheet.round,
-        ended: sheet.ended,
-        lines,
-    })
-}
-
 /// The sheet of a closed round; rounds are numbered from 0 here.
 pub(crate) fn sheet_at<P>(house: &House<P>, round: u64) -> &RoundSheet
     requires { round < length house.now.closed }
@@ -56,8 +43,13 @@ fn sheets_of<P>(alloc: Global, house: &House<P>) -> Result<RoundSheets, NoMemory
 {
     let mut sheets = RoundSheets::new(alloc);
     for round in 0..house.closed_rounds() {
-        let copy = sheet_copy(alloc, sheet_at(house, round))?;
-        sheets.push(copy)?;
+        let sheet = sheet_at(house, round);
+        let lines = lines_copy(alloc, sheet.lines.as_slice())?;
+        sheets.push(RoundSheet {
+            round: sheet.round,
+            ended: sheet.ended,
+            lines,
+        })?;
     }
     Ok(sheets)
 }
@@ -72,10 +64,9 @@ pub fn report_so_far<P>(alloc: Global, house: &House<P>) -> Result<Report, NoMem
     let grid = house.demands().copy(alloc)?;
     let sheets = sheets_of(alloc, house)?;
     let setup = house.setup().copy(alloc)?;
-    let report = Report {
+    Ok(Report {
         setup,
         sheets,
         grid,
-    };
-    Ok(report)
+    })
 }

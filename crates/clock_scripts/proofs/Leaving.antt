@@ -11,8 +11,6 @@ use Rattle.clock_terms.specs.declared.prices.PricePair.{PricePair}
 use Rattle.clock_bids.specs.declared.sheet.Bid.{Bid}
 use Rattle.clock_replays.specs.Replays.{NeverRises}
 use Rattle.clock_scripts.specs.Sincere.{leaving_price, leaving_prices, staying, bid_for, leaving_bids, keeping_or_leaving, later_bids}
-use Rattle.clock_views.specs.Values.{Adds}
-use Rattle.clock_views.proofs.Pushes.{together}
 use Rattle.clock_scripts.specs.inside.Blocks.{last_leaving, block_bid, block_bids}
 use Rattle.clock_scripts.specs.inside.Bodies.{bid_text, bids_text}
 
@@ -224,16 +222,30 @@ first_never_rise limits n falls i j d before within =
     let falling = falls i j d before (omega arith) in
     omega arith
 
--- so the bid that keeps them is all
-pub all_kept : (product held : ℕ) (pair : PricePair) (limits : List ℕ) (blocks : ℕ) (text next : List ℕ) → NeverRises limits → 0 < held
-    → blocks ≡ min held (length limits) → last_leaving pair (reverse (take blocks limits)) ≡ None
-    → Adds (bid_text (bid_for product held pair.clock)) text next → Adds (bids_text (later_bids product pair held limits)) text next
-all_kept product held pair limits blocks text next falls some least none added =
-    let bid = bid_for product held pair.clock in
+-- the bids of the blocks that are held and have a limit, where some blocks are held
+of_blocks : (product held : ℕ) (pair : PricePair) (limits : List ℕ) (blocks : ℕ) → 0 < held → blocks ≡ min held (length limits)
+    → later_bids product pair held limits ≡ keeping_or_leaving product pair held (leaving_prices pair (take blocks limits))
+of_blocks product held pair limits blocks some least =
     let held_some : (held == 0) ≡ false = grind (arith, nat_tests) in
     let same : take held limits ≡ take blocks limits = sym (ap (λ (n : ℕ). take n limits) least ∙ take_min held limits) in
-    let one : later_bids product pair held limits ≡ bid ∷ [] =
     ap (λ (zero_held : Bool). if zero_held then [] else keeping_or_leaving product pair held (leaving_prices pair (take held limits))) held_some
     ∙ ap (λ (list : List ℕ). keeping_or_leaving product pair held (leaving_prices pair list)) same
-    ∙ all_stay product held pair (take blocks limits) (first_never_rise limits blocks falls) none in
-    together (ap bids_text one ∙ append-nil (bid_text bid)) added
+
+-- where all stay, the bid that keeps them is all
+pub all_kept : (product held : ℕ) (pair : PricePair) (limits : List ℕ) (blocks : ℕ) → NeverRises limits → 0 < held
+    → blocks ≡ min held (length limits) → last_leaving pair (reverse (take blocks limits)) ≡ None
+    → bids_text (later_bids product pair held limits) ≡ bid_text (bid_for product held pair.clock)
+all_kept product held pair limits blocks falls some least none =
+    ap bids_text (of_blocks product held pair limits blocks some least
+    ∙ all_stay product held pair (take blocks limits) (first_never_rise limits blocks falls) none)
+    ∙ append-nil (bid_text (bid_for product held pair.clock))
+
+-- where the last one leaves, there are those of the blocks that leave
+pub some_left : (product held : ℕ) (pair : PricePair) (limits : List ℕ) (blocks price : ℕ) → NeverRises limits → 0 < held
+    → blocks ≡ min held (length limits) → last_leaving pair (reverse (take blocks limits)) ≡ Some price
+    → later_bids product pair held limits ≡ leaving_bids product held (leaving_prices pair (take blocks limits))
+some_left product held pair limits blocks price falls some least leaves =
+    let left = take blocks limits in
+    of_blocks product held pair limits blocks some least
+    ∙ some_first product held pair (leaving_prices pair left) price
+    (sym (first_leaves pair (reverse left) (rises_back left (first_never_rise limits blocks falls))) ∙ leaves)

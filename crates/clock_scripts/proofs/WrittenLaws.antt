@@ -10,23 +10,23 @@ use Rattle.clock_closing.specs.declared.closed_round.ClosedRound.{ClosedRound}
 use Rattle.clock_house.specs.History.{standing}
 use Rattle.clock_views.specs.Values.{Adds}
 use Rattle.clock_replays.specs.declared.closing.Closing.{Closing}
-use Rattle.clock_scripts.specs.declared.pieces.Place.{Place}
+use Rattle.clock_scripts.specs.declared.pieces.Extent.{Extent}
 use Rattle.clock_scripts.specs.declared.pieces.Written.{Written}
 use Rattle.clock_scripts.specs.declared.pieces.Pieces.{Pieces}
 use Rattle.clock_scripts.specs.RequestTexts.{request_head, request_text, written_close, close_text}
 use Rattle.clock_scripts.specs.ScriptedRequests.{scripted_close}
-use Rattle.clock_scripts.specs.Pieces.{IsKept, IsPlaceIn, Keeps, Writes, piece_at, text_at}
+use Rattle.clock_scripts.specs.Pieces.{IsKept, IsExtentIn, Keeps, Writes, piece_at, text_at}
 
 -- a piece stands in a longer text still
-kept_in : (text more whole : List ℕ) (place : Place) → whole ≡ text ++ more → IsPlaceIn text place → IsKept text whole place
-kept_in text more whole place is within =
-    let count : length (drop place.start text) ≡ length text - place.start = length-drop place.start text in
+kept_in : (text more whole : List ℕ) (extent : Extent) → whole ≡ text ++ more → IsExtentIn text extent → IsKept text whole extent
+kept_in text more whole extent is within =
+    let count : length (drop extent.start text) ≡ length text - extent.start = length-drop extent.start text in
     let long : length whole ≡ length text + length more = ap length is ∙ length-append text more in
     record {
       within = (within.0, omega (arith, within.1, long));
-      same = ap (λ (text : List ℕ). piece_at text place) is
-          ∙ ap (λ (rest : List ℕ). take (place.end - place.start) rest) (drop-append-le place.start text more (omega (arith, within.0, within.1)))
-          ∙ take-append-le (place.end - place.start) (drop place.start text) more (omega (arith, count, within.0, within.1));
+      same = ap (λ (text : List ℕ). piece_at text extent) is
+          ∙ ap (λ (rest : List ℕ). take (extent.end - extent.start) rest) (drop-append-le extent.start text more (omega (arith, within.0, within.1)))
+          ∙ take-append-le (extent.end - extent.start) (drop extent.start text) more (omega (arith, count, within.0, within.1));
     }
 
 -- in longer texts the requests stand still
@@ -48,19 +48,19 @@ kept_twice first second third one two = λ written within.
 
 -- ---- what was written last
 
-pub piece_behind : (text whole more : List ℕ) (place : Place) → whole ≡ text ++ more → place.start ≡ length text → place.end ≡ length whole
-    → piece_at whole place ≡ more
-piece_behind text whole more place is start end =
+pub piece_behind : (text whole more : List ℕ) (extent : Extent) → whole ≡ text ++ more → extent.start ≡ length text → extent.end ≡ length whole
+    → piece_at whole extent ≡ more
+piece_behind text whole more extent is start end =
     let count : length whole ≡ length text + length more = ap length is ∙ length-append text more in
-    let rest : drop place.start whole ≡ more =
+    let rest : drop extent.start whole ≡ more =
     ap₂ (λ (n : ℕ) (list : List ℕ). drop n list) start is ∙ drop-append_seam text more in
-    ap (λ (list : List ℕ). take (place.end - place.start) list) rest
-    ∙ take_all (place.end - place.start) more (omega (arith, count, start, end))
+    ap (λ (list : List ℕ). take (extent.end - extent.start) list) rest
+    ∙ take_all (extent.end - extent.start) more (omega (arith, count, start, end))
 
 -- the rest of a text
-piece_from : (text : List ℕ) (place : Place) → place.start ≤ length text → place.end ≡ length text → piece_at text place ≡ drop place.start text
-piece_from text place within end =
-    take_all (place.end - place.start) (drop place.start text) (omega (arith, length-drop place.start text, end))
+piece_from : (text : List ℕ) (extent : Extent) → extent.start ≤ length text → extent.end ≡ length text → piece_at text extent ≡ drop extent.start text
+piece_from text extent within end =
+    take_all (extent.end - extent.start) (drop extent.start text) (omega (arith, length-drop extent.start text, end))
 
 -- a head behind the others, of the body that was written last
 pub written_last : (old new : Pieces) (line token : List ℕ) (written : Written) (count : ℕ)

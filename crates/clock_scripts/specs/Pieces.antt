@@ -1,6 +1,6 @@
 -- Requests that were written: their heads stand one behind the other in one text, their bodies in another.
---     piece_at text place, text_at pieces written      what stands at a place, and the two pieces of a request
---     IsPlaceIn text place, IsWrittenIn pieces written      the place is one of the text; those of a request are
+--     piece_at text extent, text_at pieces written      what stands in an extent, and the two pieces of a request
+--     IsExtentIn text extent, IsWrittenIn pieces written      the extent is one of the text; those of a request are
 --     HoldsNothing pieces      no request stands in the texts
 --     Keeps old pieces      each request that stood in the texts stands there still
 --     Writes old pieces text written, WritesIf old pieces text written      a request was written, if there is one
@@ -8,35 +8,35 @@
 use Rattle.std.specs.Prelude.{◌≡◌, ◌≤◌, ◌-◌, ◌&&◌, ℕ, Bool, List, [], ◌++◌, nat_le, length, take, drop, Option, Some, None}
 use Rattle.clock_http.specs.HeaderLines.{body_limit}
 use Rattle.clock_http.specs.Framing.{needs_more}
-use Rattle.clock_scripts.specs.declared.pieces.Place.{Place}
+use Rattle.clock_scripts.specs.declared.pieces.Extent.{Extent}
 use Rattle.clock_scripts.specs.declared.pieces.Written.{Written}
 use Rattle.clock_scripts.specs.declared.pieces.Pieces.{Pieces}
 
--- what stands at a place of a text
-abbrev pub piece_at : List ℕ → Place → List ℕ
-piece_at text place = take (place.end - place.start) (drop place.start text)
+-- what stands in an extent of a text
+abbrev pub piece_at : List ℕ → Extent → List ℕ
+piece_at text extent = take (extent.end - extent.start) (drop extent.start text)
 
 -- the two pieces of a request that was written
 abbrev pub text_at : Pieces → Written → List ℕ
 text_at pieces written = piece_at pieces.heads.items written.head ++ piece_at pieces.bodies.text.items written.body
 
--- the place is one of the text
-abbrev pub IsPlaceIn : List ℕ → Place → Type 0
-IsPlaceIn text place = (place.start ≤ place.end) × (place.end ≤ length text)
+-- the extent is one of the text
+abbrev pub IsExtentIn : List ℕ → Extent → Type 0
+IsExtentIn text extent = (extent.start ≤ extent.end) × (extent.end ≤ length text)
 
 -- the pieces of a request stand in the texts
 abbrev pub IsWrittenIn : Pieces → Written → Type 0
-IsWrittenIn pieces written = IsPlaceIn pieces.heads.items written.head × IsPlaceIn pieces.bodies.text.items written.body
+IsWrittenIn pieces written = IsExtentIn pieces.heads.items written.head × IsExtentIn pieces.bodies.text.items written.body
 
 -- both texts are empty
 pub record HoldsNothing (pieces : Pieces) : Type 0 where
   pub heads : pieces.heads.items ≡ []
   pub bodies : pieces.bodies.text.items ≡ []
 
--- a piece stands at its place still
-pub record IsKept (old text : List ℕ) (place : Place) : Type 0 where
-  pub within : IsPlaceIn text place
-  pub same : piece_at text place ≡ piece_at old place
+-- a piece stands in its extent still
+pub record IsKept (old text : List ℕ) (extent : Extent) : Type 0 where
+  pub within : IsExtentIn text extent
+  pub same : piece_at text extent ≡ piece_at old extent
 
 -- each request that stood in the texts stands there still
 abbrev pub Keeps : Pieces → Pieces → Type 0

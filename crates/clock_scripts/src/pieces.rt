@@ -13,7 +13,7 @@ use std::alloc::Global;
 
 /// Where a piece stands in a text.
 #[derive(Clone, Copy)]
-struct Place {
+struct Extent {
     start: usize,
     end: usize,
 }
@@ -21,8 +21,8 @@ struct Place {
 /// Where the two pieces of a request stand among those of others.
 #[derive(Clone, Copy)]
 pub struct Written {
-    head: Place,
-    body: Place,
+    head: Extent,
+    body: Extent,
 }
 
 /// The pieces of requests: their heads stand one behind the other, and so do their bodies.
@@ -79,11 +79,11 @@ impl Pieces {
         let head = self.heads.len();
         push_head(&mut self.heads, line, token, (end - body) as u64)?;
         Ok(Written {
-            head: Place {
+            head: Extent {
                 start: head,
                 end: self.heads.len(),
             },
-            body: Place { start: body, end },
+            body: Extent { start: body, end },
         })
     }
 

@@ -103,18 +103,12 @@ fn push_held(
 {
     let blocks = (held as usize).min(limits.len());
     match last_leaving(pair, limits, blocks) {
-        Some(_) => {
-            push_leaving(bodies, product, pair, held, &limits[..blocks])?;
-            Ok(())
-        }
-        None => {
-            bodies.push_bid(&Bid {
-                product,
-                quantity: held,
-                price: pair.clock.get(),
-            })?;
-            Ok(())
-        }
+        Some(_) => push_leaving(bodies, product, pair, held, &limits[..blocks]),
+        None => bodies.push_bid(&Bid {
+            product,
+            quantity: held,
+            price: pair.clock.get(),
+        }),
     }
 }
 
@@ -160,9 +154,10 @@ impl Sincere<'_> {
         requires first { self.now.own.round ≡ 1 }
         ensures { OnOk result (Adds (bids_text (sheet_of self.now)) bodies.old.text.items bodies.new.text.items) }
     {
-        let mut limits = self.limits.walk();
+        let mut from = 0;
         for (product, pair) in self.prices.iter().enumerate() {
-            push_opening(bodies, product as u64, pair, limits.list(product))?;
+            let limits = self.limits.list(product, &mut from);
+            push_opening(bodies, product as u64, pair, limits)?;
         }
         Ok(())
     }
@@ -174,12 +169,12 @@ impl Sincere<'_> {
         requires later { self.now.own.round ≢ 1 }
         ensures { OnOk result (Adds (bids_text (sheet_of self.now)) bodies.old.text.items bodies.new.text.items) }
     {
-        let mut limits = self.limits.walk();
+        let mut from = 0;
         let mut held = self.own.demands.held();
         'held: while let Some(one) = held.next() {
             let pair = &self.prices[one.product];
-            let wanted = limits.list(one.product);
-            push_held(bodies, one.product as u64, pair, one.demand, wanted)?;
+            let limits = self.limits.list(one.product, &mut from);
+            push_held(bodies, one.product as u64, pair, one.demand, limits)?;
         }
         Ok(())
     }

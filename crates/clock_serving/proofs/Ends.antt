@@ -7,29 +7,34 @@ use Rattle.clock_journal.specs.Kept.{JournalState}
 use Rattle.clock_keeping.specs.Keeping.{IsInStep, LeavesOneMore}
 use Rattle.clock_serving.specs.declared.fault.ServeFault.{ServeFault}
 use Rattle.clock_serving.specs.declared.fault.ServeFault.TheVariants.{Accept, Journal}
-use Rattle.clock_serving.specs.Exchanges.{Exchange, HasClosed}
+use Rattle.clock_serving.specs.Exchanges.{Exchange, GrowsBy, HasClosed}
+use Rattle.clock_serving.specs.Closings.{TellsClosings}
 use Rattle.clock_serving.specs.Serving.{AreServed, EndsServing, EndsUnkept, HasKeptTold}
-use Rattle.clock_serving.specs.inside.Served.{EndsOne, IsUnkept}
-use Rattle.clock_serving.proofs.Walking.{closed_more}
+use Rattle.clock_serving.specs.inside.Served.{EndsOne, IsUnkept, round_if}
+use Rattle.clock_serving.proofs.Walking.{grown_more}
 use Rattle.clock_serving.proofs.Served.{served_more}
 
 -- so many connections were served
-pub record HasServed (count : ℕ) (closed_old closed_new : Option (List Exchange)) (journal_old journal_new : JournalState) (old new : HouseFields) : Type 0 where
+pub record HasServed (count : ℕ) (closed_old closed_new : Option (List Exchange)) (told_old told_new : Option (List ℕ))
+    (journal_old journal_new : JournalState) (old new : HouseFields) : Type 0 where
   pub exchanges : List Exchange
   pub closed : HasClosed closed_old closed_new exchanges
   pub counted : length exchanges ≡ count
-  pub served : AreServed exchanges journal_old journal_new old new
+  pub served : AreServed exchanges told_old told_new journal_old journal_new old new
 
-module _ (takes : List ℕ → Type 0) (count : ℕ) (first mid last : Option (List Exchange)) (journal_old journal_mid journal_new : JournalState) (old now new : HouseFields)
-    (limits : IsSetup old.setup) (same : now.setup ≡ old.setup) (before : HasServed count first mid journal_old journal_mid old now) where
+module _ (count : ℕ) (first mid last : Option (List Exchange)) (told_old told_mid told_new : Option (List ℕ))
+    (journal_old journal_mid journal_new : JournalState) (old now new : HouseFields) (limits : IsSetup old.setup) (same : now.setup ≡ old.setup)
+    (before : HasServed count first mid told_old told_mid journal_old journal_mid old now) where
   -- one more was
-  pub one_more : {U : Type 0} (done : U) → EndsOne takes mid last journal_mid journal_new now new (Ok done)
-      → HasServed (count + 1) first last journal_old journal_new old new
-  one_more done ends = record {
+  pub one_more : {U : Type 0} (done : U) → EndsOne mid last journal_mid journal_new now new (Ok done) → new.setup ≡ now.setup
+      → GrowsBy told_mid told_new (round_if (length now.closed) (length new.closed))
+      → HasServed (count + 1) first last told_old told_new journal_old journal_new old new
+  one_more done ends still tells = record {
     exchanges = before.exchanges ++ ends.0 ∷ [];
-    closed = closed_more first mid last before.exchanges (ends.0 ∷ []) before.closed ends.1;
+    closed = grown_more first mid last before.exchanges (ends.0 ∷ []) before.closed ends.1;
     counted = omega (arith, length-append before.exchanges (ends.0 ∷ []), before.counted);
-    served = served_more before.exchanges ends.0 journal_old journal_mid journal_new old now new limits same before.served ends.2;
+    served = served_more before.exchanges ends.0 told_old told_mid told_new journal_old journal_mid journal_new old now new limits same still before.served ends.2
+        tells;
   }
 
   told_are_kept : (text : List ℕ) (digest : List ℕ) (past : List (List ℕ)) → IsInStep digest past journal_old old
@@ -47,37 +52,43 @@ module _ (takes : List ℕ → Type 0) (count : ℕ) (first mid last : Option (L
       }
 
   -- the text of one more could not be kept
-  ends_unkept : (one : Exchange) → IsUnkept takes one journal_mid journal_new → EndsUnkept takes before.exchanges one journal_old journal_new old
-  ends_unkept one unkept = record {
+  ends_unkept : (one : Exchange) → IsUnkept one journal_mid journal_new → told_new ≡ told_mid
+      → EndsUnkept before.exchanges one told_old told_new journal_old journal_new old
+  ends_unkept one unkept untold = record {
     text = unkept.0.text;
     arrived = unkept.0.arrived;
     failed = unkept.0.failed;
     silent = unkept.1;
     added_to = unkept.0.moments.added_to ∙ before.served.added_to;
-    replied = λ past stands. let so_far = before.served.replied past stands in (so_far.end, so_far.walks);
+    replied = λ past stands.
+        let so_far = before.served.replied past stands in
+        (so_far.end, so_far.walks, subst (λ (told : Option (List ℕ)). TellsClosings old.setup past so_far.end told_old told) (sym untold) so_far.tells);
     kept = λ digest past in_step. told_are_kept unkept.0.text digest past in_step unkept.0.moments unkept.0.on_disk;
   }
 
   -- it ends the run
-  pub ends_by : {U : Type 0} (result : Result U ServeFault) (most : ℕ) (fault : ServeFault) → count < most → EndsOne {U = U} takes mid last journal_mid journal_new now new (Err fault)
-      → (exchanges : List Exchange) × HasClosed first last exchanges × EndsServing {U = U} takes most exchanges journal_old journal_new old new (Err fault)
-  ends_by result most Accept below ends = (
+  pub ends_by : {U : Type 0} (result : Result U ServeFault) (most : ℕ) (fault : ServeFault) → count < most → EndsOne {U = U} mid last journal_mid journal_new now new (Err fault)
+      → told_new ≡ told_mid
+      → (exchanges : List Exchange) × HasClosed first last exchanges
+      × EndsServing {U = U} most exchanges told_old told_new journal_old journal_new old new (Err fault)
+  ends_by result most Accept below ends untold = (
     before.exchanges,
     subst (λ (closed : Option (List Exchange)). HasClosed first closed before.exchanges) (sym ends.0) before.closed,
     (
       omega (arith, before.counted, below),
-      subst (λ (house : HouseFields). AreServed before.exchanges journal_old journal_new old house) (sym ends.2)
-          (subst (λ (journal : JournalState). AreServed before.exchanges journal_old journal old now) (sym ends.1) before.served),
+      subst (λ (house : HouseFields). AreServed before.exchanges told_old told_new journal_old journal_new old house) (sym ends.2)
+          (subst (λ (journal : JournalState). AreServed before.exchanges told_old told_new journal_old journal old now) (sym ends.1)
+          (subst (λ (told : Option (List ℕ)). AreServed before.exchanges told_old told journal_old journal_mid old now) (sym untold) before.served)),
     ),
   )
-  ends_by result most Journal below ends = (
+  ends_by result most Journal below ends untold = (
     before.exchanges ++ ends.0 ∷ [],
-    closed_more first mid last before.exchanges (ends.0 ∷ []) before.closed ends.1,
+    grown_more first mid last before.exchanges (ends.0 ∷ []) before.closed ends.1,
     (
       before.exchanges,
       ends.0,
       refl,
       omega (arith, length-append before.exchanges (ends.0 ∷ []), before.counted, below),
-      ends_unkept ends.0 ends.2,
+      ends_unkept ends.0 ends.2 untold,
     ),
   )

@@ -1,4 +1,5 @@
 mod Walking
+pub mod Telling
 mod Served
 mod Ends
 mod Bytes

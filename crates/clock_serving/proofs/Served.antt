@@ -18,11 +18,12 @@ use Rattle.clock_journal.specs.Kept.{HasTexts, JournalState, file_of}
 use Rattle.clock_journal.specs.Reading.{onto}
 use Rattle.clock_journal.proofs.Moments.{every_front}
 use Rattle.clock_keeping.specs.Keeping.{IsInStep, IsKept}
-use Rattle.clock_serving.specs.Exchanges.{Exchange}
+use Rattle.clock_serving.specs.Exchanges.{Exchange, GrowsBy}
 use Rattle.clock_serving.specs.Serving.{AreServed, KeepsText, RepliesTo, Walks, WritesReply}
-use Rattle.clock_serving.specs.inside.Served.{IsAnswered, IsServed}
+use Rattle.clock_serving.specs.inside.Served.{IsAnswered, IsServed, round_if}
 use Rattle.clock_front.proofs.RunLaws.{right}
 use Rattle.clock_serving.proofs.Walking.{all_behind, walks_on}
+use Rattle.clock_serving.proofs.Telling.{tells_none, tells_on}
 
 -- a reply was written, or a front of it
 pub reply_written : {U E : Type 0} (writing : Writing) (answer : Answer) (result : Result U E)
@@ -135,10 +136,10 @@ module _ (one : Exchange) (journal_old journal_new : JournalState) (old new : Ho
   added_one (inr ((unanswered, kept), silent)) = ap (λ (journal : JournalState). journal.uncut) kept
 
 -- none was served yet
-pub served_none : (journal : JournalState) (house : HouseFields) → AreServed [] journal journal house house
-served_none journal house = record {
+pub served_none : (told : Option (List ℕ)) (journal : JournalState) (house : HouseFields) → AreServed [] told told journal journal house house
+served_none told journal house = record {
   added_to = refl;
-  replied = λ past stands. record { end = past; walks = refl; stands = stands };
+  replied = λ past stands. record { end = past; walks = refl; stands = stands; tells = tells_none house.setup past told };
   kept = λ digest past in_step. record {
     end = past;
     walks = refl;
@@ -151,10 +152,12 @@ served_none journal house = record {
 }
 
 -- one more was served
-pub served_more : (exchanges : List Exchange) (one : Exchange) (journal_old journal_mid journal_new : JournalState) (old mid new : HouseFields)
-    → IsSetup old.setup → mid.setup ≡ old.setup → AreServed exchanges journal_old journal_mid old mid → IsServed one journal_mid journal_new mid new
-    → AreServed (exchanges ++ one ∷ []) journal_old journal_new old new
-served_more exchanges one journal_old journal_mid journal_new old mid new limits same before served = record {
+pub served_more : (exchanges : List Exchange) (one : Exchange) (told_old told_mid told_new : Option (List ℕ))
+    (journal_old journal_mid journal_new : JournalState) (old mid new : HouseFields)
+    → IsSetup old.setup → mid.setup ≡ old.setup → new.setup ≡ mid.setup → AreServed exchanges told_old told_mid journal_old journal_mid old mid
+    → IsServed one journal_mid journal_new mid new → GrowsBy told_mid told_new (round_if (length mid.closed) (length new.closed))
+    → AreServed (exchanges ++ one ∷ []) told_old told_new journal_old journal_new old new
+served_more exchanges one told_old told_mid told_new journal_old journal_mid journal_new old mid new limits same still before served tells = record {
   added_to = added_one one journal_mid journal_new mid new old.setup limits same served ∙ before.added_to;
   replied = λ past stands.
       let so_far = before.replied past stands in
@@ -163,6 +166,8 @@ served_more exchanges one journal_old journal_mid journal_new old mid new limits
         end = next.0;
         walks = walks_on (RepliesTo old.setup) past exchanges so_far.end one next.0 so_far.walks next.1;
         stands = next.2;
+        tells = tells_on old.setup past so_far.end one next.0 told_old told_mid told_new mid new same (still ∙ same) so_far.stands next.2
+            so_far.tells next.1 tells;
       };
   kept = λ digest past in_step.
       let so_far = before.kept digest past in_step in

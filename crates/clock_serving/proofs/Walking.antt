@@ -2,20 +2,20 @@
 use Rattle.std.proofs.Common.{◌≡◌, inl, inr, ℕ, List, [], ◌∷◌, ◌++◌, Option, Some, None, refl, sym, ap, ◌∙◌, subst, append_assoc, append-nil}
 use Rattle.clock_terms.specs.Limits.{SetupFields}
 use Rattle.clock_device.specs.Told.{Reading, SinkTold, SourceTold, Writing}
-use Rattle.clock_serving.specs.Exchanges.{Closes, Exchange, HasClosed, Offer}
+use Rattle.clock_serving.specs.Exchanges.{Closes, Exchange, GrowsBy, HasClosed, Offer}
 use Rattle.clock_serving.specs.Serving.{KeepsText, Walks}
 
--- none was closed since
-pub closed_none : (closed : Option (List Exchange)) → HasClosed closed closed []
-closed_none None = tt
-closed_none (Some old) = ap Some (sym (append-nil old))
+-- none was added
+pub grown_none : {A : Type 0} (list : Option (List A)) → GrowsBy list list []
+grown_none None = tt
+grown_none (Some old) = ap Some (sym (append-nil old))
 
--- these were closed, and then those
-pub closed_more : (first mid last : Option (List Exchange)) (some others : List Exchange) → HasClosed first mid some → HasClosed mid last others
-    → HasClosed first last (some ++ others)
-closed_more None mid last some others before after = tt
-closed_more (Some old) mid last some others before after =
-    subst (λ (closed : Option (List Exchange)). HasClosed closed last others) before after ∙ ap Some (append_assoc old some others)
+-- these were added, and then those
+pub grown_more : {A : Type 0} (first mid last : Option (List A)) (some others : List A) → GrowsBy first mid some → GrowsBy mid last others
+    → GrowsBy first last (some ++ others)
+grown_more None mid last some others before after = tt
+grown_more {A = A} (Some old) mid last some others before after =
+    subst (λ (list : Option (List A)). GrowsBy list last others) before after ∙ ap Some (append_assoc old some others)
 
 -- one connection more
 pub walks_on : (step : List (List ℕ) → Exchange → List (List ℕ) → Type 0) (past : List (List ℕ)) (exchanges : List Exchange) (end : List (List ℕ))

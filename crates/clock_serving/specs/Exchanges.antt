@@ -1,6 +1,7 @@
 -- What is seen of connections that are served one after the other.
 --     Offer      what a connection has where it is taken
 --     Exchange      what was read and written on a connection until it was closed
+--     GrowsBy old new more      these were added at the end, where that is told
 --     HasClosed old new exchanges      these connections were closed, in order, and no others
 --     Closes old new reading writing      one was
 --     no_journal      what is kept where nothing is
@@ -18,10 +19,14 @@ pub record Exchange : Type 0 where
   pub reading : Reading
   pub writing : Writing
 
--- these connections were closed, in order, and no others; nothing is said where connections are not told
+-- these were added, in order, and no others; nothing is said where they are not told
+abbrev pub GrowsBy : {A : Type 0} → Option (List A) → Option (List A) → List A → Type 0
+GrowsBy (Some old) new more = new ≡ Some (old ++ more)
+GrowsBy None new more = Unit {0}
+
+-- these connections were closed, in order, and no others
 abbrev pub HasClosed : Option (List Exchange) → Option (List Exchange) → List Exchange → Type 0
-HasClosed (Some old) new exchanges = new ≡ Some (old ++ exchanges)
-HasClosed None new exchanges = Unit {0}
+HasClosed old new exchanges = GrowsBy old new exchanges
 
 -- one connection was closed
 abbrev pub Closes : Option (List Exchange) → Option (List Exchange) → Reading → Writing → Type 0

@@ -1,4 +1,5 @@
 pub mod Exchanges
+pub mod Closings
 pub mod Serving
 pub mod Laws
 pub mod Listed

@@ -6,10 +6,10 @@
 --     RepliesTo setup past one next      the reply is the right one after the texts before it
 --     KeepsText setup past one next      it is the right one after the kept texts, and an accepted text is kept
 --     AreServed exchanges ..      so all of these connections were served
---     EndsUnkept takes served last ..      after these the text of the last could not be kept
+--     EndsUnkept served last ..      after these the text of the last could not be kept
 --     is_accept_fault result      a connection could not be taken
---     EndsServing takes count exchanges .. result      how serving so many connections ends
-use Rattle.std.specs.Prelude.{◌≡◌, ◌<◌, ◌≤◌, ◌⊎◌, ◌++◌, ℕ, Bool, true, false, List, [], ◌∷◌, length, Some, Result, Ok, Err}
+--     EndsServing count exchanges .. result      how serving so many connections ends
+use Rattle.std.specs.Prelude.{◌≡◌, ◌<◌, ◌≤◌, ◌⊎◌, ◌++◌, ℕ, Bool, true, false, List, [], ◌∷◌, length, Option, Some, Result, Ok, Err}
 use Rattle.clock_terms.specs.Limits.{SetupFields}
 use Rattle.clock_house.specs.House.{HouseFields}
 use Rattle.clock_http.specs.Replies.{Answer}
@@ -25,6 +25,7 @@ use Rattle.clock_journal.specs.Kept.{JournalState, file_of}
 use Rattle.clock_journal.specs.Reading.{onto}
 use Rattle.clock_keeping.specs.Keeping.{IsInStep, IsNextKept}
 use Rattle.clock_serving.specs.Exchanges.{Exchange}
+use Rattle.clock_serving.specs.Closings.{TellsClosings}
 use Rattle.clock_serving.specs.declared.fault.ServeFault.{ServeFault}
 use Rattle.clock_serving.specs.declared.fault.ServeFault.TheVariants as fault
 
@@ -66,11 +67,12 @@ KeepsText setup past one next =
     × (IsRight setup (onto past []) text answer ⊎ IsStruckOut text answer))
     ⊎ (EndsAlone one × (next ≡ past))
 
--- what these connections have made of the texts that the front stood for
-pub record HasReplied (past : List (List ℕ)) (exchanges : List Exchange) (old new : HouseFields) : Type 0 where
+-- what these connections have made of the texts that the front stood for; and each round that was closed was told
+pub record HasReplied (past : List (List ℕ)) (exchanges : List Exchange) (told_old told_new : Option (List ℕ)) (old new : HouseFields) : Type 0 where
   pub end : List (List ℕ)
   pub walks : Walks (RepliesTo old.setup) past exchanges end
   pub stands : StandsForTexts end new
+  pub tells : TellsClosings old.setup past end told_old told_new
 
 -- what they have made of the texts of the journal: all of these are on its disk; and a stop at any moment since has left the first
 -- of them, in order, and none fewer than there were
@@ -81,9 +83,9 @@ pub record HasKept (digest : List ℕ) (past : List (List ℕ)) (exchanges : Lis
   pub moments : (left : List ℕ) → MayBeLeft journal_old.synced journal_new.written left → LeavesTexts digest left end (length past)
 
 -- these connections were served in order, whatever texts there were, and the file was only added to
-pub record AreServed (exchanges : List Exchange) (journal_old journal_new : JournalState) (old new : HouseFields) : Type 0 where
+pub record AreServed (exchanges : List Exchange) (told_old told_new : Option (List ℕ)) (journal_old journal_new : JournalState) (old new : HouseFields) : Type 0 where
   pub added_to : journal_new.uncut ≡ journal_old.uncut
-  pub replied : (past : List (List ℕ)) → StandsForTexts past old → HasReplied past exchanges old new
+  pub replied : (past : List (List ℕ)) → StandsForTexts past old → HasReplied past exchanges told_old told_new old new
   pub kept : (digest : List ℕ) (past : List (List ℕ)) → IsInStep digest past journal_old old → HasKept digest past exchanges journal_old journal_new old new
 
 -- all texts that were told are on the disk, and a stop leaves these, and at most the one that could not be kept
@@ -93,15 +95,15 @@ pub record HasKeptTold (digest : List ℕ) (past : List (List ℕ)) (served : Li
   pub on_disk : journal.synced ≡ Some (file_of digest end)
   pub left_ones : (left : List ℕ) → MayBeLeft (Some (file_of digest end)) journal.written left → LeavesTexts digest left (end ++ text ∷ []) (length end)
 
--- after these connections the text of the last one could not be kept, since a call of the disk failed or it is none that is taken;
--- nothing was written on it, and the file was only added to
-pub record EndsUnkept (takes : List ℕ → Type 0) (served : List Exchange) (last : Exchange) (journal_old journal_new : JournalState) (old : HouseFields) : Type 0 where
+-- after these connections the text of the last one could not be kept, since a call of the disk has failed;
+-- nothing was written on it, the file was only added to, and no round was told that it may have closed
+pub record EndsUnkept (served : List Exchange) (last : Exchange) (told_old told_new : Option (List ℕ)) (journal_old journal_new : JournalState) (old : HouseFields) : Type 0 where
   pub text : List ℕ
   pub arrived : HasArrived last.reading text
-  pub failed : (journal_new.has_failed ≡ true) ⊎ (takes text → ⊥)
+  pub failed : journal_new.has_failed ≡ true
   pub silent : WritesNothing last.writing
   pub added_to : journal_new.uncut ≡ journal_old.uncut
-  pub replied : (past : List (List ℕ)) → StandsForTexts past old → (end : List (List ℕ)) × Walks (RepliesTo old.setup) past served end
+  pub replied : (past : List (List ℕ)) → StandsForTexts past old → (end : List (List ℕ)) × Walks (RepliesTo old.setup) past served end × TellsClosings old.setup past end told_old told_new
   pub kept : (digest : List ℕ) (past : List (List ℕ)) → IsInStep digest past journal_old old → HasKeptTold digest past served text journal_new old
 
 -- a connection could not be taken
@@ -112,11 +114,12 @@ is_accept_fault (Err fault.Journal) = false
 
 -- how serving so many connections ends: each was served; or one could not be taken, and those before it were served; or the text
 -- of the last one that was taken could not be kept
-abbrev pub EndsServing : {U : Type 0} → (List ℕ → Type 0) → ℕ → List Exchange → JournalState → JournalState → HouseFields → HouseFields → Result U ServeFault → Type 0
-EndsServing takes count exchanges journal_old journal_new old new (Ok done) =
-    (length exchanges ≡ count) × AreServed exchanges journal_old journal_new old new
-EndsServing takes count exchanges journal_old journal_new old new (Err fault.Accept) =
-    (length exchanges < count) × AreServed exchanges journal_old journal_new old new
-EndsServing takes count exchanges journal_old journal_new old new (Err fault.Journal) =
+abbrev pub EndsServing : {U : Type 0} → ℕ → List Exchange → Option (List ℕ) → Option (List ℕ) → JournalState → JournalState
+    → HouseFields → HouseFields → Result U ServeFault → Type 0
+EndsServing count exchanges told_old told_new journal_old journal_new old new (Ok done) =
+    (length exchanges ≡ count) × AreServed exchanges told_old told_new journal_old journal_new old new
+EndsServing count exchanges told_old told_new journal_old journal_new old new (Err fault.Accept) =
+    (length exchanges < count) × AreServed exchanges told_old told_new journal_old journal_new old new
+EndsServing count exchanges told_old told_new journal_old journal_new old new (Err fault.Journal) =
     (served : List Exchange) × (last : Exchange) × (exchanges ≡ served ++ last ∷ []) × (length exchanges ≤ count)
-    × EndsUnkept takes served last journal_old journal_new old
+    × EndsUnkept served last told_old told_new journal_old journal_new old

@@ -1,5 +1,5 @@
 //! The loop over the connections of a port, where nothing is kept.
-ghost use Rattle.std.specs.Prelude.{◌≡◌, ◌≢◌, ℕ, List, Err};
+ghost use Rattle.std.specs.Prelude.{◌≡◌, ◌≢◌, ℕ, List, None, Err};
 ghost use Rattle.clock_serving.specs.declared.fault.ServeFault.TheVariants.{Journal as JournalFault};
 ghost use Rattle.clock_serving.specs.Exchanges.{Exchange, no_journal};
 ghost use Rattle.clock_serving.specs.Serving.{EndsServing};
@@ -24,7 +24,7 @@ pub fn serve_on<P: Processor>(
     connections: u64,
 ) -> Result<(), ServeFault>
     ensures served { (exchanges : List Exchange)
-        × EndsServing (λ text. Unit {0}) connections exchanges no_journal no_journal front.old front.new result }
+        × EndsServing connections exchanges None None no_journal no_journal front.old front.new result }
     ensures kept { result ≢ Err JournalFault }
     ensures setup { front.new.setup ≡ front.old.setup }
 {

@@ -1,8 +1,8 @@
 ghost use Rattle.std.specs.Prelude.{◌≡◌, ◌≤◌, ℕ, List, OnOk, MatchResult, false, length};
 ghost use Rattle.clock_device.specs.Told.{IsUnread, IsUnused};
-ghost use Rattle.clock_serving.specs.Exchanges.{Exchange, HasClosed};
+ghost use Rattle.clock_serving.specs.Exchanges.{Exchange, GrowsBy, HasClosed};
 ghost use Rattle.clock_serving.specs.Serving.{EndsServing, is_accept_fault};
-ghost use Rattle.clock_serving.specs.inside.Served.{EndsOne, IsServed, IsUnkept};
+ghost use Rattle.clock_serving.specs.inside.Served.{EndsOne, IsServed, IsUnkept, round_if};
 
 use crate::acceptor::Acceptor;
 use crate::fault::ServeFault;
@@ -28,8 +28,9 @@ fn serve_one<P: Processor, K: Keeper, R: Source, W: Sink>(
       writing = record { before = W.told sink.old; after = W.told sink.new };
     } in MatchResult result
         (λ done. IsServed one (K.journal keeper.old) (K.journal keeper.new) front.old front.new)
-        (λ failed. IsUnkept K.takes one (K.journal keeper.old) (K.journal keeper.new)) }
+        (λ failed. IsUnkept one (K.journal keeper.old) (K.journal keeper.new)) }
     ensures unfailed { OnOk result ((K.journal keeper.new).has_failed ≡ false) }
+    ensures told { K.told keeper.new ≡ K.told keeper.old }
     ensures setup { front.new.setup ≡ front.old.setup }
 {
     let reply = match read_request(alloc, source) {
@@ -44,7 +45,8 @@ fn serve_one<P: Processor, K: Keeper, R: Source, W: Sink>(
 
 /// Tells of a round that was closed since.
 fn tell_closing<K: Keeper>(keeper: &mut K, before: u64, after: u64)
-    ensures { K.journal keeper.new ≡ K.journal keeper.old }
+    ensures kept { K.journal keeper.new ≡ K.journal keeper.old }
+    ensures told { GrowsBy (K.told keeper.old) (K.told keeper.new) (round_if before after) }
 {
     if before < after {
         keeper.round_closed(after);
@@ -61,9 +63,12 @@ fn serve_next<P: Processor, K: Keeper, C: Acceptor>(
     requires unfailed { (K.journal keeper.old).has_failed ≡ false }
     requires closed { C.is_open connections.old ≡ false }
     requires taken { C.has_failed connections.old ≡ false }
-    ensures ends { EndsOne K.takes (C.closed connections.old) (C.closed connections.new) (K.journal keeper.old)
-        (K.journal keeper.new)
-        front.old front.new result }
+    ensures ends { EndsOne (C.closed connections.old) (C.closed connections.new) (K.journal keeper.old)
+        (K.journal keeper.new) front.old front.new result }
+    ensures told { MatchResult result
+        (λ done. GrowsBy (K.told keeper.old) (K.told keeper.new) (round_if (length front.old.closed)
+        (length front.new.closed)))
+        (λ fault. K.told keeper.new ≡ K.told keeper.old) }
     ensures unfailed { OnOk result ((K.journal keeper.new).has_failed ≡ false) }
     ensures closed { C.is_open connections.new ≡ false }
     ensures taken { C.has_failed connections.new ≡ is_accept_fault result }
@@ -100,7 +105,8 @@ pub fn serve_all<P: Processor, K: Keeper, C: Acceptor>(
     requires taken { C.has_failed connections.old ≡ false }
     ensures served { (exchanges : List Exchange) × HasClosed (C.closed connections.old)
         (C.closed connections.new) exchanges
-        × EndsServing K.takes count exchanges (K.journal keeper.old) (K.journal keeper.new) front.old front.new result }
+        × EndsServing count exchanges (K.told keeper.old) (K.told keeper.new) (K.journal keeper.old)
+        (K.journal keeper.new) front.old front.new result }
     ensures closed { C.is_open connections.new ≡ false }
     ensures taken { C.has_failed connections.new ≡ is_accept_fault result }
     ensures setup { front.new.setup ≡ front.old.setup }

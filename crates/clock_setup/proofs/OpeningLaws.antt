@@ -180,3 +180,14 @@ pub later_fault : (setup : SetupFields) (demands : List (List ℕ)) (increment :
     → first_fault (opening_checks setup demands increment) ≡ first
 unfolding opening_checks
 later_fault setup demands increment first counts is = rw counts (sym is)
+
+-- a set-up's opening is refused by the first of its checks that fails
+pub refused : (setup : SetupFields) (demands : List (List ℕ)) (increment : ℕ) (fault : OpeningFault)
+    → first_fault (opening_checks setup demands increment) ≡ Some fault → opening_with setup demands increment ≡ Err fault
+refused setup demands increment fault first = rw first refl
+
+-- and is opened where each passes
+pub opened : (setup : SetupFields) (demands grid : List (List ℕ)) (increment : ℕ) → grid ≡ demands
+    → first_fault (opening_checks setup demands increment) ≡ None
+    → opening_with setup demands increment ≡ Ok (record { setup = setup; grid = grid; increment = increment })
+opened setup demands grid increment same none = rw (none, same) refl

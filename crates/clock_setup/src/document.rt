@@ -3,12 +3,11 @@ ghost use Rattle.serde_json.specs.View.{view};
 ghost use Rattle.clock_terms.specs.Faults.{IsFirstFault, IsRefusal, first_fault};
 ghost use Rattle.clock_terms.specs.Limits.{SetupFields, IsOfFirstVersion, IsSetup, IsWithin, latest_version};
 ghost use Rattle.clock_json.specs.Tree.{number_at};
-ghost use Rattle.clock_setup.specs.SetupData.{setup_data};
 ghost use Rattle.clock_setup.specs.SetupShape.{fields_of};
 ghost use Rattle.clock_setup.specs.SetupDocument as document;
 ghost use Rattle.clock_setup.specs.inside.SetupDocument.{distinct_checks, head_checks};
 
-use crate::entries::{ScannedSetup, SetupEntries};
+use crate::entries::SetupEntries;
 use crate::fault::{Place, SetupFault};
 use crate::names::{has_distinct_names, has_distinct_tokens};
 use crate::setup_checks::{each_within, is_token};
@@ -60,7 +59,7 @@ fn distinct_operator(alloc: Global, entries: &SetupEntries) -> Result<Text, Setu
 }
 
 /// The set-up, where it is within its limits, or the first fault.
-fn within_limits(alloc: Global, entries: &SetupEntries) -> Result<Setup, SetupFault>
+pub(crate) fn within_limits(alloc: Global, entries: &SetupEntries) -> Result<Setup, SetupFault>
     requires version { IsWithin 1 latest_version entries.now.version }
     requires first_version { entries.now.version ≡ 1 → IsOfFirstVersion entries.now }
     ensures same { IfOk result (λ setup. setup ≡ entries.now) }
@@ -73,38 +72,16 @@ fn within_limits(alloc: Global, entries: &SetupEntries) -> Result<Setup, SetupFa
     let products = entries.products.as_slice();
     let products = each_within(alloc, Place::Products, MOST_PRODUCTS, products)?;
     let bidders = entries.bidders.as_slice();
-    let bidders = match each_within(alloc, Place::Bidders, MOST_BIDDERS, bidders) {
-        Ok(bidders) => bidders,
-        Err(fault) => {
-            drop(products);
-            return Err(fault);
-        }
-    };
-    match distinct_operator(alloc, entries) {
-        Ok(operator) => Ok(Setup {
-            version: entries.version,
-            limit: entries.limit,
-            requirement: entries.requirement,
-            operator,
-            products,
-            bidders,
-        }),
-        Err(fault) => {
-            drop(products);
-            drop(bidders);
-            Err(fault)
-        }
-    }
-}
-
-/// The set-up that a value of these entries means, or its first fault.
-pub(crate) fn judged(alloc: Global, scanned: &ScannedSetup) -> Result<Setup, SetupFault>
-    ensures same { IfOk result (λ setup. setup ≡ scanned.now.entries) }
-    ensures ok { IfOk result (λ setup. document.setup_of (setup_data scanned.now.entries) ≡ Ok setup) }
-    ensures err { IfErr result
-        (IsRefusal SetupFault.NoMemory (document.setup_of (setup_data scanned.now.entries))) }
-{
-    within_limits(alloc, &scanned.entries)
+    let bidders = each_within(alloc, Place::Bidders, MOST_BIDDERS, bidders)?;
+    let operator = distinct_operator(alloc, entries)?;
+    Ok(Setup {
+        version: entries.version,
+        limit: entries.limit,
+        requirement: entries.requirement,
+        operator,
+        products,
+        bidders,
+    })
 }
 
 /// The set-up that the bytes of a document mean, or the document's first fault.
@@ -122,18 +99,12 @@ pub fn read_setup(alloc: Global, bytes: &[u8]) -> Result<Setup, SetupFault>
     ensures err { IfErr result (IsRefusal SetupFault.NoMemory (document.document_setup bytes.now)) }
 {
     match scanned_text::<FoundSetup>(alloc, bytes) {
-        Ok(scanned) => {
-            let setup = judged(alloc, &scanned);
-            drop(scanned);
-            setup
-        }
+        Ok(scanned) => within_limits(alloc, &scanned.entries),
         Err(ScanStop::Unusual) => {
             let Some(value) = read_value(alloc, bytes)? else {
                 return Err(SetupFault::NotJson);
             };
-            let setup = setup_of(alloc, &value);
-            drop(value);
-            setup
+            setup_of(alloc, &value)
         }
         Err(ScanStop::NoMemory) => Err(SetupFault::NoMemory),
     }
@@ -161,7 +132,5 @@ pub fn setup_of(alloc: Global, value: &Value) -> Result<Setup, SetupFault>
     let Some(entries) = entries_of(alloc, value)? else {
         return Err(SetupFault::Shape);
     };
-    let setup = within_limits(alloc, &entries);
-    drop(entries);
-    setup
+    within_limits(alloc, &entries)
 }

@@ -2,7 +2,7 @@ ghost use Rattle.std.specs.Prelude.{◌≡◌, Ok};
 ghost use Rattle.clock_setup.specs.SetupData.{setup_data};
 ghost use Rattle.clock_setup.specs.SetupDocument.{setup_of};
 
-use crate::document::judged;
+use crate::document::within_limits;
 use crate::fault::SetupFault;
 use crate::setup_scan::FoundSetup;
 use clock_json::{PartReader, Scan, ScanStop};
@@ -28,9 +28,7 @@ impl<'v> PartReader<'v> for HeldSetup {
 
     fn part(alloc: Global, scan: &mut Scan<'v>) -> Result<HeldSetup, ScanStop> {
         let scanned = FoundSetup::part(alloc, scan)?;
-        let setup = judged(alloc, &scanned);
-        drop(scanned);
-        match setup {
+        match within_limits(alloc, &scanned.entries) {
             Ok(setup) => Ok(HeldSetup { setup }),
             Err(SetupFault::NoMemory) => Err(ScanStop::NoMemory),
             Err(_) => Err(ScanStop::Unusual),

@@ -1,6 +1,4 @@
-ghost use Rattle.std.specs.Prelude.{◌≡◌, ◌∷◌, map, nat_eq, IfOk};
-ghost use Rattle.std.specs.Cmp.Lexicographic.{pointwise};
-ghost use Rattle.std.specs.HashSet.{IsFromIterResult};
+ghost use Rattle.std.specs.Prelude.{◌≡◌, ◌∷◌, map, IfOk};
 ghost use Rattle.clock_terms.specs.Limits as limits;
 
 use crate::entries::BidderEntry;
@@ -9,21 +7,13 @@ use clock_device::{Items, NoMemory};
 use std::alloc::Global;
 use std::collections::HashSet;
 
-/// The texts, each once.
-fn set_of<'v>(alloc: Global, texts: &[&'v str]) -> Result<HashSet<&'v str>, NoMemory>
-    ensures { IfOk result (IsFromIterResult (λ a b. pointwise nat_eq a.now b.now) texts.now) }
-{
-    // Collecting asks again for less where there is no room for all, so the room is made here.
-    let mut seen = HashSet::with_capacity(alloc, texts.len())?;
-    seen.extend(texts.iter().copied())?;
-    Ok(seen)
-}
-
 /// Whether no two texts are equal.
 fn is_distinct(alloc: Global, texts: &[&str]) -> Result<bool, NoMemory>
     ensures { IfOk result (λ distinct. distinct ≡ limits.is_distinct (map (λ text. text.now) texts.now)) }
 {
-    let seen = set_of(alloc, texts)?;
+    // Collecting asks again for less where there is no room for all, so the room is made here.
+    let mut seen = HashSet::with_capacity(alloc, texts.len())?;
+    seen.extend(texts.iter().copied())?;
     Ok(seen.len() == texts.len())
 }
 

@@ -8,13 +8,14 @@ ghost use Rattle.clock_setup.specs.SetupDocument as document;
 
 use crate::document::setup_of;
 use crate::fault::SetupFault;
-use crate::opening_checks::grid_within;
+use crate::opening_checks::{grid_of_rows, has_counts};
 use crate::opening_scan::FoundOpening;
 use crate::opening_tree::opening_entries;
 use clock_device::NoMemory;
 use clock_json::tree::read_value;
 use clock_json::{FlatRows, ScanStop, scanned_text};
-use clock_terms::{Grid, Setup};
+use clock_money::{LEAST_INCREMENT, MOST_INCREMENT};
+use clock_terms::{Grid, Setup, is_within};
 use serde_json::Value;
 use std::alloc::Global;
 use thiserror::Error;
@@ -71,7 +72,7 @@ impl From<NoMemory> for OpeningFault {
 }
 
 /// The set-up under a document's key, its faults as those of the document.
-fn held_setup(alloc: Global, value: &Value) -> Result<Setup, OpeningFault>
+fn setup_of_opening(alloc: Global, value: &Value) -> Result<Setup, OpeningFault>
     ensures ok { IfOk result (λ setup. document.setup_of (view value.now) ≡ Ok setup) }
     ensures err { IfErr result (IsRefusal OpeningFault.NoMemory (in_opening (document.setup_of (view value.now)))) }
     ensures held { IfErr result (λ fault. fault ≢ OpeningFault.Setup SetupFault.NoMemory) }
@@ -97,16 +98,18 @@ fn compared(
     ensures err { IfErr result (IsRefusal OpeningFault.NoMemory (opening_with setup demands increment)) }
     ensures held { IfErr result (λ fault. fault ≢ OpeningFault.Setup SetupFault.NoMemory) }
 {
-    let grid = grid_within(alloc, &setup, &demands, increment);
-    drop(demands);
-    match grid {
-        Ok(grid) => Ok(Opening {
-            setup,
-            grid,
-            increment,
-        }),
-        Err(fault) => Err(fault),
+    if !has_counts(&setup, &demands) {
+        return Err(OpeningFault::Shape);
     }
+    let grid = grid_of_rows(alloc, &setup, &demands)?;
+    if !is_within(LEAST_INCREMENT, MOST_INCREMENT, increment) {
+        return Err(OpeningFault::Increment);
+    }
+    Ok(Opening {
+        setup,
+        grid,
+        increment,
+    })
 }
 
 /// The opening that a value of JSON means, or its first fault.
@@ -122,13 +125,8 @@ fn opening_in(alloc: Global, value: &Value) -> Result<Opening, OpeningFault>
     let Some(entries) = opening_entries(alloc, value)? else {
         return Err(OpeningFault::Shape);
     };
-    match held_setup(alloc, entries.setup) {
-        Ok(setup) => compared(alloc, setup, entries.demands, entries.increment),
-        Err(fault) => {
-            drop(entries);
-            Err(fault)
-        }
-    }
+    let setup = setup_of_opening(alloc, entries.setup)?;
+    compared(alloc, setup, entries.demands, entries.increment)
 }
 
 /// The opening that the bytes of a document mean, or the document's first fault.
@@ -152,9 +150,7 @@ pub fn read_opening(alloc: Global, bytes: &[u8]) -> Result<Opening, OpeningFault
             let Some(value) = read_value(alloc, bytes)? else {
                 return Err(OpeningFault::NotJson);
             };
-            let opening = opening_in(alloc, &value);
-            drop(value);
-            opening
+            opening_in(alloc, &value)
         }
     }
 }

@@ -2,20 +2,18 @@ ghost use Rattle.std.specs.Prelude.{◌≡◌, ◌≢◌, ◌≤◌, None, Some,
 ghost use Rattle.clock_terms.specs.Demands.{IsGrid};
 ghost use Rattle.clock_terms.specs.Eligibility.{activity};
 ghost use Rattle.clock_terms.specs.Faults.{IsFirstFault, first_fault, in_turn};
-ghost use Rattle.clock_terms.specs.Limits.{IsProduct, IsRow, IsWithin, is_within, least_increment, most_increment};
-ghost use Rattle.clock_terms.specs.Limits.{most_products};
+ghost use Rattle.clock_terms.specs.Limits.{IsProduct, IsRow, most_products};
 ghost use Rattle.clock_setup.specs.OpeningDocument as document;
-ghost use Rattle.clock_setup.specs.OpeningDocument.{demand_checks, row_checks, opening_checks};
+ghost use Rattle.clock_setup.specs.OpeningDocument.{demand_checks, row_checks};
 
 use crate::fault::SetupFault;
 use crate::opening::OpeningFault;
 use clock_json::{FlatRows, push, with_room};
-use clock_money::{LEAST_INCREMENT, MOST_INCREMENT};
-use clock_terms::{Bidder, Grid, Product, Row, Setup, is_within};
+use clock_terms::{Bidder, Grid, Product, Row, Setup};
 use std::alloc::Global;
 
 /// Whether there is a row for each bidder, and in each row a number for each product.
-fn has_counts(setup: &Setup, demands: &FlatRows) -> bool
+pub(crate) fn has_counts(setup: &Setup, demands: &FlatRows) -> bool
     ensures { result ≡ document.has_counts setup.now demands.now }
 {
     demands.count() == setup.bidders.as_slice().len()
@@ -71,7 +69,11 @@ fn row_within(
 }
 
 /// The grid of the bidders' rows of demands, or the first fault that one has.
-fn grid_of_rows(alloc: Global, setup: &Setup, demands: &FlatRows) -> Result<Grid, OpeningFault>
+pub(crate) fn grid_of_rows(
+    alloc: Global,
+    setup: &Setup,
+    demands: &FlatRows,
+) -> Result<Grid, OpeningFault>
     requires { IsGrid (length setup.now.bidders) (length setup.now.products) demands.now }
     ensures same { IfOk result (λ grid. grid ≡ demands.now) }
     ensures ok { IfOk result (λ _.
@@ -91,29 +93,4 @@ fn grid_of_rows(alloc: Global, setup: &Setup, demands: &FlatRows) -> Result<Grid
     }
     drop(numbers);
     Ok(Grid::of_rows(alloc, setup, rows)?)
-}
-
-/// The grid of a set-up's demands, or the first fault that these or the increment have.
-pub(crate) fn grid_within(
-    alloc: Global,
-    setup: &Setup,
-    demands: &FlatRows,
-    increment: u64,
-) -> Result<Grid, OpeningFault>
-    ensures same { IfOk result (λ grid. grid ≡ demands.now) }
-    ensures grid { IfOk result (λ grid. IsGrid (length setup.now.bidders) (length setup.now.products) grid) }
-    ensures increment { IfOk result (λ _. IsWithin least_increment most_increment increment) }
-    ensures ok { IfOk result (λ _. first_fault (opening_checks setup.now demands.now increment) ≡ None) }
-    ensures err { IfErr result (IsFirstFault OpeningFault.NoMemory
-        (first_fault (opening_checks setup.now demands.now increment))) }
-    ensures held { IfErr result (λ fault. fault ≢ OpeningFault.Setup SetupFault.NoMemory) }
-{
-    if !has_counts(setup, demands) {
-        return Err(OpeningFault::Shape);
-    }
-    let grid = grid_of_rows(alloc, setup, demands)?;
-    if !is_within(LEAST_INCREMENT, MOST_INCREMENT, increment) {
-        return Err(OpeningFault::Increment);
-    }
-    Ok(grid)
 }

@@ -48,14 +48,10 @@ impl<'v> ScannedMembers<'v> for FoundOpening {
     }
 
     fn whole(self) -> Option<ScannedOpening> {
-        let (Some(held), Some(demands), Some(increment)) = (self.held, self.demands, self.increment)
-        else {
-            return None;
-        };
         Some(ScannedOpening {
-            held,
-            demands,
-            increment,
+            held: self.held?,
+            demands: self.demands?,
+            increment: self.increment?,
         })
     }
 }

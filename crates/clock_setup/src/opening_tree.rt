@@ -22,8 +22,9 @@ pub(crate) fn opening_entries(
     alloc: Global,
     value: &Value,
 ) -> Result<Option<OpeningEntries<'_>>, NoMemory>
-    ensures { IfOk result (λ entries. option_map (λ parts. record { setup = view parts.setup.now; demands = parts.demands; increment = parts.increment }) entries
-        ≡ shape.parts_of (view value.now)) }
+    ensures { IfOk result (λ entries. option_map
+        (λ parts. record { setup = view parts.setup.now; demands = parts.demands; increment = parts.increment })
+        entries ≡ shape.parts_of (view value.now)) }
 {
     let (Some(setup), Some(increment)) = (value.get("setup"), number_at(value, "increment")) else {
         return Ok(None);

@@ -73,27 +73,16 @@ impl<'v> ScannedMembers<'v> for FoundProduct<'v> {
     }
 
     fn whole(self) -> Option<VersionedProduct<'v>> {
-        let (Some(name), Some(units), Some(supply), Some(cap), Some(opening)) = (
-            self.name,
-            self.units,
-            self.supply,
-            self.cap,
-            self.opening,
-        ) else {
-            return None;
-        };
         let (version, granule) = version_with(self.granule);
-        Some(VersionedProduct {
-            version,
-            entry: ProductEntry {
-                name,
-                units,
-                supply,
-                cap,
-                opening,
-                granule,
-            },
-        })
+        let entry = ProductEntry {
+            name: self.name?,
+            units: self.units?,
+            supply: self.supply?,
+            cap: self.cap?,
+            opening: self.opening?,
+            granule,
+        };
+        Some(VersionedProduct { version, entry })
     }
 }
 
@@ -165,14 +154,10 @@ impl<'v> ScannedMembers<'v> for FoundBidder<'v> {
     }
 
     fn whole(self) -> Option<BidderEntry<'v>> {
-        let (Some(name), Some(token), Some(eligibility)) = (self.name, self.token, self.eligibility)
-        else {
-            return None;
-        };
         Some(BidderEntry {
-            name,
-            token,
-            eligibility,
+            name: self.name?,
+            token: self.token?,
+            eligibility: self.eligibility?,
         })
     }
 }
@@ -246,28 +231,15 @@ impl<'v> ScannedMembers<'v> for FoundSetup<'v> {
     }
 
     fn whole(self) -> Option<ScannedSetup<'v>> {
-        let (Some(version), Some(requirement), Some(operator), Some(products), Some(bidders)) = (
-            self.version,
-            self.requirement,
-            self.operator,
-            self.products,
-            self.bidders,
-        ) else {
-            return None;
-        };
-        let of_products = products.version;
-        let Some(limit) = limit_of(version, of_products, self.limit) else {
-            drop(products);
-            drop(bidders);
-            return None;
-        };
+        let version = self.version?;
+        let products = self.products?;
         let entries = SetupEntries {
             version,
-            limit,
-            requirement,
-            operator,
+            limit: limit_of(version, products.version, self.limit)?,
+            requirement: self.requirement?,
+            operator: self.operator?,
             products: products.entries,
-            bidders,
+            bidders: self.bidders?,
         };
         Some(ScannedSetup { entries })
     }

@@ -129,22 +129,15 @@ pub(crate) fn entries_of(alloc: Global, value: &Value) -> Result<Option<SetupEnt
     let Some(products) = each_at(alloc, value, "products", &ProductReader { version })? else {
         return Ok(None);
     };
-    match each_at(alloc, value, "bidders", &BidderReader) {
-        Ok(Some(bidders)) => Ok(Some(SetupEntries {
-            version,
-            limit,
-            requirement,
-            operator,
-            products,
-            bidders,
-        })),
-        Ok(None) => {
-            drop(products);
-            Ok(None)
-        }
-        Err(refused) => {
-            drop(products);
-            Err(refused)
-        }
-    }
+    let Some(bidders) = each_at(alloc, value, "bidders", &BidderReader)? else {
+        return Ok(None);
+    };
+    Ok(Some(SetupEntries {
+        version,
+        limit,
+        requirement,
+        operator,
+        products,
+        bidders,
+    }))
 }

@@ -10,10 +10,7 @@ mod sending;
 mod sim_fault;
 mod simulation;
 
-pub use clock_replays::{
-    BidList, Closing, Closings, LimitLists, Replay, Script, ScriptFault, Scripts, SheetList,
-    TieList, read_replay,
-};
-pub use clock_reports::{Digits, Report, RoundSheets, audit_text, report_so_far, report_text};
+pub use clock_replays::{Closing, Replay, Script, ScriptFault, read_replay};
+pub use clock_reports::{Report, report_text};
 pub use sim_fault::SimFault;
 pub use simulation::{replay_text, simulate, simulate_with};

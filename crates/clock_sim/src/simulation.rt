@@ -10,23 +10,13 @@ ghost use Rattle.clock_sim.specs.declared.sim_fault.SimFault.TheVariants as faul
 use crate::groups::Group;
 use crate::rounds::play;
 use crate::sim_fault::SimFault;
-use clock_device::{NoMemory, Text};
+use clock_device::Text;
 use clock_front::{Front, Hub};
 use clock_processor::Processor;
 use clock_queue::Woken;
 use clock_replays::{Closing, Closings, Replay, Script, Scripts};
 use clock_reports::{Report, final_text, report_so_far};
-use clock_terms::Setup;
 use std::alloc::Global;
-
-/// A front and no connection yet, for an auction of a set-up.
-fn hub_of<P: Processor>(alloc: Global, setup: Setup, processor: P) -> Result<Hub<P>, NoMemory>
-    ensures first { IfOk result (λ hub. StandsForTexts [] hub.house) }
-    ensures same { IfOk result (λ hub. hub.house.setup ≡ setup) }
-{
-    let front = Front::new(alloc, setup, processor)?;
-    Ok(Hub::new(alloc, front))
-}
 
 /// Plays an auction before its first request, to its end.
 fn play_out<P: Processor>(
@@ -96,7 +86,7 @@ pub fn simulate_with<P: Processor + Drop>(
     ensures err { IfErr result (IsRefusal faults.NoMemory (rules.simulated replay.now)) }
 {
     let setup = replay.setup.copy(alloc)?;
-    let mut hub = hub_of(alloc, setup, processor)?;
+    let mut hub = Hub::new(alloc, Front::new(alloc, setup, processor)?);
     let report = played(alloc, &mut hub, replay);
     // let go by a call: at the end of the scope it would be proved part by part
     drop(hub);
@@ -128,11 +118,12 @@ pub fn replay_text(alloc: Global, replay: Replay) -> Result<Text, SimFault>
         scripts,
         closings,
     } = replay;
-    let Ok(mut hub) = hub_of(alloc, setup, Woken) else {
+    let Ok(front) = Front::new(alloc, setup, Woken) else {
         drop(scripts);
         drop(closings);
         return Err(SimFault::NoMemory);
     };
+    let mut hub = Hub::new(alloc, front);
     let text = text_played(alloc, &mut hub, scripts, closings);
     // let go by a call, as above
     drop(hub);

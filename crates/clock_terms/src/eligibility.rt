@@ -52,16 +52,7 @@ pub fn activity(setup: &Setup, demands: &[u64]) -> u64
     requires { IsRow setup.now.products demands.now }
     ensures { result ≡ eligibility.activity setup.now.products demands.now }
 {
-    units_taken(setup.products.as_slice(), demands)
-}
-
-/// What [`activity`] is of a set-up with these products.
-fn units_taken(products: &[Product], demands: &[u64]) -> u64
-    requires limits { All IsProduct products.now }
-    requires product_count { length products.now ≤ most_products }
-    requires row { IsRow products.now demands.now }
-    ensures exact { result ≡ eligibility.activity products.now demands.now }
-{
+    let products = setup.products.as_slice();
     let mut total: u64 = 0;
     for (place, demand) in demands.iter().enumerate() {
         total += products[place].units * *demand;

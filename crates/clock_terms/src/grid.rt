@@ -61,18 +61,6 @@ fn totals_of(alloc: Global, products: usize, rows: &[Row]) -> Result<Amounts, No
     Ok(totals)
 }
 
-/// So many rows, in which nobody demands anything.
-fn zero_rows(alloc: Global, bidders: usize, products: usize) -> Result<Vec<Row>, NoMemory>
-    requires { products ≤ most_products }
-    ensures { IfOk result (λ rows. rows.items ≡ no_demands bidders products) }
-{
-    let mut rows = Vec::new(alloc);
-    for _bidder in 0..bidders {
-        rows.push(Row::zeros(alloc, products)?)?;
-    }
-    Ok(rows)
-}
-
 /// Rows that are equal to others, in the memory of old ones as far as that reaches.
 fn rows_like(alloc: Global, old: Vec<Row>, others: &[Row]) -> Result<Vec<Row>, NoMemory>
     ensures { IfOk result (λ rows. rows.items ≡ others.now) }
@@ -80,19 +68,12 @@ fn rows_like(alloc: Global, old: Vec<Row>, others: &[Row]) -> Result<Vec<Row>, N
     let mut old = old.into_iter();
     let mut rows = Vec::with_capacity(alloc, others.len())?;
     for row in others {
-        rows.push(row_like(alloc, old.next(), row)?)?;
+        rows.push(match old.next() {
+            Some(old) => old.renewed(row)?,
+            None => row.copy(alloc)?,
+        })?;
     }
     Ok(rows)
-}
-
-/// A row that is equal to another, in the memory of an old one if there is one.
-fn row_like(alloc: Global, old: Option<Row>, other: &Row) -> Result<Row, NoMemory>
-    ensures { IfOk result (λ row. row ≡ other.now) }
-{
-    match old {
-        Some(old) => old.renewed(other),
-        None => other.copy(alloc),
-    }
 }
 
 impl Grid {
@@ -112,7 +93,11 @@ impl Grid {
     pub fn zero(alloc: Global, setup: &Setup) -> Result<Grid, NoMemory>
         ensures { IfOk result (λ grid. grid ≡ no_demands (length setup.now.bidders) (length setup.now.products)) }
     {
-        let rows = zero_rows(alloc, setup.bidders.len(), setup.products.len())?;
+        let products = setup.products.len();
+        let mut rows = Vec::new(alloc);
+        for _bidder in 0..setup.bidders.len() {
+            rows.push(Row::zeros(alloc, products)?)?;
+        }
         Grid::of_rows(alloc, setup, rows)
     }
 

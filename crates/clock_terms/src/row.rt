@@ -17,9 +17,9 @@ use std::marker::Model;
 /// A bidder's demands, one for each product, in blocks. None is above 1,000. Contracts see the list of the demands, and
 /// nothing of how it is kept.
 ///
-/// Most bidders hold few of the products. So those demands alone are kept of which a block is held, by rising product, and
-/// for each group of 16 products the place from which on to look for them. There is room for a demand for each product, so that one
-/// can be changed without more memory.
+/// Most bidders hold few of the products. So those demands alone are kept of which a block is held, by rising product,
+/// and for each group of 16 products the place from which on to look for them. There is room for a demand for each
+/// product, so that one can be changed without more memory.
 #[derive(Drop)]
 pub struct Row {
     count: usize,

@@ -2,9 +2,9 @@
 
 use crate::comparing::assert_is;
 use clock_bids::Bid;
+use clock_fixtures::ONE_PRODUCT;
 use clock_house::House;
 use clock_processor::Plain;
-use clock_setup::fixtures::ONE_PRODUCT;
 use clock_setup::{Increments, read_setup};
 use std::process::Abort;
 use std::test::Fail;

@@ -3,9 +3,8 @@
 ghost use Rattle.std.specs.Prelude.{◌≡◌, IsTrue, false};
 
 use crate::comparing::{assert_is, assert_is_at};
-use clock_journal::{
-    Durable, FileDisk, Journal, JournalFault, Link, Machine, MemoryDisk, Untaken, recover,
-};
+use clock_fixtures::MemoryDisk;
+use clock_journal::{Durable, FileDisk, Journal, JournalFault, Link, Machine, Untaken, recover};
 use std::alloc::Global;
 use std::fs::{self, File, OpenOptions};
 use std::io::Write;

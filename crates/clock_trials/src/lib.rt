@@ -10,8 +10,6 @@ mod bids;
 #[cfg(test)]
 mod comparing;
 #[cfg(test)]
-mod documents;
-#[cfg(test)]
 mod example;
 #[cfg(test)]
 mod journals;

@@ -5,11 +5,10 @@ use crate::auction::Step::{
     Close, Hold, InForce, Lines, Put, PutEach, RefusedClose, RefusedPut, Stands,
 };
 use crate::auction::{Play, Step, X, Y, play_all};
-use crate::documents::{AT_THE_HIGHEST, BELOW_THE_HIGHEST};
 use clock_bids::BidFault;
+use clock_fixtures::{AT_THE_HIGHEST, BELOW_THE_HIGHEST, ONE_PRODUCT};
 use clock_house::{CloseFault, PutFault};
 use clock_order::TieFault;
-use clock_setup::fixtures::ONE_PRODUCT;
 
 /// The highest price.
 const HIGHEST: u64 = 1_000_000_000_000;

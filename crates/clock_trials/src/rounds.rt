@@ -5,10 +5,12 @@ use crate::auction::Step::{
     Close, Hold, Lines, Put, PutEach, RefusedClose, RefusedPut, Slip, Stands,
 };
 use crate::auction::{Play, Step, X, Y, Z, play_all};
-use crate::documents::{NO_HIGHER_LIMIT, SEVEN_BLOCKS};
 use clock_bids::BidFault;
+use clock_fixtures::{
+    ACTIVITY_LIMIT, GRANULES_AND_INCREMENTS, NO_HIGHER_LIMIT, ONE_PRODUCT, SEVEN_BLOCKS,
+    TWO_PRODUCTS,
+};
 use clock_house::{CloseFault, PutFault};
-use clock_setup::fixtures::{ACTIVITY_LIMIT, GRANULES_AND_INCREMENTS, ONE_PRODUCT, TWO_PRODUCTS};
 
 /// The bidder Z, where there is no Y.
 const SECOND: u32 = 1;

@@ -2,9 +2,9 @@
 
 use crate::comparing::{assert_is, assert_is_at};
 use crate::settle::{Asked, Case, End, settle_twice};
+use clock_fixtures::TWO_PRODUCTS;
 use clock_processor::Plain;
 use clock_queue::Woken;
-use clock_setup::fixtures::TWO_PRODUCTS;
 use clock_setup::{Setup, read_setup};
 use clock_terms::Kind;
 use std::alloc::{AllocError, Global};

@@ -1,11 +1,11 @@
 use crate::comparing::{assert_is, assert_is_at};
+use clock_fixtures::{ACTIVITY_LIMIT, GRANULES_AND_INCREMENTS, ONE_PRODUCT, TWO_PRODUCTS};
 use clock_setup::OpeningFault::{Activity, Demand};
 use clock_setup::Place::{
     BidderName, Cap, Eligibility, Granule, Limit, Name, Opening, Operator, Requirement, Supply,
     Token, Units,
 };
 use clock_setup::SetupFault::{DuplicateName, DuplicateToken, Range, Shape};
-use clock_setup::fixtures::{ACTIVITY_LIMIT, GRANULES_AND_INCREMENTS, ONE_PRODUCT, TWO_PRODUCTS};
 use clock_setup::{
     OpeningFault, Place, Product, Setup, SetupFault, read_opening, read_setup, setup_of,
 };

@@ -4,8 +4,8 @@ use crate::auction::Rise::By;
 use crate::auction::Step::{Close, InForce, Put, PutEach, RefusedPut};
 use crate::auction::{Offer, Play, X, Y, Z, play_all};
 use clock_bids::BidFault;
+use clock_fixtures::{ONE_PRODUCT, TWO_PRODUCTS};
 use clock_house::PutFault;
-use clock_setup::fixtures::{ONE_PRODUCT, TWO_PRODUCTS};
 use std::alloc::{AllocError, Global};
 use std::test::Fail;
 

@@ -5,8 +5,8 @@ ghost use Rattle.clock_terms.specs.Demands.{IsGrid};
 
 use crate::comparing::{assert_is, assert_is_at};
 use clock_device::NoMemory;
+use clock_fixtures::{ONE_PRODUCT, PRICE_EDGES};
 use clock_money::Price;
-use clock_setup::fixtures::{ONE_PRODUCT, PRICE_EDGES};
 use clock_setup::{Setup, SetupFault, read_setup};
 use clock_terms::{Amounts, Grid, Increments, OpeningPrices, Prices};
 use std::alloc::Global;

@@ -1,7 +1,7 @@
 //! The commands and options of the program, as clap is told of them.
 ghost use Rattle.std.specs.Prelude.{◌≡◌, false, IfOk};
 ghost use Rattle.clap.specs.Words.{App, new_app, rule_of, with_subcommand};
-ghost use Rattle.clock_words.specs.Words.{files_grammar, grammar, increment_option, needed_rule, number_rule, option_rule};
+ghost use Rattle.clock_words.specs.Words.{files_grammar, grammar, needed_rule, number_rule, option_rule};
 ghost use Rattle.clock_words.specs.Words.{prices_grammar, program_alone_grammar, serve_grammar};
 ghost use Rattle.clock_words.specs.inside.Commands.{IsCommand};
 
@@ -71,16 +71,6 @@ fn number_option<'a>(alloc: Global, name: &'a str, most: u64, help: &'a str) -> 
         .value_parser(ValueParser::Unsigned(1, most))
 }
 
-/// `--increment N`.
-fn percent_option<'a>(alloc: Global, help: &'a str) -> Arg<'a>
-    ensures rule { rule_of result ≡ increment_option }
-    ensures local { result.global ≡ false }
-{
-    option(alloc, "increment", "N", help)
-        .value_parser(ValueParser::Unsigned(LEAST_INCREMENT, MOST_INCREMENT))
-        .default_value("10")
-}
-
 /// A command without options.
 fn named<'a>(alloc: Global, name: &'a str, about: &'a str, help: &'a str) -> Command<'a>
     ensures { IsCommand (new_app name.now) result }
@@ -110,7 +100,10 @@ fn prices_command<'a>(alloc: Global, helps: &'a NumberHelps) -> Result<Command<'
     ensures { IfOk result (IsCommand prices_grammar) }
 {
     let about = "Prints each product's opening price and next clock price";
-    named(alloc, "prices", about, PRICES_HELP).arg(percent_option(alloc, helps.increment.as_str()))
+    let increment = option(alloc, "increment", "N", helps.increment.as_str())
+        .value_parser(ValueParser::Unsigned(LEAST_INCREMENT, MOST_INCREMENT))
+        .default_value("10");
+    named(alloc, "prices", about, PRICES_HELP).arg(increment)
 }
 
 /// `serve` and its options.

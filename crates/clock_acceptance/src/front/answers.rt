@@ -5,10 +5,10 @@ use crate::comparing::assert_is;
 use crate::front::example::{on_front, on_one_product};
 use crate::repeated::{Repeated, repeated};
 use clock_device::{Items, Text};
+use clock_fixtures::{ACTIVITY_LIMIT, AT_THE_HIGHEST, GRANULES_AND_INCREMENTS, ONE_PRODUCT};
 use clock_front::{Front, Reply, run};
 use clock_http::Code;
 use clock_processor::Plain;
-use clock_setup::fixtures::{ACTIVITY_LIMIT, GRANULES_AND_INCREMENTS, ONE_PRODUCT};
 use std::alloc::Global;
 use std::process::Abort;
 
@@ -131,12 +131,6 @@ POST /v1/close|O|{"increments":[10,20,30],"round":1,"ties":[]}>422 Unprocessable
 POST /v1/close|O|{"increments":[10,51],"round":1,"ties":[]}>422 Unprocessable Entity|{"code":"increment","status":422}
 POST /v1/close|O|{"increments":[10,20],"round":1,"ties":[]}>200 OK|{"closed":1,"ended":true}
 GET /v1/status||>200 OK|{"ended":true,"round":1,"version":2}"#;
-
-/// The one product at the highest price.
-const AT_THE_HIGHEST: &str = r#"{"version":1,"requirement":95,"operator":"OPERATOROPERATOR",
-"products":[{"name":"A","units":1,"supply":2,"cap":2,"opening":1000000000000}],
-"bidders":[{"name":"X","token":"XXXXXXXXXXXXXXXX","eligibility":10},
-{"name":"Y","token":"YYYYYYYYYYYYYYYY","eligibility":10}]}"#;
 
 /// The set-ups of auctions, and the requests that are sent to each.
 const AUCTIONS: &[(&str, &str)] = &[

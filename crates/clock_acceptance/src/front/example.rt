@@ -1,9 +1,9 @@
 //! A front that is opened, asked and let go, as a library's caller does it.
 
 use crate::comparing::assert_is;
+use clock_fixtures::ONE_PRODUCT;
 use clock_front::Front;
 use clock_processor::Plain;
-use clock_setup::fixtures::ONE_PRODUCT;
 use clock_setup::{SetupFault, read_setup};
 use std::alloc::Global;
 

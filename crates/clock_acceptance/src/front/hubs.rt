@@ -1,9 +1,9 @@
 //! What a hub tells of pieces.
 use crate::front::example::opened;
 use clock_device::{NoMemory, Text};
+use clock_fixtures::ONE_PRODUCT;
 use clock_front::{Conn, Fed, Hub, HubFault, Reply};
 use clock_processor::Plain;
-use clock_setup::fixtures::ONE_PRODUCT;
 use std::alloc::Global;
 
 /// A hub of the one product.

@@ -6,9 +6,9 @@ use super::requests::setup_of;
 use super::texts::{ACCEPTED, BIDS_OF_Y, CUT_SHORT, FIRST_ROUND, NO_BIDS, PUT, STATUS};
 use crate::comparing::assert_is;
 use clock_device::Text;
+use clock_fixtures::ONE_PRODUCT;
 use clock_front::{Conn, Event, EventReplies, EventReply, Hub, HubFault, run_events};
 use clock_processor::Plain;
-use clock_setup::fixtures::ONE_PRODUCT;
 use std::alloc::Global;
 use std::process::Abort;
 

@@ -14,7 +14,7 @@ use Rattle.clock_terms.specs.Increments.{AreIncrements}
 use Rattle.clock_terms.specs.Faults.{first_fault, unless, IsFirstFault, IsRefusal}
 use Rattle.clock_terms.specs.declared.change.Change.{Change}
 use Rattle.clock_order.specs.declared.ties.Tie.{Tie}
-use Rattle.clock_closing.specs.declared.asked.Asked.{Asked}
+use Rattle.clock_closing.specs.declared.closing_inputs.ClosingInputs.{ClosingInputs}
 use Rattle.clock_closing.specs.declared.fault.CloseFault.{CloseFault}
 use Rattle.clock_closing.specs.declared.results.Results.{Results}
 use Rattle.clock_closing.specs.OpenRound.{OpenRound, OpenRoundFields, bidder_numbers}
@@ -47,7 +47,7 @@ posted_now round increments ties =
     posted (public_setup round.setup) round.before increments (round_result round.setup.products round.before ties)
 
 -- what the closing of a round is asked for has no fault, so that it comes to what is posted
-pub record IsAsked (round : OpenRoundFields) (increments : Increments) (ties : List Tie) (asked : Asked) : Type 0 where
+pub record IsAsked (round : OpenRoundFields) (increments : Increments) (ties : List Tie) (asked : ClosingInputs) : Type 0 where
   pub same : asked ≡ record { increments = increments; ties = ties }
   pub within : AreIncrements (length round.setup.products) increments
   pub good : closing_now round increments ties ≡ posted_now round increments ties

@@ -12,7 +12,7 @@ ghost use Rattle.clock_closing.specs.inside.OpenRound.{eligibilities_of};
 ghost use Rattle.clock_closing.specs.Closing as rules;
 ghost use Rattle.clock_closing.specs.inside.Postings.{AreRequests, ComesTo, first_posted, posted_now};
 
-use crate::asked::Asked;
+use crate::closing_inputs::ClosingInputs;
 use crate::fault::CloseFault;
 use crate::open_round::OpenRound;
 use crate::results::Results;
@@ -31,7 +31,7 @@ impl OpenRound<'_> {
         &self,
         alloc: Global,
         processor: &P,
-        asked: &Asked,
+        asked: &ClosingInputs,
         old: Option<Grid>,
     ) -> Result<Results, CloseFault>
         requires { AreIncrements (length self.now.setup.products) asked.now.increments }

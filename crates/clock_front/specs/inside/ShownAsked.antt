@@ -4,10 +4,10 @@ use Rattle.clock_bodies.specs.CloseBodies.{close_body}
 use Rattle.clock_http.specs.declared.code.Code.TheVariants.{NoPage}
 use Rattle.clock_front.specs.Requests.{Ask}
 use Rattle.clock_front.specs.Requests as asked
-use Rattle.clock_front.specs.declared.asked.PageAsked.{PageAsked}
-use Rattle.clock_front.specs.declared.asked.PageAsked.TheVariants as reading
-use Rattle.clock_front.specs.declared.asked.Asked.{Asked}
-use Rattle.clock_front.specs.declared.asked.Asked.TheVariants as change
+use Rattle.clock_front.specs.declared.front.asked.PageAsked.{PageAsked}
+use Rattle.clock_front.specs.declared.front.asked.PageAsked.TheVariants as reading
+use Rattle.clock_front.specs.declared.front.asked.Asked.{Asked}
+use Rattle.clock_front.specs.declared.front.asked.Asked.TheVariants as change
 
 abbrev pub shown_reading : PageAsked → Ask
 shown_reading reading.NoPage = asked.turned_away NoPage

@@ -7,7 +7,7 @@ use Rattle.std.specs.Prelude.{◌≡◌, ℕ, List, [], ◌∷◌, codes, length
 use Rattle.httparse.specs.Spans.{span_bytes, IsWithin}
 use Rattle.clock_http.specs.declared.code.Code.{Code}
 use Rattle.clock_http.specs.declared.head.EndedHead.{EndedHead}
-use Rattle.clock_http.specs.declared.headers.Lines.{Lines}
+use Rattle.clock_http.specs.declared.headers.HeaderLines.{HeaderLines}
 use Rattle.clock_http.specs.declared.headers.Fields.{Fields}
 use Rattle.clock_http.specs.HeaderLines.{values_of}
 use Rattle.clock_http.specs.Framing.{Head}
@@ -18,7 +18,7 @@ abbrev pub Pairs : Type 0
 Pairs = List (List ℕ × List ℕ)
 
 -- so many lines have a name, and the value of the last one stands there
-pub record AreLinesOf (text name : List ℕ) (pairs : Pairs) (lines : Lines) : Type 0 where
+pub record AreLinesOf (text name : List ℕ) (pairs : Pairs) (lines : HeaderLines) : Type 0 where
   pub count : lines.count ≡ length (values_of name pairs)
   pub only : (value : List ℕ) → values_of name pairs ≡ value ∷ [] → span_bytes text lines.value ≡ value
   pub within : IsWithin (length text) lines.value

@@ -1,5 +1,5 @@
 -- Bytes that are tokens by themselves: the marks that open and close lists and objects.
---     IsMark may byte t next      where the test lets it, the byte is read as this token, and the lexer goes on from a place
+--     IsMark may byte t next      where the test lets it, the byte is this token, and the lexer goes on from a place
 use Rattle.std.specs.Prelude.{◌≡◌, ℕ, Bool, true, List, ◌∷◌}
 use Rattle.json.specs.Token.{Token}
 use Rattle.json.specs.Lex.{Lexeme, Place, lex, between, token, punctuate}

@@ -2,9 +2,10 @@
 --     IsLeftAlone reading ..      no request could be read, and nothing has changed
 --     IsAnswered reading answer ..      the reply to what was read, or that of want of memory for it
 --     IsServed one ..      one connection was served
---     IsUnkept takes one ..      its text could not be kept
---     EndsOne takes old new .. result      how serving one ends
-use Rattle.std.specs.Prelude.{◌≡◌, ◌⊎◌, ℕ, true, List, [], ◌∷◌, Option, Result, Ok, Err}
+--     IsUnkept one ..      its text could not be kept
+--     EndsOne old new .. result      how serving one ends
+--     round_if before after      the last closed round, where it was not closed before
+use Rattle.std.specs.Prelude.{◌≡◌, ◌⊎◌, ℕ, true, List, [], ◌∷◌, Option, Result, Ok, Err, nat_lt, if◌then◌else◌}
 use Rattle.clock_device.specs.Told.{Reading}
 use Rattle.clock_device.specs.Writings.{WritesNothing}
 use Rattle.clock_house.specs.House.{HouseFields}
@@ -45,23 +46,27 @@ IsServed one journal_old journal_new old new =
     ⊎ (IsLeftAlone one.reading journal_old journal_new old new × WritesNothing one.writing)
 
 -- the text that was read could not be kept: what was on the disk is, and a stop leaves the texts before it, and at most this one more
-pub record FailsToKeep (takes : List ℕ → Type 0) (reading : Reading) (journal_old journal_new : JournalState) : Type 0 where
+pub record FailsToKeep (reading : Reading) (journal_old journal_new : JournalState) : Type 0 where
   pub text : List ℕ
   pub arrived : HasArrived reading text
-  pub failed : (journal_new.has_failed ≡ true) ⊎ (takes text → ⊥)
+  pub failed : journal_new.has_failed ≡ true
   pub moments : LeavesOneMore text journal_old journal_new
   pub on_disk : journal_new.synced ≡ journal_old.synced
 
 -- and nothing was written
-abbrev pub IsUnkept : (List ℕ → Type 0) → Exchange → JournalState → JournalState → Type 0
-IsUnkept takes one journal_old journal_new = FailsToKeep takes one.reading journal_old journal_new × WritesNothing one.writing
+abbrev pub IsUnkept : Exchange → JournalState → JournalState → Type 0
+IsUnkept one journal_old journal_new = FailsToKeep one.reading journal_old journal_new × WritesNothing one.writing
 
 -- how serving one connection ends: it was served; or it could not be taken, and nothing has changed; or its text could not be kept
-abbrev pub EndsOne : {U : Type 0} → (List ℕ → Type 0) → Option (List Exchange) → Option (List Exchange) → JournalState → JournalState → HouseFields → HouseFields
+abbrev pub EndsOne : {U : Type 0} → Option (List Exchange) → Option (List Exchange) → JournalState → JournalState → HouseFields → HouseFields
     → Result U ServeFault → Type 0
-EndsOne takes closed_old closed_new journal_old journal_new old new (Ok done) =
+EndsOne closed_old closed_new journal_old journal_new old new (Ok done) =
     (one : Exchange) × HasClosed closed_old closed_new (one ∷ []) × IsServed one journal_old journal_new old new
-EndsOne takes closed_old closed_new journal_old journal_new old new (Err fault.Accept) =
+EndsOne closed_old closed_new journal_old journal_new old new (Err fault.Accept) =
     (closed_new ≡ closed_old) × (journal_new ≡ journal_old) × (new ≡ old)
-EndsOne takes closed_old closed_new journal_old journal_new old new (Err fault.Journal) =
-    (one : Exchange) × HasClosed closed_old closed_new (one ∷ []) × IsUnkept takes one journal_old journal_new
+EndsOne closed_old closed_new journal_old journal_new old new (Err fault.Journal) =
+    (one : Exchange) × HasClosed closed_old closed_new (one ∷ []) × IsUnkept one journal_old journal_new
+
+-- the last of so many closed rounds, where there were fewer before
+abbrev pub round_if : ℕ → ℕ → List ℕ
+round_if before after = if nat_lt before after then after ∷ [] else []

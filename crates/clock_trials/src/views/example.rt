@@ -1,7 +1,7 @@
 //! A page, as a library's caller writes it.
 
 use crate::comparing::assert_is;
-use clock_setup::fixtures::ONE_PRODUCT;
+use clock_fixtures::ONE_PRODUCT;
 use clock_setup::read_setup;
 use clock_views::status_page;
 use std::test::Fail;

@@ -2,7 +2,7 @@
 
 use crate::comparing::assert_reads;
 use clock_device::Text;
-use clock_setup::fixtures::{GRANULES_AND_INCREMENTS, ONE_PRODUCT};
+use clock_fixtures::{GRANULES_AND_INCREMENTS, ONE_PRODUCT};
 use clock_setup::read_setup;
 use clock_views::{accepted_page, closed_page, products_page, status_page};
 use std::alloc::Global;

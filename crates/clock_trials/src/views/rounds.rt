@@ -5,7 +5,7 @@ use crate::auction::Rise::By;
 use crate::auction::Step::{Close, Put, PutEach, Reads};
 use crate::auction::{Play, Step, X, Y, play_all};
 use crate::views::Page;
-use clock_setup::fixtures::ONE_PRODUCT;
+use clock_fixtures::ONE_PRODUCT;
 
 /// The sheets of the first round, after which X holds two blocks and Y one.
 const FIRST_SHEETS: Step<'static> = PutEach(&[(X, (0, 2, 100)), (Y, (0, 1, 100))]);

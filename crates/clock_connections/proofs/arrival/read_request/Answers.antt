@@ -16,6 +16,7 @@ loop-read-init g c =
     let left = (g.R.Source.told c.args.source.now).left in
     record {
       room = omega (arith, c.in_ok-piece.ensures);
+      short = omega (arith, c.in_ok-piece.ensures);
       read = subst (λ (bytes : List ℕ). HasRead left left bytes) (sym none) (nothing_read left);
       needed = ap needs_more none ∙ nothing_needs_more;
       counted = c.requires.uncounted;

@@ -2,7 +2,7 @@ use Rattle.std.proofs.Common.{◌+◌, [], drop, refl, sym, subst, arith}
 use Rattle.json.specs.Lex.{lex, between}
 use Rattle.clock_json.specs.Left.{left}
 use Rattle.clock_json.specs.Reading.{numbers, ReadsAll}
-use Rattle.clock_json.specs.declared.place.Place.TheVariants.{AfterComma}
+use Rattle.clock_json.specs.declared.expected.Expected.TheVariants.{AfterComma}
 use Rattle.clock_json.proofs.CompactLaws.{empty_reads, replicate_push}
 use Rattle.clock_json.proofs.Steps.{all_next}
 use Rattle.clock_json.proofs.separated.after_empties.Goals as goal

@@ -1,7 +1,7 @@
 use Rattle.std.proofs.Common.{◌+◌, ◌-◌, ◌≤◌, [], length, drop, replicate}
 use Rattle.clock_json.specs.Left.{left}
 use Rattle.clock_json.specs.Reading.{numbers, ReadsAll}
-use Rattle.clock_json.specs.declared.place.Place.TheVariants.{AfterComma}
+use Rattle.clock_json.specs.declared.expected.Expected.TheVariants.{AfterComma}
 use Rattle.clock_json.proofs.separated.after_empties.Given as goal
 
 -- the lists so far

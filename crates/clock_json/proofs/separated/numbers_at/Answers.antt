@@ -3,7 +3,7 @@ use Rattle.std.proofs.lemmas.List.{append-nil, append_assoc}
 use Rattle.json.specs.Lex.{lex, between}
 use Rattle.clock_json.specs.Left.{left}
 use Rattle.clock_json.specs.Reading.{whole}
-use Rattle.clock_json.specs.declared.place.Place.TheVariants.{AfterComma}
+use Rattle.clock_json.specs.declared.expected.Expected.TheVariants.{AfterComma}
 use Rattle.clock_json.proofs.CompactLaws.{separated_reads}
 use Rattle.clock_json.proofs.Steps.{all_push_next}
 use Rattle.clock_json.proofs.separated.numbers_at.Goals as goal

@@ -1,7 +1,7 @@
 use Rattle.std.proofs.Common.{◌≡◌, ◌++◌, ◌-◌, ℕ, List, length, drop, map}
 use Rattle.clock_json.specs.Left.{left}
 use Rattle.clock_json.specs.Reading.{whole, ReadsAll}
-use Rattle.clock_json.specs.declared.place.Place.TheVariants.{AfterComma}
+use Rattle.clock_json.specs.declared.expected.Expected.TheVariants.{AfterComma}
 use Rattle.clock_json.proofs.separated.numbers_at.Given as goal
 
 -- the numbers so far

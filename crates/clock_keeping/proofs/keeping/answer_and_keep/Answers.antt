@@ -1,9 +1,9 @@
-use Rattle.std.proofs.Common.{◌≡◌, ◌⊎◌, inl, inr, true, sym, ◌∙◌, rules}
+use Rattle.std.proofs.Common.{◌≡◌, ◌⊎◌, inl, inr, true, sym, ◌∙◌, arith, rules}
 use denote.Enum.Bare.{differs_false, differs_true}
 use Rattle.clock_http.specs.contracts.code.Code.{the_type}
 use Rattle.clock_http.specs.declared.code.Code.TheVariants.{Done}
 use Rattle.clock_keeping.specs.Keeping.{is_get}
-use Rattle.clock_keeping.proofs.KeptLaws.{kept, passed_over}
+use Rattle.clock_keeping.proofs.KeptLaws.{kept, passed_over, some_bytes}
 use Rattle.clock_keeping.proofs.Untouched.{untouched}
 use Rattle.clock_keeping.proofs.keeping.answer_and_keep.Goals as goal
 use Rattle.clock_keeping.proofs.keeping.answer_and_keep.Goals.{then-ne-via-then-ne, then-ne-via-else-ne+then-is_get}
@@ -20,8 +20,15 @@ returns-then-ne-clause-kept g c digest past in_step =
 pub returns-then-ne-clause-moments : goal.returns-then-ne-clause-moments
 returns-then-ne-clause-moments g c = untouched c.args.text.now c.args.journal.now
 
-pub returns-then-is_empty-clause-moments : goal.returns-then-is_empty-clause-moments
-returns-then-is_empty-clause-moments g c = untouched c.args.text.now c.args.journal.now
+pub returns-then-text-gt-MOST_TEXT-clause-moments : goal.returns-then-text-gt-MOST_TEXT-clause-moments
+returns-then-text-gt-MOST_TEXT-clause-moments g c = untouched c.args.text.now c.args.journal.now
+
+pub append-requires-clause-fits : goal.append-requires-clause-fits
+append-requires-clause-fits g c = record {
+  least = some_bytes c.args.text.now c.answer_known-reply.result c.answer_known-reply.ensures.cut_short
+      (sym c.code.ensures ∙ differs_false the_type (search rules) _ _ (sym c.ne.ensures ∙ c.if-ne.false));
+  most = omega arith;
+}
 
 pub returns-in-Ok-clause-kept : goal.returns-in-Ok-clause-kept
 returns-in-Ok-clause-kept g c digest past in_step =

@@ -6,31 +6,26 @@ pub returns-then-not-are_limits-clause-fault : goal.returns-then-not-are_limits-
 returns-then-not-are_limits-clause-fault c =
     let l = c.loop-product in
     let product = c.index-products-product in
-    let walk = c.walk-walk.result in
-    let each : length walk ≡ length c.args.products.now = search rules in
-    let below : l.product < length walk = search rules in
+    let limits = c.in-Sincere.limits in
+    let each : length limits ≡ length c.args.products.now = search rules in
+    let below : l.product < length limits = search rules in
     let is : are_limits product.result c.list.result.now ≡ false = search rules in
-    sym (limits_failed c.args.bidder c.args.products.now walk _ l.product product.result c.list.result.now each
-    below product.is l.invariant.walk c.list.ensures.list is)
-    ∙ l.invariant.fault
+    sym (limits_failed c.args.bidder c.args.products.now limits l.product product.result c.list.result.now each below product.is c.list.ensures is)
+    ∙ l.invariant
 
 pub loop-product-preserved : goal.loop-product-preserved
 loop-product-preserved c =
     let l = c.loop-product in
     let product = c.index-products-product in
-    let walk = c.walk-walk.result in
-    let each : length walk ≡ length c.args.products.now = search rules in
-    let below : l.product < length walk = search rules in
+    let limits = c.in-Sincere.limits in
+    let each : length limits ≡ length c.args.products.now = search rules in
+    let below : l.product < length limits = search rules in
     let is : are_limits product.result c.list.result.now ≡ true = search rules in
-    record {
-      walk = c.list.ensures.same ∙ l.invariant.walk;
-      fault = sym (limits_passed c.args.bidder c.args.products.now walk _ l.product product.result c.list.result.now each
-          below product.is l.invariant.walk c.list.ensures.list is)
-          ∙ l.invariant.fault;
-    }
+    sym (limits_passed c.args.bidder c.args.products.now limits l.product product.result c.list.result.now each below product.is c.list.ensures is)
+    ∙ l.invariant
 
 pub returns-clause-fault : goal.returns-clause-fault
 returns-clause-fault c =
-    let walk = c.walk-walk.result in
-    let past : length walk ≤ c.loop-product.product = search rules in
-    sym (limits_end c.args.bidder c.args.products.now walk c.loop-product.product past) ∙ c.loop-product.invariant.fault
+    let limits = c.in-Sincere.limits in
+    let past : length limits ≤ c.loop-product.product = search rules in
+    sym (limits_end c.args.bidder c.args.products.now limits c.loop-product.product past) ∙ c.loop-product.invariant

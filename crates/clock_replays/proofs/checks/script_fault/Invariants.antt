@@ -5,8 +5,6 @@ use Rattle.clock_replays.proofs.checks.script_fault.Given as goal
 
 -- the limits that are left decide the first fault
 abbrev pub invariant-loop-product : goal.invariant-loop-product
-invariant-loop-product l = record {
-  walk : l.walk ≡ l.initial.walk;
-  fault : first_fault (in_turn (limit_checks l.bidder) l.product (drop l.product (zip l.products l.initial.walk)))
-      ≡ first_fault (script_checks l.products l.bidder l.script);
-}
+invariant-loop-product l =
+    first_fault (in_turn (limit_checks l.bidder) l.product (drop l.product (zip l.products l.limits)))
+    ≡ first_fault (script_checks l.products l.bidder l.script)

@@ -46,25 +46,19 @@ returns-then-not-has_members-clause-err c = λ known.
     let other : has_members 3 value ≡ false = search rules in
     other_members value _ _ _ held scripts closings other
 
-pub returns-in-Ok-clause-ok : goal.returns-in-Ok-clause-ok
-returns-in-Ok-clause-ok c =
+pub returns-in-Ok : goal.returns-in-Ok
+returns-in-Ok c =
     let value = view c.args.value.now in
     let held : get (codes "setup") value ≡ Some (view c.in_ok-held.held.now) = sym (rw c.in_ok-held.ensures.ok_part at c.get.ensures) in
     let scripts : scripts_in value ≡ Some c.in_ok-scripts.scripts = sym c.in_ok-each_at.ensures ∙ c.in_ok-scripts.ensures.ok_part in
     let closings : closings_in value ≡ Some c.in_ok-closings.closings = sym c.in_ok-each_at-2.ensures ∙ c.in_ok-closings.ensures.ok_part in
     let whole : has_members 3 value ≡ true = search rules in
-    subst (λ answer. IfOk c.compared.result (λ replay. answer ≡ Ok replay))
-    (sym (replay_at value _ c.in-Ok.setup (parts_read value _ _ _ held scripts closings whole) c.in-Ok.ensures.ok)) c.compared.ensures.ok
-
-pub returns-in-Ok-clause-err : goal.returns-in-Ok-clause-err
-returns-in-Ok-clause-err c =
-    let value = view c.args.value.now in
-    let held : get (codes "setup") value ≡ Some (view c.in_ok-held.held.now) = sym (rw c.in_ok-held.ensures.ok_part at c.get.ensures) in
-    let scripts : scripts_in value ≡ Some c.in_ok-scripts.scripts = sym c.in_ok-each_at.ensures ∙ c.in_ok-scripts.ensures.ok_part in
-    let closings : closings_in value ≡ Some c.in_ok-closings.closings = sym c.in_ok-each_at-2.ensures ∙ c.in_ok-closings.ensures.ok_part in
-    let whole : has_members 3 value ≡ true = search rules in
-    subst (λ answer. IfErr c.compared.result (IsRefusal NoMemory answer))
-    (sym (replay_at value _ c.in-Ok.setup (parts_read value _ _ _ held scripts closings whole) c.in-Ok.ensures.ok)) c.compared.ensures.err
+    let is = sym (replay_at value _ c.in-Ok.setup (parts_read value _ _ _ held scripts closings whole) c.in-Ok.ensures.ok) in
+    record {
+      ok = subst (λ answer. IfOk c.judged.result (λ replay. answer ≡ Ok replay)) is c.judged.ensures.ok;
+      err = subst (λ answer. IfErr c.judged.result (IsRefusal NoMemory answer)) is c.judged.ensures.err;
+      held = c.judged.ensures.held;
+    }
 
 pub returns : goal.returns
 returns c =

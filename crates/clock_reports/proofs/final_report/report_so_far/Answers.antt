@@ -10,8 +10,8 @@ use Rattle.clock_house.specs.House.{holding_in}
 use Rattle.clock_reports.proofs.RoundLaws.{numbered_in, lined, rows_of}
 use Rattle.clock_reports.proofs.final_report.report_so_far.Goals as goal
 
-pub invariant_of-report : goal.invariant_of-report
-invariant_of-report g c =
+pub invariant_of-result : goal.invariant_of-result
+invariant_of-result g c =
     let house = c.args.house.now in
     let closed = house.closed in
     let sheets = c.in_ok-sheets.sheets in

@@ -19,7 +19,7 @@ returns-in-Ok-kept-clause-ends g c =
           (g.C.Acceptor.offer c.accept.new.self) one.reading one.writing
           c.in-Ok.ensures.closed c.in-Ok.ensures.source c.in-Ok.ensures.sink c.close.ensures.closed,
       subst (λ (kept : JournalState). IsServed one (journal c.args.keeper.now) kept c.args.front.now c.serve_one-kept.new.front)
-          (sym c.tell_closing.ensures) c.in-Ok-kept.ensures.served,
+          (sym c.tell_closing.ensures.kept) c.in-Ok-kept.ensures.served,
     )
 
 pub returns-in-Err-clause-ends : goal.returns-in-Err-clause-ends

@@ -1,7 +1,9 @@
-use Rattle.std.proofs.Common.{◌≡◌, List, ℕ, ap, inl, inr, refl, sym, subst}
+use Rattle.std.proofs.Common.{◌≡◌, ◌<◌, ◌⊎◌, Bool, List, ℕ, length, true, ap, arith, inl, inr, refl, sym, subst}
 use Rattle.std.proofs.lemmas.Result.{err_from_is_err_and}
 use Rattle.clock_device.specs.Told.{Reading}
 use Rattle.clock_connections.specs.Arrivals.{HasArrived}
+use Rattle.clock_connections.proofs.LengthLaws.{short_arrived}
+use Rattle.clock_journal.specs.Format.{most_text}
 use Rattle.clock_serving.specs.inside.Served.{IsAnswered}
 use Rattle.clock_serving.proofs.Served.{answered_as, nothing_written, reply_written}
 use Rattle.clock_serving.proofs.serving.serve_one.Goals as goal
@@ -11,14 +13,22 @@ use Rattle.clock_serving.proofs.serving.serve_one.Goals.{in-Ok+in_ok-reply-in-Ok
 arrived : (reading : Reading) (request text : List ℕ) → text ≡ request → HasArrived reading request → HasArrived reading text
 arrived reading request text same has = subst (λ (bytes : List ℕ). HasArrived reading bytes) (sym same) has
 
+-- no text that has arrived is longer than one that a journal takes
+disk_failed : (reading : Reading) (text : List ℕ) (has_failed : Bool) → HasArrived reading text → (has_failed ≡ true) ⊎ (most_text < length text)
+    → has_failed ≡ true
+disk_failed reading text has_failed has (inl failed) = failed
+disk_failed reading text has_failed has (inr long) = absurd (omega (arith, short_arrived reading text has))
+
 pub returns-in_err-reply-in-Ok-clause-served : goal.returns-in_err-reply-in-Ok-clause-served
 returns-in_err-reply-in-Ok-clause-served g c =
     let p = err_from_is_err_and c.from_residual.result c.from_residual.ensures.1 in
+    let reading : Reading = record { before = g.R.Source.told c.args.source.now; after = g.R.Source.told c.read_request.new.source } in
+    let has = arrived reading c.in-Ok.request c.as_slice.result.now c.as_slice.ensures c.in-Ok.ensures.arrival in
     rw p.1 (
       record {
         text = c.as_slice.result.now;
-        arrived = arrived _ c.in-Ok.request c.as_slice.result.now c.as_slice.ensures c.in-Ok.ensures.arrival;
-        failed = c.in_err-reply-in-Ok.ensures.err;
+        arrived = has;
+        failed = disk_failed reading c.as_slice.result.now _ has c.in_err-reply-in-Ok.ensures.err;
         moments = c.in_err-reply-in-Ok.ensures.moments;
         on_disk = c.in_err-reply-in-Ok.ensures.on_disk;
       },

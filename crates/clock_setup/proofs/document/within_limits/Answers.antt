@@ -21,20 +21,24 @@ returns-in_err-products-clause-err c =
     (λ known. products_first c.args.entries.now _ (sym c.in_default.ensures)
     (first_of products_checks (λ s. s.products) c.as_slice-products.ensures c.entries.view_is (c.in_err-products.ensures.err known)))
 
-pub returns-in-Err-clause-err : goal.returns-in-Err-clause-err
+pub returns-in_err-bidders-clause-err : goal.returns-in_err-bidders-clause-err
 unfolding products_checks bidders_checks
-returns-in-Err-clause-err c =
-    λ known. bidders_first c.args.entries.now _ (sym c.in_default.ensures)
+returns-in_err-bidders-clause-err c =
+    let p = err_from_is_err_and c.from_residual-in_err-bidders.result c.from_residual-in_err-bidders.ensures.1 in
+    rw (p.1, p.2)
+    (λ known. bidders_first c.args.entries.now _ (sym c.in_default.ensures)
     (first_of products_checks (λ s. s.products) c.as_slice-products.ensures c.entries.view_is c.in_ok-products.ensures.ok)
-    (first_of bidders_checks (λ s. s.bidders) c.as_slice-bidders.ensures c.entries.view_is (c.in-Err.ensures.err known))
+    (first_of bidders_checks (λ s. s.bidders) c.as_slice-bidders.ensures c.entries.view_is (c.in_err-bidders.ensures.err known)))
 
-pub returns-in-Err-distinct_operator-clause-err : goal.returns-in-Err-distinct_operator-clause-err
+pub returns-in_err-operator-clause-err : goal.returns-in_err-operator-clause-err
 unfolding products_checks bidders_checks
-returns-in-Err-distinct_operator-clause-err c =
-    λ known. distinct_decide c.args.entries.now _ (sym c.in_default.ensures)
+returns-in_err-operator-clause-err c =
+    let p = err_from_is_err_and c.from_residual-in_err-operator.result c.from_residual-in_err-operator.ensures.1 in
+    rw (p.1, p.2)
+    (λ known. distinct_decide c.args.entries.now _ (sym c.in_default.ensures)
     (first_of products_checks (λ s. s.products) c.as_slice-products.ensures c.entries.view_is c.in_ok-products.ensures.ok)
-    (first_of bidders_checks (λ s. s.bidders) c.as_slice-bidders.ensures c.entries.view_is c.in-Ok.ensures.ok)
-    (c.in-Err-distinct_operator.ensures.err known)
+    (first_of bidders_checks (λ s. s.bidders) c.as_slice-bidders.ensures c.entries.view_is c.in_ok-bidders.ensures.ok)
+    (c.in_err-operator.ensures.err known))
 
 pub returns-in-Some-clause-err : goal.returns-in-Some-clause-err
 returns-in-Some-clause-err c = λ known. head_first c.args.entries.now c.in-Some.fault (sym c.in-Some.ensures)
@@ -45,23 +49,23 @@ invariant_of-result c =
     let within : IsSetup c.args.entries.now =
     setup_within c.args.entries.now c.requires.version c.requires.first_version (sym c.in_default.ensures)
     (first_of products_checks (λ s. s.products) c.as_slice-products.ensures c.entries.view_is c.in_ok-products.ensures.ok)
-    (first_of bidders_checks (λ s. s.bidders) c.as_slice-bidders.ensures c.entries.view_is c.in-Ok.ensures.ok)
-    c.in-Ok-distinct_operator.ensures.ok in
+    (first_of bidders_checks (λ s. s.bidders) c.as_slice-bidders.ensures c.entries.view_is c.in_ok-bidders.ensures.ok)
+    c.in_ok-operator.ensures.ok in
     rw (
-      c.in-Ok-distinct_operator.ensures.same ∙ ap (λ (s : SetupFields). s.operator) (sym c.entries.view_is),
+      c.in_ok-operator.ensures.same ∙ ap (λ (s : SetupFields). s.operator) (sym c.entries.view_is),
       c.in_ok-products.ensures.same,
       map-id,
       c.as_slice-products.ensures,
-      c.in-Ok.ensures.same,
+      c.in_ok-bidders.ensures.same,
       map-id,
       c.as_slice-bidders.ensures,
       c.entries.view_is,
     ) within
 
-pub returns-in-Ok-distinct_operator-clause-ok : goal.returns-in-Ok-distinct_operator-clause-ok
+pub returns-clause-ok : goal.returns-clause-ok
 unfolding products_checks bidders_checks
-returns-in-Ok-distinct_operator-clause-ok c =
+returns-clause-ok c =
     distinct_decide c.args.entries.now None (sym c.in_default.ensures)
     (first_of products_checks (λ s. s.products) c.as_slice-products.ensures c.entries.view_is c.in_ok-products.ensures.ok)
-    (first_of bidders_checks (λ s. s.bidders) c.as_slice-bidders.ensures c.entries.view_is c.in-Ok.ensures.ok)
-    c.in-Ok-distinct_operator.ensures.ok
+    (first_of bidders_checks (λ s. s.bidders) c.as_slice-bidders.ensures c.entries.view_is c.in_ok-bidders.ensures.ok)
+    c.in_ok-operator.ensures.ok

@@ -5,7 +5,8 @@ use Rattle.clock_terms.specs.Limits.{cap_of}
 use Rattle.clock_setup.specs.OpeningDocument.{demand_checks}
 use Rattle.clock_setup.proofs.opening_checks.units_within.Given as goal
 
--- the demands so far are within their caps, those that are left decide the first fault, and what both take is what all take
+-- the demands so far are within their caps, those that are left decide the first fault, and what both take is what all
+-- take
 abbrev pub invariant-loop-product : goal.invariant-loop-product
 invariant-loop-product l = record {
   rest : first_fault (in_turn (demand_checks l.number) l.product (drop l.product (zip l.products l.row)))

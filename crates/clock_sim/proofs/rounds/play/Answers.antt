@@ -1,4 +1,4 @@
-use Rattle.std.proofs.Common.{◌≡◌, ℕ, ap, sym, subst, ◌∙◌, arith}
+use Rattle.std.proofs.Common.{◌≡◌, ℕ, true, ap, sym, subst, ◌∙◌, arith}
 use Rattle.std.proofs.lemmas.Result.{err_from_is_err_and}
 use Rattle.clock_terms.specs.Limits.{SetupFields}
 use Rattle.clock_house.specs.House.{HouseFields, standing_in}
@@ -41,22 +41,21 @@ returns-in_err-close_scripted-clause-step g c =
     (puts_then_close c.args.scripts.now c.closing-item.result now c.put_all.new.hub.house next _ _ c.in_ok-put_all.ensures
     c.in_err-close_scripted.ensures))
 
-pub returns-then-ended-clause-step : goal.returns-then-ended-clause-step
-returns-then-ended-clause-step g c =
+pub returns-then-ended : goal.returns-then-ended
+returns-then-ended g c =
     let now = c.loop-closing.hub.house in
     let next = c.close_scripted.new.hub.house in
-    let over : (standing_in next).ended ≡ c.ended.result =
-    sym (c.ended.ensures.is ∙ ap (λ (house : HouseFields). (standing_in house).ended) (c.house.ensures ∙ c.front.ensures)) in
-    round_ends (rehearsed c.args.hub.now.house.setup c.args.scripts.now c.args.closings.now) c.args.scripts.now c.args.closings.now
-    c.loop-closing.closing-index c.closing-item.result c.args.hub.now.house now next c.loop-closing-test.true
-    c.closing-item.is c.loop-closing.invariant.0 _ _
-    (puts_then_close c.args.scripts.now c.closing-item.result now c.put_all.new.hub.house next _ _ c.in_ok-put_all.ensures
-    c.in_ok-close_scripted.ensures)
-    (over ∙ c.if-ended.true)
-
-pub returns-then-ended-clause-ended : goal.returns-then-ended-clause-ended
-returns-then-ended-clause-ended g c =
-    sym (c.ended.ensures.is ∙ ap (λ (house : HouseFields). (standing_in house).ended) (c.house.ensures ∙ c.front.ensures)) ∙ c.if-ended.true
+    let over : (standing_in next).ended ≡ true =
+    sym (c.ended.ensures.is ∙ ap (λ (house : HouseFields). (standing_in house).ended) (c.house.ensures ∙ c.front.ensures)) ∙ c.if-ended.true in
+    record {
+      step = round_ends (rehearsed c.args.hub.now.house.setup c.args.scripts.now c.args.closings.now) c.args.scripts.now c.args.closings.now
+          c.loop-closing.closing-index c.closing-item.result c.args.hub.now.house now next c.loop-closing-test.true
+          c.closing-item.is c.loop-closing.invariant.0 _ _
+          (puts_then_close c.args.scripts.now c.closing-item.result now c.put_all.new.hub.house next _ _ c.in_ok-put_all.ensures
+          c.in_ok-close_scripted.ensures)
+          over;
+      ended = over;
+    }
 
 pub loop-closing-preserved : goal.loop-closing-preserved
 loop-closing-preserved g c =

@@ -1,6 +1,6 @@
 use Rattle.std.proofs.Common.{ap, sym, ◌∙◌}
 use Rattle.std.proofs.lemmas.Result.{err_from_is_err_and}
-use Rattle.clock_closing.specs.declared.asked.Asked.{Asked}
+use Rattle.clock_closing.specs.declared.closing_inputs.ClosingInputs.{ClosingInputs}
 use Rattle.clock_closing.specs.inside.Postings.{posted_now}
 use Rattle.clock_closing.proofs.open_round.OpenRound.close.Goals as goal
 
@@ -8,7 +8,7 @@ pub returns-clause-answer : goal.returns-clause-answer
 returns-clause-answer g c =
     let asked = c.in-Ok.ensures.asked in
     asked.good
-    ∙ sym (ap (λ (one : Asked). posted_now c.args.self.now one.increments one.ties) asked.same)
+    ∙ sym (ap (λ (one : ClosingInputs). posted_now c.args.self.now one.increments one.ties) asked.same)
     ∙ c.in_ok-results.ensures.closes
 
 pub returns-in_err-results-clause-answer : goal.returns-in_err-results-clause-answer
@@ -18,5 +18,5 @@ returns-in_err-results-clause-answer g c =
     rw (told.1, told.2)
     (λ other.
     asked.good
-    ∙ sym (ap (λ (one : Asked). posted_now c.args.self.now one.increments one.ties) asked.same)
+    ∙ sym (ap (λ (one : ClosingInputs). posted_now c.args.self.now one.increments one.ties) asked.same)
     ∙ c.in_err-results.ensures other)

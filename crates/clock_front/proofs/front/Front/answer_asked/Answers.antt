@@ -3,7 +3,7 @@ use Rattle.std.specs.Prelude.{IfOk}
 use Rattle.clock_house.specs.House.{HouseFields}
 use Rattle.clock_front.specs.Outcomes.{answer_of, command_of, outcome}
 use Rattle.clock_front.specs.inside.ShownAsked.{shown_asked}
-use Rattle.clock_front.specs.declared.asked.Asked.{Asked}
+use Rattle.clock_front.specs.declared.front.asked.Asked.{Asked}
 use Rattle.clock_front.proofs.ChangeLaws.{none_followed}
 use Rattle.clock_front.proofs.OutcomeLaws.{reading_other}
 use Rattle.clock_front.proofs.PrivateLaws.{told_asker, if_told_asker}

@@ -13,5 +13,5 @@ returns c =
     let behind = c.is_after_comma.ensures c.if-not-is_after_comma.false in
     let values = replicate c.after_empties-count.result.0 (numbers []) in
     let end = c.after_empties-count.result.1 in
-    subst (λ ts. ReadsAll 1 ts values (left s.place (drop end s.bytes.now))) c.self.view_is
-    (subst (λ place. ReadsAll 1 (left place (drop s.at s.bytes.now)) values (left place (drop end s.bytes.now))) (sym behind) c.after_empties-count.ensures)
+    subst (λ ts. ReadsAll 1 ts values (left s.expected (drop end s.bytes.now))) c.self.view_is
+    (subst (λ expected. ReadsAll 1 (left expected (drop s.at s.bytes.now)) values (left expected (drop end s.bytes.now))) (sym behind) c.after_empties-count.ensures)

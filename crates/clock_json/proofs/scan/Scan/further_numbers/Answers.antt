@@ -16,6 +16,6 @@ returns c =
     let end = c.in_ok-end.end in (
       read.0,
       read.1,
-      subst (λ ts. ReadsAll 0 ts values (left s.place (drop end s.bytes.now))) c.self.view_is
-          (subst (λ place. ReadsAll 0 (left place (drop s.at s.bytes.now)) values (left place (drop end s.bytes.now))) (sym behind) read.2),
+      subst (λ ts. ReadsAll 0 ts values (left s.expected (drop end s.bytes.now))) c.self.view_is
+          (subst (λ expected. ReadsAll 0 (left expected (drop s.at s.bytes.now)) values (left expected (drop end s.bytes.now))) (sym behind) read.2),
     )

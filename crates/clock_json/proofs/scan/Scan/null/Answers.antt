@@ -9,7 +9,7 @@ use Rattle.clock_json.proofs.scan.Scan.null.Goals as goal
 pub returns : goal.returns
 returns c =
     let s = c.self.inside in
-    let may : may_begin (place_of s.place) ≡ true = sym c.may_begin.ensures ∙ c.if-not-may_begin.false in
+    let may : may_begin (place_of s.expected) ≡ true = sym c.may_begin.ensures ∙ c.if-not-may_begin.false in
     null_reads c.args.self.now _
-    (sym c.self.view_is ∙ null_begins (place_of s.place) _ _ may (sym c.after_space-at.ensures ∙ c.in-Some.ensures)
+    (sym c.self.view_is ∙ null_begins (place_of s.expected) _ _ may (sym c.after_space-at.ensures ∙ c.in-Some.ensures)
     ∙ ap (λ ts. null ∷ ts) (sym c.after_value.ensures))

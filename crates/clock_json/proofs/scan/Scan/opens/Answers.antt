@@ -8,7 +8,7 @@ pub returns : goal.returns
 returns c = λ t reads _.
     let s = c.self.inside in
     let at = c.after_space-at.result in
-    let may : may_begin (place_of s.place) ≡ true = sym c.may_begin.ensures ∙ c.if-not-may_begin.false in
+    let may : may_begin (place_of s.expected) ≡ true = sym c.may_begin.ensures ∙ c.if-not-may_begin.false in
     let is = c.if-byte_at-mark.false in
-    sym c.self.view_is ∙ mark_at may_begin c.args.mark t (place_of s.place) fresh s.bytes.now s.at at reads may c.after_space-at.ensures
+    sym c.self.view_is ∙ mark_at may_begin c.args.mark t (place_of s.expected) fresh s.bytes.now s.at at reads may c.after_space-at.ensures
     (c.byte_at.ensures.within (omega (arith, is, c.requires))) (sym c.byte_at.ensures.value ∙ is)

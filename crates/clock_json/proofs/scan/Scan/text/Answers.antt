@@ -15,12 +15,12 @@ returns-clause-value c =
     let text = c.in-Ok.text.now in
     let mark = c.ends_text.ensures in
     let ends = c.if-not-ends_text.false in
-    let may : may_begin (place_of s.place) ≡ true = sym c.may_begin.ensures ∙ c.if-not-may_begin.false in
+    let may : may_begin (place_of s.expected) ≡ true = sym c.may_begin.ensures ∙ c.if-not-may_begin.false in
     let here = at_byte s.bytes.now next _ (c.byte_at.ensures.within (mark.something ends)) (sym c.byte_at.ensures.value) in
     let still : begins_colon (lex between (drop c.in_ok-bytes.at s.bytes.now)) ≡ false =
     ap begins_colon (sym c.after_space-next.ensures ∙ ap (lex between) here) ∙ mark.mark ends _ in
     text_reads text c.args.self.now _
-    (sym c.self.view_is ∙ text_begins (place_of s.place) _ _ _ may (sym c.after_space-at.ensures ∙ c.in_ok-bytes.ensures) still
+    (sym c.self.view_is ∙ text_begins (place_of s.expected) _ _ _ may (sym c.after_space-at.ensures ∙ c.in_ok-bytes.ensures) still
     ∙ ap (λ ts. Token.string c.in_ok-bytes.bytes.now ∷ ts) (sym c.after_value.ensures)
     ∙ ap (λ t. Token.string t ∷ left c.after_value.result.0 (drop c.after_value.result.1 s.bytes.now)) (sym c.in-Ok.ensures.cases.0))
 

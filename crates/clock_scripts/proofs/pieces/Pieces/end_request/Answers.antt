@@ -2,7 +2,7 @@ use Rattle.std.proofs.Common.{◌≡◌, ◌-◌, [], refl, sym, ap, arith, appe
 use Rattle.std.proofs.lemmas.List.{length-append}
 use Rattle.clock_scripts.specs.RequestTexts.{request_head}
 use Rattle.clock_scripts.specs.declared.pieces.Pieces.{Pieces}
-use Rattle.clock_scripts.specs.declared.pieces.Place.{Place}
+use Rattle.clock_scripts.specs.declared.pieces.Extent.{Extent}
 use Rattle.clock_scripts.specs.declared.pieces.Written.{Written}
 use Rattle.clock_scripts.proofs.WrittenLaws.{longer, piece_behind, written_last}
 use Rattle.clock_scripts.proofs.pieces.Pieces.end_request.Goals as goal
@@ -35,7 +35,7 @@ pub returns-clause-head : goal.returns-clause-head
 returns-clause-head c =
     let old = c.args.self.now in
     let count = c.len-end.result - c.args.body in
-    let head : Place = record { start = c.len-head.result; end = c.len.result } in
+    let head : Extent = record { start = c.len-head.result; end = c.len.result } in
     let heads = c.push_head.new.text in
     piece_behind old.heads.items heads.items (request_head c.args.line.now c.args.token.now count) head c.in_ok-push_head.ensures.is
     (omega (arith, c.len-head.ensures, old.heads.ok.0)) (omega (arith, c.len.ensures, heads.ok.0))

@@ -1,6 +1,5 @@
 use Rattle.std.proofs.Common.{◌≡◌, ◌++◌, ◌-◌, ℕ, List, length, flat_map, sym, ap, append-nil, ◌∙◌, arith}
 use Rattle.std.specs.List.{range_with_len}
-use Rattle.clock_terms.specs.Demands.{row_of}
 use Rattle.clock_scripts.proofs.SheetWalks.{one_more, opening_for, priced_at, written_for, whole_sheet}
 use Rattle.clock_scripts.proofs.sincere.Sincere.push_first.Goals as goal
 
@@ -11,15 +10,11 @@ loop-product-preserved c =
     let p = c.loop-product.product in
     let text = c.loop-product.bodies.text.items in
     let next = c.push_opening.new.bodies.text.items in
-    record {
-      limits = c.list.ensures.same ∙ c.loop-product.invariant.limits;
-      rest = one_more (written_for sheet) text next (c.args.bodies.now.text.items ++ flat_map (written_for sheet) (range_with_len 0 n)) p n
-          c.loop-product-test.true
-          (opening_for sheet p c.pair-item.result c.list.result.now text next c.requires.first
-          (c.pair-item.is ∙ priced_at sheet.prices.now p c.pair-item.result c.loop-product-test.true)
-          (c.list.ensures.list ∙ ap (λ (lists : List (List ℕ)). row_of lists p) c.loop-product.invariant.limits) c.in_ok-push_opening.ensures)
-          c.loop-product.invariant.rest;
-    }
+    one_more (written_for sheet) text next (c.args.bodies.now.text.items ++ flat_map (written_for sheet) (range_with_len 0 n)) p n
+    c.loop-product-test.true
+    (opening_for sheet p c.pair-item.result c.list-limits.result.now text next c.requires.first
+    (c.pair-item.is ∙ priced_at sheet.prices.now p c.pair-item.result c.loop-product-test.true) c.list-limits.ensures c.in_ok-push_opening.ensures)
+    c.loop-product.invariant
 
 pub returns : goal.returns
 returns c =
@@ -31,6 +26,6 @@ returns c =
     record {
       is = sym (append-nil text)
           ∙ ap (λ (k : ℕ). text ++ flat_map (written_for sheet) (range_with_len p k)) (sym none)
-          ∙ c.loop-product.invariant.rest
+          ∙ c.loop-product.invariant
           ∙ ap (λ (all : List ℕ). c.args.bodies.now.text.items ++ all) (whole_sheet sheet);
     }

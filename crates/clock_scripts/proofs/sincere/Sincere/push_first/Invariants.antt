@@ -6,8 +6,6 @@ use Rattle.clock_scripts.proofs.sincere.Sincere.push_first.Given as goal
 -- with the bids for the other products it is the whole sheet
 abbrev pub invariant-loop-product : goal.invariant-loop-product
 invariant-loop-product l =
-    let n = length l.self.prices.now in record {
-      limits : l.limits ≡ l.self.limits.now;
-      rest : l.bodies.text.items ++ flat_map (written_for l.self) (range_with_len l.product (n - l.product))
-          ≡ l.initial.bodies.text.items ++ flat_map (written_for l.self) (range_with_len 0 n);
-    }
+    let n = length l.self.prices.now in
+    l.bodies.text.items ++ flat_map (written_for l.self) (range_with_len l.product (n - l.product))
+    ≡ l.initial.bodies.text.items ++ flat_map (written_for l.self) (range_with_len 0 n)

@@ -1,7 +1,6 @@
 use Rattle.std.proofs.Common.{◌≡◌, ◌≢◌, ℕ, ◌+◌, ◌-◌, ◌<◌, ◌≤◌, min, List, ◌++◌, get_or, length, flat_map, sym, ap, subst, append-nil, ◌∙◌, arith}
 use Rattle.std.specs.Prelude.{slice_index}
 use Rattle.std.specs.List.{range_with_len, AllWithin}
-use Rattle.clock_terms.specs.Demands.{row_of}
 use Rattle.clock_scripts.specs.declared.sincere.Sincere.{Sincere}
 use Rattle.clock_scripts.proofs.SheetWalks.{one_more, passed, none_for, later_for, priced_at, written_for, whole_sheet}
 use Rattle.clock_scripts.proofs.sincere.Sincere.push_later.Goals as goal
@@ -22,7 +21,6 @@ held-init c =
     let to = min c.held-held.result.from n in
     let whole : n ≡ n - 0 = omega arith in
     record {
-      limits = c.walk-limits.ensures;
       row = c.held-held.ensures.row;
       rest = ap (λ (rest : List ℕ). c.args.bodies.now.text.items ++ rest)
           (sym (ap (λ (k : ℕ). flat_map (written_for sheet) (range_with_len 0 k)) whole
@@ -52,14 +50,12 @@ held-preserved c =
     let old = c.held.bodies.text.items in
     let text = c.push_held.new.bodies.text.items in
     record {
-      limits = c.list-wanted.ensures.same ∙ c.held.invariant.limits;
       row = found.row ∙ same;
       rest = ap (λ (rest : List ℕ). text ++ rest) (sym behind)
           ∙ one_more f old text (c.args.bodies.now.text.items ++ flat_map f (range_with_len 0 n)) product n within
-          (later_for sheet product c.in-Some.one.demand (get_or sheet.prices.now product c.index-self-one.result) c.list-wanted.result.now old text c.requires.later
+          (later_for sheet product c.in-Some.one.demand (get_or sheet.prices.now product c.index-self-one.result) c.list-limits.result.now old text c.requires.later
           (priced_at sheet.prices.now product c.index-self-one.result within)
-          demand
-          (c.list-wanted.ensures.list ∙ ap (λ (lists : List (List ℕ)). row_of lists product) c.held.invariant.limits) c.in_ok-push_held.ensures)
+          demand c.list-limits.ensures c.in_ok-push_held.ensures)
           (ap (λ (rest : List ℕ). old ++ rest) (sym before) ∙ c.held.invariant.rest);
     }
 

@@ -8,7 +8,6 @@ abbrev pub invariant-held : goal.invariant-held
 invariant-held l =
     let n = length l.self.prices.now in
     let from = min l.held.from n in record {
-      limits : l.limits ≡ l.self.limits.now;
       row : l.held.demands ≡ l.self.own.demands.now;
       rest : l.bodies.text.items ++ flat_map (written_for l.self) (range_with_len from (n - from))
           ≡ l.initial.bodies.text.items ++ flat_map (written_for l.self) (range_with_len 0 n);

@@ -1,10 +1,17 @@
-use Rattle.std.proofs.Common.{◌≡◌, Ok, sym, subst}
+use Rattle.std.proofs.Common.{◌≡◌, Ok, None, sym, ap, ◌∙◌, subst}
+use Rattle.clock_terms.specs.Faults.{unless}
 use Rattle.clock_terms.specs.Limits.{SetupFields}
 use Rattle.clock_setup.specs.SetupData.{setup_data}
 use Rattle.clock_setup.specs.SetupDocument.{setup_of}
+use Rattle.clock_setup.proofs.ScanLaws.{setup_judged}
 use Rattle.clock_setup.proofs.held_setup.HeldSetupPartReader.part.Goals as goal
 
 pub invariant_of-result : goal.invariant_of-result
-invariant_of-result c = record {
-  accepted = subst (λ (entries : SetupFields). setup_of (setup_data entries) ≡ Ok c.in-Ok.setup) (sym c.in-Ok.ensures.same) c.in-Ok.ensures.ok;
-}
+invariant_of-result c =
+    let scanned = c.in_ok-scanned.scanned in
+    let judged : setup_of (setup_data scanned.entries) ≡ Ok c.in-Ok.setup =
+    setup_judged scanned.entries scanned.version scanned.first_version ∙ ap (λ fault. unless fault scanned.entries) c.in-Ok.ensures.ok
+    ∙ ap Ok (sym c.in-Ok.ensures.same) in
+    record {
+      accepted = subst (λ (entries : SetupFields). setup_of (setup_data entries) ≡ Ok c.in-Ok.setup) (sym c.in-Ok.ensures.same) judged;
+    }

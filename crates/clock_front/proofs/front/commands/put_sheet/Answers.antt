@@ -1,0 +1,39 @@
+use Rattle.std.proofs.Common.{ℕ, Option, Some, length, ap, subst, sym, ◌∙◌, rules}
+use Rattle.clock_house.specs.Command.{put}
+use Rattle.clock_house.specs.House.{IsFollowedBy, put_fault_in}
+use Rattle.clock_house.specs.Prepared.{PreparedSheet}
+use Rattle.clock_house.specs.declared.fault.PutFault.{PutFault}
+use Rattle.clock_views.specs.BidderPages.{accepted_value}
+use Rattle.clock_front.specs.Outcomes.{answer_of, done, put_outcome}
+use Rattle.clock_front.proofs.ChangeLaws.{told_of_first}
+use Rattle.clock_front.proofs.PrivateLaws.{accepted_by_view, refused_by_view}
+use Rattle.clock_front.proofs.front.commands.put_sheet.Goals as goal
+
+pub returns-in-Ok-accepted-clause-reply : goal.returns-in-Ok-accepted-clause-reply
+returns-in-Ok-accepted-clause-reply g c =
+    let sheet = c.args.sheet in
+    c.in-Ok-accepted.ensures
+    ∙ ap (λ (count : ℕ). answer_of (done (accepted_value sheet.round count))) (ap length c.as_slice.ensures)
+    ∙ ap (λ (first : Option PutFault). answer_of (put_outcome sheet first)) (sym c.in-Ok.ensures.answer)
+
+pub returns-in-Ok-accepted-clause-private : goal.returns-in-Ok-accepted-clause-private
+returns-in-Ok-accepted-clause-private g c =
+    accepted_by_view c.args.house.now c.args.bidder c.args.sheet c.in-Ok-accepted.reply c.in-Ok.ensures.seen
+    (c.in-Ok-accepted.ensures
+    ∙ ap (λ (count : ℕ). answer_of (done (accepted_value c.args.sheet.round count))) (ap length c.as_slice.ensures))
+
+pub returns-in-Ok-accepted-clause-followed : goal.returns-in-Ok-accepted-clause-followed
+returns-in-Ok-accepted-clause-followed g c =
+    subst (λ (made : PreparedSheet). IsFollowedBy (put made.bidder made.round made.bids) c.args.house.now c.commit_put.new.self)
+    c.in-Ok.ensures.asked c.commit_put.ensures.followed
+
+pub returns-in-Err-clause-reply : goal.returns-in-Err-clause-reply
+returns-in-Err-clause-reply g c =
+    let sheet = c.args.sheet in
+    told_of_first (put_outcome sheet) c.refused.result (put_fault_in c.args.house.now c.args.bidder sheet.round sheet.bids) (Some c.in-Err.fault)
+    (search rules) c.in-Err.ensures.answer (rw c.from.ensures at c.refused.ensures)
+
+pub returns-in-Err-clause-private : goal.returns-in-Err-clause-private
+returns-in-Err-clause-private g c =
+    refused_by_view c.refused.result c.args.house.now c.args.bidder c.args.sheet c.in-Err.fault c.in-Err.ensures.seen
+    (rw c.from.ensures at c.refused.ensures) (search rules)

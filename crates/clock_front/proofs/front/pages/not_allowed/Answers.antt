@@ -1,0 +1,12 @@
+use Rattle.std.proofs.Common.{ap, ◌∙◌, Some}
+use Rattle.clock_http.specs.declared.code.Code.TheVariants.{Method}
+use Rattle.clock_front.specs.Outcomes.{with_page}
+use Rattle.clock_views.specs.Refusals.{Shown}
+use Rattle.clock_views.specs.RefusalPage.{refusal_value}
+use Rattle.clock_front.proofs.PageLaws.{written_page}
+use Rattle.clock_front.proofs.front.pages.not_allowed.Goals as goal
+
+pub returns-clause-reply : goal.returns-clause-reply
+returns-clause-reply c =
+    written_page _ _ _ _ _ _ c.written.ensures c.in_ok-text.ensures.head c.push_refusal_page.ensures
+    ∙ ap (λ (shown : Shown). with_page Method (Some c.args.page) (refusal_value shown)) c.alone.ensures

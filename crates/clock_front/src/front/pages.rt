@@ -1,0 +1,152 @@
+//! Replies that tell of the auction and change nothing.
+
+ghost use Rattle.std.specs.Prelude.{◌≡◌, ◌≤◌, ◌<◌, drop, length, Some, None, IfOk, IfErr};
+ghost use Rattle.clock_front.specs.declared.front.tokens.Asker.TheVariants as who;
+ghost use Rattle.clock_front.specs.Outcomes.{answer_of, done, not_allowed as told_not_allowed, refused, told};
+ghost use Rattle.clock_front.specs.Rooms.{refusal_room, reply_room};
+ghost use Rattle.clock_http.specs.Replies.{reply_bytes};
+ghost use Rattle.clock_front.specs.inside.KeptPage.{IsProductsPage, head_room};
+ghost use Rattle.clock_terms.specs.Limits.{SetupFields, public_setup};
+ghost use Rattle.clock_views.specs.PublicPages.{products_value};
+ghost use Rattle.clock_front.specs.inside.Roomless.{without_room};
+ghost use Rattle.clock_front.specs.inside.Private.{IsToldByView};
+ghost use Rattle.clock_front.specs.Requests as asked;
+
+use clock_device::Bounded;
+use clock_house::House;
+use clock_http::{Code, NoRoom, Page, Reply, plain_number, text_with_room};
+use clock_views::{
+    REFUSAL_ROOM, Refusal, account_room, bids_room, push_account_page, push_bids_page,
+    push_refusal_page, push_results_page, push_sheet_page, push_slip_page, push_status_page,
+    results_room, sheet_room, slip_room, status_room,
+};
+use std::alloc::Global;
+
+/// The reply whose page stands in a text behind the room for its head.
+pub(crate) fn written(code: Code, allowed: Option<Page>, text: Bounded<u8>) -> Reply
+    requires { head_room ≤ length text.items }
+    ensures { result ≡ record { code = code; bytes = reply_bytes code allowed (drop head_room text.items) } }
+{
+    Reply::written(code, allowed, text.into_items())
+}
+
+/// A refusal.
+pub(crate) fn refusal(alloc: Global, refusal: Refusal) -> Result<Reply, NoRoom>
+    ensures reply { IfOk result (λ reply. reply ≡ answer_of (refused refusal)) }
+    ensures room { IfErr result (λ room. room ≡ refusal_room) }
+{
+    let mut text = text_with_room(alloc, REFUSAL_ROOM)?;
+    push_refusal_page(&mut text, refusal);
+    Ok(written(refusal.code, None, text))
+}
+
+/// A refusal of a method that the page has not.
+pub(crate) fn not_allowed(alloc: Global, page: Page) -> Result<Reply, NoRoom>
+    ensures reply { IfOk result (λ reply. reply ≡ answer_of (told_not_allowed page)) }
+    ensures room { IfErr result (λ room. room ≡ refusal_room) }
+{
+    let mut text = text_with_room(alloc, REFUSAL_ROOM)?;
+    push_refusal_page(&mut text, Refusal::alone(Code::Method));
+    Ok(written(Code::Method, Some(page), text))
+}
+
+/// Where the auction stands.
+pub(crate) fn status<P>(alloc: Global, house: &House<P>) -> Result<Reply, NoRoom>
+    ensures reply { IfOk result (λ reply. reply ≡ answer_of (told house.now who.Nobody asked.status)) }
+    ensures room { IfErr result (λ room. room ≡ reply_room asked.status (told house.now who.Nobody asked.status)) }
+{
+    let mut text = text_with_room(alloc, status_room())?;
+    push_status_page(&mut text, house.setup(), house.round(), house.ended());
+    Ok(written(Code::Done, None, text))
+}
+
+/// What is auctioned: a page that is at hand, since it never changes.
+pub(crate) fn products(alloc: Global, page: &[u8]) -> Result<Reply, NoRoom>
+    ensures reply { IfOk result (λ reply. (setup : SetupFields) → IsProductsPage setup page.now
+        → reply ≡ answer_of (done (products_value (public_setup setup)))) }
+    ensures room { IfErr result (λ room. room ≡ length page.now) }
+{
+    let mut text = text_with_room(alloc, page.len() as u128)?;
+    text.extend_from_slice(page);
+    Ok(written(Code::Done, None, text))
+}
+
+/// The sheet of the round that a segment names.
+pub(crate) fn sheet<P>(alloc: Global, house: &House<P>, segment: &[u8]) -> Result<Reply, NoRoom>
+    ensures reply { IfOk result (λ reply. reply ≡ answer_of (told house.now who.Nobody (asked.sheet segment.now))) }
+    ensures room { IfErr result (λ room. room ≡ reply_room (asked.sheet segment.now) (told house.now who.Nobody
+        (asked.sheet segment.now))) }
+{
+    let Some(round) = plain_number(segment) else {
+        return refusal(alloc, Refusal::alone(Code::NoRound));
+    };
+    let Some(sheet) = house.sheet(round) else {
+        return refusal(alloc, Refusal::alone(Code::NoRound));
+    };
+    let mut text = text_with_room(alloc, sheet_room(sheet))?;
+    push_sheet_page(&mut text, house.setup(), sheet);
+    Ok(written(Code::Done, None, text))
+}
+
+/// What a bidder holds.
+pub(crate) fn account<P>(alloc: Global, house: &House<P>, bidder: u32) -> Result<Reply, NoRoom>
+    requires { bidder < length house.now.setup.bidders }
+    ensures reply { IfOk result (λ reply. reply ≡ answer_of (told house.now (who.Bidder bidder) asked.account)) }
+    ensures private { IfOk result (IsToldByView house.now bidder asked.account) }
+    ensures room { IfErr result (λ room. room ≡ reply_room asked.account (told house.now (who.Bidder bidder)
+        asked.account)) }
+{
+    let own = house.own(bidder);
+    let mut text = text_with_room(alloc, account_room(own.demands))?;
+    push_account_page(&mut text, house.setup(), bidder, own, house.ended());
+    Ok(written(Code::Done, None, text))
+}
+
+/// A bidder's sheet of bids in force.
+pub(crate) fn bids<P>(alloc: Global, house: &House<P>, bidder: u32) -> Result<Reply, NoRoom>
+    requires { bidder < length house.now.setup.bidders }
+    ensures reply { IfOk result (λ reply. reply ≡ answer_of (told house.now (who.Bidder bidder) asked.bids)) }
+    ensures room { IfErr result (λ room. room ≡ reply_room asked.bids (told house.now (who.Bidder bidder) asked.bids)) }
+{
+    let sheet = house.bids(bidder);
+    let mut text = text_with_room(alloc, bids_room(sheet))?;
+    push_bids_page(&mut text, house.round(), sheet);
+    Ok(written(Code::Done, None, text))
+}
+
+/// A bidder's results of the round that a segment names.
+pub(crate) fn slip<P>(
+    alloc: Global,
+    house: &House<P>,
+    bidder: u32,
+    segment: &[u8],
+) -> Result<Reply, NoRoom>
+    requires { bidder < length house.now.setup.bidders }
+    ensures reply { IfOk result (λ reply. reply
+        ≡ answer_of (told house.now (who.Bidder bidder) (asked.slip segment.now))) }
+    ensures room { IfErr result (λ room. room ≡ reply_room (asked.slip segment.now) (told house.now (who.Bidder bidder)
+        (asked.slip segment.now))) }
+{
+    let Some(round) = plain_number(segment) else {
+        return refusal(alloc, Refusal::alone(Code::NoRound));
+    };
+    let Some(slip) = house.slip(bidder, round) else {
+        return refusal(alloc, Refusal::alone(Code::NoRound));
+    };
+    let mut text = text_with_room(alloc, slip_room(slip))?;
+    push_slip_page(&mut text, slip);
+    Ok(written(Code::Done, None, text))
+}
+
+/// What all bidders hold.
+#[tactic(auto, unfolding(clock_views::specs::OperatorPages::results_value))]
+pub(crate) fn results<P>(alloc: Global, house: &House<P>) -> Result<Reply, NoRoom>
+    ensures reply { IfOk result (λ reply. reply
+        ≡ answer_of (told (without_room house.now) who.Operator asked.results)) }
+    ensures room { IfErr result (λ room. room ≡ reply_room asked.results (told (without_room house.now) who.Operator
+        asked.results)) }
+{
+    let mut text = text_with_room(alloc, results_room(house))?;
+    push_results_page(&mut text, house);
+    Ok(written(Code::Done, None, text))
+}

@@ -1,0 +1,10 @@
+use Rattle.std.proofs.Common.{◌≡◌, ◌+◌, ◌*◌, ◌≤◌, drop}
+use Rattle.clock_terms.specs.Eligibility.{activity}
+use Rattle.clock_terms.proofs.eligibility.activity.Given as goal
+
+-- what is taken so far and what the rest takes are what all take, and a bound
+abbrev pub invariant-loop-place : goal.invariant-loop-place
+invariant-loop-place l = record {
+  so_far : l.total + activity (drop l.place l.products) (drop l.place l.demands) ≡ activity l.products l.demands;
+  small : l.total ≤ 1000000000 * l.place;
+}
