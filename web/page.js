@@ -45,13 +45,16 @@ export function options(select, pairs) {
   if (pairs.some(([value]) => String(value) === kept)) select.value = kept;
 }
 
-/** Asks a question with a yes and a no; true for yes. Escape, and `unask`, are no. */
+/** Asks a question with a yes and a no; true for yes. Escape, and `unask`, are no; nothing follows where another is asked within the same frame. */
 export function question(words) {
   const dialog = at("question");
   at("asked").textContent = words;
   dialog.returnValue = "no";
   dialog.showModal();
-  return new Promise((done) => dialog.addEventListener("close", () => done(dialog.returnValue === "yes"), { once: true }));
+  return new Promise((done) => {
+    // a browser tells that a dialog closed with its next frame: by then another question may be open, which is not answered yet
+    dialog.onclose = () => { if (!dialog.open) done(dialog.returnValue === "yes"); };
+  });
 }
 
 /** Takes a question back that is not answered yet. */

@@ -247,6 +247,8 @@ def by_keys(window, operator, stand):
     wait_for("Escape is no, and the cursor is where it was", lambda: operator.run("return document.activeElement.id") == "ask")
     operator.press(Keys.ENTER)
     wait_for("asked again", lambda: operator.run("return document.activeElement.id") == "no")
+    operator.run("document.getElementById('question').close('no'); document.getElementById('ask').click()")
+    wait_for("asked a third time, before the browser tells that the second question is gone", lambda: operator.run("return document.activeElement.id") == "no")
     operator.press(Keys.TAB, Keys.ENTER)
     wait_for("closed by keys alone", lambda: "Round 1 is closed" in operator.text("say"))
 
