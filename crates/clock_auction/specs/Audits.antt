@@ -2,7 +2,8 @@
 --     chain_of first texts      the digest of the newest text
 --     closed_after setup texts      the rounds that texts have closed
 --     closing_digests first setup texts      the digests of the texts that closed a round, in digits, the oldest first
---     IsRecounted first texts house chain count digests      the auction stands for the texts, counted, with the digests of its closings
+--     IsRecounted first texts house chain count digests      the auction stands for the texts, counted, with the
+--         digests of its closings
 --     IsRecountOf setup first bytes ..      the same for all texts of a file
 --     IsUnrecounted setup first bytes told      a fault is told of a file that has it
 --     audited setup first texts      what an audit prints of the rounds
@@ -71,7 +72,8 @@ pub record IsUnrecounted (setup : SetupFields) (first bytes : List ℕ) (told : 
   pub is : IsRefusal first bytes fault
   pub rightly : IsRefusedRightly (IsRefused setup) (λ past. past ≡ []) first (drop head_length bytes) (length bytes) fault
 
--- the lines of the closed rounds, each with the digest of its closing, and what each bidder won where the auction has ended
+-- the lines of the closed rounds, each with the digest of its closing, and what each bidder won where the auction has
+-- ended
 abbrev pub text_of_rounds : SetupFields → List ClosedRound → List (List ℕ) → List ℕ
 text_of_rounds setup [] digests = []
 text_of_rounds setup (round ∷ closed) digests = audit_text (report_of setup (round ∷ closed)) digests

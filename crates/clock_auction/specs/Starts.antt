@@ -1,6 +1,8 @@
 -- How a server goes on with a journal.
---     IsGoingOn digest bytes journal house count      the journal has the texts of a file, and the auction stands for these, counted
---     IsNotGoingOn setup digest bytes house count told      the file has this fault, or a call of the disk has failed behind its texts
+--     IsGoingOn digest bytes journal house count      the journal has the texts of a file, and the auction stands for
+--         these, counted
+--     IsNotGoingOn setup digest bytes house count told      the file has this fault, or a call of the disk has failed
+--         behind its texts
 use Rattle.std.specs.Prelude.{◌≡◌, ◌⊎◌, List, ℕ}
 use Rattle.clock_terms.specs.Limits.{SetupFields}
 use Rattle.clock_house.specs.House.{HouseFields}

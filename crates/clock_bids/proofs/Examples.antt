@@ -73,7 +73,8 @@ missing_bid = refl
 increases_in_a_chain : changes_of_sheet prices (0 ∷ []) 0 (bid 0 1 104 ∷ bid 0 2 110 ∷ []) ≡ request Increase 0 0 0 1 104 ∷ request Increase 0 0 1 1 110 ∷ []
 increases_in_a_chain = refl
 
--- an activity limit of 125 percent, with products of four blocks of two units, and with others of seven blocks of one unit
+-- an activity limit of 125 percent, with products of four blocks of two units, and with others of seven blocks of one
+-- unit
 abbrev limited : PublicSetup
 limited = public_setup activity_limit
 

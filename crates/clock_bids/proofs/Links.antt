@@ -1,4 +1,5 @@
--- The changes of one product's chain: each leaves the demand in one direction, and together they lead from the demand held to the last quantity.
+-- The changes of one product's chain: each leaves the demand in one direction, and together they lead from the demand
+-- held to the last quantity.
 use Rattle.std.proofs.Common.{◌≡◌, ℕ, suc, ◌+◌, ◌<◌, ◌≤◌, List, [], ◌∷◌, Bool, true, false, not, cond}
 use Rattle.std.proofs.Common.{map, length, ◌==◌, inl, inr, refl, ap, sym, subst, ◌∙◌, arith, All}
 use Rattle.std.specs.Prelude.{⊤, nat_lt, sum_by}

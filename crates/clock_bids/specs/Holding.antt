@@ -2,8 +2,8 @@
 --     Holding      an eligibility, and a demand for each product
 --     holding_of own      what the program is told of it
 --     activity_limit setup round eligibility      the most activity that a sheet may ask for
--- (The activity limit is that of the FCC's procedures for Auction 105, by which processed activity stays within the eligibility; that it is
--- rounded down, and that it is the eligibility itself in round 1, are own rules.)
+-- (The activity limit is that of the FCC's procedures for Auction 105, by which processed activity stays within the
+-- eligibility; that it is rounded down, and that it is the eligibility itself in round 1, are own rules.)
 use Rattle.std.specs.Prelude.{ℕ, ◌*◌, ◌/◌, ◌==◌, if◌then◌else◌, List}
 use Rattle.clock_terms.specs.Limits.{PublicSetup}
 use Rattle.clock_bids.specs.declared.sheet.Own.{Own}

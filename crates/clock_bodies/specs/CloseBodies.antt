@@ -1,7 +1,9 @@
 -- What the body of a closing means, over the values that serde_json reads. (Own format.)
---     tie_of value, increments_of value, close_of value      the tie number, the increments, the closing that a JSON value means
+--     tie_of value, increments_of value, close_of value      the tie number, the increments, the closing that a JSON
+--         value means
 --     close_body bytes      what bytes mean as a closing, or their first fault
---     is_of_version version increments, in_version version body      the form of a closing is that of the set-up's version
+--     is_of_version version increments, in_version version body      the form of a closing is that of the set-up's
+--         version
 use Rattle.std.specs.Prelude.{ℕ, ◌==◌, not, Bool, List, Option, Some, None, option_and_then, option_map, Result, Ok, Err, if◌then◌else◌, codes}
 use Rattle.serde_json.specs.Data.{Data, Items, no_items, item}
 use Rattle.serde_json.specs.Find.{as_array}

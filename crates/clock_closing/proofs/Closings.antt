@@ -15,8 +15,8 @@ use Rattle.clock_closing.specs.Faults.{fault_check}
 use Rattle.clock_closing.specs.OpenRound.{OpenRound}
 use Rattle.clock_closing.specs.Closing.{ClosedRound, round_result, closed_round, closing}
 
--- the auction goes on, the round is the current one, increment and tie numbers have no fault, no next clock price is too high, and the round is that
--- of the result
+-- the auction goes on, the round is the current one, increment and tie numbers have no fault, no next clock price is
+-- too high, and the round is that of the result
 pub record IsClosing (setup : PublicSetup) (now : OpenRound) (round : ℕ) (increments : Increments) (ties : List Tie) (closed : ClosedRound) : Type 0 where
   pub going : now.standing.ended ≡ false
   pub current : (round == now.standing.round) ≡ true

@@ -1,6 +1,7 @@
 -- A closing that is prepared and not yet made.
 --     PreparedClosing      what contracts see of it
---     Answers closing result      the prepared closing adds the round of the rules, or it was refused by them or for want of memory
+--     Answers closing result      the prepared closing adds the round of the rules, or it was refused by them or for
+--         want of memory
 use Rattle.std.specs.Prelude.{◌≡◌, ℕ, List, Result, Ok, MatchResult}
 use Rattle.clock_terms.specs.declared.increments.Increments.{Increments}
 use Rattle.clock_terms.specs.Faults.{IsRefusal}

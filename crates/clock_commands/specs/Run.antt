@@ -18,9 +18,9 @@ abbrev pub HasAnswer : Job → Reading → Result (List ℕ) Fault → Type 0
 HasAnswer job reading answer =
     (document : List ℕ) × ReadsWhole reading document × (answer_to job document ≡ answer)
 
--- the run of a job prints the answer to the whole input, or it prints nothing and has the first fault: of reading, of the
--- document, of writing. Only where a write failed can a front of the text be written. Want of memory can stand in place
--- of any but a fault of reading or writing.
+-- the run of a job prints the answer to the whole input, or it prints nothing and has the first fault: of reading, of
+-- the document, of writing. Only where a write failed can a front of the text be written. Want of memory can stand in
+-- place of any but a fault of reading or writing.
 abbrev pub IsRunOf : {U : Type 0} → Job → Reading → Writing → Result U Fault → Type 0
 IsRunOf job reading output (Ok done) =
     (text : List ℕ) × HasAnswer job reading (Ok text) × WritesWhole output text
@@ -57,8 +57,8 @@ pub record MakesNoRead (reading : Reading) : Type 0 where
 abbrev pub RunsJob : {U : Type 0} → Option Job → Reading → Writing → Result U Fault → Type 0
 RunsJob asked reading output result = (job : Job) × (asked ≡ Some job) × IsRunOf job reading output result
 
--- a run whose answer is printed shows nothing, and one that stops shows the one line of its fault. Words that ask for no
--- job are refused, and nothing is read. Want of memory can come before the words are known.
+-- a run whose answer is printed shows nothing, and one that stops shows the one line of its fault. Words that ask for
+-- no job are refused, and nothing is read. Want of memory can come before the words are known.
 abbrev pub HasEnding : Option Job → Reading → Writing → Writing → RunEnding → Type 0
 HasEnding asked reading output shown printed =
     RunsJob {U = Unit {0}} asked reading output (Ok tt) × WritesNothing shown

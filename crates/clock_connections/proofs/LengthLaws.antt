@@ -1,4 +1,5 @@
--- How long a request can be that has arrived: a text that needs more is shorter than the longest head and the longest body.
+-- How long a request can be that has arrived: a text that needs more is shorter than the longest head and the longest
+-- body.
 use Rattle.std.proofs.Common.{◌≡◌, ◌<◌, ◌≤◌, ◌+◌, ℕ, Bool, true, false, List, [], ◌∷◌, Option, Some, None, Result, Ok, Err, length, take, refl, inl, inr, cond, ap, arith, length-append}
 use Rattle.std.specs.Prelude.{codes, nat_lt}
 use Rattle.std.proofs.lemmas.List.{length-take}

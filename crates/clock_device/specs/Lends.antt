@@ -1,6 +1,6 @@
 -- What a list ends as, where a `&mut` to its items is returned.
 --     with_items list items      the list with these in the places of its first ones
---     lends_slice list items      the list ends with the items that were written last
+--     lends_slice T list items      the list ends with the items that were written last
 use Rattle.std.specs.Prelude.{List, ◌++◌, length, take, drop}
 use Rattle.std.specs.Borrow.{Lends, Fml, RattleType, MutBor, Array}
 use Rattle.clock_device.specs.contracts.items.Items.{the_row}

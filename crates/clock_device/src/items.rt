@@ -1,5 +1,4 @@
-ghost use Rattle.std.specs.Prelude.{◌≡◌, [], ◌∷◌, ◌++◌, ◌<◌, ◌↔◌, length, replicate, slice_set, IsTrue, OnOk, OnErr};
-ghost use Rattle.std.specs.Prelude.{IfOk};
+ghost use Rattle.std.specs.Prelude.{◌≡◌, [], ◌∷◌, ◌++◌, ◌<◌, ◌↔◌, length, replicate, slice_set, IsTrue, OnOk, OnErr, IfOk};
 ghost use Rattle.std.specs.Borrow.{sem};
 ghost use Rattle.clock_device.specs.Lends.{lends_slice};
 

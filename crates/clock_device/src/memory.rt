@@ -1,5 +1,4 @@
-ghost use Rattle.std.specs.Prelude.{◌≡◌, ◌≤◌, ◌||◌, ◌++◌, ℕ, length, take, drop, IfOk, OnErr, MatchResult, Some, None};
-ghost use Rattle.std.specs.Prelude.{vec_len, vec_capacity, is_err};
+ghost use Rattle.std.specs.Prelude.{◌≡◌, ◌≤◌, ◌||◌, ◌++◌, ℕ, length, take, drop, IfOk, OnErr, MatchResult, Some, None, vec_len, vec_capacity, is_err};
 ghost use Rattle.std.specs.Result.{result_ok};
 ghost use Rattle.std.specs.Io.{ReadsAtMost};
 ghost use Rattle.std.specs.Io.KnownBytes.{ReadConsumes, WriteAppends};

@@ -22,8 +22,8 @@ use Rattle.clock_front.specs.inside.NumberedHubs.{HasCompleted}
 use Rattle.clock_front.specs.Headline.{IsEventRun}
 use Rattle.clock_front.specs.inside.EventRuns.{kept, numbers_of, numbers_of_requests, texts_of, answers_of}
 
--- a run over events on its way, after so many of them: the requests that are done are answered, and they and those of the
--- other events are all
+-- a run over events on its way, after so many of them: the requests that are done are answered, and they and those of
+-- the other events are all
 pub record IsOnItsWay (setup : SetupFields) (events : List Event) (index : ℕ) (replies : List EventReply)
     (connections : ConnectionFields) (conns : List (Option Conn)) (house : HouseFields) : Type 0 where
   pub numbered : Numbered

@@ -5,9 +5,11 @@
 --     StandsForTexts texts house      the house stands for the commands of the texts
 --     IsCutShort reply      the reply to a text that needed more, or that of want of memory
 --     IsStruckOut text reply      the reply of want of memory, to a text that needs some
---     IsDoneBy text reply old new      the right reply, and the text's command was done, or there was no memory and nothing changed,
+--     IsDoneBy text reply old new      the right reply, and the text's command was done, or there was no memory and
+--         nothing changed,
 --         whatever the house stood for
---     AnswersText text reply old new      a text is answered by what is right, or there was no memory and it did nothing
+--     AnswersText text reply old new      a text is answered by what is right, or there was no memory and it did
+--         nothing
 use Rattle.std.specs.Prelude.{◌≡◌, ◌⊎◌, ℕ, List, ◌∷◌, map}
 use Rattle.clock_terms.specs.Limits.{SetupFields}
 use Rattle.clock_house.specs.Command.{Command}
@@ -55,16 +57,16 @@ pub record IsStruckOut (text : List ℕ) (answer : Answer) : Type 0 where
   pub is : answer ≡ no_memory
   pub needs : (code : Code) → framing text ≡ refusal code → ⊥
 
--- the right reply as the house stands, which is followed by the text's command, whatever it stood for; or there was no memory,
--- and it stands as it did
+-- the right reply as the house stands, which is followed by the text's command, whatever it stood for; or there was no
+-- memory, and it stands as it did
 abbrev pub IsDoneBy : List ℕ → Answer → HouseFields → HouseFields → Type 0
 IsDoneBy text answer old new =
     ((answer ≡ answer_of (outcome old (asker old.setup (request_of text).token) (request_of text).ask))
     × IsFollowedBy (text_command old.setup text) old new)
     ⊎ (IsStruckOut text answer × StandsStill old new)
 
--- the right reply, after which the front stands for the texts and this one; or the reply of want of memory, and it stands
--- for the texts
+-- the right reply, after which the front stands for the texts and this one; or the reply of want of memory, and it
+-- stands for the texts
 abbrev pub AnswersText : List ℕ → Answer → HouseFields → HouseFields → Type 0
 AnswersText text answer old new = (texts : List (List ℕ)) → StandsForTexts texts old
     → ((answer ≡ reply old.setup texts text) × StandsForTexts (text ∷ texts) new)

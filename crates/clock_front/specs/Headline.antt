@@ -1,22 +1,25 @@
--- The headline: what is proved of a whole run of request texts, and of a run of pieces over connections.
--- In plain words: in a run each reply is the right one after the texts before it. And it is private: the reply to a bidder's own
--- request is the answer to what this bidder sees, and every other run, of another set-up and with other rivals, in which a
--- bidder with an equal row sees the same gives the same bytes. Whoever has no token of the set-up is told what is public: to a
--- request with none, every other run with the same public set-up and the same sheets of closed rounds gives the same bytes, whatever
--- bids they came from. At the end the auction is sound.
--- This is not vacuous: `reply` is a function that is computed, so exactly one reply is right, and `answer` has the public set-up,
--- the bidder's row, its view and its text as its only arguments; no rival occurs among them. What a view holds is to be read with
--- care: own requests, and of what others do only accepted closings, each as the round's sheet and the bidder's own slip (Views). The
--- operator sees all, so of the replies to its requests is said only that they are right.
--- It does not speak of time, of tokens on the wire, of what rivals tell each other, nor of requests that found no memory.
+-- The headline: what is proved of a whole run of request texts, and of a run of pieces over connections. In plain
+-- words: in a run each reply is the right one after the texts before it. And it is private: the reply to a bidder's own
+-- request is the answer to what this bidder sees, and every other run, of another set-up and with other rivals, in
+-- which a bidder with an equal row sees the same gives the same bytes. Whoever has no token of the set-up is told what
+-- is public: to a request with none, every other run with the same public set-up and the same sheets of closed rounds
+-- gives the same bytes, whatever bids they came from. At the end the auction is sound. This is not vacuous: `reply` is
+-- a function that is computed, so exactly one reply is right, and `answer` has the public set-up, the bidder's row, its
+-- view and its text as its only arguments; no rival occurs among them. What a view holds is to be read with care: own
+-- requests, and of what others do only accepted closings, each as the round's sheet and the bidder's own slip (Views).
+-- The operator sees all, so of the replies to its requests is said only that they are right. It does not speak of time,
+-- of tokens on the wire, of what rivals tell each other, nor of requests that found no memory.
 --     SeesTheSame one two ..      a bidder sees the same in two runs
 --     IsPrivate setup bidder past text one      a reply depends on what the bidder sees alone
 --     IsPublic setup past text one      a reply depends on what everybody sees alone
---     IsRight setup past text one      a reply is the right one, private to each bidder whose own request it answers, and public
+--     IsRight setup past text one      a reply is the right one, private to each bidder whose own request it answers,
+--         and public
 --         where the request is of nobody
---     Runs setup past texts answers end      each reply is the right one, or there was no memory and the text is struck out
+--     Runs setup past texts answers end      each reply is the right one, or there was no memory and the text is struck
+--         out
 --     IsRun setup texts answers      what a run from the beginning answers, and what it has made of the auction
---     IsEventRun setup events replies      the requests of the events are run, and each reply has the number of its request
+--     IsEventRun setup events replies      the requests of the events are run, and each reply has the number of its
+--         request
 use Rattle.std.specs.Prelude.{◌≡◌, ◌<◌, ◌⊎◌, ℕ, true, List, [], ◌∷◌, length, map}
 use Rattle.clock_terms.specs.Limits.{SetupFields, public_setup}
 use Rattle.clock_house.specs.History.{history, bidder_at}
@@ -35,7 +38,8 @@ pub record SeesTheSame (one two : SetupFields) (bidder other_number : ℕ) (past
   pub row : bidder_at one bidder ≡ bidder_at two other_number
   pub view : text_view one bidder past ≡ text_view two other_number other_past
 
--- the reply to an own request is the answer to the bidder's view, and every other run in which a bidder sees the same gives it too
+-- the reply to an own request is the answer to the bidder's view, and every other run in which a bidder sees the same
+-- gives it too
 pub record IsPrivate (setup : SetupFields) (bidder : ℕ) (past : List (List ℕ)) (text : List ℕ) (one : Answer) : Type 0 where
   pub from_view : one ≡ answer (public_setup setup) (bidder_at setup bidder) (text_view setup bidder past) text
   pub elsewhere : (other : SetupFields) (other_number : ℕ) (other_past : List (List ℕ)) → HasOwnTokens other → other_number < length other.bidders
@@ -46,8 +50,8 @@ abbrev pub IsPublic : SetupFields → List (List ℕ) → List ℕ → Answer �
 IsPublic setup past text one = (other : SetupFields) (other_past : List (List ℕ)) → IsOfNobody other text
     → public_setup setup ≡ public_setup other → public_view setup past ≡ public_view other other_past → one ≡ reply other other_past text
 
--- the right reply after the texts of the past, private to each bidder whose own request it answers, and public where the request
--- is of nobody
+-- the right reply after the texts of the past, private to each bidder whose own request it answers, and public where
+-- the request is of nobody
 pub record IsRight (setup : SetupFields) (past : List (List ℕ)) (text : List ℕ) (one : Answer) : Type 0 where
   pub is : one ≡ reply setup past text
   pub private : (bidder : ℕ) → bidder < length setup.bidders → is_own (bidder_at setup bidder) text ≡ true → IsPrivate setup bidder past text one

@@ -1,5 +1,5 @@
--- What want of memory may tell. Room for the page of a reply is taken by a call that sees how much alone, and how much is a function of
--- what the asker is told: so that there is none tells of the system's memory.
+-- What want of memory may tell. Room for the page of a reply is taken by a call that sees how much alone, and how much
+-- is a function of what the asker is told: so that there is none tells of the system's memory.
 --     asks_for_page asker ask      the request changes nothing, whatever stands in the house
 --     reply_room ask outcome      how much room the page of its reply is given
 --     IsWantOf text house why      a text that asks for a page alone is not answered only where just so much was wanted
@@ -63,7 +63,8 @@ reply_room ask (done value) = page_room ask value
 reply_room ask (refused shown) = refusal_room
 reply_room ask (not_allowed page) = refusal_room
 
--- a request for a page alone is not answered only where just so much room was wanted as the page of the right reply is given
+-- a request for a page alone is not answered only where just so much room was wanted as the page of the right reply is
+-- given
 abbrev pub WantsRoom : Asker → Ask → Outcome → Unanswered → Type 0
 WantsRoom who ask right why = asks_for_page who ask ≡ true → why ≡ Room (reply_room ask right)
 

@@ -1,7 +1,8 @@
 -- What one bidder sees of a list of request texts, and what it is answered by that alone; and what everybody sees.
 --     is_own row text      the request is the bidder's: its head has the bidder's token
 --     SeenText      an own request, or an accepted closing as the round's sheet and the bidder's slip
---     text_view setup bidder past      the run, the newest first, with every request struck out that is not the bidder's own,
+--     text_view setup bidder past      the run, the newest first, with every request struck out that is not the
+--         bidder's own,
 --         but each accepted closing stands as sheet and own slip
 --     bidder_outcome setup row view ask      what a bidder is told by its sheets and closings: no rival, and no number
 --         of bidders, is an argument

@@ -16,7 +16,8 @@ use Rattle.clock_house.specs.History.{ClosedRound, Auction, standing, holding}
 abbrev pub most_rounds : ℕ
 most_rounds = most_products * highest_price + 2
 
--- the closed rounds, the newest first, have the numbers down to 1, and each has a slip for each bidder and a line for each product
+-- the closed rounds, the newest first, have the numbers down to 1, and each has a slip for each bidder and a line for
+-- each product
 abbrev pub AreNumbered : ℕ → ℕ → List ClosedRound → Type 0
 AreNumbered bidders products [] = Unit {0}
 AreNumbered bidders products (round ∷ rounds) =

@@ -1,4 +1,5 @@
--- What a sheet is judged by: where the auction stands, which everyone knows, and what the bidder holds, which is its own.
+-- What a sheet is judged by: where the auction stands, which everyone knows, and what the bidder holds, which is its
+-- own.
 --     first_standing products, first_holding products row      before the first round
 --     standing_after sheet, holding_after slip      after a closed round
 --     put_fault setup standing holding round bids      the first fault of a sheet put for a round

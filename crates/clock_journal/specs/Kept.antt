@@ -1,6 +1,7 @@
 -- What a journal keeps on the disk.
 --     file_of digest texts      the bytes of the journal of the texts
---     Keeps digest texts written synced chain      the disk tells that all of it is written and synced, and the chain is at its end
+--     Keeps digest texts written synced chain      the disk tells that all of it is written and synced, and the chain
+--         is at its end
 --     JournalState, HasTexts digest texts journal      the same of a journal
 use Rattle.std.specs.Prelude.{◌≡◌, ◌++◌, ℕ, Bool, List, Option, Some}
 use Rattle.clock_journal.specs.Format.{head, records, last_link, AllFit}

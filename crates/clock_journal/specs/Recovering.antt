@@ -1,11 +1,13 @@
 -- How an auction is taken up from a journal.
 --     HasTaken old new texts least      the machine stands for the first of the texts, so many at least
 --     IsUntaken fault      the fault is none of the file
---     IsPlaced digest bytes texts recovered      the file has these texts up to the place that is told, and the digest is their last
+--     IsPlaced digest bytes texts recovered      the file has these texts up to the place that is told, and the digest
+--         is their last
 --     IsRecovered old new digest bytes recovered      the machine has taken all texts of the file
 --     IsFoundAt first bytes size place found      behind the texts before this place stands this
 --     IsRefusal digest bytes fault      the fault is told of such a file
---     IsRefusedAt refuses old first bytes size place      whatever the machine stood for, the text at this place is none for it
+--     IsRefusedAt refuses old first bytes size place      whatever the machine stood for, the text at this place is
+--         none for it
 --     IsRefusedRightly refuses old first bytes size fault      a text that is told as refused is refused
 use Rattle.std.specs.Prelude.{◌≡◌, ◌⊎◌, ◌<◌, ◌≤◌, ◌+◌, ℕ, List, [], length, take, drop}
 use Rattle.clock_journal.specs.Format.{head, head_length, last_link, AllFit}
@@ -73,7 +75,8 @@ IsRefusal digest bytes (fault.Refused place) =
     (heading digest bytes ≡ headed (drop head_length bytes)) × ((text : List ℕ) × IsFoundAt digest (drop head_length bytes) (length bytes) place (whole text))
 IsRefusal digest bytes fault.NoMemory = Unit {0}
 
--- all before the place reads as texts, and there stands one that the machine refuses after them, whatever it stood for before
+-- all before the place reads as texts, and there stands one that the machine refuses after them, whatever it stood for
+-- before
 pub record IsRefusedAt (refuses : List (List ℕ) → List ℕ → Type 0) (old : List (List ℕ) → Type 0) (first bytes : List ℕ) (size place : ℕ) : Type 0 where
   pub text : List ℕ
   pub found : IsFoundAt first bytes size place (whole text)

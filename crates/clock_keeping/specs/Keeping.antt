@@ -1,7 +1,8 @@
 -- An auction whose accepted texts are kept in a journal. (Own rule: what is refused or only read is not kept.)
 --     is_get text      a whole request by GET
 --     IsAccepted text answer      the text was accepted as a sheet or a closing
---     LeavesOneMore text old new      the file was only added to, and a stop leaves the texts that were there, and at most this one more
+--     LeavesOneMore text old new      the file was only added to, and a stop leaves the texts that were there, and at
+--         most this one more
 --     IsInStep digest texts journal house      the journal has these texts on its disk, and the house stands for them
 --     IsKept digest past text answer journal old new      how a text is answered and kept
 --     counted texts      how many texts are counted. Own rule: a count stays at the greatest u64
@@ -42,7 +43,8 @@ pub record IsAccepted (text : List ℕ) (answer : Answer) : Type 0 where
 abbrev pub StandsForKept : List (List ℕ) → HouseFields → Type 0
 StandsForKept texts house = StandsForTexts (onto texts []) house
 
--- the file was only added to, and whatever texts the journal had, a stop at any moment since leaves these, and at most this one more
+-- the file was only added to, and whatever texts the journal had, a stop at any moment since leaves these, and at most
+-- this one more
 pub record LeavesOneMore (text : List ℕ) (old new : JournalState) : Type 0 where
   pub added_to : new.uncut ≡ old.uncut
   pub moments : (digest : List ℕ) (texts : List (List ℕ)) → HasTexts digest texts old

@@ -1,4 +1,5 @@
--- The posted prices of a round after the first stand between start and clock price, and where the auction goes on one is the clock price.
+-- The posted prices of a round after the first stand between start and clock price, and where the auction goes on one
+-- is the clock price.
 use Rattle.std.proofs.Common.{◌≡◌, ℕ, ◌<◌, ◌≤◌, Bool, true, false, cond, List, [], ◌∷◌, length, get_or, map, refl, ap, ◌∙◌, arith, zero-add}
 use Rattle.std.specs.Prelude.{All, Any, IfSome, fold, max, filter, zip, not, if◌then◌else◌}
 use Rattle.std.specs.List.{list_any, range_with_len}

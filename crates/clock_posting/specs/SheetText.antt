@@ -7,7 +7,8 @@ use Rattle.clock_terms.specs.declared.setup.Product.{Product}
 use Rattle.clock_posting.specs.declared.sheet.Line.{Line}
 use Rattle.clock_posting.specs.declared.sheet.RoundSheet.{RoundSheet}
 
--- the product's name, its start price, clock price and posted price, its demand and its next clock price, parted by one space
+-- the product's name, its start price, clock price and posted price, its demand and its next clock price, parted by one
+-- space
 abbrev pub line_text : Product → Line → List ℕ
 line_text product line =
     product.name ++ codes " " ++ decimal line.start ++ codes " " ++ decimal line.clock ++ codes " " ++ decimal line.posted ++ codes " "

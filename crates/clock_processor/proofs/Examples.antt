@@ -1,4 +1,5 @@
--- Settling, computed on a small auction: two products A and B of two blocks, and the bidders X, Y and Z after their first round.
+-- Settling, computed on a small auction: two products A and B of two blocks, and the bidders X, Y and Z after their
+-- first round.
 use Rattle.std.specs.Prelude.{◌≡◌, ℕ, List, [], ◌∷◌, refl}
 use Rattle.clock_terms.proofs.Examples.{two_products, request}
 use Rattle.clock_terms.specs.declared.change.Change.{Change}

@@ -1,5 +1,6 @@
 -- The requests that a processor is given.
---     IsRequest bidders products change      the request is of one of so many bidders and products, for 1 to 1,000 blocks
+--     IsRequest bidders products change      the request is of one of so many bidders and products, for 1 to 1,000
+--         blocks
 --     AskWithinCaps products grid changes      applying all that is asked for keeps each demand within 0 and the cap
 --     most_requests      the most requests of a round
 --     CanSettle board changes      what a processor asks for
@@ -27,8 +28,8 @@ AskWithinCaps products grid changes =
 abbrev pub most_requests : ℕ
 most_requests = most_bidders * (most_bids + most_products)
 
--- nothing was done on the board yet; there are no more requests than a round can have, each of the board's bidders and products; together they keep
--- each demand within 0 and the cap
+-- nothing was done on the board yet; there are no more requests than a round can have, each of the board's bidders and
+-- products; together they keep each demand within 0 and the cap
 pub record CanSettle (board : BoardFields) (changes : List Change) : Type 0 where
   pub applied : board.applied ≡ 0
   pub tests : board.tests ≡ 0

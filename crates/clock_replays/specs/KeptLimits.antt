@@ -1,4 +1,5 @@
--- How the limits of a bidder are kept, which are none for most products: those for the others as rows, each with its product beside it.
+-- How the limits of a bidder are kept, which are none for most products: those for the others as rows, each with its
+-- product beside it.
 --     limits_for products rows product      the limits for a product
 --     limits_of count products rows      the limits for each of so many products
 use Rattle.std.specs.Prelude.{ℕ, ◌==◌, List, [], ◌∷◌, map, if◌then◌else◌}

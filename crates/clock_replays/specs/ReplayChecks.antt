@@ -38,7 +38,8 @@ unfoldable pub script_checks : List Product → ℕ → Script → List (ScriptF
 script_checks products bidder (Literal sheets) = []
 script_checks products bidder (Sincere limits) = in_turn (limit_checks bidder) 0 (zip products limits)
 
--- the form of the closings, then the number of scripts, then that of the lists of limits, then the limits by rising bidder
+-- the form of the closings, then the number of scripts, then that of the lists of limits, then the limits by rising
+-- bidder
 unfoldable pub replay_checks : ReplayFields → List (ScriptFault × Bool)
 replay_checks replay =
     (Shape, are_of_version replay.setup.version replay.closings)

@@ -2,7 +2,8 @@
 --     payment lines demands      what demands cost at the posted prices
 --     won_text lines won      the line of a bidder
 --     report_text report      the whole text
---     audited_round products round, audit_text report digests      the same with the digest of each closing behind its round
+--     audited_round products round, audit_text report digests      the same with the digest of each closing behind its
+--         round
 use Rattle.std.specs.Prelude.{ℕ, Bool, ◌*◌, ◌-◌, if◌then◌else◌, List, [], ◌++◌, codes, decimal, false, length, slice_index_or, sum_by, zip}
 use Rattle.std.specs.List.{flat_map}
 use Rattle.clock_terms.specs.declared.setup.Bidder.{Bidder}

@@ -4,7 +4,8 @@
 --     HoldsNothing pieces      no request stands in the texts
 --     Keeps old pieces      each request that stood in the texts stands there still
 --     Writes old pieces text written, WritesIf old pieces text written      a request was written, if there is one
---     is_awaited count, AwaitsBody pieces written      a body of so many bytes needs to come; its head needs it just where it does
+--     is_awaited count, AwaitsBody pieces written      a body of so many bytes needs to come; its head needs it just
+--         where it does
 use Rattle.std.specs.Prelude.{◌≡◌, ◌≤◌, ◌-◌, ◌&&◌, ℕ, Bool, List, [], ◌++◌, nat_le, length, take, drop, Option, Some, None}
 use Rattle.clock_http.specs.HeaderLines.{body_limit}
 use Rattle.clock_http.specs.Framing.{needs_more}

@@ -1,8 +1,9 @@
--- The texts of the requests that are played, byte for byte those of a live bidder and operator (RFC 9112 for the head). A body is the
--- compact text of a value of JSON.
+-- The texts of the requests that are played, byte for byte those of a live bidder and operator (RFC 9112 for the head).
+-- A body is the compact text of a value of JSON.
 --     request_head line token count, request_text line token body      a request of a line, by the holder of a token
 --     put_text token round bids      the request by which a bidder puts a sheet
---     close_value round increments ties, close_text token round increments ties      the request by which the operator closes a round
+--     close_value round increments ties, close_text token round increments ties      the request by which the operator
+--         closes a round
 use Prim.Native.String.{String}
 use Rattle.std.specs.Prelude.{ℕ, List, [], ◌∷◌, ◌++◌, length, codes, decimal, Some}
 use Rattle.serde_json.specs.Data.{Data}

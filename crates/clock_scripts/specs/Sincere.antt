@@ -1,6 +1,7 @@
--- The sheet of a sincere bidder, which has a list of limits for each product: element k is the price up to which it wants
--- block k, so that limits never rise. (Own rule.)
---     leaving_price pair limit, leaving_prices pair limits      the price at which a block leaves, and all such prices, rising
+-- The sheet of a sincere bidder, which has a list of limits for each product: element k is the price up to which it
+-- wants block k, so that limits never rise. (Own rule.)
+--     leaving_price pair limit, leaving_prices pair limits      the price at which a block leaves, and all such prices,
+--         rising
 --     staying held leaving price      how many of the held blocks do not leave at or below a price
 --     wanted limits price      how many blocks are wanted at a price
 --     opening_bids product pair limits      the bid for a product in the first round
@@ -14,7 +15,8 @@ use Rattle.clock_terms.specs.Prices.{prices_at}
 use Rattle.clock_terms.specs.Demands.{row_of}
 use Rattle.clock_bids.specs.declared.sheet.Bid.{Bid}
 
--- a block whose limit is below the clock price leaves at its limit, or at the start price where the limit is below that too
+-- a block whose limit is below the clock price leaves at its limit, or at the start price where the limit is below that
+-- too
 abbrev pub leaving_price : PricePair → ℕ → Option ℕ
 leaving_price pair limit = if nat_lt limit pair.clock then Some (max pair.start limit) else None
 

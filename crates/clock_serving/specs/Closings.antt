@@ -1,7 +1,8 @@
 -- Which rounds are told as closed, each by its number.
 --     closed_by setup texts      how many rounds these texts have closed
 --     rounds_between before after      the rounds from the first that was not closed up to the last that is
---     TellsClosings setup past end told_old told_new      the rounds that were closed by the further texts were told, in order, and no others
+--     TellsClosings setup past end told_old told_new      the rounds that were closed by the further texts were told,
+--         in order, and no others
 use Rattle.std.specs.Prelude.{◌≤◌, ◌+◌, ◌-◌, ℕ, List, Option, length}
 use Rattle.std.specs.List.{range_with_len}
 use Rattle.clock_terms.specs.Limits.{SetupFields}

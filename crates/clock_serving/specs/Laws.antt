@@ -1,5 +1,6 @@
 -- What an exchange says of bytes.
---     ToldBytes      where a connection tells its bytes, its request was their beginning, and its client has the reply or a front of it
+--     ToldBytes      where a connection tells its bytes, its request was their beginning, and its client has the reply
+--         or a front of it
 use Rattle.std.specs.Prelude.{◌≡◌, ◌++◌, ℕ, List, [], take, Some}
 use Rattle.clock_http.specs.Replies.{Answer}
 use Rattle.clock_serving.specs.Exchanges.{Exchange}

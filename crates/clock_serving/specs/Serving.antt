@@ -1,4 +1,5 @@
--- How connections are served one after the other, one request each. Texts of a front stand newest first, those of a journal oldest first.
+-- How connections are served one after the other, one request each. Texts of a front stand newest first, those of a
+-- journal oldest first.
 --     WritesReply writing answer      the reply was written, or a front of it where a write failed
 --     IsReplied one text answer      the text was read, and the reply was written
 --     EndsAlone one      no text was read that could be answered
@@ -74,8 +75,8 @@ pub record HasReplied (past : List (List ℕ)) (exchanges : List Exchange) (told
   pub stands : StandsForTexts end new
   pub tells : TellsClosings old.setup past end told_old told_new
 
--- what they have made of the texts of the journal: all of these are on its disk; and a stop at any moment since has left the first
--- of them, in order, and none fewer than there were
+-- what they have made of the texts of the journal: all of these are on its disk; and a stop at any moment since has
+-- left the first of them, in order, and none fewer than there were
 pub record HasKept (digest : List ℕ) (past : List (List ℕ)) (exchanges : List Exchange) (journal_old journal_new : JournalState) (old new : HouseFields) : Type 0 where
   pub end : List (List ℕ)
   pub walks : Walks (KeepsText old.setup) past exchanges end
@@ -112,8 +113,8 @@ is_accept_fault (Ok done) = false
 is_accept_fault (Err fault.Accept) = true
 is_accept_fault (Err fault.Journal) = false
 
--- how serving so many connections ends: each was served; or one could not be taken, and those before it were served; or the text
--- of the last one that was taken could not be kept
+-- how serving so many connections ends: each was served; or one could not be taken, and those before it were served; or
+-- the text of the last one that was taken could not be kept
 abbrev pub EndsServing : {U : Type 0} → ℕ → List Exchange → Option (List ℕ) → Option (List ℕ) → JournalState → JournalState
     → HouseFields → HouseFields → Result U ServeFault → Type 0
 EndsServing count exchanges told_old told_new journal_old journal_new old new (Ok done) =

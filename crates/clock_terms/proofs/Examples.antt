@@ -1,4 +1,5 @@
--- Small set-ups and requests, on which the rules are computed as examples, and the rules on eligibility, grids and prices computed on them.
+-- Small set-ups and requests, on which the rules are computed as examples, and the rules on eligibility, grids and
+-- prices computed on them.
 --     one_product, two_products, granules_and_increments, activity_limit      the set-ups, over first_version
 --     two_blocks name, four_blocks name, bidder_named letter eligibility      their products and bidders
 --     request kind bidder product place amount price      a change of a round whose prices are from 100 to 110

@@ -83,7 +83,8 @@ module _ (products : List Product) (row : List ℕ) (place : ℕ) (one : Product
       let taken : (get_or products place one).units * get_or row place 0 ≤ 1000000000 = mul-le _ _ 1000000 1000 units few in
       rw read (omega (arith, before, order, taken))
 
--- where the demands of a row up to a place are added to totals, one more that is held, with those behind it that are not
+-- where the demands of a row up to a place are added to totals, one more that is held, with those behind it that are
+-- not
 module _ (initial totals after row : List ℕ) (from place next demand value : ℕ) (order : from ≤ place) (behind : place < next)
     (same : length totals ≡ length initial) (read : demand ≡ get_or row place 0) (passed : AllWithin (λ demand. demand ≡ 0) row from place)
     (ahead : (product : ℕ) → from ≤ product → get_or totals product 0 ≡ get_or initial product 0)

@@ -1,6 +1,7 @@
 -- Activity and eligibility.
 --     activity products demands      the bidding units that a row of demands takes
---     supported_eligibility activity requirement      the least eligibility whose required percentage is no less than the activity
+--     supported_eligibility activity requirement      the least eligibility whose required percentage is no less than
+--         the activity
 --     IsSupported activity requirement eligibility      eligibility is that number, told apart from how it is computed
 --     next_eligibility held activity requirement      the eligibility after a round
 -- (The FCC's procedures for Auction 105; that the eligibility is rounded up is an own rule.)

@@ -77,8 +77,8 @@ fn rows_like(alloc: Global, old: Vec<Row>, others: &[Row]) -> Result<Vec<Row>, N
 }
 
 impl Grid {
-    /// The grid of these rows, which are taken over: one for each bidder of a set-up, and in each a demand for each product,
-    /// none above its cap.
+    /// The grid of these rows, which are taken over: one for each bidder of a set-up, and in each a demand for each
+    /// product, none above its cap.
     pub fn of_rows(alloc: Global, setup: &Setup, rows: Vec<Row>) -> Result<Grid, NoMemory>
         requires bidders { length rows.items ≡ length setup.now.bidders }
         requires rows { All (IsRow setup.now.products) rows.items }
@@ -160,8 +160,8 @@ impl Grid {
         self.change(bidder, product, NewDemand::Of(demand));
     }
 
-    /// Changes one demand, and no other, by what it was. Bidder and product are those of the grid, and the demand becomes at
-    /// most 1,000 blocks.
+    /// Changes one demand, and no other, by what it was. Bidder and product are those of the grid, and the demand
+    /// becomes at most 1,000 blocks.
     pub fn change(&mut self, bidder: usize, product: usize, new: NewDemand)
         requires bidder { bidder < length self.old }
         requires product { All (λ row. product < length row) self.old }

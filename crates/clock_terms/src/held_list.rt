@@ -1,5 +1,4 @@
-ghost use Rattle.std.specs.Prelude.{◌≡◌, ◌≢◌, ℕ, ◌+◌, ◌-◌, ◌≤◌, ◌<◌, slice_index_or, length, take, All, IfOk, IfErr, slice_index};
-ghost use Rattle.std.specs.Prelude.{insert, remove, vec_capacity, IsTrue};
+ghost use Rattle.std.specs.Prelude.{◌≡◌, ◌≢◌, ℕ, ◌+◌, ◌-◌, ◌≤◌, ◌<◌, slice_index_or, length, take, All, IfOk, IfErr, slice_index, insert, remove, vec_capacity, IsTrue};
 ghost use Rattle.clock_terms.specs.HeldDemands.{demand_for, demands_of};
 ghost use Rattle.clock_terms.specs.Limits.{most_products, most_supply};
 ghost use Rattle.clock_terms.specs.inside.Rows.{AreHeld, AreStarts, IsStart, IsStored, StandsAt, WouldStandAt};
@@ -57,8 +56,8 @@ pub(crate) fn is_at(held: &[HeldDemand], place: usize, product: usize) -> bool
     }
 }
 
-/// The same, looked for from the start of the product's group. Where all products of the group are held, it stands as far
-/// behind the start as the product behind the group's first one.
+/// The same, looked for from the start of the product's group. Where all products of the group are held, it stands as
+/// far behind the start as the product behind the group's first one.
 pub(crate) fn place_in_group(
     held: &[HeldDemand],
     start: usize,
@@ -170,8 +169,8 @@ pub(crate) fn store(
     }
 }
 
-/// Writes the demand for a product behind so many for lower ones, and tells how many are kept then: one more where a block is
-/// held. It is written in any case, since a jump past those that are not held is mostly guessed wrong.
+/// Writes the demand for a product behind so many for lower ones, and tells how many are kept then: one more where a
+/// block is held. It is written in any case, since a jump past those that are not held is mostly guessed wrong.
 #[inline(always)]
 fn write_demand(room: &mut [HeldDemand], kept: usize, product: usize, demand: u64) -> usize
     requires within { kept < length room.old }
@@ -192,7 +191,7 @@ fn write_demand(room: &mut [HeldDemand], kept: usize, product: usize, demand: u6
     if demand > 0 { kept + 1 } else { kept }
 }
 
-/// Writes the demands of which a block is held, of those for the products from the first on, and tells how many they are.
+/// Writes the demands of which a block is held, of those for the products from the first on, and tells how many.
 fn write_held(room: &mut [HeldDemand], demands: &[u64]) -> usize
     requires room { length room.old ≡ length demands.now }
     requires few { length demands.now ≤ most_products }

@@ -63,7 +63,7 @@ impl<'a> HeldProducts<'a> {
         self.count
     }
 
-    /// The least product that is held and was not yet given, with the demand for it, or None where no further one is held.
+    /// The least product that is held and was not yet given, with the demand for it; None where no further one is held.
     #[inline(always)]
     pub fn next(&mut self) -> Option<Held>
         ensures row { self.new.demands ≡ self.old.demands }

@@ -1,11 +1,6 @@
 ghost use Rattle.std.specs.Prelude.{◌≡◌};
 ghost use Rattle.std.specs.List.{list_all};
-ghost use Rattle.clock_terms.specs.Increments.{
-  HasIncrement,
-  are_increments,
-  increment_at,
-  is_increment,
-};
+ghost use Rattle.clock_terms.specs.Increments.{HasIncrement, are_increments, increment_at, is_increment};
 
 use crate::grid::Amounts;
 use crate::limits::is_within;

@@ -6,8 +6,8 @@ use crate::held_list::{HeldDemand, demand_at, place_of};
 use crate::held_products::HeldProducts;
 use std::marker::Model;
 
-/// A bidder's demands as a closed round keeps them: they are not changed any more, so there is room for those that are held
-/// alone. Contracts see the list of the demands, one for each product.
+/// A bidder's demands as a closed round keeps them: they are not changed any more, so there is room for those that are
+/// held alone. Contracts see the list of the demands, one for each product.
 #[derive(Drop)]
 pub struct KeptRow {
     pub(crate) count: usize,
@@ -36,8 +36,8 @@ impl KeptRow {
         self.count
     }
 
-    /// The demand for a product, in blocks. The product is one of the row's. Who wants many of them goes over those that are
-    /// held.
+    /// The demand for a product, in blocks. The product is one of the row's. Who wants many of them goes over those
+    /// that are held.
     pub fn get(&self, product: usize) -> u64
         requires { product < length self.now }
         ensures { result ≡ slice_index self.now product }

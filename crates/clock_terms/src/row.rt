@@ -116,8 +116,8 @@ impl Row {
         self.find(&mut place, product)
     }
 
-    /// The same, looked for first where the last one was found and behind that, as for one product after another. The place
-    /// is any number, 0 at first.
+    /// The same, looked for first where the last one was found and behind that, as for one product after another. The
+    /// place is any number, 0 at first.
     #[inline(always)]
     pub fn get_near(&self, near: &mut usize, product: usize) -> u64
         requires { product < length self.now }
@@ -150,8 +150,8 @@ impl Row {
         demand_at(held, place, product)
     }
 
-    /// Changes the demand for a product, and no other, and tells what it was. The product is one of the row's, and the demand
-    /// becomes at most 1,000 blocks.
+    /// Changes the demand for a product, and no other, and tells what it was. The product is one of the row's, and the
+    /// demand becomes at most 1,000 blocks.
     pub(crate) fn change(&mut self, product: usize, new: NewDemand) -> u64
         requires product { product < length self.old }
         requires small { demand_after new (slice_index self.old product) ≤ most_supply }

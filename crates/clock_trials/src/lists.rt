@@ -1,4 +1,4 @@
-//! Each call once: on bytes in memory, and on std's readers and writers.
+//! Lists, sources and sinks: each call once, on bytes in memory, and on std's readers and writers.
 use crate::comparing::assert_is;
 use clock_device::{
     Failed, FromReader, Items, ListSink, ListSource, NoMemory, Sink, Source, Stop, Text, ToWriter,

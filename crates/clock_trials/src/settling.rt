@@ -28,8 +28,8 @@ const Z_DROPS_B: Asked = (Kind::Reduction, 2, 1, 1, 100);
 
 const X_DROPS_B: Asked = (Kind::Reduction, 0, 1, 2, 106);
 
-/// Settles the requests of a case with both processors, and asserts what they come to. The answer is how often the event
-/// queue looked at a room.
+/// Settles the requests of a case with both processors, and asserts what they come to. The answer is how often the
+/// event queue looked at a room.
 fn settles(rt: &impl Abort, alloc: Global, setup: &Setup, case: Case) -> Result<u64, Fail> {
     settle_twice(rt, alloc, &Plain, setup, case)?;
     settle_twice(rt, alloc, &Woken, setup, case)

@@ -1,4 +1,5 @@
--- How many bytes each page is given, as a number: what specs/Rooms counts for its value. The clauses named `most` hold it to that.
+-- How many bytes each page is given, as a number: what specs/Rooms counts for its value. The clauses named `most` hold
+-- it to that.
 --     room_of_status, room_of_accepted, room_of_closed      of a page of one length
 --     room_of_account, room_of_slip demands      of a page with so many demands
 --     room_of_sheet lines      of a page with so many lines

@@ -3,8 +3,8 @@
 use Rattle.std.specs.Prelude.{ℕ, ◌+◌, length}
 use Rattle.serde_json.specs.Data.{Data, null, boolean, number, string, array, object, Items, no_items, item, Members, no_members, member}
 
--- a number has 20 digits at most, a name 32 characters and two quotes; before an item stands a bracket or a comma, and before a
--- member that, its key in quotes and a colon
+-- a number has 20 digits at most, a name 32 characters and two quotes; before an item stands a bracket or a comma, and
+-- before a member that, its key in quotes and a colon
 abbrev mutual
   pub most_text : Data → ℕ
   most_text null = 20

@@ -28,8 +28,8 @@ fn send_rows(rt: &impl Abort, alloc: Global, front: &mut Front<Plain>, rows: &st
     Some(())
 }
 
-/// Requests in turn: the request line, whose token it has, its body, and behind `>` the status and page of its reply. So
-/// are the other tables here.
+/// Requests in turn: the request line, whose token it has, its body, and behind `>` the status and page of its reply.
+/// So are the other tables here.
 const SHEETS: &str =
     r#"GET /v1/me/bids|X|>200 OK|{"bids":[{"price":100,"product":0,"quantity":2}],"round":1}
 PUT /v1/me/bids|X|{"bids":[{"price":100,"product":0,"quantity":1}],"round":1}>200 OK|{"accepted":true,"bids":1,"round":1}

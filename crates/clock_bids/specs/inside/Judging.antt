@@ -1,5 +1,6 @@
 -- How far the bids of a sheet are judged.
---     AreJudged products prices demands bids place taken      the bids before a place have no fault, and ask for so many bidding units
+--     AreJudged products prices demands bids place taken      the bids before a place have no fault, and ask for so
+--         many bidding units
 use Rattle.std.specs.Prelude.{◌≡◌, ℕ, ◌*◌, ◌≤◌, List, length, take, drop}
 use Rattle.clock_terms.specs.declared.prices.PricePair.{PricePair}
 use Rattle.clock_terms.specs.declared.setup.Product.{Product}

@@ -1,6 +1,7 @@
 -- Parts of what a sheet is judged by and of what it asks for, which proofs name.
 --     checks_of_bids .. bids      what is asked of each bid in turn
---     is_for_product products bid, is_within_cap products bid      the bid is for one of the products, and at most for the cap
+--     is_for_product products bid, is_within_cap products bid      the bid is for one of the products, and at most for
+--         the cap
 --     is_in_prices prices bid      the price is from the start price to the clock price
 --     is_above_prices chain bid      the price is above that of each bid of a chain
 --     distance a b      how far two numbers are apart

@@ -1,7 +1,8 @@
 -- What the steps of a closing come to.
 --     AreRequests now list      the list is all bidders' requests, in any order
 --     posted setup now increments result      the round that a result adds, or the product that has no next clock price
---     first_posted round increments, posted_now round increments ties      what the first round comes to, and the current one
+--     first_posted round increments, posted_now round increments ties      what the first round comes to, and the
+--         current one
 --     IsAsked round increments ties asked      these are asked for, and have no fault
 --     AreResults closing results      they are the round of a closing
 --     ComesTo closing result      these are the results of the closing, or its refusal

@@ -12,8 +12,8 @@ pub record AddsRead (left left_after : Option (List ℕ)) (document document_aft
   pub added : document_after ≡ document ++ bytes
   pub few : length document_after ≤ most_bytes
 
--- what one read comes to: its bytes are added, and the answer tells that none is left; or it failed; or it gave one byte
--- too many; or there was no memory for its bytes
+-- what one read comes to: its bytes are added, and the answer tells that none is left; or it failed; or it gave one
+-- byte too many; or there was no memory for its bytes
 abbrev pub IsStepOf : Option (List ℕ) → Option (List ℕ) → List ℕ → List ℕ → Result Bool Fault → Type 0
 IsStepOf left left_after document document_after (Ok ended) =
     ((bytes : List ℕ) × AddsRead left left_after document document_after bytes) × (ended ≡ true → IsReadOut left_after)

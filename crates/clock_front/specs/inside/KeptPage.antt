@@ -1,6 +1,7 @@
 -- The pages of a front as they stand in memory.
 --     head_room      how many bytes stand before a page for the head of its reply
---     IsProductsPage setup page      it is the page of the set-up's products, which a front keeps since it never changes
+--     IsProductsPage setup page      it is the page of the set-up's products, which a front keeps since it never
+--         changes
 use Rattle.std.specs.Prelude.{ℕ, List}
 use Rattle.clock_terms.specs.Limits.{SetupFields, public_setup}
 use Rattle.clock_views.specs.Values.{IsPage}

@@ -20,7 +20,8 @@ use Rattle.clock_front.specs.Requests.{Ask}
 use Rattle.clock_front.specs.Requests as asked
 use Rattle.clock_front.specs.Outcomes.{Outcome, done, refused, not_allowed, body_code, page_or_no_round, put_outcome}
 
--- where the auction stands, what the bidder holds, its sheet in force, and of each closed round the sheet and its own slip
+-- where the auction stands, what the bidder holds, its sheet in force, and of each closed round the sheet and its own
+-- slip
 pub record Knowledge : Type 0 where
   pub standing : Standing
   pub holding : Holding

@@ -12,7 +12,8 @@ use Rattle.clock_front.specs.inside.Knowledge.{known_from, known_outcome}
 use Rattle.clock_front.specs.declared.front.tokens.Asker.{Asker}
 use Rattle.clock_front.specs.declared.front.tokens.Asker.TheVariants.{Nobody, Operator, Bidder}
 
--- the answer to a bidder is what its view tells, with the public set-up and its own row, whichever commands the house stands for
+-- the answer to a bidder is what its view tells, with the public set-up and its own row, whichever commands the house
+-- stands for
 abbrev pub IsToldByView : HouseFields → ℕ → Ask → Answer → Type 0
 IsToldByView house bidder ask answer = ToView house bidder (λ view. answer
     ≡ answer_of (known_outcome (public_setup house.setup) (bidder_at house.setup bidder)

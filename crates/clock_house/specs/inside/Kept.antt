@@ -1,5 +1,6 @@
 -- What a house keeps inside, beside what contracts see of it.
---     IsKept house ended round prices demands      the kept end, round, prices and demands are those of the closed rounds
+--     IsKept house ended round prices demands      the kept end, round, prices and demands are those of the closed
+--         rounds
 use Rattle.std.specs.Prelude.{◌≡◌, ℕ, List, Bool, false}
 use Rattle.clock_terms.specs.declared.prices.PricePair.{PricePair}
 use Rattle.clock_terms.specs.Limits.{IsSetup}
@@ -8,8 +9,8 @@ use Rattle.clock_house.specs.Command.{Command}
 use Rattle.clock_house.specs.House.{HouseFields, StandsFor, standing_in}
 use Rattle.clock_house.specs.inside.OpenRounds.{open_round_in}
 
--- a house of a set-up stands for some list of commands, and what it keeps for quick reading is what its closed rounds say; at the end there are no
--- prices
+-- a house of a set-up stands for some list of commands, and what it keeps for quick reading is what its closed rounds
+-- say; at the end there are no prices
 pub record IsKept (house : HouseFields) (ended : Bool) (round : ℕ) (prices : List PricePair) (demands : List (List ℕ)) : Type 0 where
   pub limits : IsSetup house.setup
   pub commands : List Command

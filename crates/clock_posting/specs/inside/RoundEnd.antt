@@ -1,7 +1,8 @@
 -- What a round has come to, as its posting takes it.
 --     HasClocks products increments posted prices      the clock prices are the products' next ones
 --     IsRoundEnd products prices grid posted increments      the values that a posting is made of fit together
---     FitsTogether end, IsPostingOf end, next_of end, ..      what is said of these values, where they stand in one struct
+--     FitsTogether end, IsPostingOf end, next_of end, ..      what is said of these values, where they stand in one
+--         struct
 use Rattle.std.specs.Prelude.{◌≡◌, ℕ, ◌<◌, List, Option, Some, length, map, All}
 use Rattle.std.specs.List.{range_with_len}
 use Rattle.clock_terms.specs.declared.increments.Increments.{Increments}
@@ -15,8 +16,8 @@ use Rattle.clock_posting.specs.declared.sheet.Line.{Line}
 use Rattle.clock_posting.specs.Posting.{next_clock, sheet_line, price_limit_fault, prices_after, IsBetween, IsPosting}
 use Rattle.clock_posting.specs.inside.Parts.{lines_of_round}
 
--- the products are those of a set-up; for each there are prices, a demand of each bidder, a posted price and an increment, and
--- each posted price stands from the start price to the clock price
+-- the products are those of a set-up; for each there are prices, a demand of each bidder, a posted price and an
+-- increment, and each posted price stands from the start price to the clock price
 pub record IsRoundEnd (products : List Product) (prices : List PricePair) (grid : List (List ℕ)) (posted : List ℕ)
     (increments : Increments) : Type 0 where
   pub limits : All IsProduct products

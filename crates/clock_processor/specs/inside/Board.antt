@@ -1,5 +1,6 @@
 -- What a board keeps beside its demands.
---     IsKeptBoard products eligibilities grid unused      the same, with the sums that it keeps so that a test walks no list
+--     IsKeptBoard products eligibilities grid unused      the same, with the sums that it keeps so that a test walks no
+--         list
 use Rattle.std.specs.Prelude.{◌≡◌, ℕ, ◌+◌, ◌^◌, ◌<◌, List, length, EachIndex, slice_index}
 use Rattle.clock_terms.specs.declared.setup.Product.{Product}
 use Rattle.clock_terms.specs.Demands.{row_of}

@@ -1,6 +1,7 @@
 -- A settling on its way, as a processor that rescans goes through it.
 --     progress_of board admitted left      how far a settling is, as the board and the rest show it
---     left_of kind bidder product changes left      what a bidder's requests of one kind for a product have left together
+--     left_of kind bidder product changes left      what a bidder's requests of one kind for a product have left
+--         together
 --     IsUnderWay board changes left admitted      what holds between the steps
 use Rattle.std.specs.Prelude.{◌≡◌, ℕ, ◌+◌, ◌*◌, ◌<◌, ◌≤◌, List, if◌then◌else◌, length, sum, sum_by, zip, All}
 use Rattle.clock_terms.specs.declared.setup.Product.{Product}

@@ -7,7 +7,8 @@
 --     progress_with changes queue place      how far the settling is once a request is applied
 --     IsTracked changes queue place      an admitted request is ready, or has nothing left, or waits without room
 --     IsQueue changes queue      what holds between the tests
---     StaysWithinTests changes queue      the tests that were made, and those that the ready requests will take, are within the bound
+--     StaysWithinTests changes queue      the tests that were made, and those that the ready requests will take, are
+--         within the bound
 --     work changes queue      a number that falls with each test
 use Rattle.std.specs.Prelude.{◌≡◌, ℕ, ◌+◌, ◌*◌, ◌<◌, ◌≤◌, ◌==◌, ◌⊎◌, List, [], ◌∷◌, take, length, sum, count_by, All, slice_index, slice_index_or}
 use Rattle.std.specs.List.{Contains}
@@ -71,8 +72,8 @@ module _ (changes : List Change) where
   abbrev pub count_in : ℕ → List ℕ → ℕ
   count_in line places = count_by (λ place. line_at place == line) places
 
-  -- the settling is under way; the ready and the waiting requests are admitted, and stand in their lines; each admitted one is tracked, none of a
-  -- line more than once
+  -- the settling is under way; the ready and the waiting requests are admitted, and stand in their lines; each admitted
+  -- one is tracked, none of a line more than once
   pub record IsQueue (queue : Queue) : Type 0 where
     pub under_way : IsUnderWay queue.board changes queue.left queue.admitted
     pub lines : All (HasLines (length queue.lines)) changes
@@ -82,11 +83,12 @@ module _ (changes : List Change) where
     pub counted : (line : ℕ) → count_in line queue.ready + length (slice_index_or queue.lines line []) ≤ count_by (λ change. line_of change == line)
         (take queue.admitted changes)
 
-  -- the tests that were made, and one for each ready request, are no more than one for each admitted request and the most of one product or bidder
-  -- for each application
+  -- the tests that were made, and one for each ready request, are no more than one for each admitted request and the
+  -- most of one product or bidder for each application
   abbrev pub StaysWithinTests : Queue → Type 0
   StaysWithinTests queue = queue.board.tests + length queue.ready ≤ queue.admitted + queue.board.applied * most_of_one changes
 
-  -- each application takes a block away and makes no more ready than there are requests of one product or bidder; each test takes one out of the ready ones
+  -- each application takes a block away and makes no more ready than there are requests of one product or bidder; each
+  -- test takes one out of the ready ones
   abbrev pub work : Queue → ℕ
   work queue = sum queue.left * (most_of_one changes + 1) + length queue.ready

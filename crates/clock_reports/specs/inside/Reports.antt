@@ -12,7 +12,8 @@ pub record IsPricedLine (line : Line) : Type 0 where
   pub clock : IsPrice line.clock
   pub posted : IsPrice line.posted
 
--- there is a sheet, each has a priced line for each product, and each bidder has a demand for each product, within its cap
+-- there is a sheet, each has a priced line for each product, and each bidder has a demand for each product, within its
+-- cap
 pub record IsReport (report : ReportFields) : Type 0 where
   pub setup : IsSetup report.setup
   pub some : 1 ≤ length report.sheets

@@ -19,6 +19,7 @@ bid_text bid = with_comma bid_value bid
 abbrev pub bids_text : List Bid → List ℕ
 bids_text bids = with_commas bid_value bids
 
--- where there are some, so many bytes of a text are the start of a bid at a price for a product; of none nothing is said
+-- where there are some, so many bytes of a text are the start of a bid at a price for a product; of none nothing is
+-- said
 abbrev pub IsStartOf : ℕ → ℕ → ℕ → List ℕ → Type 0
 IsStartOf price product count text = (count ≤ length text) × (0 < count → take count text ≡ bid_start price product)

@@ -45,7 +45,8 @@ IsServed one journal_old journal_new old new =
     ((answer : Answer) × IsAnswered one.reading answer journal_old journal_new old new × WritesReply one.writing answer)
     ⊎ (IsLeftAlone one.reading journal_old journal_new old new × WritesNothing one.writing)
 
--- the text that was read could not be kept: what was on the disk is, and a stop leaves the texts before it, and at most this one more
+-- the text that was read could not be kept: what was on the disk is, and a stop leaves the texts before it, and at most
+-- this one more
 pub record FailsToKeep (reading : Reading) (journal_old journal_new : JournalState) : Type 0 where
   pub text : List ℕ
   pub arrived : HasArrived reading text
@@ -57,7 +58,8 @@ pub record FailsToKeep (reading : Reading) (journal_old journal_new : JournalSta
 abbrev pub IsUnkept : Exchange → JournalState → JournalState → Type 0
 IsUnkept one journal_old journal_new = FailsToKeep one.reading journal_old journal_new × WritesNothing one.writing
 
--- how serving one connection ends: it was served; or it could not be taken, and nothing has changed; or its text could not be kept
+-- how serving one connection ends: it was served; or it could not be taken, and nothing has changed; or its text could
+-- not be kept
 abbrev pub EndsOne : {U : Type 0} → Option (List Exchange) → Option (List Exchange) → JournalState → JournalState → HouseFields → HouseFields
     → Result U ServeFault → Type 0
 EndsOne closed_old closed_new journal_old journal_new old new (Ok done) =

@@ -1,13 +1,17 @@
 -- Requests of a group, which are sent over connections that stand at once.
 --     ClosesNoRound text      whatever was sent before, the text closes no round
 --     Request, request_in pieces one, requests_in group      a request that waits, by the pieces of its group
---     AreWritten group, StillWait old group      the pieces of all that wait stand in the texts; the requests that wait are the same
---     text_in one, after_group setup group texts      the text of a request, and the requests of a group, answered one after the other
---     with_request setup group bidder round text texts, with_put setup group bidder script texts      and then one more of a bidder
+--     AreWritten group, StillWait old group      the pieces of all that wait stand in the texts; the requests that wait
+--         are the same
+--     text_in one, after_group setup group texts      the text of a request, and the requests of a group, answered one
+--         after the other
+--     with_request setup group bidder round text texts, with_put setup group bidder script texts      and then one more
+--         of a bidder
 --     with_turn setup group turn texts      and then one that was written
 --     StandFrom place connections group text      from a place on, each connection stands with these bytes
 --     AreApart group      no two of the connections are one
---     IsGroup connections group      the requests wait, each over a connection of its own, over which nothing has come yet
+--     IsGroup connections group      the requests wait, each over a connection of its own, over which nothing has come
+--         yet
 --     Waits connections group      those of a group do
 --     IsUnderWay hub group      they do, and the auction goes on
 --     IsNext hub group turn      and a request that was written and closes no round may come behind them

@@ -51,7 +51,8 @@ pub record ComesTo (answer : Result (List (List ℕ)) SimFault) (house : HouseFi
   pub is : answer ≡ Ok texts
   pub stands : StandsForTexts texts house
 
--- whatever texts the house stood for, it stands for those that the step leaves; or the step's fault is told, or there was no memory
+-- whatever texts the house stood for, it stands for those that the step leaves; or the step's fault is told, or there
+-- was no memory
 pub record MakesStep {T : Type 0} (step : List (List ℕ) → Result (List (List ℕ)) SimFault) (old new : HouseFields)
     (result : Result T SimFault) : Type 0 where
   pub setup : new.setup ≡ old.setup

@@ -1,4 +1,5 @@
--- What the types of rows and of walks over them keep: the demands that are held, by rising product, and where to look for one.
+-- What the types of rows and of walks over them keep: the demands that are held, by rising product, and where to look
+-- for one.
 --     AreHeld from held count      demands of some blocks, by rising product, from one on and below a count
 --     IsStart held product start      before a place stand only products below one
 --     StandsAt held product place, WouldStandAt held product place      where a product stands, and where it would

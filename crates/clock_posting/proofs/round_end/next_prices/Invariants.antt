@@ -5,7 +5,8 @@ use Rattle.clock_posting.specs.inside.Parts.{first_at_limit}
 use Rattle.clock_posting.specs.Posting.{next_clock, next_price, IsRising}
 use Rattle.clock_posting.proofs.round_end.next_prices.Given as goal
 
--- the prices so far are the products' next ones and rise, there is room for the others, and the first product that can't have any is among the others
+-- the prices so far are the products' next ones and rise, there is room for the others, and the first product that
+-- can't have any is among the others
 abbrev pub invariant-loop-product : goal.invariant-loop-product
 invariant-loop-product l = record {
   lengths : length l.next.items ≡ l.product;
