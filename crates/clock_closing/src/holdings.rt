@@ -2,7 +2,7 @@ ghost use Rattle.std.specs.Prelude.{◌≡◌, ◌<◌, length, map, option_copi
 ghost use Rattle.clock_closing.specs.Holdings.{holdings_before};
 ghost use Rattle.clock_closing.specs.OpenRound.{holding_at};
 
-use crate::slip::Slips;
+use crate::closed_round::Slips;
 use clock_device::NoMemory;
 use clock_terms::{Amounts, Grid, Row, Setup};
 use std::alloc::Global;

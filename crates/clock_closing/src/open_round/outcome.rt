@@ -12,10 +12,10 @@ ghost use Rattle.clock_closing.specs.inside.OpenRound.{eligibilities_of};
 ghost use Rattle.clock_closing.specs.Closing as rules;
 ghost use Rattle.clock_closing.specs.inside.Postings.{AreRequests, ComesTo, first_posted, posted_now};
 
+use crate::closed_round::Results;
 use crate::closing_inputs::ClosingInputs;
 use crate::fault::CloseFault;
 use crate::open_round::OpenRound;
-use crate::results::Results;
 use clock_bids::{Changes, asked_demands, bids_of, with_changes_of};
 use clock_device::NoMemory;
 use clock_order::{Ties, ordered};
