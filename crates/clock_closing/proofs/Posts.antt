@@ -15,10 +15,10 @@ use Rattle.clock_posting.specs.declared.posting.Posting.{Posting}
 use Rattle.clock_posting.specs.declared.fault.PostFault.{PostFault}
 use Rattle.clock_posting.specs.declared.fault.PostFault.TheVariants as post_faults
 use Rattle.clock_posting.specs.Posting.{IsPosting, IsConsistent, next_pair, post_fault, price_limit_fault}
-use Rattle.clock_closing.specs.declared.slip.Slip.{Slip}
+use Rattle.clock_closing.specs.declared.closed_round.Slip.{Slip}
 use Rattle.clock_closing.specs.declared.fault.CloseFault.{CloseFault}
 use Rattle.clock_closing.specs.declared.fault.CloseFault.TheVariants as close_faults
-use Rattle.clock_closing.specs.declared.results.Results.{Results}
+use Rattle.clock_closing.specs.declared.closed_round.Results.{Results}
 use Rattle.clock_closing.specs.Faults.{fault_check}
 use Rattle.clock_closing.specs.ToldFaults.{told_of_post}
 use Rattle.clock_closing.specs.OpenRound.{OpenRound, OpenRoundFields}

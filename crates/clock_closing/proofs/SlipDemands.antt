@@ -5,7 +5,7 @@ use Rattle.std.proofs.lemmas.List.FromFn.{fill_by_all}
 use Rattle.std.proofs.lemmas.Simd.{map-map}
 use Rattle.clock_terms.specs.Limits.{PublicSetup}
 use Rattle.clock_terms.specs.Demands.{row_of}
-use Rattle.clock_closing.specs.declared.slip.Slip.{Slip}
+use Rattle.clock_closing.specs.declared.closed_round.Slip.{Slip}
 use Rattle.clock_closing.specs.OpenRound.{OpenRound, holding_at}
 use Rattle.clock_closing.specs.Closing.{slip_after, slips_after}
 use Rattle.clock_closing.specs.Results.{demands_of}

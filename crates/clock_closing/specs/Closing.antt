@@ -21,7 +21,7 @@ use Rattle.clock_order.specs.Order.{processing_list}
 use Rattle.clock_processor.specs.Settling.{Progress, settled}
 use Rattle.clock_posting.specs.Posting.{round_sheet, opening_posted, price_limit_fault}
 use Rattle.clock_posting.specs.PostedPrice.{posted_prices}
-use Rattle.clock_closing.specs.declared.slip.Slip.{Slip}
+use Rattle.clock_closing.specs.declared.closed_round.Slip.{Slip}
 pub use Rattle.clock_closing.specs.declared.closed_round.ClosedRound.{ClosedRound}
 use Rattle.clock_closing.specs.declared.fault.CloseFault.{CloseFault}
 use Rattle.clock_closing.specs.declared.fault.CloseFault.TheVariants as close_faults

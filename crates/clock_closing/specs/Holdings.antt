@@ -5,7 +5,7 @@ use Rattle.std.specs.Prelude.{List, Option, Some, None, length, map, replicate}
 use Rattle.clock_terms.specs.declared.setup.Product.{Product}
 use Rattle.clock_terms.specs.declared.setup.Bidder.{Bidder}
 pub use Rattle.clock_bids.specs.Holding.{Holding}
-use Rattle.clock_closing.specs.declared.slip.Slip.{Slip}
+use Rattle.clock_closing.specs.declared.closed_round.Slip.{Slip}
 
 -- before the first round a bidder holds nothing
 abbrev pub first_holding : List Product → Bidder → Holding

@@ -3,8 +3,8 @@
 --     AreConsistent results      the parts of the results say the same
 use Rattle.std.specs.Prelude.{◌≡◌, ◌↔◌, ℕ, List, map, IsNone, IsTrue, IfSome}
 use Rattle.clock_posting.specs.Posting.{next_pair}
-use Rattle.clock_closing.specs.declared.slip.Slip.{Slip}
-use Rattle.clock_closing.specs.declared.results.Results.{Results}
+use Rattle.clock_closing.specs.declared.closed_round.Slip.{Slip}
+use Rattle.clock_closing.specs.declared.closed_round.Results.{Results}
 
 -- the demands on slips
 abbrev pub demands_of : List Slip → List (List ℕ)

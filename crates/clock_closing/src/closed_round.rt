@@ -1,5 +1,22 @@
-use crate::slip::Slips;
+use clock_device::Items;
 use clock_posting::RoundSheet;
+use clock_terms::{Grid, KeptRow, Prices};
+
+/// What a round leaves a bidder with: its slip.
+#[derive(Drop)]
+pub struct Slip {
+    /// The number of the round.
+    pub round: u64,
+    /// The bidding units of the demands.
+    pub activity: u64,
+    /// The eligibility, in bidding units, for the next round.
+    pub eligibility: u64,
+    /// The demand for each product, in blocks.
+    pub demands: KeptRow,
+}
+
+/// A slip for each bidder.
+pub type Slips = Items<Slip>;
 
 /// A closed round: its sheet, and the slip of each bidder.
 #[derive(Drop)]
@@ -8,4 +25,15 @@ pub struct ClosedRound {
     pub sheet: RoundSheet,
     /// What each bidder was left with, in the order of the set-up.
     pub slips: Slips,
+}
+
+/// What a closing leaves: the closed round, the prices of the next one, and all demands.
+#[derive(Drop)]
+pub struct Results {
+    /// The sheet and the slips of the round.
+    pub closed: ClosedRound,
+    /// The prices of the next round, or none exactly where the auction has ended.
+    pub next: Option<Prices>,
+    /// The demands on the slips, for quick reading in the next round.
+    pub demands: Grid,
 }

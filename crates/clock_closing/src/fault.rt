@@ -1,3 +1,5 @@
+ghost use Rattle.std.specs.Prelude.{◌≡◌};
+
 use clock_device::NoMemory;
 use clock_order::TieFault;
 use clock_posting::PostFault;
@@ -31,7 +33,6 @@ pub enum CloseFault {
 }
 
 impl From<NoMemory> for CloseFault {
-    ghost use Rattle.std.specs.Prelude.{◌≡◌};
     ghost use Rattle.clock_closing.specs.declared.fault.CloseFault.TheVariants as close_faults;
 
     ghost from_gives = { λ _ told. told ≡ close_faults.NoMemory };
@@ -42,7 +43,6 @@ impl From<NoMemory> for CloseFault {
 }
 
 impl From<TieFault> for CloseFault {
-    ghost use Rattle.std.specs.Prelude.{◌≡◌};
     ghost use Rattle.clock_closing.specs.ToldFaults.{told_of_tie};
 
     ghost from_gives = { λ fault told. told ≡ told_of_tie fault };
@@ -56,7 +56,6 @@ impl From<TieFault> for CloseFault {
 }
 
 impl From<PostFault> for CloseFault {
-    ghost use Rattle.std.specs.Prelude.{◌≡◌};
     ghost use Rattle.clock_closing.specs.ToldFaults.{told_of_post};
 
     ghost from_gives = { λ fault told. told ≡ told_of_post fault };

@@ -2,7 +2,7 @@ ghost use Rattle.std.specs.Prelude.{◌≡◌, ◌<◌, length, map, option_copi
 ghost use Rattle.clock_closing.specs.Holdings.{holdings_before};
 ghost use Rattle.clock_closing.specs.OpenRound.{holding_at};
 
-use crate::slip::Slips;
+use crate::closed_round::Slips;
 use clock_device::NoMemory;
 use clock_terms::{Amounts, Grid, Row, Setup};
 use std::alloc::Global;
@@ -67,10 +67,10 @@ impl<'a> Holdings<'a> {
     }
 
     /// All demands, in a grid of their own: in the memory of one that is no longer needed, where there is one.
-    pub(crate) fn grid(&self, alloc: Global, old: Option<Grid>) -> Result<Grid, NoMemory>
+    pub(crate) fn grid(&self, alloc: Global, old: &mut Option<Grid>) -> Result<Grid, NoMemory>
         ensures { IfOk result (λ grid. grid ≡ map (λ holding. holding.demands) self.now) }
     {
-        match old {
+        match old.take() {
             Some(old) => old.renewed(alloc, self.demands),
             None => self.demands.copy(alloc),
         }

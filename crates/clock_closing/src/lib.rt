@@ -10,13 +10,9 @@ mod fault;
 mod holdings;
 mod open_round;
 mod prepared;
-mod results;
-mod slip;
 
-pub use closed_round::ClosedRound;
+pub use closed_round::{ClosedRound, Results, Slip, Slips};
 pub use fault::CloseFault;
 pub use holdings::Holdings;
 pub use open_round::OpenRound;
 pub use prepared::Prepared;
-pub use results::Results;
-pub use slip::{Slip, Slips};

@@ -70,7 +70,7 @@ impl<'a> OpenRound<'a> {
 
     /// Closes the round: settles it by a processor, and makes its sheet, its slips and the next prices. An increment is
     /// a percentage from 1 to 50; there is one for all products, or one for each. A grid that is no longer needed may
-    /// be given: the demands are settled in its memory.
+    /// be lent: the demands are then settled in its memory.
     ///
     /// The refusals, in this order: an increment is not 1 to 50, or the list has not one for each product; the tie
     /// numbers have a fault; the auction would go on, and a product can have no next clock price. Want of memory may
@@ -81,20 +81,14 @@ impl<'a> OpenRound<'a> {
         processor: &P,
         increments: &Increments,
         ties: &[Tie],
-        old: Option<Grid>,
+        old: &mut Option<Grid>,
     ) -> Result<Prepared, CloseFault>
         ensures asked { IfOk result (λ prepared. (prepared.round ≡ self.now.before.standing.round)
             × (prepared.increments ≡ increments.now) × (prepared.ties ≡ ties.now)) }
         ensures answer { Answers (closing_now self.now increments.now ties.now) result }
         ensures memory { result ≢ Err (CloseFault.Tie tie_faults.NoMemory) }
     {
-        let asked = match self.asked(alloc, increments, ties) {
-            Ok(asked) => asked,
-            Err(fault) => {
-                drop(old);
-                return Err(fault);
-            }
-        };
+        let asked = self.asked(alloc, increments, ties)?;
         let results = self.results(alloc, processor, &asked, old)?;
         Ok(Prepared {
             round: self.round,

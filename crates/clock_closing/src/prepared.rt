@@ -1,8 +1,8 @@
 ghost use Rattle.std.specs.Prelude.{◌≡◌};
 ghost use Rattle.clock_closing.specs.Results.{AreConsistent};
 
+use crate::closed_round::Results;
 use crate::closing_inputs::ClosingInputs;
-use crate::results::Results;
 use std::marker::Model;
 
 /// A closing that is accepted and not made yet.

@@ -14,7 +14,7 @@ use Rattle.std.specs.Option.{option_map_or}
 use Rattle.clock_terms.specs.declared.setup.Bidder.{Bidder}
 use Rattle.clock_terms.specs.Limits.{SetupFields, PublicSetup}
 use Rattle.clock_posting.specs.declared.sheet.RoundSheet.{RoundSheet}
-use Rattle.clock_closing.specs.declared.slip.Slip.{Slip}
+use Rattle.clock_closing.specs.declared.closed_round.Slip.{Slip}
 use Rattle.clock_house.specs.Standing.{put_fault}
 use Rattle.clock_house.specs.History.{history, bidder_at}
 use Rattle.clock_house.specs.View.{Seen, seen_of, seen_standing, seen_holding, seen_in_force, seen_round}

@@ -5,7 +5,7 @@ use Rattle.std.proofs.lemmas.List.{length-map, get_or-map}
 use Rattle.std.proofs.lemmas.List.FromFn.{fill_by_all, length-map-range_with_len, get_or-map-range_with_len}
 use Rattle.clock_terms.specs.declared.prices.PricePair.{PricePair}
 use Rattle.clock_terms.specs.Limits.{SetupFields}
-use Rattle.clock_closing.specs.declared.slip.Slip.{Slip}
+use Rattle.clock_closing.specs.declared.closed_round.Slip.{Slip}
 use Rattle.clock_closing.specs.Holdings.{Holding, first_holding, holding_after, holdings_before}
 use Rattle.clock_closing.specs.OpenRound.{OpenRound, open_at, holding_at}
 use Rattle.clock_house.specs.Standing.{Standing}

@@ -4,7 +4,7 @@ use Rattle.std.specs.Prelude.{Option, Some, None, Result, option_map, slice_inde
 use Rattle.clock_terms.specs.Limits.{public_setup}
 use Rattle.clock_bids.specs.declared.sheet.Bid.{Bid}
 use Rattle.clock_posting.specs.declared.sheet.RoundSheet.{RoundSheet}
-use Rattle.clock_closing.specs.declared.slip.Slip.{Slip}
+use Rattle.clock_closing.specs.declared.closed_round.Slip.{Slip}
 use Rattle.clock_house.specs.Command.{Command}
 use Rattle.clock_house.specs.Standing.{Standing, Holding, put_fault}
 use Rattle.clock_house.specs.History.{ClosedRound, standing, holding, bidder_at, slip_of, round_at}

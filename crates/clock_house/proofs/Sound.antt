@@ -19,7 +19,7 @@ use Rattle.clock_bids.proofs.Good.{empty_sheet_good}
 use Rattle.clock_order.specs.declared.ties.Tie.{Tie}
 use Rattle.clock_processor.specs.Board.{IsWithinEligibility}
 use Rattle.clock_posting.specs.Posting.{has_ended, next_pair}
-use Rattle.clock_closing.specs.declared.slip.Slip.{Slip}
+use Rattle.clock_closing.specs.declared.closed_round.Slip.{Slip}
 use Rattle.clock_closing.specs.declared.fault.CloseFault.{CloseFault}
 use Rattle.clock_house.specs.Command.{Command, put, close, other}
 use Rattle.clock_house.specs.Standing.{Standing, Holding, first_holding, holding_after}

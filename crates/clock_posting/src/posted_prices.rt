@@ -56,8 +56,7 @@ fn reduced_prices(
     requires left { length left.now ≡ length changes.now }
     ensures lengths { IfOk result (λ highest. length highest ≡ length prices.now) }
     ensures price { IfOk result (λ highest. (p : ℕ) → p < length prices.now → slice_index highest p
-        ≡ rules.highest_or (prices_at prices.now p).start
-        (applied_prices changes.now left.now p)) }
+        ≡ rules.highest_or (prices_at prices.now p).start (applied_prices changes.now left.now p)) }
 {
     let mut highest = start_prices(alloc, prices)?;
     for (i, change) in changes.iter().enumerate() {
@@ -84,9 +83,8 @@ fn note(highest: &mut Items<Price>, prices: &[PricePair], change: &Change, left:
     requires lengths { length highest.old ≡ length prices.now }
     requires priced { rules.IsWithinPrices prices.now change.now }
     ensures lengths { length highest.new ≡ length highest.old }
-    ensures price { (p : ℕ) → p < length highest.old → slice_index highest.new p
-        ≡ (if rules.is_applied_reduction p change.now left
-        then max (slice_index highest.old p) change.now.price else slice_index highest.old p) }
+    ensures price { (p : ℕ) → p < length highest.old → slice_index highest.new p ≡ (if rules.is_applied_reduction
+        p change.now left then max (slice_index highest.old p) change.now.price else slice_index highest.old p) }
 {
     let product = change.product as usize;
     if change.kind == Kind::Reduction && left < change.amount {

@@ -26,12 +26,11 @@ pub struct Posting {
 /// What the closing of the first round posts, where the sheets' quantities stand as demands: each
 /// product's opening price is its start, clock and posted price.
 ///
-/// An increment is a percentage from 1 to 50, by which the clock price of a product in the next
-/// round stands above its posted price, rounded up to a whole multiple of its granule; a list has
-/// one for each product. The auction ends where no product's total exceeds its supply; otherwise it
-/// is refused with [`PostFault::PriceLimit`] where some product can have no next clock price, and
-/// names the first such product (ascending clock auction, FCC Auction 105; the posted price of the
-/// first round is an own rule).
+/// An increment is a percentage from 1 to 50, by which the clock price of a product in the next round stands above its
+/// posted price, rounded up to a whole multiple of its granule; a list has one for each product. The auction ends where
+/// no product's total exceeds its supply; otherwise it is refused with [`PostFault::PriceLimit`] where some product can
+/// have no next clock price, and names the first such product (ascending clock auction, FCC Auction 105; the posted
+/// price of the first round is an own rule).
 pub fn post_first(
     alloc: Global,
     setup: &Setup,
@@ -40,14 +39,10 @@ pub fn post_first(
 ) -> Result<Posting, PostFault>
     requires increments { AreIncrements (length setup.now.products) increments.now }
     requires grid { IsGrid (length setup.now.bidders) (length setup.now.products) grid.now }
-
-    ensures ok { let products = setup.now.products in
-        let posted = rules.opening_posted products in
+    ensures ok { let products = setup.now.products in let posted = rules.opening_posted products in
         IfOk result (rules.IsPosting 1 products (opening_prices products) grid.now posted increments.now) }
-    ensures lines { IfOk result
-        (λ posting. length posting.sheet.lines ≡ length setup.now.products) }
-    ensures err { let products = setup.now.products in
-        let posted = rules.opening_posted products in
+    ensures lines { IfOk result (λ posting. length posting.sheet.lines ≡ length setup.now.products) }
+    ensures err { let products = setup.now.products in let posted = rules.opening_posted products in
         IfErr result (IsFirstFault PostFault.NoMemory
         (rules.post_fault (rules.price_limit_fault products grid.now posted increments.now))) }
     ensures laws { IfOk result rules.IsConsistent }
@@ -55,15 +50,15 @@ pub fn post_first(
     let products = setup.products.as_slice();
     let prices = Prices::opening(alloc, setup)?;
     let posted = opening_posted(alloc, products)?;
-    let end = RoundEnd {
+    RoundEnd {
         products,
         round: 1,
         prices: prices.as_slice(),
         grid,
         posted: posted.as_slice(),
         increments,
-    };
-    end.posting(alloc)
+    }
+    .posting(alloc)
 }
 
 /// What the closing of a round after the first posts, by the prices of the round, the changes that
@@ -91,22 +86,17 @@ pub fn post(
     requires ordered { All (λ pair. pair.start ≤ pair.clock) prices.now }
     requires changes { All (IsWithinPrices prices.now) changes.now }
     requires left { length settled.now.left ≡ length changes.now }
-
-    ensures ok { let products = setup.now.products in
-        let end = settled.now in
+    ensures ok { let products = setup.now.products in let end = settled.now in
         let posted = posted_prices products prices.now changes.now end.left end.grid in
         IfOk result (rules.IsPosting round products prices.now end.grid posted increments.now) }
-    ensures lines { IfOk result
-        (λ posting. length posting.sheet.lines ≡ length setup.now.products) }
-    ensures err { let products = setup.now.products in
-        let end = settled.now in
+    ensures lines { IfOk result (λ posting. length posting.sheet.lines ≡ length setup.now.products) }
+    ensures err { let products = setup.now.products in let end = settled.now in
         let posted = posted_prices products prices.now changes.now end.left end.grid in
         IfErr result (IsFirstFault PostFault.NoMemory
         (rules.post_fault (rules.price_limit_fault products end.grid posted increments.now))) }
     ensures laws { IfOk result rules.IsConsistent }
     // While the auction goes on, some clock price is posted: prices rise, so it can't go on for ever.
-    ensures clock { IfOk result
-        (λ posting. IfSome posting.next (λ _. Any rules.IsAtClock posting.sheet.lines)) }
+    ensures clock { IfOk result (λ posting. IfSome posting.next (λ _. Any rules.IsAtClock posting.sheet.lines)) }
 {
     let products = setup.products.as_slice();
     let posted = posted_prices(
@@ -117,13 +107,13 @@ pub fn post(
         settled.left(),
         settled.grid(),
     )?;
-    let end = RoundEnd {
+    RoundEnd {
         products,
         round,
         prices: prices.as_slice(),
         grid: settled.grid(),
         posted: posted.as_slice(),
         increments,
-    };
-    end.posting(alloc)
+    }
+    .posting(alloc)
 }

@@ -34,7 +34,6 @@ impl RoundEnd<'_> {
     /// What the closing of the round posts.
     pub fn posting(&self, alloc: Global) -> Result<Posting, PostFault>
         requires { FitsTogether self.now }
-
         ensures ok { IfOk result (IsPostingOf self.now) }
         ensures lines { IfOk result (λ posting. length posting.sheet.lines ≡ length self.now.products.now) }
         ensures err { IfErr result (IsFirstFault PostFault.NoMemory (rules.post_fault (limit_of self.now))) }
@@ -110,10 +109,7 @@ impl RoundEnd<'_> {
         ensures { result ≡ (if rules.has_ended self.now.products.now self.now.grid.now then None
             else rules.next_clock self.now.products.now self.now.increments.now self.now.posted.now product) }
     {
-        match next {
-            Some(prices) => Some(prices.as_slice()[product].clock.get()),
-            None => None,
-        }
+        Some(next.as_ref()?.as_slice()[product].clock.get())
     }
 }
 

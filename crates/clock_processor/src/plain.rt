@@ -5,10 +5,9 @@ ghost use Rattle.clock_processor.specs.Settling as settling;
 ghost use Rattle.clock_processor.specs.Requests.{IsRequest};
 ghost use Rattle.clock_processor.specs.inside.UnderWay.{IsUnderWay, SameButTests, StaysWithinCaps, progress_of};
 
-use crate::amounts::amounts_of;
 use crate::board::Board;
 use crate::processor::Processor;
-use crate::settled::Settled;
+use crate::settled::{Settled, amounts_of};
 use clock_device::NoMemory;
 use clock_terms::{Amounts, Change, Changes};
 use std::alloc::Global;

@@ -1,6 +1,5 @@
 ghost use Rattle.std.specs.Prelude.{◌≡◌, ◌<◌, [], ◌∷◌, ◌++◌, length, replicate, All, IfOk, OnOk, slice_index_or, slice_set};
 ghost use Rattle.clock_queue.specs.inside.Lines as lines;
-ghost use Rattle.clock_queue.specs.inside.Lines.{HasLines};
 
 use clock_device::NoMemory;
 use clock_terms::{Change, Kind};
@@ -87,7 +86,7 @@ pub(crate) fn woken_line(change: &Change) -> usize
 
 /// How many lines there must be for these requests.
 pub(crate) fn lines_for(changes: &[Change]) -> usize
-    ensures { All (HasLines result) changes.now }
+    ensures { All (lines.HasLines result) changes.now }
 {
     let mut count: usize = 0;
     for change in changes {

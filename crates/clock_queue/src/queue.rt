@@ -2,8 +2,7 @@ ghost use Rattle.std.specs.Prelude.{◌≡◌, ◌+◌, ◌<◌, ◌≤◌, [], 
 ghost use Rattle.std.specs.List.Sorted.{IsPermutation};
 ghost use Rattle.clock_processor.specs.Board.{IsBoard};
 ghost use Rattle.clock_processor.specs.Requests.{CanSettle};
-ghost use Rattle.clock_queue.specs.inside.Queue as states;
-ghost use Rattle.clock_queue.specs.inside.Queue.{IsQueue, LeadsTo, SameTerms, StaysWithinTests, progress, progress_with, room_in, with_first, work};
+ghost use Rattle.clock_queue.specs.inside.Queue.{IsQueue, LeadsTo, SameTerms, StaysWithinTests, after_test, progress, progress_with, room_in, with_first, work};
 
 use crate::lines::{WaitingLines, line_of, lines_for, woken_line};
 use crate::ready::Ready;
@@ -109,7 +108,7 @@ impl<'a> Queue<'a> {
     fn room(&mut self, changes: &[Change], place: usize) -> u64
         requires { IsQueue changes.now (with_first place self.old) }
         ensures room { result ≡ room_in changes.now self.old place }
-        ensures counted { self.new ≡ states.after_test self.old }
+        ensures counted { self.new ≡ after_test self.old }
         ensures is_board { IsBoard self.new.board.products self.new.board.eligibilities self.new.board.grid }
     {
         let left = self.left.as_slice()[place];

@@ -10,7 +10,7 @@ use Rattle.clock_house.specs.History.{bidder_at}
 use Rattle.clock_house.specs.House.{HouseFields, holding_in}
 use Rattle.clock_posting.specs.declared.sheet.Line.{Line}
 use Rattle.clock_posting.specs.declared.sheet.RoundSheet.{RoundSheet}
-use Rattle.clock_closing.specs.declared.slip.Slip.{Slip}
+use Rattle.clock_closing.specs.declared.closed_round.Slip.{Slip}
 use Rattle.clock_views.specs.Values.{whole, whole_or_null, list_of, items_of}
 use Rattle.clock_views.specs.Rooms.{most_text, most_items}
 use Rattle.clock_views.specs.PageRooms.{room_of_status, room_of_account, room_around_bids, room_of_accepted, room_of_slip, room_of_closed}

@@ -10,7 +10,7 @@ use Rattle.clock_terms.specs.declared.setup.Product.{Product}
 use Rattle.clock_terms.specs.Eligibility.{activity}
 use Rattle.clock_bids.specs.declared.sheet.Bid.{Bid}
 use Rattle.clock_bids.specs.Holding.{Holding}
-use Rattle.clock_closing.specs.declared.slip.Slip.{Slip}
+use Rattle.clock_closing.specs.declared.closed_round.Slip.{Slip}
 use Rattle.clock_views.specs.Values.{whole, list_of, object_of}
 
 -- the activity, demands and eligibility that it holds, whether the auction has ended, its name, and the current round

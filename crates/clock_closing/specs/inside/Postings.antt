@@ -17,7 +17,7 @@ use Rattle.clock_terms.specs.declared.change.Change.{Change}
 use Rattle.clock_order.specs.declared.ties.Tie.{Tie}
 use Rattle.clock_closing.specs.declared.closing_inputs.ClosingInputs.{ClosingInputs}
 use Rattle.clock_closing.specs.declared.fault.CloseFault.{CloseFault}
-use Rattle.clock_closing.specs.declared.results.Results.{Results}
+use Rattle.clock_closing.specs.declared.closed_round.Results.{Results}
 use Rattle.clock_closing.specs.OpenRound.{OpenRound, OpenRoundFields, bidder_numbers}
 use Rattle.clock_posting.specs.declared.posting.Posting.{Posting}
 use Rattle.clock_posting.specs.declared.fault.PostFault.{PostFault}

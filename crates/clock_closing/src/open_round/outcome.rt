@@ -12,10 +12,10 @@ ghost use Rattle.clock_closing.specs.inside.OpenRound.{eligibilities_of};
 ghost use Rattle.clock_closing.specs.Closing as rules;
 ghost use Rattle.clock_closing.specs.inside.Postings.{AreRequests, ComesTo, first_posted, posted_now};
 
+use crate::closed_round::Results;
 use crate::closing_inputs::ClosingInputs;
 use crate::fault::CloseFault;
 use crate::open_round::OpenRound;
-use crate::results::Results;
 use clock_bids::{Changes, asked_demands, bids_of, with_changes_of};
 use clock_device::NoMemory;
 use clock_order::{Ties, ordered};
@@ -32,22 +32,15 @@ impl OpenRound<'_> {
         alloc: Global,
         processor: &P,
         asked: &ClosingInputs,
-        old: Option<Grid>,
+        old: &mut Option<Grid>,
     ) -> Result<Results, CloseFault>
         requires { AreIncrements (length self.now.setup.products) asked.now.increments }
         ensures { ComesTo (posted_now self.now asked.now.increments asked.now.ties) result }
     {
         if self.round == 1 {
-            drop(old);
             return self.first_results(alloc, &asked.increments);
         }
-        let requests = match self.requests(alloc, &asked.ties) {
-            Ok(requests) => requests,
-            Err(none) => {
-                drop(old);
-                return Err(CloseFault::from(none));
-            }
-        };
+        let requests = self.requests(alloc, &asked.ties)?;
         let settled = self.settled(alloc, processor, &requests, old)?;
         let posting = post(
             alloc,
@@ -134,7 +127,7 @@ impl OpenRound<'_> {
         alloc: Global,
         processor: &P,
         requests: &Changes,
-        old: Option<Grid>,
+        old: &mut Option<Grid>,
     ) -> Result<Settled, NoMemory>
         requires later { 2 ≤ self.now.before.standing.round }
         requires requests { AreRequests self.now.before requests.now }
@@ -146,13 +139,7 @@ impl OpenRound<'_> {
             (eligibilities_of self.now.before) settled.grid) }
         ensures each { IfOk result (λ settled. length settled.left ≡ length requests.now) }
     {
-        let eligibilities = match self.holdings.eligibilities(alloc) {
-            Ok(list) => list,
-            Err(none) => {
-                drop(old);
-                return Err(none);
-            }
-        };
+        let eligibilities = self.holdings.eligibilities(alloc)?;
         let grid = self.holdings.grid(alloc, old)?;
         let board = Board::on(alloc, self.setup, &eligibilities, grid)?;
         processor.settle(alloc, board, requests)

@@ -10,11 +10,9 @@ ghost use Rattle.clock_closing.specs.inside.Postings.{IsRoundOf};
 ghost use Rattle.clock_closing.specs.Closing as rules;
 ghost use Rattle.clock_closing.specs.Results.{demands_of};
 
-use crate::closed_round::ClosedRound;
+use crate::closed_round::{ClosedRound, Results, Slip, Slips};
 use crate::fault::CloseFault;
 use crate::open_round::OpenRound;
-use crate::results::Results;
-use crate::slip::{Slip, Slips};
 use clock_device::NoMemory;
 use clock_posting::{PostFault, Posting};
 use clock_terms::{Grid, Row, next_eligibility, units_held};

@@ -8,7 +8,7 @@ use Rattle.clock_terms.specs.Limits.{PublicSetup}
 use Rattle.clock_bids.specs.declared.sheet.Bid.{Bid}
 use Rattle.clock_bids.specs.Holding.{Holding}
 use Rattle.clock_posting.specs.declared.sheet.RoundSheet.{RoundSheet}
-use Rattle.clock_closing.specs.declared.slip.Slip.{Slip}
+use Rattle.clock_closing.specs.declared.closed_round.Slip.{Slip}
 use Rattle.clock_house.specs.Standing.{Standing, put_fault}
 use Rattle.clock_house.specs.View.{Seen, seen_standing, seen_holding, seen_in_force, seen_round}
 use Rattle.clock_http.specs.declared.code.Code.TheVariants as code

@@ -4,7 +4,7 @@
 --     grid_after round      the demands after a closed round
 use Rattle.std.specs.Prelude.{ℕ, List, []}
 use Rattle.clock_terms.specs.Limits.{SetupFields}
-use Rattle.clock_closing.specs.declared.slip.Slip.{Slip}
+use Rattle.clock_closing.specs.declared.closed_round.Slip.{Slip}
 use Rattle.clock_closing.specs.OpenRound.{OpenRound}
 use Rattle.clock_closing.specs.Results.{demands_of}
 use Rattle.clock_house.specs.History.{ClosedRound, Auction, for_each_bidder, sheet_in_force, round_to_close}

@@ -1,7 +1,6 @@
 //! What a house tells: no call here takes memory or changes anything.
 
-ghost use Rattle.std.specs.Prelude.{◌≡◌, ◌<◌, ◌≤◌, ℕ, List, None, false, length, slice_index_or};
-ghost use Rattle.std.specs.Prelude.{IfSome, option_map, option_copied, reverse};
+ghost use Rattle.std.specs.Prelude.{◌≡◌, ◌<◌, ◌≤◌, ℕ, List, None, false, length, slice_index_or, IfSome, option_map, option_copied, reverse};
 ghost use Rattle.clock_terms.specs.Limits.{SetupFields, IsSetup, public_setup};
 ghost use Rattle.clock_bids.specs.Holding.{holding_of};
 ghost use Rattle.clock_house.specs.Command.{Command, other};
@@ -53,7 +52,6 @@ impl<P> House<P> {
     /// what it has won, and the last round. The bidder is one of the set-up's.
     pub fn own(&self, bidder: u32) -> Own<'_>
         requires { bidder < length self.now.setup.bidders }
-
         ensures round { result.round ≡ (standing_in self.now).round }
         ensures eligibility { result.eligibility ≡ (holding_in self.now bidder).eligibility }
         ensures demands { result.demands.now ≡ (holding_in self.now bidder).demands }
@@ -113,7 +111,7 @@ impl<P> House<P> {
         ensures seen { ToView self.now bidder (λ view. option_copied result ≡ option_map
             (λ seen. seen.1) (seen_round round view)) }
     {
-        Some(slip_at(closed_at(self.rounds.as_slice(), round)?, bidder))
+        Some(&closed_at(self.rounds.as_slice(), round)?.slips.as_slice()[bidder as usize])
     }
 
     /// The laws that hold of every house, handed to a caller: it stands for some list of commands, after every list
@@ -136,14 +134,6 @@ impl<P> House<P> {
     {
         let _ = &self.setup;
     }
-}
-
-/// A bidder's slip of a round.
-fn slip_at(closed: &ClosedRound, bidder: u32) -> &Slip
-    requires { bidder < length closed.now.slips }
-    ensures { result.now ≡ slip_of bidder closed.now }
-{
-    &closed.slips.as_slice()[bidder as usize]
 }
 
 /// The round of a number, where the rounds stand in order from round 1.

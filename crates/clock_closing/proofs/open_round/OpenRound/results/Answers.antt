@@ -33,7 +33,7 @@ post-posting-requires-clause-later g c = later_by _ c.self.invariant c.if-self-e
 
 pub post-posting-requires-clause-changes : goal.post-posting-requires-clause-changes
 post-posting-requires-clause-changes g c =
-    All-permutation (IsWithinPrices c.self.inside.prices.now) _ _ (rw (← c.self.view_is) at c.in-Ok.ensures.all)
+    All-permutation (IsWithinPrices c.self.inside.prices.now) _ _ (rw (← c.self.view_is) at c.in_ok-requests.ensures.all)
     (priced_requests _ _ c.self.invariant.sound (later_by _ c.self.invariant c.if-self-eq1.false))
 
 pub returns : goal.returns
@@ -47,10 +47,10 @@ returns g c =
     let prices : c.self.inside.prices.now ≡ c.args.self.now.before.standing.prices =
     ap (λ (round : OpenRoundFields). round.before.standing.prices) c.self.view_is in
     let result = later_result now.setup.products now.before (requests now.before ties) in
-    let posting = rw (c.in_ok-settled.ensures.left, c.in_ok-settled.ensures.grid, c.in-Ok.ensures.ordered, setup, number, prices)
+    let posting = rw (c.in_ok-settled.ensures.left, c.in_ok-settled.ensures.grid, c.in_ok-requests.ensures.ordered, setup, number, prices)
     at c.post-posting.ensures.ok in
-    let refused = rw (c.in_ok-settled.ensures.left, c.in_ok-settled.ensures.grid, c.in-Ok.ensures.ordered, setup, prices)
+    let refused = rw (c.in_ok-settled.ensures.left, c.in_ok-settled.ensures.grid, c.in_ok-requests.ensures.ordered, setup, prices)
     at c.post-posting.ensures.err in
-    let comes = rw (c.into_grid.ensures, c.in_ok-settled.ensures.grid, c.in-Ok.ensures.ordered) at c.with_slips.ensures in
+    let comes = rw (c.into_grid.ensures, c.in_ok-settled.ensures.grid, c.in_ok-requests.ensures.ordered) at c.with_slips.ensures in
     rw (result-later now.setup.products now.before ties (later_of _ _ c.self.view_is c.self.invariant c.if-self-eq1.false))
     (comes increments result.posted (posts_by now increments result c.post-posting.result posting c.post-posting.ensures.laws refused))

@@ -5,7 +5,7 @@ use Rattle.std.proofs.lemmas.List.{length-map}
 use Rattle.std.proofs.lemmas.List.FromFn.{map-range_with_len_more}
 use Rattle.clock_terms.specs.Demands.{row_of}
 use Rattle.clock_terms.specs.Limits.{public_setup}
-use Rattle.clock_closing.specs.declared.slip.Slip.{Slip}
+use Rattle.clock_closing.specs.declared.closed_round.Slip.{Slip}
 use Rattle.clock_closing.specs.Holdings.{Holding}
 use Rattle.clock_closing.specs.OpenRound.{holding_at}
 use Rattle.clock_closing.specs.Closing.{slip_after}

@@ -1,5 +1,5 @@
-use Rattle.std.proofs.Common.{◌≡◌, ℕ, List, [], ◌∷◌, refl, ap, sym, subst, ◌∙◌, arith}
-use Rattle.std.specs.Prelude.{Option, None, map, reverse}
+use Rattle.std.proofs.Common.{◌≡◌, ℕ, List, [], ◌∷◌, ◌++◌, Bool, true, refl, ap, sym, subst, ◌∙◌, arith}
+use Rattle.std.specs.Prelude.{Option, None, map, reverse, is_ok, if◌then◌else◌}
 use Rattle.std.specs.List.{range_with_len}
 use Rattle.std.proofs.lemmas.List.{reverse-append}
 use Rattle.clock_terms.specs.Limits.{IsSetup}
@@ -28,6 +28,15 @@ round_after-self-inside-requires g c =
           ((stands_sound c.args.self.now limits c.self.invariant.commands stands).priced number.0),
     )
 
+pub unwrap-requires : goal.unwrap-requires
+unwrap-requires g c = c.push.ensures.succeeds (omega (arith, (rw (← c.self.view_is) at c.requires.room)))
+
+-- the closed round stands before the others, the newest first
+is_added : (before after : List ClosedRound) (pushed : Bool) (made closed : ClosedRound) → pushed ≡ true →
+    after ≡ (if pushed then before ++ made ∷ [] else before) → made ≡ closed → reverse after ≡ closed ∷ reverse before
+is_added before after pushed made closed done is same =
+    ap reverse (rw done at is) ∙ reverse-append before (made ∷ []) ∙ ap (λ (one : ClosedRound). one ∷ reverse before) same
+
 pub invariant_of-self : goal.invariant_of-self
 invariant_of-self g c =
     let house : HouseFields = record { setup = c.self.inside.setup; closed = reverse c.self.inside.rounds.items; sheets = c.self.inside.sheets; spare = 0 } in
@@ -35,9 +44,8 @@ invariant_of-self g c =
     let results = c.into_results-closed.result in
     let fits = fits_like _ c.args.self.now c.args.prepared (sym c.self.view_is) c.requires.fits in
     let done = c.into_results-closed.ensures.closed in
-    let added : reverse c.push_round.new.rounds.items ≡ c.args.prepared.closed ∷ reverse c.self.inside.rounds.items =
-    ap reverse c.push_round.ensures ∙ reverse-append c.self.inside.rounds.items (c.into_results-closed.result.closed ∷ [])
-    ∙ ap (λ (one : ClosedRound). one ∷ reverse c.self.inside.rounds.items) done in
+    let added = is_added c.self.inside.rounds.items c.push.new.self.items (is_ok c.push.result) c.into_results-closed.result.closed c.args.prepared.closed
+    (c.push.ensures.succeeds (omega (arith, (rw (← c.self.view_is) at c.requires.room)))) c.push.ensures.items done in
     let none = c.clear.ensures ∙ ap (λ (n : ℕ). map (λ (bidder : ℕ). let sheet : Option (List Bid) = None in sheet) (range_with_len 0 n))
     (stands_sheets _ c.self.invariant.commands c.self.invariant.stands) in
     let at = λ (closed : List ClosedRound). standing c.self.inside.setup.products closed in
@@ -68,9 +76,8 @@ invariant_of-self g c =
 
 pub returns-clause-closed : goal.returns-clause-closed
 returns-clause-closed g c =
-    let added : reverse c.push_round.new.rounds.items ≡ c.args.prepared.closed ∷ reverse c.self.inside.rounds.items =
-    ap reverse c.push_round.ensures ∙ reverse-append c.self.inside.rounds.items (c.into_results-closed.result.closed ∷ [])
-    ∙ ap (λ (one : ClosedRound). one ∷ reverse c.self.inside.rounds.items) c.into_results-closed.ensures.closed in
+    let added = is_added c.self.inside.rounds.items c.push.new.self.items (is_ok c.push.result) c.into_results-closed.result.closed c.args.prepared.closed
+    (c.push.ensures.succeeds (omega (arith, (rw (← c.self.view_is) at c.requires.room)))) c.push.ensures.items c.into_results-closed.ensures.closed in
     let none = c.clear.ensures ∙ ap (λ (n : ℕ). map (λ (bidder : ℕ). let sheet : Option (List Bid) = None in sheet) (range_with_len 0 n))
     (stands_sheets _ c.self.invariant.commands c.self.invariant.stands) in
     rw (← c.self.view_is) (record { setup = refl; closed = added; sheets = none })
@@ -79,9 +86,8 @@ pub returns-clause-followed : goal.returns-clause-followed
 returns-clause-followed g c =
     let asked = c.args.prepared in
     let fits = fits_like _ c.args.self.now c.args.prepared (sym c.self.view_is) c.requires.fits in
-    let added : reverse c.push_round.new.rounds.items ≡ c.args.prepared.closed ∷ reverse c.self.inside.rounds.items =
-    ap reverse c.push_round.ensures ∙ reverse-append c.self.inside.rounds.items (c.into_results-closed.result.closed ∷ [])
-    ∙ ap (λ (one : ClosedRound). one ∷ reverse c.self.inside.rounds.items) c.into_results-closed.ensures.closed in
+    let added = is_added c.self.inside.rounds.items c.push.new.self.items (is_ok c.push.result) c.into_results-closed.result.closed c.args.prepared.closed
+    (c.push.ensures.succeeds (omega (arith, (rw (← c.self.view_is) at c.requires.room)))) c.push.ensures.items c.into_results-closed.ensures.closed in
     let none = c.clear.ensures ∙ ap (λ (n : ℕ). map (λ (bidder : ℕ). let sheet : Option (List Bid) = None in sheet) (range_with_len 0 n))
     (stands_sheets _ c.self.invariant.commands c.self.invariant.stands) in
     rw (← c.self.view_is)

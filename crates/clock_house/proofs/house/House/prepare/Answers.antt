@@ -31,21 +31,21 @@ open_round-requires g c =
 
 pub returns-clause-answer : goal.returns-clause-answer
 returns-clause-answer g c =
-    answers-close _ c.close.result
+    answers-close _ c.close-prepared.result
     (answers-old c.args.self.now c.make_room.new.self c.make_room.ensures.same c.args.round c.args.increments.now c.args.ties.now
-    c.in_ok-check_current.ensures.current c.close.result c.open_round.result c.open_round.ensures c.close.ensures.answer)
+    c.in_ok-check_current.ensures.current c.close-prepared.result c.open_round.result c.open_round.ensures c.close-prepared.ensures.answer)
 
 pub returns-clause-fits : goal.returns-clause-fits
 returns-clause-fits g c =
-    fits-asked c.make_room.new.self (standing_in c.make_room.new.self).round c.args.increments.now c.args.ties.now c.close.result
+    fits-asked c.make_room.new.self (standing_in c.make_room.new.self).round c.args.increments.now c.args.ties.now c.close-prepared.result
     (answers-now c.args.self.now c.make_room.new.self c.make_room.ensures.same c.args.round c.args.increments.now c.args.ties.now
-    c.in_ok-check_current.ensures.current c.close.result c.open_round.result c.open_round.ensures c.close.ensures.answer)
-    (rw c.open_round.ensures at c.close.ensures.asked)
+    c.in_ok-check_current.ensures.current c.close-prepared.result c.open_round.result c.open_round.ensures c.close-prepared.ensures.answer)
+    (rw c.open_round.ensures at c.close-prepared.ensures.asked)
 
 pub returns-clause-history : goal.returns-clause-history
 returns-clause-history g c =
     answers-history c.args.self.now c.make_room.new.self c.make_room.ensures.same c.args.round c.args.increments.now c.args.ties.now
-    c.in_ok-check_current.ensures.current c.close.result c.open_round.result c.open_round.ensures c.close.ensures.answer
+    c.in_ok-check_current.ensures.current c.close-prepared.result c.open_round.result c.open_round.ensures c.close-prepared.ensures.answer
 
 pub returns-clause-stands : goal.returns-clause-stands
 returns-clause-stands g c = still_unchanged c.args.self.now c.make_room.new.self c.make_room.ensures.same
@@ -53,4 +53,4 @@ returns-clause-stands g c = still_unchanged c.args.self.now c.make_room.new.self
 pub returns-clause-followed : goal.returns-clause-followed
 returns-clause-followed g c =
     refused-followed c.args.self.now c.make_room.new.self c.make_room.ensures.same c.args.round c.args.increments.now c.args.ties.now
-    c.in_ok-check_current.ensures.current c.close.result c.open_round.result c.open_round.ensures c.close.ensures.answer
+    c.in_ok-check_current.ensures.current c.close-prepared.result c.open_round.result c.open_round.ensures c.close-prepared.ensures.answer

@@ -1,6 +1,6 @@
 use Rattle.std.proofs.Common.{◌≡◌, ◌+◌, ◌≤◌, length, map, take}
 use Rattle.clock_terms.specs.declared.change.Change.{Change}
-use Rattle.clock_processor.proofs.amounts.amounts_of.Given as goal
+use Rattle.clock_processor.proofs.settled.amounts_of.Given as goal
 
 -- the amounts so far, and room for the others
 abbrev pub invariant-loop-change : goal.invariant-loop-change
