@@ -14,8 +14,8 @@ use crate::setup_checks::{each_within, is_token};
 use crate::setup_scan::FoundSetup;
 use crate::setup_tree::entries_of;
 use clock_device::Text;
+use clock_json::scanned_text;
 use clock_json::tree::{number_at, read_value};
-use clock_json::{ScanStop, scanned_text};
 use clock_terms::{
     LATEST_VERSION, LEAST_LIMIT, LEAST_REQUIREMENT, MOST_BIDDERS, MOST_LIMIT, MOST_PRODUCTS,
     MOST_REQUIREMENT, Setup, is_within,
@@ -98,16 +98,11 @@ pub fn read_setup(alloc: Global, bytes: &[u8]) -> Result<Setup, SetupFault>
     ensures ok { IfOk result (λ setup. document.document_setup bytes.now ≡ Ok setup) }
     ensures err { IfErr result (IsRefusal SetupFault.NoMemory (document.document_setup bytes.now)) }
 {
-    match scanned_text::<FoundSetup>(alloc, bytes) {
-        Ok(scanned) => within_limits(alloc, &scanned.entries),
-        Err(ScanStop::Unusual) => {
-            let Some(value) = read_value(alloc, bytes)? else {
-                return Err(SetupFault::NotJson);
-            };
-            setup_of(alloc, &value)
-        }
-        Err(ScanStop::NoMemory) => Err(SetupFault::NoMemory),
+    if let Some(scanned) = scanned_text::<FoundSetup>(alloc, bytes)? {
+        return within_limits(alloc, &scanned.entries);
     }
+    let value = read_value(alloc, bytes)?.ok_or(SetupFault::NotJson)?;
+    setup_of(alloc, &value)
 }
 
 /// The set-up that a JSON value means, or its first fault: what [`read_setup`] answers for a text that reads as this

@@ -13,7 +13,7 @@ use crate::opening_scan::FoundOpening;
 use crate::opening_tree::opening_entries;
 use clock_device::NoMemory;
 use clock_json::tree::read_value;
-use clock_json::{FlatRows, ScanStop, scanned_text};
+use clock_json::{FlatRows, scanned_text};
 use clock_money::{LEAST_INCREMENT, MOST_INCREMENT};
 use clock_terms::{Grid, Setup, is_within};
 use serde_json::Value;
@@ -143,14 +143,9 @@ pub fn read_opening(alloc: Global, bytes: &[u8]) -> Result<Opening, OpeningFault
         (IsRefusal OpeningFault.NoMemory (document_opening bytes.now)) }
     ensures held { IfErr result (λ fault. fault ≢ OpeningFault.Setup SetupFault.NoMemory) }
 {
-    match scanned_text::<FoundOpening>(alloc, bytes) {
-        Ok(found) => compared(alloc, found.held.setup, found.demands, found.increment),
-        Err(ScanStop::NoMemory) => Err(OpeningFault::NoMemory),
-        Err(ScanStop::Unusual) => {
-            let Some(value) = read_value(alloc, bytes)? else {
-                return Err(OpeningFault::NotJson);
-            };
-            opening_in(alloc, &value)
-        }
+    if let Some(found) = scanned_text::<FoundOpening>(alloc, bytes)? {
+        return compared(alloc, found.held.setup, found.demands, found.increment);
     }
+    let value = read_value(alloc, bytes)?.ok_or(OpeningFault::NotJson)?;
+    opening_in(alloc, &value)
 }
