@@ -118,14 +118,10 @@ pub fn setup_of(alloc: Global, value: &Value) -> Result<Setup, SetupFault>
         → fields_of (view value.now) ≡ Some setup → IsSetup setup
         → document.setup_of (view value.now) ≡ Ok setup }
 {
-    let Some(version) = number_at(value, "version") else {
-        return Err(SetupFault::Shape);
-    };
+    let version = number_at(value, "version").ok_or(SetupFault::Shape)?;
     if !is_within(1, LATEST_VERSION, version) {
         return Err(SetupFault::Version);
     }
-    let Some(entries) = entries_of(alloc, value)? else {
-        return Err(SetupFault::Shape);
-    };
+    let entries = entries_of(alloc, value)?.ok_or(SetupFault::Shape)?;
     within_limits(alloc, &entries)
 }

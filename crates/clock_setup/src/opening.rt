@@ -122,9 +122,7 @@ fn opening_in(alloc: Global, value: &Value) -> Result<Opening, OpeningFault>
     ensures err { IfErr result (IsRefusal OpeningFault.NoMemory (opening_of (view value.now))) }
     ensures held { IfErr result (λ fault. fault ≢ OpeningFault.Setup SetupFault.NoMemory) }
 {
-    let Some(entries) = opening_entries(alloc, value)? else {
-        return Err(OpeningFault::Shape);
-    };
+    let entries = opening_entries(alloc, value)?.ok_or(OpeningFault::Shape)?;
     let setup = setup_of_opening(alloc, entries.setup)?;
     compared(alloc, setup, entries.demands, entries.increment)
 }

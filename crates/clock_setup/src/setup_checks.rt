@@ -111,9 +111,7 @@ impl<'v> LimitedEntry for ProductEntry<'v> {
         if !is_within(1, self.supply, self.cap) {
             return Err(SetupFault::Range(Place::Cap(i)));
         }
-        let Some(opening) = Price::new(self.opening) else {
-            return Err(SetupFault::Range(Place::Opening(i)));
-        };
+        let opening = Price::new(self.opening).ok_or(SetupFault::Range(Place::Opening(i)))?;
         if !is_within(1, MOST_GRANULE, self.granule) {
             return Err(SetupFault::Range(Place::Granule(i)));
         }

@@ -110,10 +110,7 @@ fn products<'v>(alloc: Global, scan: &mut Scan<'v>) -> Result<VersionedProducts<
     let mut entries = Items::new(alloc);
     'items: while !scan.closes_array() {
         let next = FoundProduct::part(alloc, scan)?;
-        let Some(common) = common_version(version, next.version) else {
-            return Err(ScanStop::Unusual);
-        };
-        version = common;
+        version = common_version(version, next.version).ok_or(ScanStop::Unusual)?;
         entries.push(next.entry)?;
     }
     Ok(VersionedProducts { version, entries })
