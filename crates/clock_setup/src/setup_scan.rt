@@ -204,23 +204,16 @@ impl<'v> ScannedMembers<'v> for FoundSetup<'v> {
     fn read(&mut self, alloc: Global, key: &[u8], scan: &mut Scan<'v>) -> Result<(), ScanStop> {
         if is_key(key, "products") {
             self.products = Some(products(alloc, scan)?);
-            return Ok(());
-        }
-        if is_key(key, "bidders") {
+        } else if is_key(key, "bidders") {
             self.bidders = Some(scanned_parts::<FoundBidder>(alloc, scan, 0)?);
-            return Ok(());
-        }
-        if is_key(key, "operator") {
+        } else if is_key(key, "operator") {
             self.operator = Some(scan.text()?);
-            return Ok(());
-        }
-        let number = Some(scan.number()?);
-        if is_key(key, "version") {
-            self.version = number;
+        } else if is_key(key, "version") {
+            self.version = Some(scan.number()?);
         } else if is_key(key, "requirement") {
-            self.requirement = number;
+            self.requirement = Some(scan.number()?);
         } else if is_key(key, "limit") {
-            self.limit = number;
+            self.limit = Some(scan.number()?);
         } else {
             return Err(ScanStop::Unusual);
         }
