@@ -91,11 +91,7 @@ impl<'v> ScannedMembers<'v> for FoundProduct<'v> {
 fn common_version(so_far: u64, next: u64) -> Option<u64>
     ensures { IfSome result (λ version. (version ≡ next) × ((so_far ≡ 0) ⊎ (so_far ≡ next))) }
 {
-    if so_far == 0 || so_far == next {
-        Some(next)
-    } else {
-        None
-    }
+    (so_far == 0 || so_far == next).then_some(next)
 }
 
 /// Products whose keys are those of one version.
