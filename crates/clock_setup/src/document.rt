@@ -111,12 +111,10 @@ pub fn read_setup(alloc: Global, bytes: &[u8]) -> Result<Setup, SetupFault>
 pub fn setup_of(alloc: Global, value: &Value) -> Result<Setup, SetupFault>
     ensures ok { IfOk result (λ setup. document.setup_of (view value.now) ≡ Ok setup) }
     ensures err { IfErr result (IsRefusal SetupFault.NoMemory (document.setup_of (view value.now))) }
-
-    // The checks refuse nothing that is within the limits: with the limits that the type of
-    // set-ups keeps, a document is accepted exactly where its set-up is within them.
+    // The checks refuse nothing that is within the limits: with the limits that the type of set-ups keeps, a document
+    // is accepted exactly where its set-up is within them.
     ensures accepts { (setup : SetupFields) → number_at (codes "version") (view value.now) ≡ Some setup.version
-        → fields_of (view value.now) ≡ Some setup → IsSetup setup
-        → document.setup_of (view value.now) ≡ Ok setup }
+        → fields_of (view value.now) ≡ Some setup → IsSetup setup → document.setup_of (view value.now) ≡ Ok setup }
 {
     let version = number_at(value, "version").ok_or(SetupFault::Shape)?;
     if !is_within(1, LATEST_VERSION, version) {

@@ -61,7 +61,6 @@ pub enum OpeningFault {
 }
 
 impl From<NoMemory> for OpeningFault {
-    ghost use Rattle.std.specs.Prelude.{◌≡◌};
     ghost use Rattle.clock_setup.specs.declared.opening.OpeningFault.TheVariants as faults;
 
     ghost from_gives = { λ _ fault. fault ≡ faults.NoMemory };
@@ -137,8 +136,7 @@ pub fn read_opening(alloc: Global, bytes: &[u8]) -> Result<Opening, OpeningFault
     ensures grid { IfOk result
         (λ opening. IsGrid (length opening.setup.bidders) (length opening.setup.products) opening.grid) }
     ensures increment { IfOk result (λ opening. IsWithin least_increment most_increment opening.increment) }
-    ensures err { IfErr result
-        (IsRefusal OpeningFault.NoMemory (document_opening bytes.now)) }
+    ensures err { IfErr result (IsRefusal OpeningFault.NoMemory (document_opening bytes.now)) }
     ensures held { IfErr result (λ fault. fault ≢ OpeningFault.Setup SetupFault.NoMemory) }
 {
     if let Some(found) = scanned_text::<FoundOpening>(alloc, bytes)? {
