@@ -9,8 +9,7 @@ ghost use Rattle.clock_setup.specs.inside.SetupDocument.{distinct_checks, head_c
 
 use crate::entries::SetupEntries;
 use crate::fault::{Place, SetupFault};
-use crate::names::{has_distinct_names, has_distinct_tokens};
-use crate::setup_checks::{each_within, is_token};
+use crate::setup_checks::{each_within, has_distinct_names, has_distinct_tokens, is_token};
 use crate::setup_scan::FoundSetup;
 use crate::setup_tree::entries_of;
 use clock_device::Text;
