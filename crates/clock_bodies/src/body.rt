@@ -8,7 +8,7 @@ ghost use Rattle.clock_bodies.specs.Bodies.{meant_by};
 use crate::body_fault::BodyFault;
 use clock_device::NoMemory;
 use clock_json::tree::read_value;
-use clock_json::{PartReader, ScanStop, scanned_text};
+use clock_json::{PartReader, scanned_text};
 use serde_json::Value;
 use std::alloc::Global;
 
@@ -32,16 +32,14 @@ where
     requires { R.levels ≤ 127 }
     ensures ok { ((body : _) → R.Part.meaning (R.shown body) ≡ Some body)
         → IfOk result (λ body. meant_by R.Part.meaning (json bytes.now) ≡ Ok body) }
-    ensures err { IfErr result (λ fault. fault ≢ BodyFault.NoMemory → meant_by R.Part.meaning (json bytes.now) ≡ Err fault) }
+    ensures err { IfErr result (λ fault. fault ≢ BodyFault.NoMemory
+        → meant_by R.Part.meaning (json bytes.now) ≡ Err fault) }
 {
-    match scanned_text::<R>(alloc, bytes) {
-        Ok(body) => Ok(body),
-        Err(ScanStop::NoMemory) => Err(BodyFault::NoMemory),
-        Err(ScanStop::Unusual) => {
-            let value = read_value(alloc, bytes)?.ok_or(BodyFault::NotJson)?;
-            let body = <R::Part as Body>::of_value(alloc, &value);
-            drop(value);
-            body?.ok_or(BodyFault::Shape)
-        }
+    if let Some(body) = scanned_text::<R>(alloc, bytes)? {
+        return Ok(body);
     }
+    let value = read_value(alloc, bytes)?.ok_or(BodyFault::NotJson)?;
+    let body = <R::Part as Body>::of_value(alloc, &value);
+    drop(value);
+    body?.ok_or(BodyFault::Shape)
 }

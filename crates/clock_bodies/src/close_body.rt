@@ -67,13 +67,11 @@ impl Body for CloseBody {
     ghost meaning = { bodies.close_of };
 
     fn of_value(alloc: Global, value: &Value) -> Result<Option<CloseBody>, NoMemory> {
-        let Some(round) = number_at(value, "round") else {
-            return Ok(None);
-        };
-        let Some(increments) = increments_of(alloc, value)? else {
-            return Ok(None);
-        };
-        let Some(ties) = each_at(alloc, value, "ties", &TieReader)? else {
+        let (Some(round), Some(increments), Some(ties)) = (
+            number_at(value, "round"),
+            increments_of(alloc, value)?,
+            each_at(alloc, value, "ties", &TieReader)?,
+        ) else {
             return Ok(None);
         };
         Ok(has_members(value, 3).then_some(CloseBody {

@@ -1,5 +1,5 @@
 //! Parts of one kind: lists of them, and whole texts.
-ghost use Rattle.std.specs.Prelude.{◌≡◌, ℕ, suc, ◌<◌, ◌≤◌, length, map, Some, IfOk, OnOk};
+ghost use Rattle.std.specs.Prelude.{◌≡◌, ℕ, suc, ◌<◌, ◌≤◌, length, map, Some, IfSome, OnSome, IfOk, OnOk};
 ghost use Rattle.std.specs.Str.{IsUtf8};
 ghost use Rattle.serde_json.specs.Data.{Data, array};
 ghost use Rattle.serde_json.specs.Read.{read};
@@ -9,7 +9,7 @@ use crate::room::with_room;
 use crate::scan::Scan;
 use crate::stop::ScanStop;
 use crate::words::is_text;
-use clock_device::Items;
+use clock_device::{Items, NoMemory};
 use std::alloc::Global;
 
 /// How a part of a text is read, where it has the shape that is wanted.
@@ -50,22 +50,22 @@ pub fn scanned_parts<'v, R: PartReader<'v>>(
     Ok(parts)
 }
 
-/// The part that a whole text is.
+/// The part that a whole text is, or none where it has not the shape that is wanted.
 pub fn scanned_text<'v, R: PartReader<'v>>(
     alloc: Global,
     bytes: &'v [u8],
-) -> Result<R::Part, ScanStop>
+) -> Result<Option<R::Part>, NoMemory>
     requires { R.levels ≤ 127 }
-    ensures text { IfOk result (λ _. IsUtf8 bytes.now) }
-    ensures value { IfOk result (λ part. read bytes.now ≡ Some (R.shown part)) }
+    ensures text { IfOk result (λ part. OnSome part (IsUtf8 bytes.now)) }
+    ensures value { IfOk result (λ part. IfSome part (λ part. read bytes.now ≡ Some (R.shown part))) }
 {
     if !is_text(bytes) {
-        return Err(ScanStop::Unusual);
+        return Ok(None);
     }
     let mut scan = Scan::new(bytes);
-    let part = R::part(alloc, &mut scan)?;
-    if !scan.ends() {
-        return Err(ScanStop::Unusual);
+    match R::part(alloc, &mut scan) {
+        Ok(part) if scan.ends() => Ok(Some(part)),
+        Err(ScanStop::NoMemory) => Err(NoMemory),
+        _ => Ok(None),
     }
-    Ok(part)
 }

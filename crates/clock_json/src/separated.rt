@@ -1,6 +1,5 @@
 //! Items of a list that stand one behind the other with nothing between them but a comma: numbers, and empty lists.
-ghost use Rattle.std.specs.Prelude.{◌≡◌, ◌+◌, ◌≤◌, ◌<◌, ◌^◌, ◌∷◌, ◌++◌, [], ℕ, List, length, drop, map, replicate};
-ghost use Rattle.std.specs.Prelude.{decimal, IsTrue, IfSome, IfOk};
+ghost use Rattle.std.specs.Prelude.{◌≡◌, ◌+◌, ◌≤◌, ◌<◌, ◌^◌, ◌∷◌, ◌++◌, [], ℕ, List, length, drop, map, replicate, decimal, IsTrue, IfSome, IfOk};
 ghost use Rattle.json.specs.Token.{begin_array, end_array, number};
 ghost use Rattle.json.specs.Lex.{lex, between, token, comma};
 ghost use Rattle.clock_json.specs.Left.{left};

@@ -5,7 +5,6 @@ ghost use Rattle.std.specs.Prelude.{◌≡◌, Option, option_and_then, option_m
 ghost use Rattle.serde_json.specs.View.{view, items_view};
 ghost use Rattle.clock_json.specs.Tree as members;
 ghost use Rattle.serde_json.specs.Data.{Data};
-ghost use Rattle.clock_json.specs.Tree.{each, number_from, row_of, json};
 
 use crate::words::is_blank;
 use clock_device::{Items, NoMemory};
@@ -28,8 +27,7 @@ pub fn text_at<'v>(value: &'v Value, key: &str) -> Option<&'v str>
 
 /// The items of a list under a key.
 pub fn items_at<'v>(value: &'v Value, key: &str) -> Option<&'v [Value]>
-    ensures { option_map (λ items. items_view items.now) result
-        ≡ members.items_at key.now (view value.now) }
+    ensures { option_map (λ items. items_view items.now) result ≡ members.items_at key.now (view value.now) }
 {
     value
         .get(key)
@@ -66,7 +64,7 @@ pub fn each_of<'v, R: ValueReader<'v>>(
     reader: &R,
     items: &'v [Value],
 ) -> Result<Option<Items<R::Part>>, NoMemory>
-    ensures { IfOk result (λ parts. parts ≡ each (R.meaning reader.now) (items_view items.now)) }
+    ensures { IfOk result (λ parts. parts ≡ members.each (R.meaning reader.now) (items_view items.now)) }
 {
     let mut parts = Items::new(alloc);
     for item in items {
@@ -86,7 +84,7 @@ pub fn each_at<'v, R: ValueReader<'v>>(
     reader: &R,
 ) -> Result<Option<Items<R::Part>>, NoMemory>
     ensures { IfOk result (λ parts. parts
-        ≡ option_and_then (each (R.meaning reader.now)) (members.items_at key.now (view value.now))) }
+        ≡ option_and_then (members.each (R.meaning reader.now)) (members.items_at key.now (view value.now))) }
 {
     match items_at(value, key) {
         Some(items) => each_of(alloc, reader, items),
@@ -101,7 +99,7 @@ struct NumberReader;
 impl<'v> ValueReader<'v> for NumberReader {
     type Part = u64;
 
-    ghost meaning = { λ _. number_from };
+    ghost meaning = { λ _. members.number_from };
 
     fn part_of(&self, _alloc: Global, value: &'v Value) -> Result<Option<u64>, NoMemory> {
         Ok(value.as_u64())
@@ -110,7 +108,7 @@ impl<'v> ValueReader<'v> for NumberReader {
 
 /// The numbers of a list, or none where an item is no whole number from 0 to 2^64 - 1.
 pub fn numbers_of(alloc: Global, items: &[Value]) -> Result<Option<Items<u64>>, NoMemory>
-    ensures { IfOk result (λ numbers. numbers ≡ each number_from (items_view items.now)) }
+    ensures { IfOk result (λ numbers. numbers ≡ members.each members.number_from (items_view items.now)) }
 {
     each_of(alloc, &NumberReader, items)
 }
@@ -123,7 +121,7 @@ pub struct RowReader;
 impl<'v> ValueReader<'v> for RowReader {
     type Part = Items<u64>;
 
-    ghost meaning = { λ _. row_of };
+    ghost meaning = { λ _. members.row_of };
 
     fn part_of(&self, alloc: Global, value: &'v Value) -> Result<Option<Items<u64>>, NoMemory> {
         match value.as_array() {
@@ -136,7 +134,7 @@ impl<'v> ValueReader<'v> for RowReader {
 /// The JSON value (RFC 8259) that the bytes are, or none.
 #[tactic(auto, unfolding(crate::specs::Tree::json))]
 pub fn read_value(alloc: Global, bytes: &[u8]) -> Result<Option<Value>, NoMemory>
-    ensures { IfOk result (λ value. option_map view value ≡ json bytes.now) }
+    ensures { IfOk result (λ value. option_map view value ≡ members.json bytes.now) }
 {
     // White space alone needs no reader, which would look for the place of an error that nobody is shown.
     if is_blank(bytes) {

@@ -1,6 +1,5 @@
 //! Bytes of a text as lexemes: white space, commas, quoted words and numbers.
-ghost use Rattle.std.specs.Prelude.{◌≡◌, ℕ, List, ◌∷◌, [], ◌<◌, ◌^◌, ◌||◌, true, false, None, IsTrue, drop, length};
-ghost use Rattle.std.specs.Prelude.{get_or, decimal, IfSome, IfOk};
+ghost use Rattle.std.specs.Prelude.{◌≡◌, ℕ, List, ◌∷◌, [], ◌<◌, ◌^◌, ◌||◌, true, false, None, IsTrue, drop, length, get_or, decimal, IfSome, IfOk};
 ghost use Rattle.std.specs.Str.{IsUtf8};
 ghost use Rattle.json.specs.Token.{null, number, string};
 ghost use Rattle.json.specs.Lex.{lex, between, token, class, begins_colon, after_value as past_value, punctuate};
@@ -81,8 +80,7 @@ pub fn is_key(key: &[u8], word: &str) -> bool
 /// Passes the comma that may follow a value.
 #[inline(always)]
 pub(crate) fn after_value(bytes: &[u8], start: usize) -> (Expected, usize)
-    ensures { left result.0 (drop result.1 bytes.now)
-        ≡ punctuate past_value (lex between (drop start bytes.now)) }
+    ensures { left result.0 (drop result.1 bytes.now) ≡ punctuate past_value (lex between (drop start bytes.now)) }
 {
     let at = after_space(bytes, start);
     if byte_at(bytes, at) == b',' {

@@ -13,8 +13,8 @@ use crate::replay::Replay;
 use crate::replay_scan::FoundReplay;
 use crate::replay_tree::ScriptReader;
 use crate::script::Scripts;
+use clock_json::scanned_text;
 use clock_json::tree::{each_at, has_members, read_value};
-use clock_json::{ScanStop, scanned_text};
 use clock_setup::{Setup, SetupFault, setup_of};
 use serde_json::Value;
 use std::alloc::Global;
@@ -74,12 +74,9 @@ pub fn read_replay(alloc: Global, bytes: &[u8]) -> Result<Replay, ScriptFault>
     ensures err { IfErr result (IsRefusal ScriptFault.NoMemory (document_replay bytes.now)) }
     ensures held { IfErr result (λ fault. fault ≢ ScriptFault.Setup SetupFault.NoMemory) }
 {
-    match scanned_text::<FoundReplay>(alloc, bytes) {
-        Ok(found) => judged(found.held.setup, found.scripts, found.closings),
-        Err(ScanStop::NoMemory) => Err(ScriptFault::NoMemory),
-        Err(ScanStop::Unusual) => {
-            let value = read_value(alloc, bytes)?.ok_or(ScriptFault::NotJson)?;
-            replay_in(alloc, &value)
-        }
+    if let Some(found) = scanned_text::<FoundReplay>(alloc, bytes)? {
+        return judged(found.held.setup, found.scripts, found.closings);
     }
+    let value = read_value(alloc, bytes)?.ok_or(ScriptFault::NotJson)?;
+    replay_in(alloc, &value)
 }

@@ -9,13 +9,12 @@ ghost use Rattle.clock_setup.specs.inside.SetupDocument.{distinct_checks, head_c
 
 use crate::entries::SetupEntries;
 use crate::fault::{Place, SetupFault};
-use crate::names::{has_distinct_names, has_distinct_tokens};
-use crate::setup_checks::{each_within, is_token};
+use crate::setup_checks::{each_within, has_distinct_names, has_distinct_tokens, is_token};
 use crate::setup_scan::FoundSetup;
 use crate::setup_tree::entries_of;
 use clock_device::Text;
+use clock_json::scanned_text;
 use clock_json::tree::{number_at, read_value};
-use clock_json::{ScanStop, scanned_text};
 use clock_terms::{
     LATEST_VERSION, LEAST_LIMIT, LEAST_REQUIREMENT, MOST_BIDDERS, MOST_LIMIT, MOST_PRODUCTS,
     MOST_REQUIREMENT, Setup, is_within,
@@ -98,16 +97,11 @@ pub fn read_setup(alloc: Global, bytes: &[u8]) -> Result<Setup, SetupFault>
     ensures ok { IfOk result (λ setup. document.document_setup bytes.now ≡ Ok setup) }
     ensures err { IfErr result (IsRefusal SetupFault.NoMemory (document.document_setup bytes.now)) }
 {
-    match scanned_text::<FoundSetup>(alloc, bytes) {
-        Ok(scanned) => within_limits(alloc, &scanned.entries),
-        Err(ScanStop::Unusual) => {
-            let Some(value) = read_value(alloc, bytes)? else {
-                return Err(SetupFault::NotJson);
-            };
-            setup_of(alloc, &value)
-        }
-        Err(ScanStop::NoMemory) => Err(SetupFault::NoMemory),
+    if let Some(scanned) = scanned_text::<FoundSetup>(alloc, bytes)? {
+        return within_limits(alloc, &scanned.entries);
     }
+    let value = read_value(alloc, bytes)?.ok_or(SetupFault::NotJson)?;
+    setup_of(alloc, &value)
 }
 
 /// The set-up that a JSON value means, or its first fault: what [`read_setup`] answers for a text that reads as this
@@ -116,21 +110,15 @@ pub fn read_setup(alloc: Global, bytes: &[u8]) -> Result<Setup, SetupFault>
 pub fn setup_of(alloc: Global, value: &Value) -> Result<Setup, SetupFault>
     ensures ok { IfOk result (λ setup. document.setup_of (view value.now) ≡ Ok setup) }
     ensures err { IfErr result (IsRefusal SetupFault.NoMemory (document.setup_of (view value.now))) }
-
-    // The checks refuse nothing that is within the limits: with the limits that the type of
-    // set-ups keeps, a document is accepted exactly where its set-up is within them.
+    // The checks refuse nothing that is within the limits: with the limits that the type of set-ups keeps, a document
+    // is accepted exactly where its set-up is within them.
     ensures accepts { (setup : SetupFields) → number_at (codes "version") (view value.now) ≡ Some setup.version
-        → fields_of (view value.now) ≡ Some setup → IsSetup setup
-        → document.setup_of (view value.now) ≡ Ok setup }
+        → fields_of (view value.now) ≡ Some setup → IsSetup setup → document.setup_of (view value.now) ≡ Ok setup }
 {
-    let Some(version) = number_at(value, "version") else {
-        return Err(SetupFault::Shape);
-    };
+    let version = number_at(value, "version").ok_or(SetupFault::Shape)?;
     if !is_within(1, LATEST_VERSION, version) {
         return Err(SetupFault::Version);
     }
-    let Some(entries) = entries_of(alloc, value)? else {
-        return Err(SetupFault::Shape);
-    };
+    let entries = entries_of(alloc, value)?.ok_or(SetupFault::Shape)?;
     within_limits(alloc, &entries)
 }

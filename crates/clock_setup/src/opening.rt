@@ -1,21 +1,21 @@
-ghost use Rattle.std.specs.Prelude.{◌≡◌, ◌≢◌, length, Ok, IfOk, IfErr};
+ghost use Rattle.std.specs.Prelude.{◌≡◌, ◌≢◌, ◌≤◌, None, Some, Ok, length, zip, All, IfOk, IfErr, OnOk};
 ghost use Rattle.serde_json.specs.View.{view};
 ghost use Rattle.clock_terms.specs.Demands.{IsGrid};
-ghost use Rattle.clock_terms.specs.Faults.{IsRefusal};
-ghost use Rattle.clock_terms.specs.Limits.{IsWithin, least_increment, most_increment};
-ghost use Rattle.clock_setup.specs.OpeningDocument.{document_opening, opening_of, opening_with, in_opening};
+ghost use Rattle.clock_terms.specs.Eligibility.{activity};
+ghost use Rattle.clock_terms.specs.Faults.{IsFirstFault, IsRefusal, first_fault, in_turn};
+ghost use Rattle.clock_terms.specs.Limits.{IsProduct, IsRow, IsWithin, most_products, least_increment, most_increment};
+ghost use Rattle.clock_setup.specs.OpeningDocument.{document_opening, opening_of, opening_with, in_opening, has_counts as rows_fit, row_checks, demand_checks};
 ghost use Rattle.clock_setup.specs.SetupDocument as document;
 
 use crate::document::setup_of;
 use crate::fault::SetupFault;
-use crate::opening_checks::{grid_of_rows, has_counts};
 use crate::opening_scan::FoundOpening;
 use crate::opening_tree::opening_entries;
 use clock_device::NoMemory;
 use clock_json::tree::read_value;
-use clock_json::{FlatRows, ScanStop, scanned_text};
+use clock_json::{FlatRows, push, scanned_text, with_room};
 use clock_money::{LEAST_INCREMENT, MOST_INCREMENT};
-use clock_terms::{Grid, Setup, is_within};
+use clock_terms::{Bidder, Grid, Product, Row, Setup, is_within};
 use serde_json::Value;
 use std::alloc::Global;
 use thiserror::Error;
@@ -61,7 +61,6 @@ pub enum OpeningFault {
 }
 
 impl From<NoMemory> for OpeningFault {
-    ghost use Rattle.std.specs.Prelude.{◌≡◌};
     ghost use Rattle.clock_setup.specs.declared.opening.OpeningFault.TheVariants as faults;
 
     ghost from_gives = { λ _ fault. fault ≡ faults.NoMemory };
@@ -69,6 +68,85 @@ impl From<NoMemory> for OpeningFault {
     fn from(_refused: NoMemory) -> OpeningFault {
         OpeningFault::NoMemory
     }
+}
+
+/// Whether there is a row for each bidder, and in each row a number for each product.
+fn has_counts(setup: &Setup, demands: &FlatRows) -> bool
+    ensures { result ≡ rows_fit setup.now demands.now }
+{
+    demands.count() == setup.bidders.as_slice().len()
+        && demands.has_lengths(setup.products.as_slice().len())
+}
+
+/// The bidding units that a row of demands takes, or the least product of which a bidder demands more than its cap.
+/// Each demand is looked at once, those that are 0 as well, since a branch for them is mostly guessed wrong where many
+/// are held.
+fn units_within(number: u64, products: &[Product], row: &[u64]) -> Result<u64, OpeningFault>
+    requires limits { All IsProduct products.now }
+    requires few { length products.now ≤ most_products }
+    requires row { length row.now ≡ length products.now }
+    ensures units { IfOk result (λ units. units ≡ activity products.now row.now) }
+    ensures capped { IfOk result (λ _. IsRow products.now row.now) }
+    ensures passed { IfOk result (λ _.
+        first_fault (in_turn (demand_checks number) 0 (zip products.now row.now)) ≡ None) }
+    ensures fault { IfErr result (λ fault.
+        first_fault (in_turn (demand_checks number) 0 (zip products.now row.now)) ≡ Some fault) }
+    ensures held { IfErr result (λ fault. fault ≢ OpeningFault.Setup SetupFault.NoMemory) }
+{
+    let mut units = 0u64;
+    for (product, demand) in row.iter().enumerate() {
+        if *demand > products[product].cap {
+            return Err(OpeningFault::Demand(number, product as u64));
+        }
+        units += products[product].units * *demand;
+    }
+    Ok(units)
+}
+
+/// A bidder's row of demands, or the first fault that it has.
+fn row_within(
+    alloc: Global,
+    number: u64,
+    setup: &Setup,
+    bidder: &Bidder,
+    demands: &[u64],
+) -> Result<Row, OpeningFault>
+    requires { length demands.now ≡ length setup.now.products }
+    ensures same { IfOk result (λ row. row ≡ demands.now) }
+    ensures row { IfOk result (IsRow setup.now.products) }
+    ensures ok { OnOk result (first_fault (row_checks setup.now.products number (bidder.now, demands.now)) ≡ None) }
+    ensures err { IfErr result (IsFirstFault OpeningFault.NoMemory
+        (first_fault (row_checks setup.now.products number (bidder.now, demands.now)))) }
+    ensures held { IfErr result (λ fault. fault ≢ OpeningFault.Setup SetupFault.NoMemory) }
+{
+    let units = units_within(number, setup.products.as_slice(), demands)?;
+    if units > bidder.eligibility {
+        return Err(OpeningFault::Activity(number));
+    }
+    Ok(Row::of(alloc, setup, demands)?)
+}
+
+/// The grid of the bidders' rows of demands, or the first fault that one has.
+fn grid_of_rows(alloc: Global, setup: &Setup, demands: &FlatRows) -> Result<Grid, OpeningFault>
+    requires { IsGrid (length setup.now.bidders) (length setup.now.products) demands.now }
+    ensures same { IfOk result (λ grid. grid ≡ demands.now) }
+    ensures ok { IfOk result (λ _.
+        first_fault (in_turn (row_checks setup.now.products) 0 (zip setup.now.bidders demands.now)) ≡ None) }
+    ensures err { IfErr result (IsFirstFault OpeningFault.NoMemory
+        (first_fault (in_turn (row_checks setup.now.products) 0 (zip setup.now.bidders demands.now)))) }
+    ensures held { IfErr result (λ fault. fault ≢ OpeningFault.Setup SetupFault.NoMemory) }
+{
+    let bidders = setup.bidders.as_slice();
+    let products = setup.products.as_slice();
+    let mut numbers = with_room(alloc, products.len())?;
+    let mut rows = with_room(alloc, bidders.len())?;
+    for (number, bidder) in bidders.iter().enumerate() {
+        demands.read_row(number, &mut numbers)?;
+        let row = row_within(alloc, number as u64, setup, bidder, numbers.as_slice())?;
+        push(&mut rows, row)?;
+    }
+    drop(numbers);
+    Ok(Grid::of_rows(alloc, setup, rows)?)
 }
 
 /// The set-up under a document's key, its faults as those of the document.
@@ -122,9 +200,7 @@ fn opening_in(alloc: Global, value: &Value) -> Result<Opening, OpeningFault>
     ensures err { IfErr result (IsRefusal OpeningFault.NoMemory (opening_of (view value.now))) }
     ensures held { IfErr result (λ fault. fault ≢ OpeningFault.Setup SetupFault.NoMemory) }
 {
-    let Some(entries) = opening_entries(alloc, value)? else {
-        return Err(OpeningFault::Shape);
-    };
+    let entries = opening_entries(alloc, value)?.ok_or(OpeningFault::Shape)?;
     let setup = setup_of_opening(alloc, entries.setup)?;
     compared(alloc, setup, entries.demands, entries.increment)
 }
@@ -139,18 +215,12 @@ pub fn read_opening(alloc: Global, bytes: &[u8]) -> Result<Opening, OpeningFault
     ensures grid { IfOk result
         (λ opening. IsGrid (length opening.setup.bidders) (length opening.setup.products) opening.grid) }
     ensures increment { IfOk result (λ opening. IsWithin least_increment most_increment opening.increment) }
-    ensures err { IfErr result
-        (IsRefusal OpeningFault.NoMemory (document_opening bytes.now)) }
+    ensures err { IfErr result (IsRefusal OpeningFault.NoMemory (document_opening bytes.now)) }
     ensures held { IfErr result (λ fault. fault ≢ OpeningFault.Setup SetupFault.NoMemory) }
 {
-    match scanned_text::<FoundOpening>(alloc, bytes) {
-        Ok(found) => compared(alloc, found.held.setup, found.demands, found.increment),
-        Err(ScanStop::NoMemory) => Err(OpeningFault::NoMemory),
-        Err(ScanStop::Unusual) => {
-            let Some(value) = read_value(alloc, bytes)? else {
-                return Err(OpeningFault::NotJson);
-            };
-            opening_in(alloc, &value)
-        }
+    if let Some(found) = scanned_text::<FoundOpening>(alloc, bytes)? {
+        return compared(alloc, found.held.setup, found.demands, found.increment);
     }
+    let value = read_value(alloc, bytes)?.ok_or(OpeningFault::NotJson)?;
+    opening_in(alloc, &value)
 }

@@ -1,4 +1,4 @@
-ghost use Rattle.std.specs.Prelude.{◌≡◌, ℕ, List, Bool, map, None, IfOk, IfErr};
+ghost use Rattle.std.specs.Prelude.{◌≡◌, ◌∷◌, ℕ, List, Bool, map, None, IfOk, IfErr};
 ghost use Rattle.std.specs.List.{list_all};
 ghost use Rattle.clock_terms.specs.Limits as limits;
 ghost use Rattle.clock_terms.specs.Faults.{IsFirstFault, first_fault};
@@ -8,13 +8,14 @@ ghost use Rattle.clock_setup.specs.inside.SetupDocument.{counted_checks};
 
 use crate::entries::{BidderEntry, ProductEntry};
 use crate::fault::{Place, SetupFault};
-use clock_device::{Items, Text};
+use clock_device::{Items, NoMemory, Text};
 use clock_money::{MOST_GRANULE, Price};
 use clock_terms::{
     Bidder, LONGEST_NAME, LONGEST_TOKEN, MOST_ELIGIBILITY, MOST_SUPPLY, MOST_UNITS, Product,
     SHORTEST_TOKEN, is_within,
 };
 use std::alloc::Global;
+use std::collections::HashSet;
 
 /// An ASCII letter or digit.
 fn is_letter_or_digit(byte: u8) -> bool
@@ -111,9 +112,7 @@ impl<'v> LimitedEntry for ProductEntry<'v> {
         if !is_within(1, self.supply, self.cap) {
             return Err(SetupFault::Range(Place::Cap(i)));
         }
-        let Some(opening) = Price::new(self.opening) else {
-            return Err(SetupFault::Range(Place::Opening(i)));
-        };
+        let opening = Price::new(self.opening).ok_or(SetupFault::Range(Place::Opening(i)))?;
         if !is_within(1, MOST_GRANULE, self.granule) {
             return Err(SetupFault::Range(Place::Granule(i)));
         }
@@ -183,4 +182,45 @@ pub(crate) fn each_within<E: LimitedEntry>(
         wholes.push(whole);
     }
     Ok(wholes.into_items())
+}
+
+/// Whether no two texts are equal.
+fn is_distinct(alloc: Global, texts: &[&str]) -> Result<bool, NoMemory>
+    ensures { IfOk result (λ distinct. distinct ≡ limits.is_distinct (map (λ text. text.now) texts.now)) }
+{
+    // Collecting asks again for less where there is no room for all, so the room is made here.
+    let mut seen = HashSet::with_capacity(alloc, texts.len())?;
+    seen.extend(texts.iter().copied())?;
+    Ok(seen.len() == texts.len())
+}
+
+/// Whether no two entries have one name.
+pub(crate) fn has_distinct_names<E: LimitedEntry>(
+    alloc: Global,
+    entries: &[E],
+) -> Result<bool, NoMemory>
+    ensures { IfOk result (λ distinct. distinct ≡ limits.is_distinct (map E.text entries.now)) }
+{
+    let mut names = Items::with_capacity(alloc, entries.len())?;
+    for entry in entries {
+        names.push(entry.name());
+    }
+    is_distinct(alloc, names.as_slice())
+}
+
+/// Whether no two bidders, and no bidder and the operator, have one token.
+pub(crate) fn has_distinct_tokens(
+    alloc: Global,
+    operator: &str,
+    bidders: &[BidderEntry<'_>],
+) -> Result<bool, NoMemory>
+    ensures { IfOk result (λ distinct. distinct
+        ≡ limits.is_distinct (operator.now ∷ map (λ bidder. bidder.token) bidders.now)) }
+{
+    let mut tokens = Items::with_capacity(alloc, bidders.len() + 1)?;
+    tokens.push(operator);
+    for bidder in bidders {
+        tokens.push(bidder.token);
+    }
+    is_distinct(alloc, tokens.as_slice())
 }

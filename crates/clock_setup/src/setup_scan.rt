@@ -91,11 +91,7 @@ impl<'v> ScannedMembers<'v> for FoundProduct<'v> {
 fn common_version(so_far: u64, next: u64) -> Option<u64>
     ensures { IfSome result (λ version. (version ≡ next) × ((so_far ≡ 0) ⊎ (so_far ≡ next))) }
 {
-    if so_far == 0 || so_far == next {
-        Some(next)
-    } else {
-        None
-    }
+    (so_far == 0 || so_far == next).then_some(next)
 }
 
 /// Products whose keys are those of one version.
@@ -110,10 +106,7 @@ fn products<'v>(alloc: Global, scan: &mut Scan<'v>) -> Result<VersionedProducts<
     let mut entries = Items::new(alloc);
     'items: while !scan.closes_array() {
         let next = FoundProduct::part(alloc, scan)?;
-        let Some(common) = common_version(version, next.version) else {
-            return Err(ScanStop::Unusual);
-        };
-        version = common;
+        version = common_version(version, next.version).ok_or(ScanStop::Unusual)?;
         entries.push(next.entry)?;
     }
     Ok(VersionedProducts { version, entries })
@@ -207,23 +200,16 @@ impl<'v> ScannedMembers<'v> for FoundSetup<'v> {
     fn read(&mut self, alloc: Global, key: &[u8], scan: &mut Scan<'v>) -> Result<(), ScanStop> {
         if is_key(key, "products") {
             self.products = Some(products(alloc, scan)?);
-            return Ok(());
-        }
-        if is_key(key, "bidders") {
+        } else if is_key(key, "bidders") {
             self.bidders = Some(scanned_parts::<FoundBidder>(alloc, scan, 0)?);
-            return Ok(());
-        }
-        if is_key(key, "operator") {
+        } else if is_key(key, "operator") {
             self.operator = Some(scan.text()?);
-            return Ok(());
-        }
-        let number = Some(scan.number()?);
-        if is_key(key, "version") {
-            self.version = number;
+        } else if is_key(key, "version") {
+            self.version = Some(scan.number()?);
         } else if is_key(key, "requirement") {
-            self.requirement = number;
+            self.requirement = Some(scan.number()?);
         } else if is_key(key, "limit") {
-            self.limit = number;
+            self.limit = Some(scan.number()?);
         } else {
             return Err(ScanStop::Unusual);
         }

@@ -2,7 +2,6 @@ ghost use Rattle.std.specs.Prelude.{◌≡◌, ◌≤◌, IfOk};
 ghost use Rattle.serde_json.specs.View.{view};
 ghost use Rattle.clock_json.specs.Tree as members;
 ghost use Rattle.clock_setup.specs.SetupShape as shape;
-ghost use Rattle.clock_setup.specs.SetupShape.{product_of, bidder_of, fields_of};
 
 use crate::entries::{BidderEntry, ProductEntry, SetupEntries};
 use clock_device::NoMemory;
@@ -44,7 +43,7 @@ struct ProductReader {
 impl<'v> ValueReader<'v> for ProductReader {
     type Part = ProductEntry<'v>;
 
-    ghost meaning = { λ reader. product_of reader.version };
+    ghost meaning = { λ reader. shape.product_of reader.version };
 
     fn part_of(
         &self,
@@ -83,7 +82,7 @@ struct BidderReader;
 impl<'v> ValueReader<'v> for BidderReader {
     type Part = BidderEntry<'v>;
 
-    ghost meaning = { λ _. bidder_of };
+    ghost meaning = { λ _. shape.bidder_of };
 
     fn part_of(
         &self,
@@ -111,7 +110,7 @@ impl<'v> ValueReader<'v> for BidderReader {
 /// A set-up document of the right shape, or none.
 #[tactic(auto, unfolding(crate::specs::SetupShape::fields_of))]
 pub(crate) fn entries_of(alloc: Global, value: &Value) -> Result<Option<SetupEntries<'_>>, NoMemory>
-    ensures { IfOk result (λ entries. entries ≡ fields_of (view value.now)) }
+    ensures { IfOk result (λ entries. entries ≡ shape.fields_of (view value.now)) }
 {
     let Some(version) = number_at(value, "version") else {
         return Ok(None);

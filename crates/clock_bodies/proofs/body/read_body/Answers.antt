@@ -5,9 +5,10 @@ use Rattle.clock_bodies.specs.declared.body_fault.BodyFault.TheVariants.{Shape}
 use Rattle.clock_bodies.specs.Bodies.{meant_by}
 use Rattle.clock_bodies.proofs.body.read_body.Goals as goal
 
-pub returns-in-Ok-clause-ok : goal.returns-in-Ok-clause-ok
-returns-in-Ok-clause-ok g c = λ means.
-    let body = c.in-Ok.body in
-    let found = c.in-Ok.ensures in
-    ap (meant_by g.R.Part.Body.meaning) (json_value c.args.bytes.now (g.R.PartReader.shown body) found.text found.value)
+pub returns-in-Some-clause-ok : goal.returns-in-Some-clause-ok
+returns-in-Some-clause-ok g c = λ means.
+    let body = c.in-Some.body in
+    let text = rw c.in-Some.is at c.in_ok-body.ensures.text in
+    let value = rw c.in-Some.is at c.in_ok-body.ensures.value in
+    ap (meant_by g.R.Part.Body.meaning) (json_value c.args.bytes.now (g.R.PartReader.shown body) text value)
     ∙ ap (or_fault Shape) (means body)

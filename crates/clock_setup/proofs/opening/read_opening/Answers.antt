@@ -4,12 +4,12 @@ use Rattle.clock_setup.specs.declared.opening.OpeningFault.TheVariants.{NoMemory
 use Rattle.clock_setup.proofs.ScannedOpeningLaws.{opening_read}
 use Rattle.clock_setup.proofs.opening.read_opening.Goals as goal
 
-pub returns-in-Ok-clause-ok : goal.returns-in-Ok-clause-ok
-returns-in-Ok-clause-ok c =
+pub returns-in-Some-clause-ok : goal.returns-in-Some-clause-ok
+returns-in-Some-clause-ok c =
     subst (λ answer. IfOk c.compared.result (λ opening. answer ≡ Ok opening))
-    (sym (opening_read c.args.bytes.now c.in-Ok.found c.in-Ok.ensures.text c.in-Ok.ensures.value)) c.compared.ensures.ok
+    (sym (opening_read c.args.bytes.now c.in-Some.found (rw c.in-Some.is at c.in_ok-found.ensures.text) (rw c.in-Some.is at c.in_ok-found.ensures.value))) c.compared.ensures.ok
 
-pub returns-in-Ok-clause-err : goal.returns-in-Ok-clause-err
-returns-in-Ok-clause-err c =
+pub returns-in-Some-clause-err : goal.returns-in-Some-clause-err
+returns-in-Some-clause-err c =
     subst (λ answer. IfErr c.compared.result (IsRefusal NoMemory answer))
-    (sym (opening_read c.args.bytes.now c.in-Ok.found c.in-Ok.ensures.text c.in-Ok.ensures.value)) c.compared.ensures.err
+    (sym (opening_read c.args.bytes.now c.in-Some.found (rw c.in-Some.is at c.in_ok-found.ensures.text) (rw c.in-Some.is at c.in_ok-found.ensures.value))) c.compared.ensures.err

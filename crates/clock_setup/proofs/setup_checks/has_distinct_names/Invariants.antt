@@ -1,5 +1,5 @@
 use Rattle.std.proofs.Common.{◌≡◌, ◌+◌, ◌≤◌, length, map, take}
-use Rattle.clock_setup.proofs.names.has_distinct_names.Given as goal
+use Rattle.clock_setup.proofs.setup_checks.has_distinct_names.Given as goal
 
 -- the names so far are collected, and there is room for the others
 abbrev pub invariant-loop-entry : goal.invariant-loop-entry

@@ -5,7 +5,7 @@ use Rattle.std.proofs.lemmas.Iterator.Consumers.{YieldsList-from_copied}
 use Rattle.std.specs.HashSet.{InsertsAll}
 use Rattle.std.specs.Result.{OnOk}
 use Rattle.clock_setup.proofs.NameLaws.{same_text, set_of_empty, set_length_is}
-use Rattle.clock_setup.proofs.names.is_distinct.Goals as goal
+use Rattle.clock_setup.proofs.setup_checks.is_distinct.Goals as goal
 
 pub returns : goal.returns
 returns c =

@@ -1,6 +1,6 @@
 use Rattle.std.proofs.Common.{arith}
 use Rattle.clock_setup.proofs.NameLaws.{text_pushed, texts_end, distinct_texts}
-use Rattle.clock_setup.proofs.names.has_distinct_names.Goals as goal
+use Rattle.clock_setup.proofs.setup_checks.has_distinct_names.Goals as goal
 
 pub loop-entry-preserved : goal.loop-entry-preserved
 loop-entry-preserved g c =

@@ -7,7 +7,7 @@ use Rattle.clock_terms.specs.Limits.{IsRow}
 use Rattle.clock_setup.specs.OpeningDocument.{row_checks}
 use Rattle.clock_terms.proofs.FaultLaws.{turn_passed, turn_failed, turn_none}
 use Rattle.clock_setup.proofs.OpeningLaws.{row_line}
-use Rattle.clock_setup.proofs.opening_checks.grid_of_rows.Goals as goal
+use Rattle.clock_setup.proofs.opening.grid_of_rows.Goals as goal
 
 -- behind the last bidder all rows are there
 rows_all : (rows demands : List (List ℕ)) (number : ℕ) → length demands ≤ number → rows ≡ take number demands → rows ≡ demands

@@ -7,7 +7,7 @@ use Rattle.clock_terms.specs.declared.setup.Product.{Product}
 use Rattle.clock_setup.specs.declared.opening.OpeningFault.{OpeningFault}
 use Rattle.clock_setup.specs.OpeningDocument.{demand_checks}
 use Rattle.clock_setup.proofs.OpeningLaws.{row_failed, row_above, row_passed}
-use Rattle.clock_setup.proofs.opening_checks.row_within.Goals as goal
+use Rattle.clock_setup.proofs.opening.row_within.Goals as goal
 
 -- what was told of a row and a slice of products holds of the set-up whose products these are
 module _ {slice : List Product} {inside setup : SetupFields} (demands : List ℕ) (read : slice ≡ inside.products) (same : inside ≡ setup) where

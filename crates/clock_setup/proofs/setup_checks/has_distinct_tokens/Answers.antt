@@ -1,7 +1,7 @@
 use Rattle.std.proofs.Common.{ap, arith}
 use Rattle.clock_terms.specs.declared.setup.Bidder.{Bidder}
 use Rattle.clock_setup.proofs.NameLaws.{text_pushed_behind, texts_end_behind, distinct_texts}
-use Rattle.clock_setup.proofs.names.has_distinct_tokens.Goals as goal
+use Rattle.clock_setup.proofs.setup_checks.has_distinct_tokens.Goals as goal
 
 pub loop-bidder-preserved : goal.loop-bidder-preserved
 loop-bidder-preserved c =

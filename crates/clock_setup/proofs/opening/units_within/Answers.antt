@@ -2,7 +2,7 @@ use Rattle.std.proofs.Common.{◌≤◌, get_or, sym, subst, ◌∙◌, below_mo
 use Rattle.std.proofs.lemmas.List.{get_or_default}
 use Rattle.clock_terms.specs.declared.setup.Product.{Product}
 use Rattle.clock_setup.proofs.OpeningLaws.{demand_failed, demand_passed, demands_end, within_cap, activity-at, units_small, activity-end}
-use Rattle.clock_setup.proofs.opening_checks.units_within.Goals as goal
+use Rattle.clock_setup.proofs.opening.units_within.Goals as goal
 
 pub returns-then-demand-products-clause-fault : goal.returns-then-demand-products-clause-fault
 returns-then-demand-products-clause-fault c =

@@ -2,7 +2,7 @@ use Rattle.std.proofs.Common.{◌≡◌, All, take, drop, zip}
 use Rattle.clock_terms.specs.Faults.{first_fault, in_turn}
 use Rattle.clock_terms.specs.Limits.{IsRow}
 use Rattle.clock_setup.specs.OpeningDocument.{row_checks}
-use Rattle.clock_setup.proofs.opening_checks.grid_of_rows.Given as goal
+use Rattle.clock_setup.proofs.opening.grid_of_rows.Given as goal
 
 -- the bidders so far have their rows, and those that are left decide the first fault
 abbrev pub invariant-loop-number : goal.invariant-loop-number

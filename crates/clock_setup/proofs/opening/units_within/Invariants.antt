@@ -3,7 +3,7 @@ use Rattle.clock_terms.specs.Eligibility.{activity}
 use Rattle.clock_terms.specs.Faults.{first_fault, in_turn}
 use Rattle.clock_terms.specs.Limits.{cap_of}
 use Rattle.clock_setup.specs.OpeningDocument.{demand_checks}
-use Rattle.clock_setup.proofs.opening_checks.units_within.Given as goal
+use Rattle.clock_setup.proofs.opening.units_within.Given as goal
 
 -- the demands so far are within their caps, those that are left decide the first fault, and what both take is what all
 -- take
