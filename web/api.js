@@ -23,6 +23,7 @@ export class Asker {
   #token;
 
   constructor(token) {
+    if (/[^ -~]/.test(token)) throw new Fault({ code: "token" }, 401); // no header can have it, so it is not asked about
     this.#token = token;
   }
 
@@ -71,23 +72,18 @@ export class Asker {
 }
 
 /**
- * Asks the status every second, and every five seconds while it can't be had. `heard` takes a status, and may ask more;
- * `missed` takes the fault where that failed. Gives a function that ends it.
+ * Asks the status every second, and every five seconds while it can't be had, for good. `heard` takes a status, and may ask more;
+ * `missed` takes the fault where that failed.
  */
-export function watch(asker, heard, missed) {
-  let stopped = false;
-  (async () => {
-    while (!stopped) {
-      let wait = 1000;
-      try {
-        const status = await asker.status();
-        if (!stopped) await heard(status);
-      } catch (fault) {
-        wait = 5000;
-        if (!stopped) missed(fault);
-      }
-      await pause(wait);
+export async function watch(asker, heard, missed) {
+  for (;;) {
+    let wait = 1000;
+    try {
+      await heard(await asker.status());
+    } catch (fault) {
+      wait = 5000;
+      missed(fault);
     }
-  })();
-  return () => { stopped = true; };
+    await pause(wait);
+  }
 }

@@ -2,7 +2,7 @@
 
 import { Asker, watch } from "./api.js";
 import { readBids, save, writtenBids } from "./csv.js";
-import { at, cell, counted, dollars, door, facts, lastClosed, make, number, question, rowHead, say, sum } from "./page.js";
+import { at, cell, counted, dollars, door, facts, lastClosed, make, number, question, rowHead, say, sum, tell, unask } from "./page.js";
 import { Past } from "./past.js";
 import { activityLimit, activityOf, askedDemands, costOf, faultsOf, wordsOf } from "./rules.js";
 import { Sheet } from "./sheet.js";
@@ -15,16 +15,17 @@ const plain = (bids) => bids.map(({ price, product, quantity }) => ({ price, pro
 
 // who asks, the account, what the sheet is judged by, the slip of the round before, and the sheet in force
 let asker, me, terms, earlier, force = { bids: null, by: new Map() };
-// the faults of what is typed, by row; the server's own refusal; the end of the watch; whether something could not be had
-let faults = new Map(), refused = null, stop = () => {}, gone = false;
+// the faults of what is typed, by row; the server's own refusal; whether something could not be had; whether a sheet is under way; how many were taken
+let faults = new Map(), refused = null, gone = false, sending = false, accepted = 0;
 
 /** Asks for the account and the sheet in force, and for the prices where a round has been closed since. */
 async function load() {
-  const page = terms ?? await asker.products(), now = await asker.account(), before = me, last = lastClosed(now);
+  const page = terms ?? await asker.products(), now = await asker.account(), before = me, last = lastClosed(now), then = accepted;
   if (before && now.round < before.round) past.clear(); // the server was started anew
   if (last > 0) await past.learn(asker, last);
   if (last > 1) await past.learn(asker, last - 1);
   const reply = now.ended ? null : await asker.inForce();
+  const changed = before && (before.round !== now.round || before.ended !== now.ended);
   me = now;
   earlier = last > 1 ? past.slip(last - 1) : null;
   terms = {
@@ -32,9 +33,9 @@ async function load() {
     prices: pricesOf(page.products, last), round: now.round, held: now.demands, eligibility: now.eligibility,
   };
   refused = null;
-  takeForce(reply?.bids ?? null, "as it stood at");
+  if (changed || accepted === then) takeForce(reply?.bids ?? null, "as it stood at"); // else a later sheet is in force than the reply tells
   if (!before && force.bids) sheet.take(force.bids);
-  if (before && (before.round !== now.round || before.ended !== now.ended)) tellChange(before);
+  if (changed) tellChange(before);
   drawAll();
   past.draw(asker, terms.products, last);
 }
@@ -57,6 +58,8 @@ function takeForce(bids, words) {
 }
 
 function tellChange(before) {
+  unask();
+  if (me.round < before.round) return say(`⚠ The round fell from ${before.round} to ${me.round}: another server answers. Ask the operator before you bid.`);
   const moved = terms.products.filter((_, p) => before.demands[p] !== me.demands[p]).length;
   const closed = me.ended ? `The auction has ended after round ${me.round}.`
     : `Round ${before.round} is closed, round ${me.round} is open: the prices are new.`;
@@ -75,9 +78,7 @@ function drawAll() {
   lay();
 }
 
-function costHeld() {
-  return me.demands.reduce((cost, blocks, p) => cost + BigInt(blocks) * BigInt(terms.prices[p].start), 0n);
-}
+const costHeld = () => me.demands.reduce((cost, blocks, p) => cost + BigInt(blocks) * BigInt(terms.prices[p].start), 0n);
 
 function drawFacts() {
   const was = (now, then) => (earlier && now !== then ? number(then) : "");
@@ -93,10 +94,7 @@ function drawFacts() {
 }
 
 /** What a product was held of before the last closing, where that is another number. */
-function heldBefore(p) {
-  const then = earlier ? earlier.demands[p] : me.demands[p];
-  return then === me.demands[p] ? null : then;
-}
+const heldBefore = (p) => (earlier && earlier.demands[p] !== me.demands[p] ? earlier.demands[p] : null);
 
 /** Which rows there are, by the name that is sought and the filter. */
 function lay() {
@@ -178,7 +176,7 @@ function judge() {
   const { bids, wrong } = sheet.read();
   faults = new Map(wrong.map((w) => [keyOf(w.product, w.step), w.text]));
   let whole = "";
-  for (const fault of [...(refused ? [refused] : []), ...faultsOf(terms, bids)]) {
+  for (const fault of me.ended ? [] : [...(refused ? [refused] : []), ...faultsOf(terms, bids)]) {
     const bid = bids[fault.place], words = (fault === refused ? "refused: " : "") + wordsOf(fault.code);
     if (!bid) whole ||= words;
     else if (!faults.has(keyOf(bid.product, bid.step))) faults.set(keyOf(bid.product, bid.step), words);
@@ -204,68 +202,73 @@ function tellSums(bids) {
 }
 
 function tellJudged(bids, whole) {
-  const count = faults.size + (whole ? 1 : 0), empty = "Empty: that asks to drop all at the start prices.";
-  at("judged").classList.toggle("fault", count > 0);
-  at("tofault").hidden = faults.size === 0;
-  if (me.ended) at("judged").textContent = "";
-  else if (whole) at("judged").textContent = "⚠ " + whole;
-  else if (count) at("judged").textContent = `⚠ ${count} ${count === 1 ? "bid is" : "bids are"} at fault.`;
-  else if (bids.length) at("judged").textContent = "✓ No fault is seen.";
-  else at("judged").textContent = me.round === 1 ? "Empty: you would hold nothing, and be out." : empty;
+  const count = faults.size, empty = me.round === 1 ? "you would hold nothing, and be out" : "that asks to drop all at the start prices";
+  at("judged").classList.toggle("fault", whole !== "" || count > 0);
+  at("tofault").hidden = count === 0;
+  tell("judged", me.ended ? "" : whole ? "⚠ " + whole
+    : count ? `⚠ ${count} ${count === 1 ? "bid is" : "bids are"} at fault.`
+    : bids.length ? "✓ No fault is seen." : `Empty: ${empty}.`);
 }
 
 /** What is left to do in the round, in a line that stands out until it is done; `typed` are bids, or null where they can't be read. */
 function tellToDo(typed) {
   const same = force.bids && JSON.stringify(force.bids) === JSON.stringify(typed);
-  let words = "✓ Your sheet is in force. Nothing is left to do in this round.", done = true;
-  if (me.ended) {
-    words = `✓ The auction has ended. You won ${counted(sum(me.demands), "block")} for ${dollars(costHeld())}.`;
-  } else if (!force.bids) {
-    done = false;
-    words = `● To do: send a sheet for round ${me.round}. Without one you ask to ${me.round === 1 ? "hold nothing" : "drop all"}.`;
-  } else if (!same) {
-    done = false;
-    words = "● To do: what is typed is not what is in force. Send it, or fill in what is in force.";
-  }
-  if (at("todo").textContent !== words) at("todo").textContent = words;
-  at("todo").classList.toggle("done", done);
+  let words = "✓ Your sheet is in force. Nothing is left to do in this round.";
+  if (me.ended) words = `✓ The auction has ended. You won ${counted(sum(me.demands), "block")} for ${dollars(costHeld())}.`;
+  else if (me.eligibility === 0) words = "✓ Your eligibility is 0: you can ask for nothing, and nothing is left to do.";
+  else if (!force.bids) words = `● To do: send a sheet for round ${me.round}. Without one you ask to ${me.round === 1 ? "hold nothing" : "drop all"}.`;
+  else if (!same) words = "● To do: what is typed is not what is in force. Send it, or fill in what is in force.";
+  tell("todo", words);
+  at("todo").classList.toggle("done", words.startsWith("✓"));
   at("back").hidden = !force.bids || same;
 }
 
-/** Sends what is typed; the server decides. */
+/** Sends what is typed, one sheet after the other, so that the last one is the one that counts; the server decides. */
 async function send() {
   const { bids, wrong } = judge(), sent = plain(bids), round = me.round;
   if (wrong.length) return say("⚠ Not sent: a row can't be read as a bid.");
+  if (sending) return say("⚠ Not sent: the sheet before it is not answered yet.");
   if (!sent.length && !await question("The sheet is empty: it asks to drop everything. Send it?")) return;
-  at("send").disabled = true;
+  sending = true;
+  refused = null;
+  say("The sheet is being sent …");
   try {
-    const done = await asker.put(round, sent);
-    if (me.round === round) takeForce(sent, "accepted at");
-    else past.ask(round, sent);
-    say(`✓ Accepted: ${counted(done.bids, "bid")} for round ${done.round}.`);
+    const done = await asker.put(round, sent), late = me.round !== round || me.ended;
+    accepted++;
+    if (late) past.ask(round, sent);
+    else takeForce(sent, "accepted at");
+    const since = JSON.stringify(plain(sheet.read().bids)) === JSON.stringify(sent) ? "" : " What you typed since is not sent.";
+    say(`✓ Accepted: ${counted(done.bids, "bid")} for round ${done.round}${late ? ", which is closed by now" : ""}.${since}`);
     judge();
     lay();
   } catch (fault) {
-    tellRefused(fault);
+    tellRefused(fault, round, bids);
   } finally {
-    at("send").disabled = me.ended;
+    sending = false;
   }
 }
 
-function tellRefused(fault) {
-  const unknown = fault.status === 0;
-  refused = unknown ? null : fault;
-  const bid = judge().bids[fault.place], product = bid && terms.products[bid.product];
-  if (unknown) return say(`⚠ ${wordsOf(fault.code)}. Nobody knows whether the sheet was taken: look at what is in force, or send it again.`);
-  say(`⚠ Refused: ${wordsOf(fault.code)}${product ? ` (${product.name})` : ""}. The sheet before it stays in force.`);
-  if (bid) table.show(keyOf(bid.product, bid.step));
+/** Tells why a sheet was not taken; at its row too, where nothing else is typed since it was sent. */
+function tellRefused(fault, round, bids) {
+  if (fault.status === 0) {
+    past.ask(round, null);
+    gone = true; // so that what is in force is asked for
+    return say(`⚠ ${wordsOf(fault.code)}. Nobody knows whether the sheet was taken: look at what is in force, or send it again.`);
+  }
+  const bid = bids[fault.place], product = bid ? ` (${terms.products[bid.product].name})` : "";
+  const stays = force.bids && fault.status !== 409 ? " The sheet before it stays in force." : "";
+  refused = me.round === round && JSON.stringify(sheet.read().bids) === JSON.stringify(bids) ? fault : null;
+  judge();
+  say(`⚠ Refused: ${wordsOf(fault.code)}${product}.${stays}`);
+  if (bid && refused) table.show(keyOf(bid.product, bid.step));
 }
 
 async function lookAgain() {
   try {
-    const reply = await asker.inForce();
-    if (reply.round !== me.round) return;
+    const then = accepted, reply = await asker.inForce();
+    if (reply.round !== me.round || accepted !== then) return;
     takeForce(reply.bids, "as it stood at");
+    say(at("force").textContent);
     judge();
     lay();
   } catch (fault) {
@@ -285,11 +288,18 @@ function toFault() {
 }
 
 async function upload(event) {
-  const [file] = event.target.files, { bids, wrong } = readBids(terms.products, await file.text());
-  event.target.value = "";
-  at("lines").replaceChildren(...wrong.map((text) => make("li", {}, text)));
+  const [file] = event.target.files;
+  event.target.value = ""; // so that the same file can be chosen again
+  const { bids, wrong } = await file.text().then((text) => readBids(terms.products, text), () => ({ wrong: ["the file can't be read"] }));
+  at("lines").replaceChildren(...wrong.slice(0, 1000).map((text) => make("li", {}, text)));
   if (wrong.length) return say(`⚠ Not taken: the file has ${counted(wrong.length, "wrong line")}.`);
   fill(() => sheet.take(bids), `${counted(bids.length, "bid")} read from the file.`);
+}
+
+function download() {
+  const { bids, wrong } = judge();
+  if (wrong.length) return say("⚠ Not saved: a row can't be read as a bid.");
+  save(`bids-${me.name}-${me.round}.csv`, writtenBids(terms.products, bids));
 }
 
 /** Fills the sheet in one step, and says that this sends nothing. */
@@ -311,40 +321,34 @@ function byKey(event) {
 }
 
 async function heard(status) {
-  if (gone || status.round !== me.round || status.ended !== me.ended) await load();
+  const again = gone;
   gone = false;
+  if (again || status.round !== me.round || status.ended !== me.ended) await load();
   at("link").textContent = "";
 }
 
 function missed(fault) {
   gone = true;
   const words = fault.status ? wordsOf(fault.code) + "." : "Nothing answers.";
-  at("link").textContent = `⚠ ${words} It is asked again every five seconds; what you typed is kept.`;
+  tell("link", `⚠ ${words} It is asked again every five seconds; what you typed is kept.`);
 }
 
 async function enter(token) {
-  stop();
   asker = new Asker(token);
-  me = terms = earlier = undefined;
-  sheet.clear();
-  past.clear();
+  past.clear(); // another token may have come as far as that
   await load();
-  stop = watch(asker, heard, missed);
+  watch(asker, heard, missed);
 }
 
 door(enter, wordsOf);
 at("send").addEventListener("click", send);
 at("again").addEventListener("click", lookAgain);
 at("tofault").addEventListener("click", toFault);
-for (const [id, event] of [["find", "input"], ["filter", "change"]]) {
-  at(id).addEventListener(event, () => {
-    at("frame").scrollTop = 0;
-    lay();
-  });
-}
+for (const [id, event] of [["find", "input"], ["filter", "change"]]) at(id).addEventListener(event, () => { at("frame").scrollTop = 0; lay(); });
 at("body").addEventListener("keydown", byKey);
 at("keep").addEventListener("click", () => fill(() => sheet.keepAll(me.demands, terms.prices), "Filled in: all that you hold, at the clock prices."));
 at("drop").addEventListener("click", () => fill(() => sheet.clear(), "All bids are taken away."));
-at("back").addEventListener("click", () => fill(() => sheet.take(force.bids), "Filled in: the sheet that is in force."));
-at("down").addEventListener("click", () => save(`bids-${me.name}-${me.round}.csv`, writtenBids(terms.products, sheet.read().bids)));
+at("back").addEventListener("click", () => { fill(() => sheet.take(force.bids), "Filled in: the sheet that is in force."); at("again").focus(); });
+at("down").addEventListener("click", download);
 at("up").addEventListener("change", upload);
+document.addEventListener("visibilitychange", () => { gone = true; }); // another tab may have sent a sheet

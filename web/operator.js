@@ -2,13 +2,14 @@
 
 import { Asker, watch } from "./api.js";
 import { save, written } from "./csv.js";
-import { at, cell, counted, demandOf, dollars, door, facts, lastClosed, make, number, options, question, rowHead, say, sum, unask } from "./page.js";
+import { at, cell, counted, demandOf, dollars, door, facts, lastClosed, make, number, offerRounds, question, rowHead, say, sum, tell, unask } from "./page.js";
 import { activityOf, wordsOf } from "./rules.js";
 import { Rows } from "./table.js";
 
 const MOST_TIES = 16_384, LONG = 72; // letters that a row has room for
 const rounds = new Map();
-let asker, page, results, status, ties = [], increments = [], stop = () => {}, gone = false;
+// `results` tell the round too; `underWay` is the round that is being closed
+let asker, page, results, underWay = 0, ties = [], increments = [], gone = false;
 
 const incTable = new Rows(at("incframe"), at("incbody"), drawIncrement);
 const resTable = new Rows(at("resframe"), at("resbody"), drawBidder);
@@ -35,47 +36,38 @@ function drawTies() {
     : `Drawn at random at ${time}, for ${number(listed)} of ${whole}: a closing may list no more. The others have 0 and come before them.`;
 }
 
-/** Asks for the results, the status and the last closed round, and draws tie numbers for the next closing. */
+/** Asks for the results and the last closed round, and draws tie numbers for the next closing. Of one page: a closing may come between two. */
 async function load() {
   page ??= await asker.products();
-  results = await asker.results();
-  const now = await asker.status(), last = lastClosed(now);
-  if (status && now.round < status.round) rounds.clear(); // the server was started anew
-  if (last > 0 && !rounds.has(last)) rounds.set(last, (await asker.round(last)).products);
-  status = now;
+  const now = await asker.results(), last = lastClosed(now), fell = now.round < results?.round;
+  const sold = last === 0 || (rounds.has(last) && !fell) ? rounds.get(last) : (await asker.round(last)).products;
+  if (fell) [underWay] = [0, rounds.clear()]; // the server was started anew
+  if (last > 0) rounds.set(last, sold);
+  results = now;
   drawTies();
   drawAll(last);
 }
 
-function tellClosed() {
-  say(`✓ Round ${lastClosed(status)} is closed. ${status.ended ? "The auction has ended." : `Round ${status.round} is open.`}`);
-}
-
 function drawAll(last) {
-  at("round").textContent = status.ended ? `Ended after round ${status.round}` : `Round ${status.round} is open`;
-  document.title = `${status.ended ? "Ended" : "Round " + status.round} · operator · clock auction`;
-  at("closing").hidden = status.ended;
+  at("round").textContent = results.ended ? `Ended after round ${results.round}` : `Round ${results.round} is open`;
+  document.title = `${results.ended ? "Ended" : "Round " + results.round} · operator · clock auction`;
+  at("closing").hidden = results.ended;
   at("eachlabel").hidden = page.version === 1;
-  at("ask").textContent = `Close round ${status.round} …`;
+  at("ask").textContent = `Close round ${results.round} …`;
   at("asof").textContent = last === 0 ? "No round is closed yet: nobody holds anything."
-    : status.ended ? "What each bidder won, and pays."
+    : results.ended ? "What each bidder won, and pays."
     : `What each bidder holds since round ${last} was closed, at its posted prices. Sheets of the open round are not told here.`;
   at("pastdesk").hidden = last === 0;
   if (increments.length !== page.products.length) increments = page.products.map(() => "");
   drawFacts(last);
   incTable.set(page.products.map((_, p) => String(p)));
   resTable.set(results.bidders.map((_, b) => String(b)));
-  const stays = at("which").options.length > 0 && Number(at("which").value) < last - 1; // somebody reads an earlier round
-  options(at("which"), Array.from({ length: last }, (_, n) => [last - n, last - n]));
-  if (!stays) at("which").value = last || "";
+  offerRounds(last);
   showRound();
 }
 
 /** A product's posted price in the last closed round, or its opening price. */
-function posted(p) {
-  return rounds.get(lastClosed(status))?.[p].posted ?? page.products[p].opening;
-}
-
+const posted = (p) => rounds.get(lastClosed(results))?.[p].posted ?? page.products[p].opening;
 const paid = (bidder) => bidder.demands.reduce((cost, blocks, p) => cost + BigInt(blocks) * BigInt(posted(p)), 0n);
 
 function drawFacts(last) {
@@ -85,14 +77,15 @@ function drawFacts(last) {
   facts("facts", [
     ["Bidders with eligibility", `${number(active)} of ${number(results.bidders.length)}`],
     ["Products above supply", last ? `${number(tight)} of ${number(page.products.length)}` : "–"],
-    [status.ended ? "Blocks won" : "Blocks held", `${number(held)} of ${number(supply)}`],
-    [status.ended ? "Proceeds" : "At posted prices", dollars(results.bidders.reduce((cost, bidder) => cost + paid(bidder), 0n))],
+    [results.ended ? "Blocks won" : "Blocks held", `${number(held)} of ${number(supply)}`],
+    [results.ended ? "Proceeds" : "At posted prices", dollars(results.bidders.reduce((cost, bidder) => cost + paid(bidder), 0n))],
   ]);
 }
 
 /** Shows the chosen round, which is asked for where it is not known yet. */
 async function showRound() {
   const round = Number(at("which").value);
+  if (!rounds.has(round)) pastTable.set([]);
   try {
     if (round && !rounds.has(round)) rounds.set(round, (await asker.round(round)).products);
   } catch (fault) {
@@ -131,21 +124,23 @@ function closing() {
   const one = at("increment").value.trim(), each = at("each").checked;
   const all = page.products.map((_, p) => (each && increments[p].trim()) || one);
   if (all.some((text) => !/^\d{1,3}$/.test(text) || Number(text) < 1 || Number(text) > 50)) return null;
-  const base = { round: status.round, ties };
+  const base = { round: results.round, ties };
   return page.version === 1 ? { ...base, increment: Number(one) } : { ...base, increments: all.map(Number) };
 }
 
-/** Asks first, and closes. What is closed is what the question names, though another round has come since. */
+/** Asks first, and closes. What is closed is what the question names, though another round has come since. `heard` tells that it is closed. */
 async function close() {
   const asked = closing();
   if (!asked) return say("⚠ Not closed: " + wordsOf("increment") + ".");
+  if (asked.round === underWay) return say(`Round ${underWay} is being closed already.`);
   if (!await question(`Close round ${asked.round} for all bidders? What is not sent by now does not count, and this can't be taken back.`)) return;
+  underWay = asked.round;
+  say(`Round ${underWay} is being closed …`);
   try {
     await asker.close(asked);
-    await load();
-    tellClosed();
   } catch (fault) {
-    tellRefused(fault);
+    underWay = 0;
+    if (asked.round === results.round && !results.ended) tellRefused(fault); // else `heard` has told what came of it
   }
 }
 
@@ -159,30 +154,28 @@ function tellRefused(fault) {
 function saveResults() {
   const rows = results.bidders.flatMap((bidder) => bidder.demands.flatMap((blocks, p) =>
     (blocks ? [[bidder.name, page.products[p].name, blocks, posted(p)]] : [])));
-  save(`results-${lastClosed(status)}.csv`, written([["bidder", "product", "blocks", "posted"], ...rows]));
+  save(`results-${lastClosed(results)}.csv`, written([["bidder", "product", "blocks", "posted"], ...rows]));
 }
 
 async function heard(now) {
-  const risen = now.round > status.round || (now.ended && !status.ended);
+  const then = results.round, fell = now.round < then, risen = now.round > then || (now.ended && !results.ended);
   if (risen) unask();
-  if (gone || risen || now.round < status.round) await load();
-  if (risen) tellClosed();
+  if (gone || risen || fell) await load();
+  if (risen) say(`✓ Round ${lastClosed(results)} is closed. ${results.ended ? "The auction has ended." : `Round ${results.round} is open.`}`);
+  if (fell) say(`⚠ The round fell from ${then} to ${results.round}: another server answers, or one without its journal. Tell bidders to stop.`);
   gone = false;
   at("link").textContent = "";
 }
 
 function missed(fault) {
   gone = true;
-  at("link").textContent = `⚠ ${fault.status ? wordsOf(fault.code) + "." : "Nothing answers."} It is asked again every five seconds.`;
+  tell("link", `⚠ ${fault.status ? wordsOf(fault.code) + "." : "Nothing answers."} It is asked again every five seconds.`);
 }
 
 async function enter(token) {
-  stop();
   asker = new Asker(token);
-  page = results = status = undefined;
-  rounds.clear();
   await load();
-  stop = watch(asker, heard, missed);
+  watch(asker, heard, missed);
 }
 
 door(enter, wordsOf);

@@ -27,6 +27,8 @@ export const demandOf = (sold, product) =>
 
 /** A message to the person, which a screen reader says at once. */
 export const say = (text) => { at("say").textContent = text; };
+/** Words that stand until others do: a screen reader says them again only where they have changed. */
+export const tell = (id, words) => { if (at(id).textContent !== words) at(id).textContent = words; };
 
 /** A cell with its label, which stands above it where the table is drawn as cards. */
 export const cell = (label, ...inside) => make("td", { "data-label": label }, ...inside);
@@ -45,6 +47,13 @@ export function options(select, pairs) {
   if (pairs.some(([value]) => String(value) === kept)) select.value = kept;
 }
 
+/** Offers the closed rounds, the last one first. Who reads an earlier one than that goes on reading it. */
+export function offerRounds(last) {
+  const select = at("which"), stays = Number(select.value) < Number(select.options[0]?.value);
+  options(select, Array.from({ length: last }, (_, n) => [last - n, last - n]));
+  if (!stays) select.value = last || "";
+}
+
 /** Asks a question with a yes and a no; true for yes. Escape, and `unask`, are no; nothing follows where another is asked within the same frame. */
 export function question(words) {
   const dialog = at("question");
@@ -58,16 +67,16 @@ export function question(words) {
 }
 
 /** Takes a question back that is not answered yet. */
-export function unask() {
-  if (at("question").open) at("question").close("no");
-}
+export const unask = () => at("question").close("no");
 
-/** The door: `enter` is called with each token that is typed; where it fails the door stays, and its words are said. */
+/** The door: `enter` is called with each token that is typed, one after the other; where it fails the door stays, and its words are said. */
 export function door(enter, words) {
   at("door").addEventListener("submit", async (event) => {
     event.preventDefault();
     const token = at("token").value.trim();
     at("token").value = "";
+    say("The server is being asked …");
+    at("door").inert = at("desk").inert = true;
     at("desk").hidden = false; // rows are laid out by the height of what is seen
     try {
       await enter(token);
@@ -78,5 +87,7 @@ export function door(enter, words) {
       at("desk").hidden = true;
       say("⚠ " + words(fault.code ?? String(fault)));
     }
+    at("door").inert = at("desk").inert = false;
+    at("token").focus(); // where the door still stands
   });
 }

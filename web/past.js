@@ -1,7 +1,7 @@
 // A bidder's closed rounds: the sheet and the own slip of each, what was asked beside what was applied, and a chart of one product.
 
 import { chart } from "./chart.js";
-import { at, cell, counted, demandOf, dollars, make, number, options, rowHead, sum } from "./page.js";
+import { at, cell, counted, demandOf, dollars, make, number, offerRounds, options, rowHead, sum } from "./page.js";
 import { Rows } from "./table.js";
 
 const AT_ONCE = 20;
@@ -33,9 +33,9 @@ export class Past {
   clear() {
     this.#turn++;
     for (const known of [this.#rounds, this.#slips, this.#asked]) known.clear();
-    for (const select of ["which", "charted"]) at(select).replaceChildren();
+    for (const filled of ["which", "charted", "chart"]) at(filled).replaceChildren();
+    this.#table.set([]);
     at("slip").textContent = "No round is closed yet.";
-    at("chart").replaceChildren();
     at("pastdesk").hidden = true;
   }
 
@@ -43,8 +43,11 @@ export class Past {
   products(round) { return this.#rounds.get(round); }
   slip(round) { return this.#slips.get(round); }
 
-  /** Notes what this bidder asks for in a round, each time that it is known. */
-  ask(round, bids) { this.#asked.set(round, bids); }
+  /** Notes what this bidder asks for in a round, each time that it is known; null where nobody knows. */
+  ask(round, bids) {
+    this.#asked.set(round, bids);
+    if (Number(at("which").value) === round) this.#drawRound();
+  }
 
   /** Asks for a closed round, and for the own slip of it, where they are not known yet. */
   async learn(asker, round) {
@@ -57,9 +60,7 @@ export class Past {
     const turn = ++this.#turn;
     this.#products = products;
     if (last === 0) return;
-    const stays = at("which").options.length > 0 && Number(at("which").value) < last - 1; // somebody reads an earlier round
-    options(at("which"), Array.from({ length: last }, (_, n) => [last - n, last - n]));
-    if (!stays) at("which").value = last;
+    offerRounds(last);
     this.#offerCharts(this.#slips.get(last).demands);
     at("pastdesk").hidden = false;
     this.#drawRound();

@@ -22,7 +22,7 @@ export const WORDS = {
 /** What the documents tell in words of requests, in words of these pages. */
 const OF_REQUESTS = {
   ended: "the auction is over: read the last round",
-  wrong_round: "another round is the current one: read the new prices, and bid anew",
+  wrong_round: "another round is the current one: read the new prices first",
   no_round: "that round is not closed: choose a closed one",
   token: "no token, or a token of nobody: type it again",
   role: "this token is not for this page: it is not yours",

@@ -48,7 +48,9 @@ def live_round(x, y, operator, work):
     y.send("Accepted: 1 bid for round 2")
     operator.close_round()
     wait_for("the operator is told of the end", lambda: operator.text("round") == "Ended after round 2")
-    wait_for("X is told of the end", lambda: x.text("round") == "Ended after round 2")
+    for window in (x, y):
+        wait_for("a bidder is told of the end", lambda: window.text("round") == "Ended after round 2")
+    expect("and of no fault of what is typed, though its price is past", y.value("price", 0) == "110" and not y.wrong(0))
     expect("X and Y won one block each", [(row[0], row[4]) for row in operator.rows("resbody")] == [("X", "A 1"), ("Y", "A 1")])
     expect("what changed since the round before is told", "Blocks won\n1 was 2" in x.text("facts") and x.rows("body")[0][5] == "1was 2")
     x.choose("filter", "changed since the last round")
@@ -113,6 +115,7 @@ def faults(window, work):
     for words, quantity, price in [("not from start to clock", 1, 101), ("above the product's cap", 3, 100)]:
         window.bid(0, quantity, price)
         refused(window, words)
+    expect("no sheet is said to stay in force where there is none", "in force" not in window.text("say"))
     window.bid(0, 2, 100)
     window.bid(1, 2, 100)
     wait_for("told above the table: too much activity",
@@ -121,6 +124,8 @@ def faults(window, work):
     window.bid(1, "x", 100)
     wait_for("told at the row: no number", lambda: "no whole number" in window.wrong(1))
     window.send("Not sent: a row can't be read")
+    window.click("down")
+    expect("a row that can't be read is not left out of a file", "Not saved: a row can't be read" in window.text("say"))
     window.bid(1, 0, 100)
     window.click("down")
     file = work / "bids-X-1.csv"
@@ -141,8 +146,8 @@ def faults(window, work):
     taken("A,1,100\n" * 30000)
     wait_for("told: far too many bids", lambda: "30,000 bids read" in window.text("say"))
     window.send("Refused: the sheet is too long")
-    taken("product,quantity,price\nA,1,100\n1,1,100\n")
-    wait_for("changed bids are taken", lambda: window.value("quantity", 1) == "1" and not window.text("lines"))
+    taken("product;quantity;price\nA;1;100\n1;1;100\n;;\n")
+    wait_for("changed bids are taken, as a spreadsheet writes them where a comma is no point", lambda: window.value("quantity", 1) == "1" and not window.text("lines"))
 
 
 def gone_and_back(stand, window):
@@ -178,7 +183,7 @@ def gone_and_back(stand, window):
 def strangers(stand, window):
     """Tokens of nobody, and of somebody for whom the page is not, are told at the door, which stays open."""
     nobody, another = "no token, or a token of nobody", "this token is not for this page"
-    for page, token, words in [("", "W" * 16, nobody), ("", OPERATOR, nobody), (OPERATORS, "W" * 16, nobody), (OPERATORS, X, another)]:
+    for page, token, words in [("", "W" * 16, nobody), ("", X + "\u2026", nobody), ("", OPERATOR, nobody), (OPERATORS, "W" * 16, nobody), (OPERATORS, X, another)]:
         window.open(stand, page, token)
         wait_for(f"told at the door of {page or 'index.html'}: {words}",
                  lambda: words in window.text("say") and window.at("door").is_displayed() and not window.at("desk").is_displayed())
@@ -187,6 +192,21 @@ def strangers(stand, window):
 def sent(window, quantity, price):
     window.bid(0, quantity, price)
     window.send("Accepted: 1 bid")
+
+
+def answered_late(stand, window):
+    """A sheet whose answer comes when its round is closed: meanwhile no other is sent, and what was said before is not said of it."""
+    window.held(True)
+    window.click("send")
+    wait_for("a sheet is taken", lambda: window.run("return window.holds"))
+    wait_for("a sheet that is not answered yet is told to be so", lambda: window.text("say") == "The sheet is being sent …")
+    window.field("quantity", 0).send_keys(Keys.CONTROL, Keys.ENTER)
+    wait_for("no other is sent meanwhile", lambda: "Not sent: the sheet before it is not answered yet" in window.text("say"))
+    stand.close(1)
+    wait_for("its round is closed meanwhile", lambda: "Round 1 is closed" in window.text("say"))
+    window.let_go()
+    wait_for("and it is told so", lambda: "Accepted: 1 bid for round 1, which is closed by now." in window.text("say"))
+    expect("what was asked stands beside what was applied", window.rows("pastbody")[0][5:] == ["2 at 100", "2"])
 
 
 def increments_refused(operator):
@@ -222,7 +242,7 @@ def closings_refused(steep, level, x, y, operator):
     sent(x, 2, 100)
     sent(y, 1, 100)
     operator.click("ask")
-    level.close(1)
+    answered_late(level, x)
     wait_for("a question whose round was closed elsewhere goes away",
              lambda: "Round 1 is closed" in operator.text("say") and not operator.at("question").is_displayed())
     for window in (x, y, operator):
@@ -237,6 +257,7 @@ def closings_refused(steep, level, x, y, operator):
     operator.at("yes").click()
     wait_for("a closing of a round that is closed is refused", lambda: "Refused: another round is the current one" in operator.text("say"))
     y.send("Refused: another round is the current one")
+    expect("no sheet of a closed round is said to stay in force", "in force" not in y.text("say"))
 
 
 def each_increment(x, y, operator):
@@ -250,7 +271,12 @@ def each_increment(x, y, operator):
     operator.click("ask")
     wait_for("an increment of one product that is none is told", lambda: "Not closed: an increment is not 1 to 50" in operator.text("say"))
     fields[1].send_keys(Keys.BACKSPACE * 2)
+    operator.held(False)
     operator.close_round()
+    wait_for("a closing that is under way is told to be so", lambda: operator.text("say") == "Round 1 is being closed …")
+    operator.click("ask")
+    expect("and no other is asked about", "closed already" in operator.text("say") and not operator.at("question").is_displayed())
+    operator.let_go()
     wait_for("the round is closed", lambda: "Round 1 is closed" in operator.text("say"))
     wait_for("an increment of 20, and the one for all", lambda: [row[5] for row in operator.rows("pastbody")] == ["$120", "$110"])
     wait_for("round 2 is told", lambda: x.text("round") == "Round 2")

@@ -237,6 +237,7 @@ def by_keys(window, operator, stand):
     wait_for("entered again", lambda: "2 bids" in window.text("force"))
     window.tab_to("the button that sends", "#send").send_keys(Keys.ENTER)
     wait_for("a sheet is sent by its button", lambda: "Accepted: 2 bids" in window.text("say"))
+    expect("and the cursor is still there", window.run("return document.activeElement.id") == "send")
 
     operator.driver.get(stand.address(OPERATORS))
     operator.tab_to("the token", "#token").send_keys(OPERATOR, Keys.ENTER)

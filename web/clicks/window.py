@@ -116,6 +116,19 @@ class Window:
         self.run("const asked = window.fetch; window.fetch = (path, options) => (path.endsWith('/status') ? new Promise(() => {}) : asked(path, options))")
         time.sleep(1.1)
 
+    def held(self, answers):
+        """From here on what the page sends is held back until it is let go: its answer, or else itself."""
+        self.run("""const asked = window.fetch, gone = new Promise(done => { window.let_go = done; }), answers = arguments[0];
+            window.fetch = async (path, options) => {
+                const reply = answers && await asked(path, options);
+                if (options.body) window.holds = true;
+                if (options.body) await gone;
+                return reply || asked(path, options);
+            }""", answers)
+
+    def let_go(self):
+        self.run("window.let_go()")
+
     def noted(self):
         """From here on the page notes when it asks for the status, and what it sends."""
         self.run("""const asked = window.fetch; window.asks = []; window.sent = [];
