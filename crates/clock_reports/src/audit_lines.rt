@@ -49,6 +49,5 @@ fn push_closed(text: &mut Text, round: u64, digest: &Digits) -> Result<(), NoMem
     text.push_number(round)?;
     text.push(b' ')?;
     text.extend_from_slice(digest)?;
-    text.push(b'\n')?;
-    Ok(())
+    text.push(b'\n')
 }

@@ -30,10 +30,7 @@ pub(crate) fn sheet_at<P>(house: &House<P>, round: u64) -> &RoundSheet
     ensures lines { length result.now.lines ≡ length house.now.setup.products }
 {
     house.law_of_house();
-    match house.sheet(round + 1) {
-        Some(sheet) => sheet,
-        None => unreachable!(),
-    }
+    house.sheet(round + 1).unwrap()
 }
 
 /// The sheets of the closed rounds, in order.

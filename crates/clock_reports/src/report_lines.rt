@@ -108,8 +108,7 @@ fn push_won(
     text.push(b' ')?;
     push_demands(text, none, demands)?;
     text.push_number(payment(lines, demands))?;
-    text.push(b'\n')?;
-    Ok(())
+    text.push(b'\n')
 }
 
 /// Adds the lines of a set-up's bidders. There is a line for each product, and a row of the grid for each bidder.

@@ -1,10 +1,10 @@
-use Rattle.std.proofs.Common.{sym, ◌∙◌}
-use Rattle.clock_reports.proofs.RoundLaws.{told_sheet, some_sheet}
+use Rattle.std.proofs.Common.{Bor, Option, sym, ap, ◌∙◌}
+use Rattle.std.specs.Prelude.{option_copied}
+use Rattle.clock_posting.specs.declared.sheet.RoundSheet.{RoundSheet}
+use Rattle.clock_reports.proofs.RoundLaws.{told_sheet}
 use Rattle.clock_reports.proofs.final_report.sheet_at.Goals as goal
 
 pub returns-clause-is : goal.returns-clause-is
-returns-clause-is g c = sym (c.in-Some.ensures.found ∙ told_sheet c.args.house.now.closed c.args.round)
-
-pub unreachable-requires : goal.unreachable-requires
-unreachable-requires g c =
-    some_sheet c.args.house.now.closed c.args.round c.requires (sym (c.in-None.ensures.found ∙ told_sheet c.args.house.now.closed c.args.round))
+returns-clause-is g c =
+    sym (told_sheet c.args.house.now.closed c.args.round) ∙ sym c.sheet.ensures.found
+    ∙ ap (λ (found : Option (Bor RoundSheet)). option_copied found) c.unwrap.ensures
