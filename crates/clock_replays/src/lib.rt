@@ -15,7 +15,7 @@ mod replay_tree;
 mod script;
 mod script_scan;
 
-pub use closing::{Closing, Closings, TieList};
+pub use closing::{Closing, Closings};
 pub use fault::ScriptFault;
 pub use limit_lists::LimitLists;
 pub use read::read_replay;

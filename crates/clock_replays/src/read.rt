@@ -75,7 +75,7 @@ pub fn read_replay(alloc: Global, bytes: &[u8]) -> Result<Replay, ScriptFault>
     ensures held { IfErr result (λ fault. fault ≢ ScriptFault.Setup SetupFault.NoMemory) }
 {
     match scanned_text::<FoundReplay>(alloc, bytes) {
-        Ok(found) => judged(found.held.setup, found.scripts, found.closings),
+        Ok((held, scripts, closings)) => judged(held.setup, scripts, closings),
         Err(ScanStop::NoMemory) => Err(ScriptFault::NoMemory),
         Err(ScanStop::Unusual) => {
             let value = read_value(alloc, bytes)?.ok_or(ScriptFault::NotJson)?;

@@ -17,16 +17,8 @@ pub(crate) struct FoundReplay {
     held: Option<HeldSetup>,
 }
 
-/// The parts of a replay document, with nothing compared.
-#[derive(Drop)]
-pub(crate) struct ScannedReplay {
-    pub held: HeldSetup,
-    pub scripts: Scripts,
-    pub closings: Closings,
-}
-
 impl<'v> ScannedMembers<'v> for FoundReplay {
-    type Whole = ScannedReplay;
+    type Whole = (HeldSetup, Scripts, Closings);
 
     ghost levels = { 5 };
 
@@ -51,11 +43,7 @@ impl<'v> ScannedMembers<'v> for FoundReplay {
         Ok(())
     }
 
-    fn whole(self) -> Option<ScannedReplay> {
-        Some(ScannedReplay {
-            held: self.held?,
-            scripts: self.scripts?,
-            closings: self.closings?,
-        })
+    fn whole(self) -> Option<(HeldSetup, Scripts, Closings)> {
+        Some((self.held?, self.scripts?, self.closings?))
     }
 }

@@ -44,24 +44,19 @@ impl<'v> ValueReader<'v> for ScriptReader {
     ghost meaning = { λ _. shape.script_of };
 
     fn part_of(&self, alloc: Global, value: &'v Value) -> Result<Option<Script>, NoMemory> {
-        let Some(kind) = text_at(value, "kind") else {
-            return Ok(None);
-        };
-        if !has_members(value, 2) {
-            return Ok(None);
+        match text_at(value, "kind") {
+            Some("literal") if has_members(value, 2) => {
+                Ok(each_at(alloc, value, "sheets", &SheetReader)?.map(Script::Literal))
+            }
+            Some("sincere") if has_members(value, 2) => {
+                let Some(lists) = each_at(alloc, value, "limits", &RowReader)? else {
+                    return Ok(None);
+                };
+                let limits = LimitLists::from_lists(alloc, lists.as_slice())?;
+                Ok(Some(Script::Sincere(limits)))
+            }
+            _ => Ok(None),
         }
-        if kind == "literal" {
-            let sheets = each_at(alloc, value, "sheets", &SheetReader)?;
-            return Ok(sheets.map(Script::Literal));
-        }
-        if kind != "sincere" {
-            return Ok(None);
-        }
-        let Some(lists) = each_at(alloc, value, "limits", &RowReader)? else {
-            return Ok(None);
-        };
-        let limits = LimitLists::from_lists(alloc, lists.as_slice())?;
-        Ok(Some(Script::Sincere(limits)))
     }
 }
 
