@@ -2,7 +2,7 @@ use Rattle.std.proofs.Common.{Bor, Option, sym, ap, ◌∙◌}
 use Rattle.std.specs.Prelude.{option_copied}
 use Rattle.clock_posting.specs.declared.sheet.RoundSheet.{RoundSheet}
 use Rattle.clock_reports.proofs.RoundLaws.{told_sheet}
-use Rattle.clock_reports.proofs.final_report.sheet_at.Goals as goal
+use Rattle.clock_reports.proofs.report.sheet_at.Goals as goal
 
 pub returns-clause-is : goal.returns-clause-is
 returns-clause-is g c =

@@ -7,7 +7,7 @@ use Rattle.clock_posting.specs.declared.sheet.RoundSheet.{RoundSheet}
 use Rattle.clock_closing.specs.declared.closed_round.ClosedRound.{ClosedRound}
 use Rattle.clock_reports.specs.inside.Reports.{IsPricedLine}
 use Rattle.clock_reports.proofs.RoundLaws.{take_next}
-use Rattle.clock_reports.proofs.final_report.sheets_of.Goals as goal
+use Rattle.clock_reports.proofs.report.sheets_of.Goals as goal
 
 pub loop-round-preserved : goal.loop-round-preserved
 loop-round-preserved g c =

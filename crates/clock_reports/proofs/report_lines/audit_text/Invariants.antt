@@ -1,7 +1,7 @@
 use Rattle.std.proofs.Common.{◌≡◌, ◌++◌, drop, zip}
 use Rattle.std.specs.List.{flat_map}
 use Rattle.clock_reports.specs.ReportText.{audited_round}
-use Rattle.clock_reports.proofs.audit_lines.audit_text.Given as goal
+use Rattle.clock_reports.proofs.report_lines.audit_text.Given as goal
 
 -- with the lines of the other rounds it is the text of all
 abbrev pub invariant-loop-index : goal.invariant-loop-index

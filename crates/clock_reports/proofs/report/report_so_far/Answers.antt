@@ -8,7 +8,7 @@ use Rattle.clock_posting.specs.declared.sheet.RoundSheet.{RoundSheet}
 use Rattle.clock_closing.specs.declared.closed_round.ClosedRound.{ClosedRound}
 use Rattle.clock_house.specs.House.{holding_in}
 use Rattle.clock_reports.proofs.RoundLaws.{numbered_in, lined, rows_of}
-use Rattle.clock_reports.proofs.final_report.report_so_far.Goals as goal
+use Rattle.clock_reports.proofs.report.report_so_far.Goals as goal
 
 pub invariant_of-result : goal.invariant_of-result
 invariant_of-result g c =

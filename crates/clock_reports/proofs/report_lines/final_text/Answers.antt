@@ -10,7 +10,7 @@ use Rattle.clock_closing.specs.declared.closed_round.ClosedRound.{ClosedRound}
 use Rattle.clock_house.specs.House.{HouseFields, holding_in}
 use Rattle.clock_reports.specs.ReportText.{won_text}
 use Rattle.clock_reports.proofs.RoundLaws.{drop_next, rows_of, index_got}
-use Rattle.clock_reports.proofs.house_text.final_text.Goals as goal
+use Rattle.clock_reports.proofs.report_lines.final_text.Goals as goal
 
 abbrev sheets_in : HouseFields → List RoundSheet
 sheets_in house = map (λ (closed : ClosedRound). closed.sheet) (reverse house.closed)

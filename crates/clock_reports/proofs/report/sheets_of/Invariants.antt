@@ -1,7 +1,7 @@
 use Rattle.std.proofs.Common.{◌≡◌, take, map, All}
 use Rattle.std.specs.Prelude.{reverse}
 use Rattle.clock_reports.specs.inside.Reports.{IsPricedLine}
-use Rattle.clock_reports.proofs.final_report.sheets_of.Given as goal
+use Rattle.clock_reports.proofs.report.sheets_of.Given as goal
 
 -- the sheets of the rounds so far
 abbrev pub invariant-loop-round : goal.invariant-loop-round

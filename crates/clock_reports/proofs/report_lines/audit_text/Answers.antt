@@ -7,7 +7,7 @@ use Rattle.clock_posting.specs.declared.sheet.RoundSheet.{RoundSheet}
 use Rattle.clock_posting.specs.SheetText.{sheet_text}
 use Rattle.clock_reports.specs.Reports.{ReportFields}
 use Rattle.clock_reports.specs.ReportText.{audited_round}
-use Rattle.clock_reports.proofs.audit_lines.audit_text.Goals as goal
+use Rattle.clock_reports.proofs.report_lines.audit_text.Goals as goal
 
 -- one more piece behind those that were added to a text
 behind : (text known added piece : List ℕ) → known ≡ text ++ added → known ++ piece ≡ text ++ (added ++ piece)

@@ -2,7 +2,7 @@ use Rattle.std.proofs.Common.{All, sym, subst, arith, rules}
 use Rattle.std.proofs.lemmas.Grind.{common_steps}
 use Rattle.std.proofs.lemmas.List.Elements.{All-push}
 use Rattle.clock_reports.specs.inside.Reports.{IsPricedLine}
-use Rattle.clock_reports.proofs.final_report.lines_copy.Goals as goal
+use Rattle.clock_reports.proofs.report.lines_copy.Goals as goal
 
 pub loop-line-preserved : goal.loop-line-preserved
 loop-line-preserved c =

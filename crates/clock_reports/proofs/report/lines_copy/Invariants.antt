@@ -1,6 +1,6 @@
 use Rattle.std.proofs.Common.{◌≡◌, take, All}
 use Rattle.clock_reports.specs.inside.Reports.{IsPricedLine}
-use Rattle.clock_reports.proofs.final_report.lines_copy.Given as goal
+use Rattle.clock_reports.proofs.report.lines_copy.Given as goal
 
 -- the lines so far
 abbrev pub invariant-loop-line : goal.invariant-loop-line
