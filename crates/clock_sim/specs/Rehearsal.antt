@@ -1,6 +1,6 @@
 -- What scripted bidders and closings make of an auction: the requests that are sent, as texts of bytes, and what comes of them. Texts
 -- stand the newest first.
---     after_request setup texts sender text      a request is answered
+--     after_request setup texts sender round text      a request is answered
 --     after_puts setup bidder scripts texts      the bidders from this one on put their sheets
 --     after_close setup closing texts      the round is closed
 --     rehearsed setup scripts closings texts      all requests until the end, or the first fault
