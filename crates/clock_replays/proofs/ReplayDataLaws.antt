@@ -17,9 +17,9 @@ use Rattle.clock_bodies.specs.Bodies.{bid_of}
 use Rattle.clock_bodies.specs.CloseBodies.{tie_of}
 use Rattle.clock_bodies.specs.QuickBodies.{bid_data, tie_data}
 use Rattle.clock_bodies.proofs.BodyScanLaws.{bid_means, tie_means, number_means, each_means}
-use Rattle.clock_replays.specs.declared.script.Script.{Script}
-use Rattle.clock_replays.specs.declared.script.Script.TheVariants.{Literal, Sincere}
-use Rattle.clock_replays.specs.declared.closing.Closing.{Closing}
+use Rattle.clock_replays.specs.declared.replay.Script.{Script}
+use Rattle.clock_replays.specs.declared.replay.Script.TheVariants.{Literal, Sincere}
+use Rattle.clock_replays.specs.declared.replay.Closing.{Closing}
 use Rattle.clock_replays.specs.ReplayShape.{ReplayParts, sheet_of, script_of, closing_from, parts_of}
 use Rattle.clock_replays.specs.inside.PartData.{sheet_data, script_data, closing_data}
 use Rattle.clock_replays.specs.inside.ReplayData.{replay_data, found_data}

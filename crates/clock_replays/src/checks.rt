@@ -4,9 +4,8 @@ ghost use Rattle.clock_terms.specs.Faults.{first_fault, in_turn};
 ghost use Rattle.clock_terms.specs.Limits.{IsSetup};
 ghost use Rattle.clock_replays.specs.ReplayChecks as rules;
 
-use crate::closing::Closing;
 use crate::fault::ScriptFault;
-use crate::script::Script;
+use crate::replay::{Closing, Script};
 use clock_bodies::is_of_version;
 use clock_setup::{Product, Setup, SetupFault};
 

@@ -6,13 +6,10 @@ ghost use Rattle.clock_replays.specs.ReplayChecks.{replay_checks};
 ghost use Rattle.clock_replays.specs.ReplayDocument.{document_replay, replay_of};
 
 use crate::checks::replay_fault;
-use crate::closing::Closings;
-use crate::closing_scan::ClosingReader;
 use crate::fault::ScriptFault;
-use crate::replay::Replay;
-use crate::replay_scan::FoundReplay;
+use crate::replay::{Closings, Replay, Scripts};
+use crate::replay_scan::{ClosingReader, FoundReplay};
 use crate::replay_tree::ScriptReader;
-use crate::script::Scripts;
 use clock_json::tree::{each_at, has_members, read_value};
 use clock_json::{ScanStop, scanned_text};
 use clock_setup::{Setup, SetupFault, setup_of};

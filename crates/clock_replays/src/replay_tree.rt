@@ -1,10 +1,8 @@
 ghost use Rattle.clock_replays.specs.ReplayShape as shape;
 
-use crate::closing::Closing;
-use crate::closing_scan::ClosingReader;
 use crate::limit_lists::LimitLists;
-use crate::script::{BidList, Script};
-use crate::script_scan::SheetReader;
+use crate::replay::{BidList, Closing, Script};
+use crate::replay_scan::{ClosingReader, SheetReader};
 use clock_bodies::{BidReader, TieReader, increments_of};
 use clock_device::NoMemory;
 use clock_json::tree::{RowReader, ValueReader, each_at, each_of, has_members, text_at};

@@ -1,5 +1,5 @@
 use Rattle.clock_replays.proofs.KeptLimitLaws.{row_pushed}
-use Rattle.clock_replays.proofs.limit_rows.LimitRows.push.Goals as goal
+use Rattle.clock_replays.proofs.limit_lists.LimitRows.push.Goals as goal
 
 pub returns-clause-limits : goal.returns-clause-limits
 returns-clause-limits c =

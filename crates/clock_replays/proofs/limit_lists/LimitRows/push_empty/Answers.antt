@@ -2,7 +2,7 @@ use Rattle.std.proofs.Common.{◌≡◌, ◌+◌, ap, ◌∙◌, arith, rules}
 use Rattle.clock_replays.specs.EndedRows.{rows_from}
 use Rattle.clock_replays.specs.KeptLimits.{limits_of}
 use Rattle.clock_replays.proofs.KeptLimitLaws.{limits_empty, rising_more}
-use Rattle.clock_replays.proofs.limit_rows.LimitRows.push_empty.Goals as goal
+use Rattle.clock_replays.proofs.limit_lists.LimitRows.push_empty.Goals as goal
 
 pub returns-clause-limits : goal.returns-clause-limits
 returns-clause-limits c =

@@ -1,6 +1,6 @@
 use Rattle.std.specs.Prelude.{◌<◌, ◌≤◌, ◌-◌, length}
 use Rattle.std.specs.List.{AllWithin}
-use Rattle.clock_replays.proofs.limit_rows.LimitRows.place_of.Given as goal
+use Rattle.clock_replays.proofs.limit_lists.LimitRows.place_of.Given as goal
 
 -- only smaller products stand before the place
 abbrev pub invariant-lesser : goal.invariant-lesser

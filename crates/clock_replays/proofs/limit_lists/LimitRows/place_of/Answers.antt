@@ -2,8 +2,8 @@ use Rattle.std.proofs.Common.{◌-◌, ◌<◌, ◌≤◌, ℕ, List, length, ge
 use Rattle.std.specs.List.{AllWithin}
 use Rattle.clock_replays.specs.inside.KeptLimits.{AreRising}
 use Rattle.clock_replays.proofs.KeptLimitLaws.{smaller_before}
-use Rattle.clock_replays.proofs.limit_rows.LimitRows.place_of.Goals.{then-place-products, else-place-products+else-products-place, then-place-gt0, else-place-gt0}
-use Rattle.clock_replays.proofs.limit_rows.LimitRows.place_of.Goals as goal
+use Rattle.clock_replays.proofs.limit_lists.LimitRows.place_of.Goals.{then-place-products, else-place-products+else-products-place, then-place-gt0, else-place-gt0}
+use Rattle.clock_replays.proofs.limit_lists.LimitRows.place_of.Goals as goal
 
 pub lesser-init : goal.lesser-init
 lesser-init c =

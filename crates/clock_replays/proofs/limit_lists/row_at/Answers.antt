@@ -1,7 +1,7 @@
 use Rattle.std.proofs.Common.{◌≡◌, ◌∷◌, ◌-◌, ◌≤◌, ℕ, length, take, drop, slice_index_or, sym, subst, ap, ◌∙◌, rules}
 use Rattle.clock_replays.proofs.EndedRowLaws.{row_at, end_within}
-use Rattle.clock_replays.proofs.limit_rows.row_at.Goals.{then-place-eq0, else-place-eq0}
-use Rattle.clock_replays.proofs.limit_rows.row_at.Goals as goal
+use Rattle.clock_replays.proofs.limit_lists.row_at.Goals.{then-place-eq0, else-place-eq0}
+use Rattle.clock_replays.proofs.limit_lists.row_at.Goals as goal
 
 pub slice_bounds-result-count : goal.slice_bounds-result-count
 slice_bounds-result-count c =

@@ -1,7 +1,7 @@
 use Rattle.std.proofs.Common.{length, sym, ap, ◌∙◌}
 use Rattle.clock_replays.proofs.EndedRowLaws.{no_rows}
 use Rattle.clock_replays.proofs.KeptLimitLaws.{rising_none}
-use Rattle.clock_replays.proofs.limit_rows.LimitRows.new.Goals as goal
+use Rattle.clock_replays.proofs.limit_lists.LimitRows.new.Goals as goal
 
 pub returns-clause-kept : goal.returns-clause-kept
 returns-clause-kept c = (
