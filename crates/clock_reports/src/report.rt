@@ -14,9 +14,9 @@ use std::marker::Model;
 /// The sheets of closed rounds, by rising round from round 1.
 pub type RoundSheets = Items<RoundSheet>;
 
-/// What an auction has come to so far: of a replay, or of an audit. The type keeps that there is at least one sheet, and
-/// in each a line for each product at prices from 1 to 10^12; and that the grid is one of the set-up, with each demand
-/// within its cap.
+/// What an auction has come to so far: of a replay, or of an audit. The type keeps that there is at least one sheet,
+/// and in each a line for each product at prices from 1 to 10^12; and that the grid is one of the set-up, with each
+/// demand within its cap.
 #[derive(Drop)]
 pub struct Report {
     /// What the auction was set up with.
