@@ -41,7 +41,7 @@ async function load() {
   page ??= await asker.products();
   const now = await asker.results(), last = lastClosed(now), fell = now.round < results?.round;
   const sold = last === 0 || (rounds.has(last) && !fell) ? rounds.get(last) : (await asker.round(last)).products;
-  if (fell) [underWay] = [0, rounds.clear()]; // the server was started anew
+  if (fell) { underWay = 0; rounds.clear(); } // the server was started anew
   if (last > 0) rounds.set(last, sold);
   results = now;
   drawTies();

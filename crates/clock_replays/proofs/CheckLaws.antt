@@ -14,8 +14,8 @@ use Rattle.clock_terms.specs.Demands.{row_of}
 use Rattle.clock_terms.specs.Faults.{first_fault, in_turn}
 use Rattle.clock_terms.specs.Limits.{IsSetup, cap_of}
 use Rattle.clock_terms.proofs.FaultLaws.{both_pass, turn_passed, turn_failed, turn_none}
-use Rattle.clock_replays.specs.declared.script.Script.{Script}
-use Rattle.clock_replays.specs.declared.script.Script.TheVariants.{Literal, Sincere}
+use Rattle.clock_replays.specs.declared.replay.Script.{Script}
+use Rattle.clock_replays.specs.declared.replay.Script.TheVariants.{Literal, Sincere}
 use Rattle.clock_replays.specs.declared.fault.ScriptFault.TheVariants.{Shape, Scripts, Limits}
 use Rattle.clock_replays.specs.Replays.{NeverRises, IsScript, ReplayFields, IsReplay, is_of_version}
 use Rattle.clock_replays.specs.ReplayChecks.{never_rises, are_of_version, has_lists, limit_checks, script_checks, replay_checks}

@@ -10,8 +10,8 @@ use Rattle.clock_setup.specs.declared.fault.SetupFault.{SetupFault}
 use Rattle.clock_setup.specs.SetupDocument.{setup_of}
 use Rattle.clock_replays.specs.declared.fault.ScriptFault.{ScriptFault}
 use Rattle.clock_replays.specs.declared.fault.ScriptFault.TheVariants.{Shape, Setup}
-use Rattle.clock_replays.specs.declared.script.Script.{Script}
-use Rattle.clock_replays.specs.declared.closing.Closing.{Closing}
+use Rattle.clock_replays.specs.declared.replay.Script.{Script}
+use Rattle.clock_replays.specs.declared.replay.Closing.{Closing}
 use Rattle.clock_replays.specs.ReplayShape.{ReplayParts, script_of, closing_from, parts_of}
 use Rattle.clock_replays.specs.ReplayChecks.{replay_checks}
 use Rattle.clock_replays.specs.ReplayDocument.{replay_with, in_replay, replay_of}

@@ -6,6 +6,7 @@ use Rattle.serde_json.specs.Read.{read}
 use Rattle.clock_json.specs.Reading.{whole, numbers}
 use Rattle.clock_terms.specs.Faults.{first_fault, unless}
 use Rattle.clock_setup.specs.SetupData.{setup_data}
+use Rattle.clock_setup.specs.declared.held_setup.HeldSetup.{HeldSetup}
 use Rattle.clock_json.specs.Tree.{number_from, row_of}
 use Rattle.clock_json.proofs.JsonLaws.{json_value}
 use Rattle.clock_terms.specs.declared.increments.Increments.{Increments}
@@ -16,20 +17,19 @@ use Rattle.clock_bodies.specs.Bodies.{bid_of}
 use Rattle.clock_bodies.specs.CloseBodies.{tie_of}
 use Rattle.clock_bodies.specs.QuickBodies.{bid_data, tie_data}
 use Rattle.clock_bodies.proofs.BodyScanLaws.{bid_means, tie_means, number_means, each_means}
-use Rattle.clock_replays.specs.declared.script.Script.{Script}
-use Rattle.clock_replays.specs.declared.script.Script.TheVariants.{Literal, Sincere}
-use Rattle.clock_replays.specs.declared.closing.Closing.{Closing}
+use Rattle.clock_replays.specs.declared.replay.Script.{Script}
+use Rattle.clock_replays.specs.declared.replay.Script.TheVariants.{Literal, Sincere}
+use Rattle.clock_replays.specs.declared.replay.Closing.{Closing}
 use Rattle.clock_replays.specs.ReplayShape.{ReplayParts, sheet_of, script_of, closing_from, parts_of}
 use Rattle.clock_replays.specs.inside.PartData.{sheet_data, script_data, closing_data}
 use Rattle.clock_replays.specs.inside.ReplayData.{replay_data, found_data}
-use Rattle.clock_replays.specs.declared.replay_scan.ScannedReplay.{ScannedReplay}
 use Rattle.clock_replays.specs.Replays.{ReplayFields}
 use Rattle.clock_replays.specs.ReplayChecks.{replay_checks}
 use Rattle.clock_replays.specs.ReplayDocument.{document_replay}
 use Rattle.clock_replays.proofs.DocumentLaws.{replay_at}
 
-abbrev pub all_of : ScannedReplay → ReplayFields
-all_of found = record { setup = found.held.setup; scripts = found.scripts; closings = found.closings }
+abbrev pub all_of : HeldSetup × List Script × List Closing → ReplayFields
+all_of found = record { setup = found.0.setup; scripts = found.1; closings = found.2 }
 
 -- ---- what the values mean
 
@@ -65,9 +65,9 @@ parts_mean setup scripts closings =
     ) refl
 
 -- a document that is the value of a replay is judged by what is looked at behind its set-up
-pub replay_read : (bytes : List ℕ) (found : ScannedReplay) → IsUtf8 bytes → read bytes ≡ Some (found_data found)
+pub replay_read : (bytes : List ℕ) (found : HeldSetup × List Script × List Closing) → IsUtf8 bytes → read bytes ≡ Some (found_data found)
     → document_replay bytes ≡ unless (first_fault (replay_checks (all_of found))) (all_of found)
 unfolding document_replay
 replay_read bytes found text is =
-    let parts : ReplayParts = record { setup = setup_data found.held.setup; scripts = found.scripts; closings = found.closings } in
-    rw (json_value bytes (found_data found) text is) (replay_at (found_data found) parts found.held.setup (parts_mean (setup_data found.held.setup) found.scripts found.closings) found.held.accepted)
+    let parts : ReplayParts = record { setup = setup_data found.0.setup; scripts = found.1; closings = found.2 } in
+    rw (json_value bytes (found_data found) text is) (replay_at (found_data found) parts found.0.setup (parts_mean (setup_data found.0.setup) found.1 found.2) found.0.accepted)

@@ -7,9 +7,9 @@ use Rattle.std.specs.Prelude.{ℕ, Bool, true, ◌&&◌, ◌==◌, List, [], ◌
 use Rattle.std.specs.List.{list_all}
 use Rattle.clock_terms.specs.declared.setup.Product.{Product}
 use Rattle.clock_terms.specs.Faults.{in_turn}
-use Rattle.clock_replays.specs.declared.script.Script.{Script}
-use Rattle.clock_replays.specs.declared.script.Script.TheVariants.{Literal, Sincere}
-use Rattle.clock_replays.specs.declared.closing.Closing.{Closing}
+use Rattle.clock_replays.specs.declared.replay.Script.{Script}
+use Rattle.clock_replays.specs.declared.replay.Script.TheVariants.{Literal, Sincere}
+use Rattle.clock_replays.specs.declared.replay.Closing.{Closing}
 use Rattle.clock_replays.specs.declared.fault.ScriptFault.{ScriptFault}
 use Rattle.clock_replays.specs.declared.fault.ScriptFault.TheVariants.{Shape, Scripts, Limits}
 use Rattle.clock_replays.specs.Replays.{ReplayFields, is_of_version}

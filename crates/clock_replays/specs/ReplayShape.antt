@@ -10,9 +10,9 @@ use Rattle.clock_json.specs.Tree.{text_at, items_at, has_members, each, row_of, 
 use Rattle.clock_bids.specs.declared.sheet.Bid.{Bid}
 use Rattle.clock_bodies.specs.Bodies.{bid_of}
 use Rattle.clock_bodies.specs.CloseBodies.{tie_of, increments_of}
-use Rattle.clock_replays.specs.declared.script.Script.{Script}
-use Rattle.clock_replays.specs.declared.script.Script.TheVariants.{Literal, Sincere}
-use Rattle.clock_replays.specs.declared.closing.Closing.{Closing}
+use Rattle.clock_replays.specs.declared.replay.Script.{Script}
+use Rattle.clock_replays.specs.declared.replay.Script.TheVariants.{Literal, Sincere}
+use Rattle.clock_replays.specs.declared.replay.Closing.{Closing}
 
 -- what a replay document has: any value for the set-up, the scripts and the closings
 pub record ReplayParts : Type 0 where

@@ -10,9 +10,9 @@ use Rattle.clock_terms.specs.declared.setup.Product.{Product}
 use Rattle.clock_terms.specs.Limits.{SetupFields, IsSetup, cap_of}
 use Rattle.clock_terms.specs.Demands.{row_of}
 pub use Rattle.clock_bodies.specs.CloseBodies.{is_of_version}
-use Rattle.clock_replays.specs.declared.script.Script.{Script}
-use Rattle.clock_replays.specs.declared.script.Script.TheVariants.{Literal, Sincere}
-use Rattle.clock_replays.specs.declared.closing.Closing.{Closing}
+use Rattle.clock_replays.specs.declared.replay.Script.{Script}
+use Rattle.clock_replays.specs.declared.replay.Script.TheVariants.{Literal, Sincere}
+use Rattle.clock_replays.specs.declared.replay.Closing.{Closing}
 
 -- no price is above an earlier one
 abbrev pub NeverRises : List ℕ → Type 0

@@ -3,11 +3,9 @@ ghost use Rattle.std.specs.List.{list_all};
 ghost use Rattle.clock_terms.specs.Faults.{first_fault, in_turn};
 ghost use Rattle.clock_terms.specs.Limits.{IsSetup};
 ghost use Rattle.clock_replays.specs.ReplayChecks as rules;
-ghost use Rattle.clock_replays.specs.ReplayChecks.{limit_checks, replay_checks, script_checks};
 
-use crate::closing::Closing;
 use crate::fault::ScriptFault;
-use crate::script::Script;
+use crate::replay::{Closing, Script};
 use clock_bodies::is_of_version;
 use clock_setup::{Product, Setup, SetupFault};
 
@@ -55,7 +53,7 @@ fn are_limits(product: &Product, limits: &[u64]) -> bool
 #[tactic(auto, unfolding(crate::specs::ReplayChecks::script_checks))]
 fn script_fault(bidder: u64, products: &[Product], script: &Script) -> Option<ScriptFault>
     requires { rules.has_lists (length products.now) script.now ≡ true }
-    ensures fault { result ≡ first_fault (script_checks products.now bidder script.now) }
+    ensures fault { result ≡ first_fault (rules.script_checks products.now bidder script.now) }
     ensures held { result ≢ Some (ScriptFault.Setup SetupFault.NoMemory) }
 {
     let Script::Sincere(limits) = script else {
@@ -73,7 +71,7 @@ fn script_fault(bidder: u64, products: &[Product], script: &Script) -> Option<Sc
 /// The first fault of the scripts, by rising bidder.
 fn scripts_fault(products: &[Product], scripts: &[Script]) -> Option<ScriptFault>
     requires { list_all (rules.has_lists (length products.now)) scripts.now ≡ true }
-    ensures fault { result ≡ first_fault (in_turn (script_checks products.now) 0 scripts.now) }
+    ensures fault { result ≡ first_fault (in_turn (rules.script_checks products.now) 0 scripts.now) }
     ensures held { result ≢ Some (ScriptFault.Setup SetupFault.NoMemory) }
 {
     for (bidder, script) in scripts.iter().enumerate() {
@@ -91,7 +89,8 @@ pub(crate) fn replay_fault(
     scripts: &[Script],
     closings: &[Closing],
 ) -> Option<ScriptFault>
-    ensures fault { result ≡ first_fault (replay_checks (record { setup = setup.now; scripts = scripts.now; closings = closings.now })) }
+    ensures fault { result ≡ first_fault (rules.replay_checks
+        (record { setup = setup.now; scripts = scripts.now; closings = closings.now })) }
     // For the caller, who has no call of its own that tells it.
     ensures limits { IsSetup setup.now }
     ensures held { result ≢ Some (ScriptFault.Setup SetupFault.NoMemory) }

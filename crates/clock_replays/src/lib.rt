@@ -3,21 +3,14 @@
 #![tactic(auto)]
 
 mod checks;
-mod closing;
-mod closing_scan;
 mod fault;
 mod limit_lists;
-mod limit_rows;
 mod read;
 mod replay;
 mod replay_scan;
 mod replay_tree;
-mod script;
-mod script_scan;
 
-pub use closing::{Closing, Closings, TieList};
 pub use fault::ScriptFault;
 pub use limit_lists::LimitLists;
 pub use read::read_replay;
-pub use replay::Replay;
-pub use script::{BidList, Script, Scripts, SheetList};
+pub use replay::{BidList, Closing, Closings, Replay, Script, Scripts, SheetList};

@@ -6,13 +6,10 @@ ghost use Rattle.clock_replays.specs.ReplayChecks.{replay_checks};
 ghost use Rattle.clock_replays.specs.ReplayDocument.{document_replay, replay_of};
 
 use crate::checks::replay_fault;
-use crate::closing::Closings;
-use crate::closing_scan::ClosingReader;
 use crate::fault::ScriptFault;
-use crate::replay::Replay;
-use crate::replay_scan::FoundReplay;
+use crate::replay::{Closings, Replay, Scripts};
+use crate::replay_scan::{ClosingReader, FoundReplay};
 use crate::replay_tree::ScriptReader;
-use crate::script::Scripts;
 use clock_json::scanned_text;
 use clock_json::tree::{each_at, has_members, read_value};
 use clock_setup::{Setup, SetupFault, setup_of};
@@ -74,8 +71,8 @@ pub fn read_replay(alloc: Global, bytes: &[u8]) -> Result<Replay, ScriptFault>
     ensures err { IfErr result (IsRefusal ScriptFault.NoMemory (document_replay bytes.now)) }
     ensures held { IfErr result (λ fault. fault ≢ ScriptFault.Setup SetupFault.NoMemory) }
 {
-    if let Some(found) = scanned_text::<FoundReplay>(alloc, bytes)? {
-        return judged(found.held.setup, found.scripts, found.closings);
+    if let Some((held, scripts, closings)) = scanned_text::<FoundReplay>(alloc, bytes)? {
+        return judged(held.setup, scripts, closings);
     }
     let value = read_value(alloc, bytes)?.ok_or(ScriptFault::NotJson)?;
     replay_in(alloc, &value)

@@ -1,7 +1,40 @@
-use crate::closing::Closings;
-use crate::script::Scripts;
-use clock_terms::Setup;
+use crate::limit_lists::LimitLists;
+use clock_bids::Bid;
+use clock_device::Items;
+use clock_order::Tie;
+use clock_terms::{Increments, Setup};
 use std::marker::Model;
+
+/// The bids of a sheet, in the order given.
+pub type BidList = Items<Bid>;
+
+/// The sheets of a bidder, by rising round from round 1: the bids of each, or none where it puts no sheet.
+pub type SheetList = Items<Option<BidList>>;
+
+/// What a scripted bidder does in each round.
+#[derive(Drop)]
+pub enum Script {
+    /// It puts the sheet of the round, if there is one. Rounds past the list have none.
+    Literal(SheetList),
+    /// It puts a sheet in every round, which asks for the blocks that are worth more to it than their price.
+    Sincere(LimitLists),
+}
+
+/// A script for each bidder, in the order of the bidders' numbers.
+pub type Scripts = Items<Script>;
+
+/// The closing of a round by the operator. Whether its increments and tie numbers are good is not looked at before it
+/// is made.
+#[derive(Drop)]
+pub struct Closing {
+    /// By how many percent prices rise, in the form of the set-up's version.
+    pub increments: Increments,
+    /// The tie numbers of the round, in the order given.
+    pub ties: Items<Tie>,
+}
+
+/// The closings by rising round, from round 1.
+pub type Closings = Items<Closing>;
 
 /// An auction to be played: its set-up, what each bidder does, and how each round is closed. The type keeps that there
 /// is a script for each bidder; that a sincere one has for each product a list of limits which never rises and is at

@@ -1,13 +1,98 @@
 //! A replay document read without a tree, where no text has an escape and each number is written in digits alone.
+ghost use Rattle.clock_replays.specs.inside.PartData.{sheet_data, found_script, script_data, closing_data};
 ghost use Rattle.clock_replays.specs.inside.ReplayData.{found_replay, found_data};
 
-use crate::closing::Closings;
-use crate::closing_scan::ClosingReader;
-use crate::script::Scripts;
-use crate::script_scan::FoundScript;
+use crate::limit_lists::{LimitLists, limit_lists};
+use crate::replay::{BidList, Closing, Closings, Script, Scripts, SheetList};
+use clock_bodies::{BidReader, FoundClose};
 use clock_json::{PartReader, Scan, ScanStop, ScannedMembers, is_key, scanned_parts};
 use clock_setup::HeldSetup;
 use std::alloc::Global;
+
+/// A sheet is read as a list of bids, or as `null` where there is none.
+#[derive(Drop)]
+pub(crate) struct SheetReader;
+
+impl<'v> PartReader<'v> for SheetReader {
+    type Part = Option<BidList>;
+
+    ghost levels = { 2 };
+
+    ghost shown = { sheet_data };
+
+    fn part(alloc: Global, scan: &mut Scan<'v>) -> Result<Option<BidList>, ScanStop> {
+        if scan.null() {
+            return Ok(None);
+        }
+        Ok(Some(scanned_parts::<BidReader>(alloc, scan, 0)?))
+    }
+}
+
+/// What was found of a script so far.
+#[derive(Default, Drop)]
+pub(crate) struct FoundScript<'v> {
+    kind: Option<&'v str>,
+    limits: Option<LimitLists>,
+    sheets: Option<SheetList>,
+}
+
+impl<'v> ScannedMembers<'v> for FoundScript<'v> {
+    type Whole = Script;
+
+    ghost levels = { 3 };
+
+    ghost fields = { found_script };
+
+    ghost shown = { script_data };
+
+    fn nothing() -> FoundScript<'v> {
+        FoundScript::default()
+    }
+
+    fn read(&mut self, alloc: Global, key: &[u8], scan: &mut Scan<'v>) -> Result<(), ScanStop> {
+        if is_key(key, "limits") {
+            self.limits = Some(limit_lists(alloc, scan)?);
+        } else if is_key(key, "sheets") {
+            self.sheets = Some(scanned_parts::<SheetReader>(alloc, scan, 0)?);
+        } else if is_key(key, "kind") {
+            self.kind = Some(scan.text()?);
+        } else {
+            return Err(ScanStop::Unusual);
+        }
+        Ok(())
+    }
+
+    fn whole(self) -> Option<Script> {
+        match (self.kind?, self.limits, self.sheets) {
+            ("literal", None, Some(sheets)) => Some(Script::Literal(sheets)),
+            ("sincere", Some(limits), None) => Some(Script::Sincere(limits)),
+            _ => None,
+        }
+    }
+}
+
+/// How a round is closed is read from a closing that names no round.
+#[derive(Drop)]
+pub(crate) struct ClosingReader;
+
+impl<'v> PartReader<'v> for ClosingReader {
+    type Part = Closing;
+
+    ghost levels = { 3 };
+
+    ghost shown = { closing_data };
+
+    fn part(alloc: Global, scan: &mut Scan<'v>) -> Result<Closing, ScanStop> {
+        let close = FoundClose::part(alloc, scan)?;
+        if close.round.is_some() {
+            return Err(ScanStop::Unusual);
+        }
+        Ok(Closing {
+            increments: close.increments,
+            ties: close.ties,
+        })
+    }
+}
 
 /// What was found of a replay so far.
 #[derive(Default, Drop)]
@@ -17,16 +102,8 @@ pub(crate) struct FoundReplay {
     held: Option<HeldSetup>,
 }
 
-/// The parts of a replay document, with nothing compared.
-#[derive(Drop)]
-pub(crate) struct ScannedReplay {
-    pub held: HeldSetup,
-    pub scripts: Scripts,
-    pub closings: Closings,
-}
-
 impl<'v> ScannedMembers<'v> for FoundReplay {
-    type Whole = ScannedReplay;
+    type Whole = (HeldSetup, Scripts, Closings);
 
     ghost levels = { 5 };
 
@@ -51,11 +128,7 @@ impl<'v> ScannedMembers<'v> for FoundReplay {
         Ok(())
     }
 
-    fn whole(self) -> Option<ScannedReplay> {
-        Some(ScannedReplay {
-            held: self.held?,
-            scripts: self.scripts?,
-            closings: self.closings?,
-        })
+    fn whole(self) -> Option<(HeldSetup, Scripts, Closings)> {
+        Some((self.held?, self.scripts?, self.closings?))
     }
 }

@@ -1,10 +1,8 @@
 ghost use Rattle.clock_replays.specs.ReplayShape as shape;
 
-use crate::closing::Closing;
-use crate::closing_scan::ClosingReader;
 use crate::limit_lists::LimitLists;
-use crate::script::{BidList, Script};
-use crate::script_scan::SheetReader;
+use crate::replay::{BidList, Closing, Script};
+use crate::replay_scan::{ClosingReader, SheetReader};
 use clock_bodies::{BidReader, TieReader, increments_of};
 use clock_device::NoMemory;
 use clock_json::tree::{RowReader, ValueReader, each_at, each_of, has_members, text_at};
@@ -44,24 +42,19 @@ impl<'v> ValueReader<'v> for ScriptReader {
     ghost meaning = { λ _. shape.script_of };
 
     fn part_of(&self, alloc: Global, value: &'v Value) -> Result<Option<Script>, NoMemory> {
-        let Some(kind) = text_at(value, "kind") else {
-            return Ok(None);
-        };
-        if !has_members(value, 2) {
-            return Ok(None);
+        match text_at(value, "kind") {
+            Some("literal") if has_members(value, 2) => {
+                Ok(each_at(alloc, value, "sheets", &SheetReader)?.map(Script::Literal))
+            }
+            Some("sincere") if has_members(value, 2) => {
+                let Some(lists) = each_at(alloc, value, "limits", &RowReader)? else {
+                    return Ok(None);
+                };
+                let limits = LimitLists::from_lists(alloc, lists.as_slice())?;
+                Ok(Some(Script::Sincere(limits)))
+            }
+            _ => Ok(None),
         }
-        if kind == "literal" {
-            let sheets = each_at(alloc, value, "sheets", &SheetReader)?;
-            return Ok(sheets.map(Script::Literal));
-        }
-        if kind != "sincere" {
-            return Ok(None);
-        }
-        let Some(lists) = each_at(alloc, value, "limits", &RowReader)? else {
-            return Ok(None);
-        };
-        let limits = LimitLists::from_lists(alloc, lists.as_slice())?;
-        Ok(Some(Script::Sincere(limits)))
     }
 }
 

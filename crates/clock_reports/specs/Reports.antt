@@ -1,5 +1,5 @@
--- What a replay came to, as plain data.
---     ReportFields, IsReport      the parts of a report, and how they fit together
+-- What an auction has come to so far, as plain data.
+--     ReportFields      the parts of a report
 use Rattle.std.specs.Prelude.{ℕ, List}
 use Rattle.clock_terms.specs.Limits.{SetupFields}
 use Rattle.clock_posting.specs.declared.sheet.RoundSheet.{RoundSheet}

@@ -1,12 +1,17 @@
-ghost use Rattle.std.specs.Prelude.{◌≡◌, ◌≤◌, ◌++◌, ℕ, All, IfOk, OnOk, length, decimal, codes, zip};
+//! The texts of reports: of a replay, of an auction itself, and of an audit.
+
+ghost use Rattle.std.specs.Prelude.{◌≡◌, ◌≤◌, ◌++◌, ℕ, All, IfOk, OnOk, length, decimal, codes, zip, true};
 ghost use Rattle.std.specs.List.{flat_map};
 ghost use Rattle.clock_terms.specs.Limits.{IsRow, most_products, most_supply};
 ghost use Rattle.clock_reports.specs.inside.Reports.{IsReport};
 ghost use Rattle.clock_reports.specs.inside.WonLines.{none_held};
+ghost use Rattle.clock_house.specs.House.{standing_in};
 ghost use Rattle.clock_reports.specs.ReportText as words;
+ghost use Rattle.clock_reports.specs.FinalReport as rules;
 
-use crate::report::Report;
+use crate::report::{Report, sheet_at};
 use clock_device::{NoMemory, Text};
+use clock_house::House;
 use clock_posting::{Line, with_sheet_lines};
 use clock_terms::{Bidder, Grid, Row, Setup};
 use std::alloc::Global;
@@ -108,12 +113,11 @@ fn push_won(
     text.push(b' ')?;
     push_demands(text, none, demands)?;
     text.push_number(payment(lines, demands))?;
-    text.push(b'\n')?;
-    Ok(())
+    text.push(b'\n')
 }
 
 /// Adds the lines of a set-up's bidders. There is a line for each product, and a row of the grid for each bidder.
-pub(crate) fn push_wins(
+fn push_wins(
     alloc: Global,
     text: &mut Text,
     setup: &Setup,
@@ -131,4 +135,71 @@ pub(crate) fn push_wins(
         push_won(text, none.as_slice(), lines, bidder, grid.row(number))?;
     }
     Ok(())
+}
+
+/// A digest in digits of base 16.
+pub type Digits = [u8; 64];
+
+/// The text of an audit: the lines of each round's sheet, by rising round, and behind each the line `closed ROUND
+/// DIGEST` with the digest of the closing, one for each round; and where the auction has ended the lines of what each
+/// bidder won, as [`report_text`] has them.
+///
+/// ```text
+/// round 1
+/// A 100 100 100 - -
+/// closed 1 5be1a2c4..
+/// won X 1 100
+/// won Y 1 100
+/// ```
+pub fn audit_text(alloc: Global, report: &Report, digests: &[Digits]) -> Result<Text, NoMemory>
+    requires { length report.now.sheets ≤ length digests.now }
+    ensures { IfOk result (λ text. text ≡ words.audit_text report.now digests.now) }
+{
+    let sheets = report.sheets.as_slice();
+    let mut text = Text::new(alloc);
+    for (index, sheet) in sheets.iter().enumerate() {
+        text = with_sheet_lines(text, &report.setup, sheet)?;
+        push_closed(&mut text, sheet.round, &digests[index])?;
+    }
+    let last = &sheets[sheets.len() - 1];
+    if !last.ended {
+        return Ok(text);
+    }
+    let lines = last.lines.as_slice();
+    push_wins(alloc, &mut text, &report.setup, lines, &report.grid)?;
+    Ok(text)
+}
+
+/// Adds the line of a closing, with its digest.
+fn push_closed(text: &mut Text, round: u64, digest: &Digits) -> Result<(), NoMemory>
+    ensures { OnOk result (text.new ≡ text.old ++ codes "closed " ++ decimal round ++ codes " " ++ digest.now ++ codes "\n") }
+{
+    text.extend_from_slice(b"closed ")?;
+    text.push_number(round)?;
+    text.push(b' ')?;
+    text.extend_from_slice(digest)?;
+    text.push(b'\n')
+}
+
+/// How many bytes a line of a product takes, about.
+const LINE_ROOM: usize = 48;
+
+/// The text of the report of an auction that has ended, written from the auction itself: no sheet is copied.
+pub fn final_text<P>(alloc: Global, house: &House<P>) -> Result<Text, NoMemory>
+    requires { (standing_in house.now).ended ≡ true }
+    ensures { IfOk result (λ text. text ≡ words.report_text (rules.report_of house.now.setup house.now.closed)) }
+{
+    let products = house.setup().products.as_slice().len();
+    let count = products.saturating_mul(house.closed_rounds() as usize);
+    // room is taken at once, about: a long text that grows is copied, and both stand in memory
+    let room = Vec::with_capacity(alloc, count.saturating_mul(LINE_ROOM))?;
+    let mut text = Text::from_vec(room);
+    for round in 0..house.closed_rounds() {
+        text = with_sheet_lines(text, house.setup(), sheet_at(house, round))?;
+    }
+    house.law_of_house();
+    let last = sheet_at(house, house.closed_rounds() - 1);
+    let lines = last.lines.as_slice();
+    push_wins(alloc, &mut text, house.setup(), lines, house.demands())?;
+    Ok(text)
 }

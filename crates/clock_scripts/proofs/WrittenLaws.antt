@@ -9,7 +9,7 @@ use Rattle.clock_order.specs.declared.ties.Tie.{Tie}
 use Rattle.clock_closing.specs.declared.closed_round.ClosedRound.{ClosedRound}
 use Rattle.clock_house.specs.History.{standing}
 use Rattle.clock_views.specs.Values.{Adds}
-use Rattle.clock_replays.specs.declared.closing.Closing.{Closing}
+use Rattle.clock_replays.specs.declared.replay.Closing.{Closing}
 use Rattle.clock_scripts.specs.declared.pieces.Extent.{Extent}
 use Rattle.clock_scripts.specs.declared.pieces.Written.{Written}
 use Rattle.clock_scripts.specs.declared.pieces.Pieces.{Pieces}

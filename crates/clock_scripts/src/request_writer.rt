@@ -27,8 +27,7 @@ pub(crate) fn push_number(text: &mut Vec<u8>, label: &[u8], number: u64) -> Resu
 {
     let mut buffer = Buffer::new();
     push_label(text, label)?;
-    push_label(text, buffer.format(number).as_bytes())?;
-    Ok(())
+    push_label(text, buffer.format(number).as_bytes())
 }
 
 /// Ends an array whose items stand from a place on, each with a comma behind it.
@@ -38,8 +37,7 @@ pub(crate) fn end_array(text: &mut Vec<u8>, start: usize) -> Result<(), NoMemory
     if text.len() > start {
         text.truncate(text.len() - 1);
     }
-    push_label(text, b"]")?;
-    Ok(())
+    push_label(text, b"]")
 }
 
 /// Adds an array of numbers.

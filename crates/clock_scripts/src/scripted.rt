@@ -1,7 +1,6 @@
 //! The requests of scripted bidders and of the operator.
 
-ghost use Rattle.std.specs.Prelude.{◌≡◌, ◌<◌, ◌≤◌, ◌-◌, false, length, drop, codes, IfOk, IfSome, OnOk, Some, None, if◌then◌else◌};
-ghost use Rattle.std.specs.Prelude.{option_map, slice_index_or};
+ghost use Rattle.std.specs.Prelude.{◌≡◌, ◌<◌, ◌≤◌, ◌-◌, false, length, drop, codes, IfOk, IfSome, OnOk, Some, None, if◌then◌else◌, option_map, slice_index_or};
 ghost use Rattle.clock_terms.specs.Limits.{IsToken};
 ghost use Rattle.clock_house.specs.History.{bidder_at};
 ghost use Rattle.clock_house.specs.House.{standing_in, holding_in};
@@ -86,8 +85,7 @@ impl Pieces {
             Some(Some(bids)) => {
                 let start = self.bodies.text.len();
                 self.bodies.push_sheet(round, bids.as_slice())?;
-                let written = self.end_put(token, start)?;
-                Ok(Some(written))
+                Ok(Some(self.end_put(token, start)?))
             }
             _ => Ok(None),
         }
@@ -112,8 +110,7 @@ impl Pieces {
             Script::Sincere(limits) => Ok(Some(self.write_sincere(house, bidder, limits)?)),
             Script::Literal(sheets) => {
                 let token = token_of(house.setup(), bidder);
-                let written = self.write_literal(token, house.round(), sheets.as_slice())?;
-                Ok(written)
+                self.write_literal(token, house.round(), sheets.as_slice())
             }
         }
     }

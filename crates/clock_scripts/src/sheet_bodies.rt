@@ -113,8 +113,7 @@ fn push_quantity(text: &mut Vec<u8>, quantity: u64) -> Result<(), NoMemory>
         return Ok(());
     }
     push_number(text, b"", quantity)?;
-    push_label(text, b"},")?;
-    Ok(())
+    push_label(text, b"},")
 }
 
 /// Bodies, one behind the other, and what they are written with.

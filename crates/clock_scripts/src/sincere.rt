@@ -19,11 +19,7 @@ use clock_terms::PricePair;
 fn leaving_price(pair: &PricePair, limit: u64) -> Option<u64>
     ensures { result ≡ rules.leaving_price pair.now limit }
 {
-    if limit < pair.clock.get() {
-        Some(pair.start.get().max(limit))
-    } else {
-        None
-    }
+    (limit < pair.clock.get()).then_some(pair.start.get().max(limit))
 }
 
 /// The price at which the last of so many blocks leaves, where there is one that does.
@@ -50,17 +46,14 @@ fn push_block(
     ensures { OnOk result (Adds (bids_text (one_by_one.block_bid product before price next))
         bodies.old.text.items bodies.new.text.items) }
 {
-    let Some(price) = price else {
-        return Ok(());
-    };
-    if next == Some(price) {
-        return Ok(());
+    match price {
+        Some(price) if next != Some(price) => bodies.push_own_bid(&Bid {
+            product,
+            quantity: before,
+            price,
+        }),
+        _ => Ok(()),
     }
-    bodies.push_own_bid(&Bid {
-        product,
-        quantity: before,
-        price,
-    })
 }
 
 /// Adds a bid for each different price at which one of the held blocks leaves, rising. The blocks past the limits stay.

@@ -23,7 +23,7 @@ use Rattle.clock_http.specs.declared.routes.Page.{Page}
 use Rattle.clock_http.specs.declared.routes.Page.TheVariants.{Status, Products, Sheet, Account, Bids, Slip, Close, Results}
 use Rattle.clock_front.specs.declared.front.tokens.Asker.{Asker}
 use Rattle.clock_front.specs.declared.front.tokens.Asker.TheVariants.{Nobody, Operator, Bidder}
-use Rattle.clock_replays.specs.declared.script.Script.{Script}
+use Rattle.clock_replays.specs.declared.replay.Script.{Script}
 use Rattle.clock_sim.specs.inside.Groups.{ClosesNoRound}
 use Rattle.clock_scripts.specs.RequestTexts.{put_text}
 use Rattle.clock_scripts.specs.ScriptedRequests.{scripted_put}

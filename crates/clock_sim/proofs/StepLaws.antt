@@ -17,8 +17,8 @@ use Rattle.clock_sim.specs.declared.sim_fault.SimFault.TheVariants.{NoMemory, Cl
 use Rattle.clock_sim.specs.Rehearsal.{if_done, refused_by, after_request, rounds_after, after_puts, after_close, after_round, rehearsed, simulated}
 use Rattle.clock_reports.specs.FinalReport.{report_of}
 use Rattle.clock_replays.specs.Replays.{ReplayFields}
-use Rattle.clock_replays.specs.declared.script.Script.{Script}
-use Rattle.clock_replays.specs.declared.closing.Closing.{Closing}
+use Rattle.clock_replays.specs.declared.replay.Script.{Script}
+use Rattle.clock_replays.specs.declared.replay.Closing.{Closing}
 use Rattle.clock_scripts.specs.ScriptedRequests.{scripted_close}
 use Rattle.clock_sim.specs.inside.Steps.{IsGoing, IsTold, ComesTo, MakesStep, IsLeft}
 

@@ -1,6 +1,6 @@
 -- What scripted bidders and closings make of an auction: the requests that are sent, as texts of bytes, and what comes
 -- of them. Texts stand the newest first.
---     after_request setup texts sender text      a request is answered
+--     after_request setup texts sender round text      a request is answered
 --     after_puts setup bidder scripts texts      the bidders from this one on put their sheets
 --     after_close setup closing texts      the round is closed
 --     rehearsed setup scripts closings texts      all requests until the end, or the first fault
@@ -13,8 +13,8 @@ use Rattle.clock_closing.specs.declared.closed_round.ClosedRound.{ClosedRound}
 use Rattle.clock_http.specs.declared.code.Code.{Code}
 use Rattle.clock_http.specs.declared.code.Code.TheVariants as codes
 use Rattle.clock_front.specs.Fronts.{commands_of, reply}
-use Rattle.clock_replays.specs.declared.script.Script.{Script}
-use Rattle.clock_replays.specs.declared.closing.Closing.{Closing}
+use Rattle.clock_replays.specs.declared.replay.Script.{Script}
+use Rattle.clock_replays.specs.declared.replay.Closing.{Closing}
 use Rattle.clock_sim.specs.declared.sim_fault.SimFault.{SimFault}
 use Rattle.clock_sim.specs.declared.sim_fault.SimFault.TheVariants as faults
 use Rattle.clock_replays.specs.Replays.{ReplayFields}

@@ -3,8 +3,7 @@
 ghost use Rattle.std.specs.Prelude.{◌≡◌, [], Some, true, IfOk, OnOk};
 ghost use Rattle.clock_http.specs.Framing.{needs_more};
 ghost use Rattle.clock_scripts.specs.Pieces.{AwaitsBody, HoldsNothing, piece_at};
-ghost use Rattle.clock_sim.specs.inside.Groups.{AreApart, AreWritten, ComesUnderWay, IsNext, IsUnderWay, StandFrom};
-ghost use Rattle.clock_sim.specs.inside.Groups.{StillWait, Waits, after_group, requests_in, with_turn};
+ghost use Rattle.clock_sim.specs.inside.Groups.{AreApart, AreWritten, ComesUnderWay, IsNext, IsUnderWay, StandFrom, StillWait, Waits, after_group, requests_in, with_turn};
 ghost use Rattle.clock_sim.specs.inside.Steps.{MakesStep};
 
 use crate::sending::{send, send_body};
@@ -117,7 +116,7 @@ impl Group {
         ensures { ComesUnderWay (with_turn hub.old.house.setup self.old turn) hub.old hub.new self.new result }
     {
         let conn = hub.connect()?;
-        self.waiting.push(Waiting { turn, conn })?;
+        self.waiting.push(Waiting { turn, conn }).or(Err(NoMemory))?;
         Ok(())
     }
 

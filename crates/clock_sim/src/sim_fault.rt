@@ -1,7 +1,9 @@
+ghost use Rattle.std.specs.Prelude.{◌≡◌};
+ghost use Rattle.clock_sim.specs.declared.sim_fault.SimFault.TheVariants.{NoMemory};
+
 use clock_device::NoMemory;
 use clock_front::HubFault;
 use clock_http::Code;
-use std::alloc::AllocFailed;
 use thiserror::Error;
 
 /// Why a replay has no report: the first fault in the order of its events. A code here is neither [`Code::Done`] nor
@@ -23,10 +25,7 @@ pub enum SimFault {
 }
 
 impl From<NoMemory> for SimFault {
-    ghost use Rattle.std.specs.Prelude.{◌≡◌};
-    ghost use Rattle.clock_sim.specs.declared.sim_fault.SimFault.TheVariants as faults;
-
-    ghost from_gives = { λ _ fault. fault ≡ faults.NoMemory };
+    ghost from_gives = { λ _ fault. fault ≡ NoMemory };
 
     fn from(_refused: NoMemory) -> SimFault {
         SimFault::NoMemory
@@ -36,23 +35,9 @@ impl From<NoMemory> for SimFault {
 /// A replay's connections are its own, fewer than 256 stand, and fewer are made than there are serial numbers: what a
 /// hub refuses, it refuses for want of memory.
 impl From<HubFault> for SimFault {
-    ghost use Rattle.std.specs.Prelude.{◌≡◌};
-    ghost use Rattle.clock_sim.specs.declared.sim_fault.SimFault.TheVariants as faults;
-
-    ghost from_gives = { λ _ fault. fault ≡ faults.NoMemory };
+    ghost from_gives = { λ _ fault. fault ≡ NoMemory };
 
     fn from(_refused: HubFault) -> SimFault {
-        SimFault::NoMemory
-    }
-}
-
-impl<T: Drop> From<AllocFailed<T>> for SimFault {
-    ghost use Rattle.std.specs.Prelude.{◌≡◌};
-    ghost use Rattle.clock_sim.specs.declared.sim_fault.SimFault.TheVariants as faults;
-
-    ghost from_gives = { λ _ fault. fault ≡ faults.NoMemory };
-
-    fn from(_refused: AllocFailed<T>) -> SimFault {
         SimFault::NoMemory
     }
 }

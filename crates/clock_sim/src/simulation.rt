@@ -5,7 +5,6 @@ ghost use Rattle.clock_front.specs.Fronts.{StandsForTexts};
 ghost use Rattle.clock_reports.specs.FinalReport.{report_of};
 ghost use Rattle.clock_sim.specs.Rehearsal as rules;
 ghost use Rattle.clock_sim.specs.inside.Steps.{AreScriptsOf, replay_of};
-ghost use Rattle.clock_sim.specs.declared.sim_fault.SimFault.TheVariants as faults;
 
 use crate::groups::Group;
 use crate::rounds::play;
@@ -30,7 +29,7 @@ fn play_out<P: Processor>(
     ensures ok { OnOk result (rules.simulated (replay_of hub.old.house scripts.now closings.now)
         ≡ Ok (report_of hub.new.house.setup hub.new.house.closed)) }
     ensures ended { OnOk result ((standing_in hub.new.house).ended ≡ true) }
-    ensures err { IfErr result (IsRefusal faults.NoMemory
+    ensures err { IfErr result (IsRefusal SimFault.NoMemory
         (rules.simulated (replay_of hub.old.house scripts.now closings.now))) }
 {
     let products = hub.front().house().setup().products.as_slice().len();
@@ -48,7 +47,7 @@ fn played<P: Processor>(
     requires first { StandsForTexts [] hub.old.house }
     requires same { hub.old.house.setup ≡ replay.now.setup }
     ensures ok { IfOk result (λ report. rules.simulated replay.now ≡ Ok report) }
-    ensures err { IfErr result (IsRefusal faults.NoMemory (rules.simulated replay.now)) }
+    ensures err { IfErr result (IsRefusal SimFault.NoMemory (rules.simulated replay.now)) }
 {
     let scripts = replay.scripts.as_slice();
     play_out(alloc, hub, scripts, replay.closings.as_slice())?;
@@ -66,7 +65,7 @@ fn text_played<P: Processor>(
     requires first { StandsForTexts [] hub.old.house }
     requires scripts { AreScriptsOf hub.old.house.setup scripts }
     ensures ok { IfOk result (λ text. rules.played_text (replay_of hub.old.house scripts closings) ≡ Ok text) }
-    ensures err { IfErr result (IsRefusal faults.NoMemory
+    ensures err { IfErr result (IsRefusal SimFault.NoMemory
         (rules.played_text (replay_of hub.old.house scripts closings))) }
 {
     let played = play_out(alloc, hub, scripts.as_slice(), closings.as_slice());
@@ -83,7 +82,7 @@ pub fn simulate_with<P: Processor + Drop>(
     processor: P,
 ) -> Result<Report, SimFault>
     ensures ok { IfOk result (λ report. rules.simulated replay.now ≡ Ok report) }
-    ensures err { IfErr result (IsRefusal faults.NoMemory (rules.simulated replay.now)) }
+    ensures err { IfErr result (IsRefusal SimFault.NoMemory (rules.simulated replay.now)) }
 {
     let setup = replay.setup.copy(alloc)?;
     let mut hub = Hub::new(alloc, Front::new(alloc, setup, processor)?);
@@ -102,7 +101,7 @@ pub fn simulate_with<P: Processor + Drop>(
 /// order of the requests is answered: one that is refused, or that the auction goes on and no closing is left.
 pub fn simulate(alloc: Global, replay: &Replay) -> Result<Report, SimFault>
     ensures ok { IfOk result (λ report. rules.simulated replay.now ≡ Ok report) }
-    ensures err { IfErr result (IsRefusal faults.NoMemory (rules.simulated replay.now)) }
+    ensures err { IfErr result (IsRefusal SimFault.NoMemory (rules.simulated replay.now)) }
 {
     simulate_with(alloc, replay, Woken)
 }
@@ -111,7 +110,7 @@ pub fn simulate(alloc: Global, replay: &Replay) -> Result<Report, SimFault>
 /// is let go before the text is written. The refusals are the same.
 pub fn replay_text(alloc: Global, replay: Replay) -> Result<Text, SimFault>
     ensures ok { IfOk result (λ text. rules.played_text replay ≡ Ok text) }
-    ensures err { IfErr result (IsRefusal faults.NoMemory (rules.played_text replay)) }
+    ensures err { IfErr result (IsRefusal SimFault.NoMemory (rules.played_text replay)) }
 {
     let Replay {
         setup,

@@ -4,7 +4,7 @@
 --     IsPlaceOf products product place      only products below one stand before the place
 use Rattle.std.specs.Prelude.{◌≡◌, ℕ, ◌+◌, ◌<◌, ◌≤◌, List, [], ◌∷◌, length}
 use Rattle.std.specs.List.{AllWithin}
-use Rattle.clock_replays.specs.declared.limit_rows.LimitRows.{LimitRows}
+use Rattle.clock_replays.specs.declared.limit_lists.LimitRows.{LimitRows}
 use Rattle.clock_replays.specs.EndedRows.{rows_from}
 use Rattle.clock_replays.specs.KeptLimits.{limits_of}
 use Rattle.clock_replays.specs.inside.EndedRows.{AreEnds}

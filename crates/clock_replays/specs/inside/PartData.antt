@@ -7,10 +7,10 @@ use Rattle.clock_json.specs.Reading.{rows, items_of, Fields, members_of}
 use Rattle.clock_bids.specs.declared.sheet.Bid.{Bid}
 use Rattle.clock_bodies.specs.QuickClosings.{close_value}
 use Rattle.clock_bodies.specs.inside.QuickBodies.{bids_data}
-use Rattle.clock_replays.specs.declared.script.Script.{Script}
-use Rattle.clock_replays.specs.declared.script.Script.TheVariants.{Literal, Sincere}
-use Rattle.clock_replays.specs.declared.closing.Closing.{Closing}
-use Rattle.clock_replays.specs.declared.script_scan.FoundScript.{FoundScript}
+use Rattle.clock_replays.specs.declared.replay.Script.{Script}
+use Rattle.clock_replays.specs.declared.replay.Script.TheVariants.{Literal, Sincere}
+use Rattle.clock_replays.specs.declared.replay.Closing.{Closing}
+use Rattle.clock_replays.specs.declared.replay_scan.FoundScript.{FoundScript}
 
 -- a sheet of a literal script as a value
 abbrev pub sheet_data : Option (List Bid) → Data

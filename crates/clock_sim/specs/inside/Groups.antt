@@ -28,7 +28,7 @@ use Rattle.clock_scripts.specs.Pieces.{IsWrittenIn, piece_at, text_at}
 use Rattle.clock_sim.specs.declared.groups.Turn.{Turn}
 use Rattle.clock_sim.specs.declared.groups.Waiting.{Waiting}
 use Rattle.clock_sim.specs.declared.groups.Group.{Group}
-use Rattle.clock_replays.specs.declared.script.Script.{Script}
+use Rattle.clock_replays.specs.declared.replay.Script.{Script}
 use Rattle.clock_sim.specs.declared.sim_fault.SimFault.{SimFault}
 use Rattle.clock_sim.specs.Rehearsal.{rounds_after, after_request, after_put}
 use Rattle.clock_sim.specs.inside.Steps.{IsGoing, MakesWay}

@@ -13,8 +13,8 @@ use Rattle.clock_house.specs.House.{HouseFields, standing_in}
 use Rattle.clock_http.specs.declared.code.Code.{Code}
 use Rattle.clock_http.specs.declared.code.Code.TheVariants.{Done, Memory}
 use Rattle.clock_front.specs.Fronts.{StandsForTexts}
-use Rattle.clock_replays.specs.declared.script.Script.{Script}
-use Rattle.clock_replays.specs.declared.closing.Closing.{Closing}
+use Rattle.clock_replays.specs.declared.replay.Script.{Script}
+use Rattle.clock_replays.specs.declared.replay.Closing.{Closing}
 use Rattle.clock_terms.specs.Limits.{SetupFields}
 use Rattle.clock_replays.specs.Replays.{ReplayFields, IsScript}
 use Rattle.clock_sim.specs.declared.sim_fault.SimFault.{SimFault}

@@ -1,7 +1,7 @@
 use Rattle.std.proofs.Common.{◌≡◌, length, ap, refl, sym, subst, arith}
 use Rattle.std.proofs.lemmas.Result.{err_from_is_err_and}
 use Rattle.clock_terms.specs.Limits.{SetupFields}
-use Rattle.clock_replays.specs.declared.script.Script.{Script}
+use Rattle.clock_replays.specs.declared.replay.Script.{Script}
 use Rattle.clock_replays.specs.Replays.{IsScript}
 use Rattle.clock_sim.specs.Rehearsal.{after_puts}
 use Rattle.clock_sim.specs.inside.Groups.{requests_in}

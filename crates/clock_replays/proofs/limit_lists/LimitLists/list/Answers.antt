@@ -4,7 +4,7 @@ use Rattle.clock_terms.specs.Demands.{row_of}
 use Rattle.clock_replays.specs.EndedRows.{rows_from}
 use Rattle.clock_replays.specs.KeptLimits.{limits_for}
 use Rattle.clock_replays.specs.inside.KeptLimits.{kept_limits}
-use Rattle.clock_replays.specs.declared.limit_rows.LimitRows.{LimitRows}
+use Rattle.clock_replays.specs.declared.limit_lists.LimitRows.{LimitRows}
 use Rattle.clock_replays.proofs.EndedRowLaws.{length-rows}
 use Rattle.clock_replays.proofs.KeptLimitLaws.{found, missing}
 use Rattle.clock_replays.proofs.limit_lists.LimitLists.list.Goals.{then-place-products-via-then-place-products, then-place-products-via-else-place-products+then-products-place}
