@@ -1,4 +1,4 @@
-ghost use Rattle.std.specs.Prelude.{◌≡◌, ◌+◌, ◌≤◌, ◌<◌, ℕ, List, [], length, take, Some, None};
+ghost use Rattle.std.specs.Prelude.{◌≡◌, ◌≤◌, ◌<◌, ℕ, List, [], length, take, Some, None};
 ghost use Rattle.clock_http.specs.Scans.{head_length as length_of_head};
 ghost use Rattle.clock_http.specs.Framing as spec;
 ghost use Rattle.clock_http.specs.Shown.{Knows, KnowsOfStart, IsHeadWithin, shown_ended, shown_progress, IsProgressWithin};
