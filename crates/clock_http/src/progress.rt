@@ -142,10 +142,8 @@ impl Progress {
         ensures { (text : List ℕ) → Knows text self → result ≡ spec.needs_more text }
     {
         match self {
-            Progress::Unended(_) => true,
-            Progress::Waiting(_) => true,
-            Progress::Complete(_) => false,
-            Progress::Refused(_) => false,
+            Progress::Unended(_) | Progress::Waiting(_) => true,
+            Progress::Complete(_) | Progress::Refused(_) => false,
         }
     }
 
@@ -155,8 +153,7 @@ impl Progress {
         ensures { IsFramed text.now result }
     {
         match self {
-            Progress::Unended(_) => Framing::NeedMore,
-            Progress::Waiting(_) => Framing::NeedMore,
+            Progress::Unended(_) | Progress::Waiting(_) => Framing::NeedMore,
             Progress::Complete(head) => Framing::Whole {
                 head: head_in(text, head),
                 body: &text[head.length..head.length + head.body],
