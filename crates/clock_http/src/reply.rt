@@ -174,10 +174,11 @@ impl Reply {
     }
 
     /// The reply whose page stands behind the room for its head.
-    pub fn written(code: Code, allowed: Option<Page>, mut text: Text) -> Reply
-        requires { HEAD_ROOM ≤ length text }
-        ensures { result ≡ record { code = code; bytes = reply_bytes code allowed (drop HEAD_ROOM text) } }
+    pub fn written(code: Code, allowed: Option<Page>, text: Bounded<u8>) -> Reply
+        requires { HEAD_ROOM ≤ length text.items }
+        ensures { result ≡ record { code = code; bytes = reply_bytes code allowed (drop HEAD_ROOM text.items) } }
     {
+        let mut text = text.into_items();
         let lines = put_lines(&mut text, code, allowed);
         let start = put_status(&mut text, lines, code);
         Reply {

@@ -16,7 +16,7 @@ ghost use Rattle.clock_views.specs.OperatorPages.{closed_value};
 ghost use Rattle.clock_views.specs.Refusals.{alone};
 
 use crate::front::Unanswered;
-use crate::front::pages::{refusal, written};
+use crate::front::pages::refusal;
 use crate::front::telling::{bidder_of, operator_of, turn_away};
 use crate::front::tokens::Asker;
 use clock_bodies::{BodyFault, CloseBody, PutBody, is_of_version, read_close, read_put};
@@ -53,7 +53,7 @@ fn accepted(alloc: Global, round: u64, bids: u64) -> Result<Reply, NoMemory>
 {
     let mut text = text_with_room(alloc, accepted_room())?;
     push_accepted_page(&mut text, round, bids);
-    Ok(written(Code::Done, None, text))
+    Ok(Reply::written(Code::Done, None, text))
 }
 
 /// Puts a sheet in force, or tells its first fault.
@@ -115,7 +115,7 @@ fn closed(alloc: Global, round: u64, ended: bool) -> Result<Reply, NoMemory>
 {
     let mut text = text_with_room(alloc, closed_room())?;
     push_closed_page(&mut text, round, ended);
-    Ok(written(Code::Done, None, text))
+    Ok(Reply::written(Code::Done, None, text))
 }
 
 /// Closes the round, or tells the first fault.
