@@ -47,8 +47,7 @@ fn read_once<R: Source>(
     requires needed { needs_more request.old ≡ true }
     requires uncounted { (R.told source.old).interruptions < most_request_reads }
     ensures step { IsStepOf (R.told source.old).left (R.told source.new).left request.old request.new result }
-    ensures used { result ≡ Ok false
-        → length request.old + (R.told source.old).interruptions
+    ensures used { result ≡ Ok false → length request.old + (R.told source.old).interruptions
         < length request.new + (R.told source.new).interruptions }
     ensures counted { (R.told source.new).calls ≡ count_after (R.told source.old).calls }
     ensures interrupted { GrowsByOneAtMost (R.told source.old).interruptions (R.told source.new).interruptions }

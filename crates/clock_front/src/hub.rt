@@ -135,11 +135,10 @@ impl<P: Processor> Hub<P> {
         if !self.connections.stands(conn) {
             return Err(HubFault::Unknown);
         }
-        let fed = match piece {
+        Ok(match piece {
             [_] => self.feed_on(conn, piece)?,
             _ => self.feed_piece(conn, piece)?,
-        };
-        Ok(fed)
+        })
     }
 
     /// The reply to a request whose input has ended: it was cut short, since a request that is complete was answered.

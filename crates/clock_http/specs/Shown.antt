@@ -10,9 +10,9 @@ use Rattle.httparse.specs.declared.spans.Span.{Span}
 use Rattle.clock_http.specs.declared.head.EndedHead.{EndedHead}
 use Rattle.clock_http.specs.declared.progress.Progress.{Progress}
 use Rattle.clock_http.specs.declared.progress.Progress.TheVariants as so_far
-use Rattle.clock_http.specs.declared.framing.Head.{Head}
-use Rattle.clock_http.specs.declared.framing.Framing.{Framing}
-use Rattle.clock_http.specs.declared.framing.Framing.TheVariants as framed
+use Rattle.clock_http.specs.declared.progress.Head.{Head}
+use Rattle.clock_http.specs.declared.progress.Framing.{Framing}
+use Rattle.clock_http.specs.declared.progress.Framing.TheVariants as framed
 use Rattle.clock_http.specs.Framing as spec
 
 -- a span, where there is one, lies in the first n bytes

@@ -3,8 +3,7 @@ ghost use Rattle.clock_http.specs.Framing.{needs_more};
 ghost use Rattle.clock_http.specs.Shown.{IsFramed, Knows, KnowsOfStart};
 ghost use Rattle.clock_http.specs.inside.Followed.{IsFollowed};
 
-use crate::framing::{Framing, head_in};
-use crate::progress::Progress;
+use crate::progress::{Framing, Progress, head_in};
 use clock_device::NoMemory;
 use std::alloc::Global;
 use std::marker::Model;

@@ -6,9 +6,8 @@ use http::StatusCode;
 
 /// What a reply says of its request: that it was done, or why it was refused.
 ///
-/// The codes are this auction's own; the statuses that they have are those of HTTP (RFC 9110, and
-/// RFC 6585 for 431). They stand here by rising status, and those of one status in the order in
-/// which they are looked for.
+/// The codes are this auction's own; the statuses that they have are those of HTTP (RFC 9110, and RFC 6585 for 431).
+/// They stand here by rising status, and those of one status in the order in which they are looked for.
 #[derive(Clone, Copy, Debug, PartialEq, Eq)]
 pub enum Code {
     /// The request was done. This code stands in no page.

@@ -46,15 +46,8 @@ fn parse_head(bytes: &[u8], headers: &mut [HeaderSpan]) -> Option<RequestSpans>
         × IsRequestAt bytes.now headers.new r h) }
 {
     match parse_request(bytes, headers) {
-        Ok(Status::Complete(found)) => {
-            if found.len == bytes.len() {
-                Some(found)
-            } else {
-                None
-            }
-        }
-        Ok(Status::Partial) => None,
-        Err(_) => None,
+        Ok(Status::Complete(found)) if found.len == bytes.len() => Some(found),
+        _ => None,
     }
 }
 
@@ -89,9 +82,7 @@ fn read_parts(bytes: &[u8], spans: &mut [HeaderSpan]) -> Result<EndedHead, Code>
     ensures within { IfOk result (IsHeadWithin (length bytes.now)) }
     ensures all { IfOk result (λ head. head.length ≡ length bytes.now) }
 {
-    let Some(found) = parse_head(bytes, spans) else {
-        return Err(Code::BadHead);
-    };
+    let found = parse_head(bytes, spans).ok_or(Code::BadHead)?;
     let fields = fields_of(bytes, &spans[..found.headers]);
     let body = fields.body_length(bytes)?;
     Ok(EndedHead {

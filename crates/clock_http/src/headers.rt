@@ -9,7 +9,6 @@
 ghost use Rattle.std.specs.Prelude.{◌≡◌, ◌+◌, ◌≤◌, ◌<◌, ◌++◌, ℕ, List, [], ◌∷◌, length, map, drop, All, IfSome, option_map};
 ghost use Rattle.httparse.specs.Spans.{IsHeaderWithin, IsWithin, header_bytes, span_bytes};
 ghost use Rattle.clock_http.specs.HeaderLines as lines;
-ghost use Rattle.clock_http.specs.HeaderLines.{length_from, within_limit, skip_spaces};
 ghost use Rattle.clock_http.specs.Shown.{IsSomeWithin};
 ghost use Rattle.clock_http.specs.inside.HeadFields.{Pairs, AreLinesOf, AreFieldsOf};
 
@@ -87,7 +86,7 @@ pub(crate) fn fields_of(text: &[u8], headers: &[HeaderSpan]) -> Fields
 
 /// The number that one or more digits write, if a body may be so long.
 fn parse_length(value: &[u8]) -> Result<usize, Code>
-    ensures { result ≡ within_limit (length_from (value.now ∷ [])) }
+    ensures { result ≡ lines.within_limit (lines.length_from (value.now ∷ [])) }
 {
     if !is_number(value) {
         return Err(Code::BadLength);
@@ -101,7 +100,7 @@ fn parse_length(value: &[u8]) -> Result<usize, Code>
 /// How many spaces the bytes begin with.
 fn leading_spaces(text: &[u8]) -> usize
     ensures within { result ≤ length text.now }
-    ensures rest { drop result text.now ≡ skip_spaces text.now }
+    ensures rest { drop result text.now ≡ lines.skip_spaces text.now }
 {
     for i in 0..text.len() {
         if text[i] != b' ' {

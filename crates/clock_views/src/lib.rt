@@ -17,7 +17,6 @@ mod operator;
 mod pieces;
 mod public;
 mod refusal;
-mod refusal_pages;
 mod room;
 
 pub use bidder::{
@@ -32,5 +31,4 @@ pub use public::{
     products_page, push_sheet_page, push_status_page, sheet_page, sheet_room, status_page,
     status_room,
 };
-pub use refusal::Refusal;
-pub use refusal_pages::{REFUSAL_ROOM, push_refusal_page, refusal_page};
+pub use refusal::{REFUSAL_ROOM, Refusal, push_refusal_page, refusal_page};

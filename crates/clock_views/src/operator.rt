@@ -104,8 +104,7 @@ fn push_results<P>(text: &mut Bounded<u8>, house: &House<P>)
         ≤ text.old.room }
     ensures adds { Adds (compact_text (list_of (result_in house.now)
         (range_with_len 0 (length house.now.setup.bidders)))) text.old.items text.new.items }
-    ensures room { text.old.room
-        ≤ text.new.room + most_text (list_of (result_in house.now)
+    ensures room { text.old.room ≤ text.new.room + most_text (list_of (result_in house.now)
         (range_with_len 0 (length house.now.setup.bidders))) }
 {
     text.push(b'[');

@@ -6,8 +6,7 @@ ghost use Rattle.serde_json.specs.Data.{string};
 ghost use Rattle.serde_json.specs.Written.{compact_text, comma_if};
 ghost use Rattle.clock_terms.specs.Limits.{IsName};
 ghost use Rattle.clock_views.specs.Values.{whole, whole_or_null, list_of, number_if, true_or_false, Adds};
-ghost use Rattle.clock_views.specs.inside.Rooms.{room_of_number, room_of_name, room_of_truth, room_of_item};
-ghost use Rattle.clock_views.specs.inside.Rooms.{room_of_array};
+ghost use Rattle.clock_views.specs.inside.Rooms.{room_of_number, room_of_name, room_of_truth, room_of_item, room_of_array};
 ghost use Rattle.clock_views.specs.inside.Values.{item_text, rest_text};
 
 use clock_device::Bounded;
@@ -121,14 +120,13 @@ fn push_zeros(text: &mut Bounded<u8>, from: usize, until: usize)
 }
 
 /// Adds a label and the array of a row's demands behind it, of which nothing is looked at but those that are held.
-pub(crate) fn push_demands(text: &mut Bounded<u8>, label: &[u8], held: HeldProducts<'_>)
+pub(crate) fn push_demands(text: &mut Bounded<u8>, label: &[u8], mut held: HeldProducts<'_>)
     requires first { AllWithin (λ demand. demand ≡ 0) held.demands 0 held.from }
     requires room { length label.now + room_of_array room_of_item (length held.demands) ≤ text.old.room }
     ensures adds { Adds (label.now ++ compact_text (list_of whole held.entry.demands)) text.old.items text.new.items }
     ensures room { text.old.room ≤ text.new.room
         + (length label.now + room_of_array room_of_item (length held.entry.demands)) }
 {
-    let mut held = held;
     let products = held.products();
     text.extend_from_slice(label);
     text.push(b'[');

@@ -3,8 +3,7 @@
 ghost use Rattle.std.specs.Prelude.{◌≡◌, ◌≤◌, ◌+◌, ℕ, Bool, length, zip, All, IfOk};
 ghost use Rattle.serde_json.specs.Written.{compact_text};
 ghost use Rattle.clock_terms.specs.Limits.{IsProduct, PublicSetup, public_setup};
-ghost use Rattle.clock_views.specs.PublicPages.{status_value, status_bytes, line_value, sheet_value};
-ghost use Rattle.clock_views.specs.PublicPages.{products_value, product_value, from_version_2 as number_from_version_2};
+ghost use Rattle.clock_views.specs.PublicPages.{status_value, status_bytes, line_value, sheet_value, products_value, product_value, from_version_2 as number_from_version_2};
 ghost use Rattle.clock_views.specs.inside.Rooms.{room_of_product, room_of_array, room_of_offer, room_of_line};
 ghost use Rattle.clock_views.specs.PageRooms.{room_of_status, room_of_sheet};
 ghost use Rattle.clock_views.specs.Rooms.{most_text};

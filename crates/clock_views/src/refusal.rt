@@ -1,13 +1,23 @@
-ghost use Rattle.std.specs.Prelude.{◌≡◌, IsTrue, not};
-ghost use Rattle.clock_views.specs.Refusals.{has_place, has_round, is_refusal};
-ghost use Rattle.clock_views.specs.Refusals.{alone as code_alone, at_place as code_at_place};
-ghost use Rattle.clock_views.specs.Refusals.{wrong_round as shown_wrong_round};
+//! What a refusal shows, and its page.
 
+ghost use Rattle.std.specs.Prelude.{◌≡◌, ◌≤◌, IsTrue, IfOk, not};
+ghost use Rattle.serde_json.specs.Written.{compact_text};
+ghost use Rattle.clock_views.specs.RefusalPage.{refusal_value, refusal_bytes};
+ghost use Rattle.clock_views.specs.Refusals.{IsShown, has_place, has_round, is_refusal, shown_bid, shown_tie, shown_put, shown_close, alone as code_alone, at_place as code_at_place, wrong_round as shown_wrong_round};
+ghost use Rattle.clock_views.specs.Values.{IsPage, Adds};
+
+use crate::pieces::{push_label, push_number, push_number_if};
+use crate::room::page_with_room;
 use clock_bids::BidFault;
+use clock_device::{Bounded, NoMemory, Text};
 use clock_house::{CloseFault, PutFault};
 use clock_http::Code;
 use clock_order::TieFault;
+use std::alloc::Global;
 use std::marker::Model;
+
+/// How many bytes the page of a refusal takes at most: a code of 32 letters, a place, a round and a status.
+pub const REFUSAL_ROOM: u128 = 132;
 
 /// What the page of a refusal shows: the code, and beside it a place exactly for the codes that have
 /// one, and the current round exactly for [`Code::WrongRound`].
@@ -75,9 +85,6 @@ impl Refusal {
 }
 
 impl From<BidFault> for Refusal {
-    ghost use Rattle.std.specs.Prelude.{◌≡◌};
-    ghost use Rattle.clock_views.specs.Refusals.{shown_bid};
-
     ghost from_gives = { λ fault refusal. refusal ≡ shown_bid fault };
 
     fn from(fault: BidFault) -> Refusal {
@@ -96,9 +103,6 @@ impl From<BidFault> for Refusal {
 }
 
 impl From<TieFault> for Refusal {
-    ghost use Rattle.std.specs.Prelude.{◌≡◌};
-    ghost use Rattle.clock_views.specs.Refusals.{shown_tie};
-
     ghost from_gives = { λ fault refusal. refusal ≡ shown_tie fault };
 
     fn from(fault: TieFault) -> Refusal {
@@ -112,9 +116,6 @@ impl From<TieFault> for Refusal {
 }
 
 impl From<PutFault> for Refusal {
-    ghost use Rattle.std.specs.Prelude.{◌≡◌};
-    ghost use Rattle.clock_views.specs.Refusals.{shown_put};
-
     ghost from_gives = { λ fault refusal. refusal ≡ shown_put fault };
 
     fn from(fault: PutFault) -> Refusal {
@@ -128,9 +129,6 @@ impl From<PutFault> for Refusal {
 }
 
 impl From<CloseFault> for Refusal {
-    ghost use Rattle.std.specs.Prelude.{◌≡◌};
-    ghost use Rattle.clock_views.specs.Refusals.{shown_close};
-
     ghost from_gives = { λ fault refusal. refusal ≡ shown_close fault };
 
     fn from(fault: CloseFault) -> Refusal {
@@ -143,4 +141,41 @@ impl From<CloseFault> for Refusal {
             CloseFault::NoMemory => Refusal::alone(Code::Memory),
         }
     }
+}
+
+/// Why a request is refused: the code and its status, with a place exactly for the codes that have
+/// one, and the current round exactly for [`Code::WrongRound`]. The code is not [`Code::Done`].
+///
+/// ```text
+/// {"code":"price_limit","place":0,"status":422}
+/// ```
+#[tactic(auto, using(crate::proofs::Codes::refusal_in_bytes))]
+pub fn refusal_page(
+    alloc: Global,
+    code: Code,
+    place: Option<u64>,
+    round: Option<u64>,
+) -> Result<Text, NoMemory>
+    requires { IsShown (record { code = code; place = place; round = round }) }
+    ensures value { IfOk result (IsPage (refusal_value (record { code = code; place = place; round = round }))) }
+    ensures bytes { IfOk result (λ text. text ≡ refusal_bytes (record { code = code; place = place; round = round })) }
+{
+    let refusal = Refusal { code, place, round };
+    let mut text = page_with_room(alloc, REFUSAL_ROOM)?;
+    push_refusal_page(&mut text, refusal);
+    Ok(text.into_items())
+}
+
+/// Adds the same page to a text that has room for it.
+pub fn push_refusal_page(text: &mut Bounded<u8>, refusal: Refusal)
+    requires { REFUSAL_ROOM ≤ text.old.room }
+    ensures { Adds (compact_text (refusal_value refusal)) text.old.items text.new.items }
+{
+    push_label(text, b"{\"code\":\"");
+    push_label(text, refusal.code.text().as_bytes());
+    push_label(text, b"\"");
+    push_number_if(text, b",\"place\":", refusal.place);
+    push_number_if(text, b",\"round\":", refusal.round);
+    push_number(text, b",\"status\":", u64::from(refusal.code.status()));
+    push_label(text, b"}");
 }

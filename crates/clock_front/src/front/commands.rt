@@ -5,8 +5,7 @@ ghost use Rattle.clock_house.specs.House.{put_fault_in, closing_in, IsFollowedBy
 ghost use Rattle.clock_house.specs.Command as command;
 ghost use Rattle.clock_bodies.specs.Bodies.{put_body};
 ghost use Rattle.clock_bodies.specs.CloseBodies.{close_body, in_version};
-ghost use Rattle.clock_front.specs.Outcomes as told;
-ghost use Rattle.clock_front.specs.Outcomes.{answer_of, outcome};
+ghost use Rattle.clock_front.specs.Outcomes.{answer_of, body_code, close_outcome, command_of, done, outcome, put_outcome, refused as told_refused};
 ghost use Rattle.clock_front.specs.Rooms.{WantsRoom};
 ghost use Rattle.clock_front.specs.inside.Askers.{IsKnown};
 ghost use Rattle.clock_front.specs.inside.Private.{IsToldByView};
@@ -16,7 +15,7 @@ ghost use Rattle.clock_views.specs.OperatorPages.{closed_value};
 ghost use Rattle.clock_views.specs.Refusals.{alone};
 
 use crate::front::Unanswered;
-use crate::front::pages::{refusal, written};
+use crate::front::pages::refusal;
 use crate::front::telling::{bidder_of, operator_of, turn_away};
 use crate::front::tokens::Asker;
 use clock_bodies::{BodyFault, CloseBody, PutBody, is_of_version, read_close, read_put};
@@ -30,14 +29,14 @@ use std::alloc::Global;
 
 /// A refusal of a change.
 fn refused(alloc: Global, why: Refusal) -> Result<Reply, NoMemory>
-    ensures { IfOk result (λ reply. reply ≡ answer_of (told.refused why)) }
+    ensures { IfOk result (λ reply. reply ≡ answer_of (told_refused why)) }
 {
     Ok(refusal(alloc, why)?)
 }
 
 /// A refusal of a body for its fault, unless that is want of memory.
 fn refused_body(alloc: Global, fault: BodyFault) -> Result<Reply, NoMemory>
-    ensures reply { IfOk result (λ reply. reply ≡ answer_of (told.refused (alone (told.body_code fault)))) }
+    ensures reply { IfOk result (λ reply. reply ≡ answer_of (told_refused (alone (body_code fault)))) }
     ensures known { OnOk result (fault ≢ BodyFault.NoMemory) }
 {
     match fault {
@@ -49,11 +48,11 @@ fn refused_body(alloc: Global, fault: BodyFault) -> Result<Reply, NoMemory>
 
 /// The reply that a sheet of so many bids was accepted.
 fn accepted(alloc: Global, round: u64, bids: u64) -> Result<Reply, NoMemory>
-    ensures { IfOk result (λ reply. reply ≡ answer_of (told.done (accepted_value round bids))) }
+    ensures { IfOk result (λ reply. reply ≡ answer_of (done (accepted_value round bids))) }
 {
     let mut text = text_with_room(alloc, accepted_room())?;
     push_accepted_page(&mut text, round, bids);
-    Ok(written(Code::Done, None, text))
+    Ok(Reply::written(Code::Done, None, text))
 }
 
 /// Puts a sheet in force, or tells its first fault.
@@ -65,7 +64,7 @@ fn put_sheet<P: Processor>(
 ) -> Result<Reply, NoMemory>
     requires { bidder < length house.old.setup.bidders }
     ensures reply { IfOk result (λ reply. reply
-        ≡ answer_of (told.put_outcome sheet (put_fault_in house.old bidder sheet.round sheet.bids))) }
+        ≡ answer_of (put_outcome sheet (put_fault_in house.old bidder sheet.round sheet.bids))) }
     ensures private { IfOk result (IsToldByView house.old bidder (asked.put (Ok sheet))) }
     ensures followed { OnOk result (IsFollowedBy (command.put bidder sheet.round sheet.bids) house.old house.new) }
     ensures still { OnErr result (StandsStill house.old house.new) }
@@ -97,7 +96,7 @@ pub(crate) fn answer_put<P: Processor>(
     requires { IsKnown (length house.old.setup.bidders) asker }
     ensures reply { IfOk result (λ reply. reply ≡ answer_of (outcome house.old asker (asked.put (put_body body.now)))) }
     ensures wanted { IfErr result (WantsRoom asker (asked.put (put_body body.now)) (outcome house.old asker (asked.put (put_body body.now)))) }
-    ensures followed { OnOk result (IsFollowedBy (told.command_of house.old.setup asker (asked.put (put_body body.now))) house.old house.new) }
+    ensures followed { OnOk result (IsFollowedBy (command_of house.old.setup asker (asked.put (put_body body.now))) house.old house.new) }
     ensures still { OnErr result (StandsStill house.old house.new) }
 {
     match bidder_of(asker) {
@@ -111,11 +110,11 @@ pub(crate) fn answer_put<P: Processor>(
 
 /// The reply that a round was closed.
 fn closed(alloc: Global, round: u64, ended: bool) -> Result<Reply, NoMemory>
-    ensures { IfOk result (λ reply. reply ≡ answer_of (told.done (closed_value round ended))) }
+    ensures { IfOk result (λ reply. reply ≡ answer_of (done (closed_value round ended))) }
 {
     let mut text = text_with_room(alloc, closed_room())?;
     push_closed_page(&mut text, round, ended);
-    Ok(written(Code::Done, None, text))
+    Ok(Reply::written(Code::Done, None, text))
 }
 
 /// Closes the round, or tells the first fault.
@@ -124,9 +123,8 @@ fn close_round<P: Processor>(
     house: &mut House<P>,
     closing: &CloseBody,
 ) -> Result<Reply, NoMemory>
-    ensures reply { IfOk result (λ reply. reply
-        ≡ answer_of (told.close_outcome closing.now.round (closing_in house.old closing.now.round closing.now.increments
-        closing.now.ties))) }
+    ensures reply { IfOk result (λ reply. reply ≡ answer_of (close_outcome closing.now.round
+        (closing_in house.old closing.now.round closing.now.increments closing.now.ties))) }
     ensures followed { OnOk result (IsFollowedBy (command.close closing.now.round closing.now.increments
         closing.now.ties) house.old house.new) }
     ensures still { OnErr result (StandsStill house.old house.new) }
@@ -170,7 +168,7 @@ pub(crate) fn answer_close<P: Processor>(
 ) -> Result<Reply, Unanswered>
     ensures reply { IfOk result (λ reply. reply ≡ answer_of (outcome house.old asker (asked.close (close_body body.now)))) }
     ensures wanted { IfErr result (WantsRoom asker (asked.close (close_body body.now)) (outcome house.old asker (asked.close (close_body body.now)))) }
-    ensures followed { OnOk result (IsFollowedBy (told.command_of house.old.setup asker (asked.close (close_body body.now))) house.old house.new) }
+    ensures followed { OnOk result (IsFollowedBy (command_of house.old.setup asker (asked.close (close_body body.now))) house.old house.new) }
     ensures still { OnErr result (StandsStill house.old house.new) }
 {
     match operator_of(asker) {

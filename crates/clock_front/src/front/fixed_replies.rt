@@ -3,8 +3,7 @@
 
 ghost use Rattle.std.specs.Prelude.{◌≡◌, IsTrue};
 ghost use Rattle.clock_front.specs.FixedReplies.{no_memory};
-ghost use Rattle.clock_front.specs.inside.FixedReplies.{refusal_of};
-ghost use Rattle.clock_front.specs.inside.FixedReplies.{is_fixed};
+ghost use Rattle.clock_front.specs.inside.FixedReplies.{is_fixed, refusal_of};
 
 use clock_http::{Code, Reply};
 

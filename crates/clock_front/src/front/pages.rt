@@ -1,18 +1,16 @@
 //! Replies that tell of the auction and change nothing.
 
-ghost use Rattle.std.specs.Prelude.{◌≡◌, ◌≤◌, ◌<◌, drop, length, Some, None, IfOk, IfErr};
+ghost use Rattle.std.specs.Prelude.{◌≡◌, ◌<◌, length, IfOk, IfErr};
 ghost use Rattle.clock_front.specs.declared.front.tokens.Asker.TheVariants as who;
 ghost use Rattle.clock_front.specs.Outcomes.{answer_of, done, not_allowed as told_not_allowed, refused, told};
 ghost use Rattle.clock_front.specs.Rooms.{refusal_room, reply_room};
-ghost use Rattle.clock_http.specs.Replies.{reply_bytes};
-ghost use Rattle.clock_front.specs.inside.KeptPage.{IsProductsPage, head_room};
+ghost use Rattle.clock_front.specs.inside.KeptPage.{IsProductsPage};
 ghost use Rattle.clock_terms.specs.Limits.{SetupFields, public_setup};
 ghost use Rattle.clock_views.specs.PublicPages.{products_value};
 ghost use Rattle.clock_front.specs.inside.Roomless.{without_room};
 ghost use Rattle.clock_front.specs.inside.Private.{IsToldByView};
 ghost use Rattle.clock_front.specs.Requests as asked;
 
-use clock_device::Bounded;
 use clock_house::House;
 use clock_http::{Code, NoRoom, Page, Reply, plain_number, text_with_room};
 use clock_views::{
@@ -22,14 +20,6 @@ use clock_views::{
 };
 use std::alloc::Global;
 
-/// The reply whose page stands in a text behind the room for its head.
-pub(crate) fn written(code: Code, allowed: Option<Page>, text: Bounded<u8>) -> Reply
-    requires { head_room ≤ length text.items }
-    ensures { result ≡ record { code = code; bytes = reply_bytes code allowed (drop head_room text.items) } }
-{
-    Reply::written(code, allowed, text.into_items())
-}
-
 /// A refusal.
 pub(crate) fn refusal(alloc: Global, refusal: Refusal) -> Result<Reply, NoRoom>
     ensures reply { IfOk result (λ reply. reply ≡ answer_of (refused refusal)) }
@@ -37,7 +27,7 @@ pub(crate) fn refusal(alloc: Global, refusal: Refusal) -> Result<Reply, NoRoom>
 {
     let mut text = text_with_room(alloc, REFUSAL_ROOM)?;
     push_refusal_page(&mut text, refusal);
-    Ok(written(refusal.code, None, text))
+    Ok(Reply::written(refusal.code, None, text))
 }
 
 /// A refusal of a method that the page has not.
@@ -47,7 +37,7 @@ pub(crate) fn not_allowed(alloc: Global, page: Page) -> Result<Reply, NoRoom>
 {
     let mut text = text_with_room(alloc, REFUSAL_ROOM)?;
     push_refusal_page(&mut text, Refusal::alone(Code::Method));
-    Ok(written(Code::Method, Some(page), text))
+    Ok(Reply::written(Code::Method, Some(page), text))
 }
 
 /// Where the auction stands.
@@ -57,7 +47,7 @@ pub(crate) fn status<P>(alloc: Global, house: &House<P>) -> Result<Reply, NoRoom
 {
     let mut text = text_with_room(alloc, status_room())?;
     push_status_page(&mut text, house.setup(), house.round(), house.ended());
-    Ok(written(Code::Done, None, text))
+    Ok(Reply::written(Code::Done, None, text))
 }
 
 /// What is auctioned: a page that is at hand, since it never changes.
@@ -68,7 +58,7 @@ pub(crate) fn products(alloc: Global, page: &[u8]) -> Result<Reply, NoRoom>
 {
     let mut text = text_with_room(alloc, page.len() as u128)?;
     text.extend_from_slice(page);
-    Ok(written(Code::Done, None, text))
+    Ok(Reply::written(Code::Done, None, text))
 }
 
 /// The sheet of the round that a segment names.
@@ -85,7 +75,7 @@ pub(crate) fn sheet<P>(alloc: Global, house: &House<P>, segment: &[u8]) -> Resul
     };
     let mut text = text_with_room(alloc, sheet_room(sheet))?;
     push_sheet_page(&mut text, house.setup(), sheet);
-    Ok(written(Code::Done, None, text))
+    Ok(Reply::written(Code::Done, None, text))
 }
 
 /// What a bidder holds.
@@ -99,7 +89,7 @@ pub(crate) fn account<P>(alloc: Global, house: &House<P>, bidder: u32) -> Result
     let own = house.own(bidder);
     let mut text = text_with_room(alloc, account_room(own.demands))?;
     push_account_page(&mut text, house.setup(), bidder, own, house.ended());
-    Ok(written(Code::Done, None, text))
+    Ok(Reply::written(Code::Done, None, text))
 }
 
 /// A bidder's sheet of bids in force.
@@ -111,7 +101,7 @@ pub(crate) fn bids<P>(alloc: Global, house: &House<P>, bidder: u32) -> Result<Re
     let sheet = house.bids(bidder);
     let mut text = text_with_room(alloc, bids_room(sheet))?;
     push_bids_page(&mut text, house.round(), sheet);
-    Ok(written(Code::Done, None, text))
+    Ok(Reply::written(Code::Done, None, text))
 }
 
 /// A bidder's results of the round that a segment names.
@@ -135,7 +125,7 @@ pub(crate) fn slip<P>(
     };
     let mut text = text_with_room(alloc, slip_room(slip))?;
     push_slip_page(&mut text, slip);
-    Ok(written(Code::Done, None, text))
+    Ok(Reply::written(Code::Done, None, text))
 }
 
 /// What all bidders hold.
@@ -148,5 +138,5 @@ pub(crate) fn results<P>(alloc: Global, house: &House<P>) -> Result<Reply, NoRoo
 {
     let mut text = text_with_room(alloc, results_room(house))?;
     push_results_page(&mut text, house);
-    Ok(written(Code::Done, None, text))
+    Ok(Reply::written(Code::Done, None, text))
 }

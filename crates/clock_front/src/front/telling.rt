@@ -67,27 +67,17 @@ pub(crate) fn tell<P>(
     ensures room { IfErr result (λ room. room ≡ reply_room (shown_reading what.entry)
         (outcome house.now asker (shown_reading what.entry))) }
 {
-    match what {
-        PageAsked::NoPage => refusal(alloc, Refusal::alone(Code::NoPage)),
-        PageAsked::NoMethod(page) => not_allowed(alloc, page),
-        PageAsked::Status => status(alloc, house),
-        PageAsked::Products => products(alloc, page),
-        PageAsked::Sheet(segment) => sheet(alloc, house, segment),
-        PageAsked::Account => match bidder_of(asker) {
-            Ok(bidder) => account(alloc, house, bidder),
-            Err(away) => refusal(alloc, away),
-        },
-        PageAsked::Bids => match bidder_of(asker) {
-            Ok(bidder) => bids(alloc, house, bidder),
-            Err(away) => refusal(alloc, away),
-        },
-        PageAsked::Slip(segment) => match bidder_of(asker) {
-            Ok(bidder) => slip(alloc, house, bidder, segment),
-            Err(away) => refusal(alloc, away),
-        },
-        PageAsked::Results => match operator_of(asker) {
-            Ok(()) => results(alloc, house),
-            Err(away) => refusal(alloc, away),
-        },
+    match (what, asker) {
+        (PageAsked::NoPage, _) => refusal(alloc, Refusal::alone(Code::NoPage)),
+        (PageAsked::NoMethod(page), _) => not_allowed(alloc, page),
+        (PageAsked::Status, _) => status(alloc, house),
+        (PageAsked::Products, _) => products(alloc, page),
+        (PageAsked::Sheet(segment), _) => sheet(alloc, house, segment),
+        (PageAsked::Account, Asker::Bidder(bidder)) => account(alloc, house, bidder),
+        (PageAsked::Bids, Asker::Bidder(bidder)) => bids(alloc, house, bidder),
+        (PageAsked::Slip(segment), Asker::Bidder(bidder)) => slip(alloc, house, bidder, segment),
+        (PageAsked::Results, Asker::Operator) => results(alloc, house),
+        (_, Asker::Nobody) => refusal(alloc, Refusal::alone(Code::Token)),
+        (_, _) => refusal(alloc, Refusal::alone(Code::Role)),
     }
 }

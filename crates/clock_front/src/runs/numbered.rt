@@ -57,12 +57,10 @@ impl<P: Processor> NumberedHub<P> {
 
     /// A piece comes over a connection.
     fn feed(&mut self, number: u64, piece: &[u8]) -> Result<Option<EventReply>, NoMemory>
-        ensures stands { (numbered : Numbered) → Stands numbered self.old.hub.connections self.old.conns
-            → OnOk result (Stands (after numbered (events.Piece number piece.now)) self.new.hub.connections
-            self.new.conns) }
-        ensures told { (numbered : Numbered) → Stands numbered self.old.hub.connections self.old.conns
-            → IfOk result (HasCompleted (completed numbered (events.Piece number piece.now)) self.old.hub.house
-            self.new.hub.house) }
+        ensures stands { (numbered : Numbered) → Stands numbered self.old.hub.connections self.old.conns → OnOk result
+            (Stands (after numbered (events.Piece number piece.now)) self.new.hub.connections self.new.conns) }
+        ensures told { (numbered : Numbered) → Stands numbered self.old.hub.connections self.old.conns → IfOk result
+            (HasCompleted (completed numbered (events.Piece number piece.now)) self.old.hub.house self.new.hub.house) }
         ensures conns { self.new.conns ≡ self.old.conns }
     {
         let Some(conn) = self.conn(number) else {

@@ -1,13 +1,13 @@
-use Rattle.std.proofs.Common.{sym, ◌∙◌, ap}
+use Rattle.std.proofs.Common.{inl, inr, sym, ◌∙◌, ap}
 use Rattle.clock_http.specs.Shown.{shown_progress}
 use Rattle.clock_http.proofs.ProgressLaws.{framed_of, whole_of}
 use Rattle.clock_http.proofs.progress.Progress.framing.Goals as goal
 
 pub returns-in-Unended : goal.returns-in-Unended
-returns-in-Unended c = framed_of c.args.text.now _ (ap (shown_progress c.args.text.now) (sym c.in-Unended.is) ∙ c.requires.is)
-
-pub returns-in-Waiting : goal.returns-in-Waiting
-returns-in-Waiting c = framed_of c.args.text.now _ (ap (shown_progress c.args.text.now) (sym c.in-Waiting.is) ∙ c.requires.is)
+returns-in-Unended c = elim c.in-Unended.is [
+  | inl h ↦ framed_of c.args.text.now _ (ap (shown_progress c.args.text.now) (sym h.1) ∙ c.requires.is)
+  | inr h ↦ framed_of c.args.text.now _ (ap (shown_progress c.args.text.now) (sym h.1) ∙ c.requires.is)
+]
 
 pub returns-in-Complete : goal.returns-in-Complete
 returns-in-Complete c =

@@ -1,6 +1,6 @@
 use Rattle.clock_views.proofs.Pushes.{before, together}
 use Rattle.clock_views.proofs.Codes.{refusal_in_pieces}
-use Rattle.clock_views.proofs.refusal_pages.push_refusal_page.Goals as goal
+use Rattle.clock_views.proofs.refusal.push_refusal_page.Goals as goal
 
 pub returns : goal.returns
 returns c =
