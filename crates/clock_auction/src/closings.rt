@@ -1,5 +1,5 @@
 //! A journal of which each closing is told on standard output.
-ghost use Rattle.std.specs.Prelude.{◌≡◌, None};
+ghost use Rattle.std.specs.Prelude.{None};
 
 use crate::digests::Hex;
 use clock_device::Failed;
@@ -14,8 +14,8 @@ use std::marker::Model;
 /// Contracts see the journal. Which closings were told is not seen, as standard output tells none.
 #[derive(Drop)]
 pub struct Telling<'a, R, D: Durable> {
-    rt: &'a R,
-    journal: Journal<D>,
+    pub rt: &'a R,
+    pub journal: Journal<D>,
 }
 
 impl<'a, R, D: Durable> Model for Telling<'a, R, D> {
@@ -24,15 +24,6 @@ impl<'a, R, D: Durable> Model for Telling<'a, R, D> {
     ghost Value = { JournalState };
 
     ghost view = { λ telling. telling.journal };
-}
-
-impl<'a, R, D: Durable> Telling<'a, R, D> {
-    /// The journal, of which no closing was told yet.
-    pub fn new(rt: &'a R, journal: Journal<D>) -> Telling<'a, R, D>
-        ensures { result ≡ journal }
-    {
-        Telling { rt, journal }
-    }
 }
 
 impl<R: Print, D: Durable> Keeper for Telling<'_, R, D> {

@@ -9,7 +9,6 @@ mod digests;
 mod journal_text;
 mod kept;
 mod serve;
-mod serving;
 mod telling;
 
 use clap::error::ErrorKind;

@@ -5,7 +5,7 @@ ghost use Rattle.clock_auction.specs.Audits.{IsSomeRecount};
 
 use crate::audit::{Recount, audit_of, recounted};
 use crate::journal_text::listing_of;
-use crate::kept::{bytes_of, is_plain, tell_journal};
+use crate::kept::{bytes_of, tell_journal};
 use crate::serve::{file_bytes, front_in};
 use clock_commands::Fault;
 use clock_device::{Sink, write_all};
@@ -71,8 +71,6 @@ fn journal_bytes<R: Files<File = File> + Alloc<A = Global>>(
     rt: &R,
     path: &str,
 ) -> Result<Vec<u8>, Fault> {
-    match File::open(rt, path) {
-        Ok(file) if is_plain(&file) => bytes_of(rt.alloc(), &file),
-        _ => Err(Fault::Journal),
-    }
+    let file = File::open(rt, path).or(Err(Fault::Journal))?;
+    bytes_of(rt.alloc(), &file)
 }
