@@ -3,9 +3,9 @@ ghost use Rattle.std.specs.Prelude.{◌≡◌, [], IfErr, IfOk, Some, false};
 ghost use Rattle.clock_front.specs.Fronts.{StandsForTexts};
 ghost use Rattle.clock_auction.specs.Starts.{IsGoingOn, IsNotGoingOn};
 
-use crate::closings::Telling;
 use crate::digests::Hex;
 use crate::serve::{file_bytes, front_in, listening};
+use crate::telling::Telling;
 use clock_commands::Fault;
 use clock_journal::{Durable, FileDisk, Journal, Link, digest_of};
 use clock_keeping::{Auction, take_up};

@@ -4,8 +4,8 @@
 ghost use Rattle.std.specs.Prelude.{◌≡◌, map, string_bytes, IfOk};
 
 mod audit;
-mod closings;
 mod digests;
+mod files;
 mod journal_text;
 mod kept;
 mod serve;
@@ -15,13 +15,13 @@ use clap::error::ErrorKind;
 use clock_commands::{Fault, command, show_fault};
 use clock_device::{FromReader, ToWriter};
 use clock_words::{FileTask, file_task_asked};
+use files::{tell_audit, tell_texts};
 use kept::serve_kept;
 use serve::serve;
 use std::alloc::{AllocError, Global};
 use std::process::ExitCode;
 use std::rt::Env;
 use std::{env, io};
-use telling::{tell_audit, tell_texts};
 
 /// Standard input is the document's, standard output the text's, and standard error the fault's.
 fn main(rt: HostRuntime) -> io::Result<ExitCode> {
