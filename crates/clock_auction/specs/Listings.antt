@@ -23,6 +23,7 @@ use Rattle.clock_auction.specs.Audits.{chain_of}
 abbrev pub place_after : ℕ → List ℕ → ℕ
 place_after place text = min (place + (length text + before_text)) (2 ^ 64 - 1)
 
+-- where the next record begins: behind the head and the record of each text
 abbrev pub place_behind : List (List ℕ) → ℕ
 place_behind [] = head_length
 place_behind (text ∷ past) = place_after (place_behind past) text
@@ -41,6 +42,7 @@ abbrev pub text_listed : ℕ → ℕ → List ℕ → List ℕ → List ℕ
 text_listed count place chain text =
     codes "text " ++ spaced count ++ spaced place ++ spaced (length text) ++ digest_line chain ++ text ++ codes "\n"
 
+-- the line of the set-up document, and behind it each text's lines, the oldest first
 abbrev pub listed : List ℕ → List (List ℕ) → List ℕ
 listed first [] = codes "setup " ++ digest_line first
 listed first (text ∷ past) =

@@ -46,10 +46,9 @@ impl Machine for Recount {
         self.chain = link_of(&self.chain, text);
         self.texts = self.texts.saturating_add(1);
         if before < self.front.house().closed_rounds() {
-            return match self.digests.push(digits_of(&self.chain)) {
-                Ok(()) => Ok(()),
-                Err(_) => Err(Untaken::NoMemory),
-            };
+            self.digests
+                .push(digits_of(&self.chain))
+                .or(Err(Untaken::NoMemory))?;
         }
         Ok(())
     }

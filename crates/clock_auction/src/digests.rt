@@ -12,10 +12,8 @@ pub fn digits_of(digest: &Link) -> Digits
     ensures { result ≡ encode_lower digest.now }
 {
     let mut digits = [0; 64];
-    match encode_to_slice(digest.as_slice(), &mut digits) {
-        Ok(()) => digits,
-        Err(_) => unreachable!(),
-    }
+    encode_to_slice(digest.as_slice(), &mut digits).unwrap();
+    digits
 }
 
 /// A digest that is shown in digits.

@@ -1,7 +1,6 @@
 //! `journal`: what a journal holds, text by text.
 ghost use Rattle.std.specs.Prelude.{◌≡◌, ◌++◌, List, ℕ, IfErr, IfOk, OnOk, []};
-ghost use Rattle.clock_auction.specs.Listings.{IsListed, IsListingOf, IsUnlisted};
-ghost use Rattle.clock_auction.specs.Listings.{digest_line, listed, spaced, text_listed};
+ghost use Rattle.clock_auction.specs.Listings.{IsListed, IsListingOf, IsUnlisted, digest_line, listed, spaced, text_listed};
 
 use crate::digests::digits_of;
 use clock_commands::Fault;
@@ -84,8 +83,7 @@ fn push_text(
     push_spaced(shown, text.len() as u64)?;
     push_digits(shown, digest)?;
     shown.extend_from_slice(text)?;
-    shown.push(b'\n')?;
-    Ok(())
+    shown.push(b'\n')
 }
 
 /// Adds a number and a space.

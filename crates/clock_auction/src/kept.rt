@@ -3,14 +3,14 @@ ghost use Rattle.std.specs.Prelude.{◌≡◌, [], IfErr, IfOk, Some, false};
 ghost use Rattle.clock_front.specs.Fronts.{StandsForTexts};
 ghost use Rattle.clock_auction.specs.Starts.{IsGoingOn, IsNotGoingOn};
 
-use crate::closings::Telling;
 use crate::digests::Hex;
 use crate::serve::{file_bytes, front_in, listening};
-use crate::serving::serve_kept_on;
+use crate::telling::Telling;
 use clock_commands::Fault;
 use clock_journal::{Durable, FileDisk, Journal, Link, digest_of};
 use clock_keeping::{Auction, take_up};
 use clock_queue::Woken;
+use clock_serving::{Listening, serve_all};
 use clock_words::Serving;
 use std::alloc::Global;
 use std::fs::{File, OpenOptions, TryLockError};
@@ -114,15 +114,11 @@ where
 {
     tell_journal(rt, auction.texts, *journal.chain())?;
     let listener = listening(rt, serving.port)?;
-    let mut telling = Telling::new(rt, journal);
-    serve_kept_on(
-        rt.alloc(),
-        &mut auction.front,
-        &mut telling,
-        &listener,
-        serving.connections,
-    )?;
-    Ok(())
+    let mut telling = Telling { rt, journal };
+    let mut taken = Listening::new(&listener);
+    let front = &mut auction.front;
+    let connections = serving.connections;
+    Ok(serve_all(rt.alloc(), front, &mut telling, &mut taken, connections)?)
 }
 
 /// The file, which is made where there is none, readable by its owner alone, and locked; and all its bytes.
@@ -132,9 +128,7 @@ where
 {
     let mut how = OpenOptions::new();
     how.read(true).append(true).create(true).mode(0o600);
-    let Ok(file) = how.open(rt, path) else {
-        return Err(Fault::Journal);
-    };
+    let file = how.open(rt, path).or(Err(Fault::Journal))?;
     let bytes = locked_bytes(rt.alloc(), &file)?;
     Ok((file, bytes))
 }
@@ -145,7 +139,8 @@ fn locked_bytes(alloc: Global, file: &File) -> Result<Vec<u8>, Fault> {
     if file.as_raw_fd() == STANDARD_OUTPUT {
         return Err(Fault::Output);
     }
-    if !is_plain(file) {
+    // looked at before it is locked: what is no file of a disk is told as that, also where another server has it
+    if !matches!(file.metadata(), Ok(metadata) if metadata.is_file()) {
         return Err(Fault::Journal);
     }
     match file.try_lock() {
@@ -155,16 +150,15 @@ fn locked_bytes(alloc: Global, file: &File) -> Result<Vec<u8>, Fault> {
     }
 }
 
-/// Whether it is a file of a disk: a device may have bytes without end.
-pub fn is_plain(file: &File) -> bool {
-    matches!(file.metadata(), Ok(metadata) if metadata.is_file())
-}
-
-/// All bytes of the file, from its beginning.
+/// All bytes of a file of a disk, from its beginning. No other is read: a device may have bytes without end.
 pub fn bytes_of(alloc: Global, file: &File) -> Result<Vec<u8>, Fault> {
-    let Ok(mut bytes) = Vec::with_capacity(alloc, room_of(file)) else {
-        return Err(Fault::Memory);
-    };
+    let metadata = file.metadata().or(Err(Fault::Journal))?;
+    if !metadata.is_file() {
+        return Err(Fault::Journal);
+    }
+    // with room for one byte more the end is found without a growth
+    let room = (metadata.len() as usize).saturating_add(1);
+    let mut bytes = Vec::with_capacity(alloc, room).or(Err(Fault::Memory))?;
     let mut reader = file;
     match reader.read_to_end(&mut bytes) {
         Ok(_) => Ok(bytes),
@@ -173,20 +167,10 @@ pub fn bytes_of(alloc: Global, file: &File) -> Result<Vec<u8>, Fault> {
     }
 }
 
-/// How many bytes the file has now, and one more: with room for these its end is found without a growth.
-fn room_of(file: &File) -> usize {
-    match file.metadata() {
-        Ok(metadata) => (metadata.len() as usize).saturating_add(1),
-        Err(_) => 0,
-    }
-}
-
 /// Puts the name of the file on the disk, which its folder holds.
 fn sync_folder<R: Files<File = File>>(rt: &R, path: &str) -> Result<(), Fault> {
-    match File::open(rt, folder_of(path)) {
-        Ok(folder) if folder.sync_all().is_ok() => Ok(()),
-        _ => Err(Fault::Journal),
-    }
+    let folder = File::open(rt, folder_of(path)).or(Err(Fault::Journal))?;
+    folder.sync_all().or(Err(Fault::Journal))
 }
 
 /// The folder that holds a file of this path.

@@ -4,25 +4,24 @@
 ghost use Rattle.std.specs.Prelude.{◌≡◌, map, string_bytes, IfOk};
 
 mod audit;
-mod closings;
 mod digests;
+mod files;
 mod journal_text;
 mod kept;
 mod serve;
-mod serving;
 mod telling;
 
 use clap::error::ErrorKind;
 use clock_commands::{Fault, command, show_fault};
 use clock_device::{FromReader, ToWriter};
-use clock_words::{FileTask, NumberHelps, file_task_asked, number_helps};
+use clock_words::{FileTask, file_task_asked};
+use files::{tell_audit, tell_texts};
 use kept::serve_kept;
 use serve::serve;
 use std::alloc::{AllocError, Global};
 use std::process::ExitCode;
 use std::rt::Env;
 use std::{env, io};
-use telling::{tell_audit, tell_texts};
 
 /// Standard input is the document's, standard output the text's, and standard error the fault's.
 fn main(rt: HostRuntime) -> io::Result<ExitCode> {
@@ -42,32 +41,16 @@ fn main(rt: HostRuntime) -> io::Result<ExitCode> {
     Ok(ExitCode::from(status))
 }
 
-/// Does what the words ask for, and answers the exit status.
+/// Does what the words ask for, and answers the exit status. What is to be done with files is done here, and all else
+/// by `command`.
 fn run(rt: &HostRuntime, words: &[&str]) -> u8 {
-    let Ok(helps) = number_helps(rt.alloc()) else {
-        return fault_status(rt, Fault::Memory);
-    };
-    let status = run_by(rt, &helps, words);
-    drop(helps);
-    status
-}
-
-/// The same with the texts of helps. What is to be done with files is done here, and all else by `command`.
-fn run_by(rt: &HostRuntime, helps: &NumberHelps, words: &[&str]) -> u8 {
-    match file_task_asked(rt.alloc(), helps, words) {
+    match file_task_asked(rt.alloc(), words) {
         Ok(Some(task)) => match run_task(rt, &task) {
             Ok(()) => 0,
             Err(fault) => fault_status(rt, fault),
         },
-        Ok(None) => run_command(rt, words),
-        Err(error) => {
-            let kind = error.kind();
-            drop(error);
-            match kind {
-                ErrorKind::OutOfMemory => fault_status(rt, Fault::Memory),
-                _ => run_command(rt, words),
-            }
-        }
+        Err(error) if error.kind() == ErrorKind::OutOfMemory => fault_status(rt, Fault::Memory),
+        Ok(None) | Err(_) => run_command(rt, words),
     }
 }
 

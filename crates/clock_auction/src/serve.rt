@@ -48,8 +48,7 @@ where
     R: Print + Net<Listener = TcpListener, Stream = TcpStream> + Alloc<A = Global>,
 {
     let listener = listening(rt, serving.port)?;
-    serve_on(rt.alloc(), front, &listener, serving.connections)?;
-    Ok(())
+    Ok(serve_on(rt.alloc(), front, &listener, serving.connections)?)
 }
 
 /// The port of this machine, listened on, which is told on standard output.
@@ -57,9 +56,7 @@ pub fn listening<R>(rt: &R, port: u16) -> Result<TcpListener, Fault>
 where
     R: Print + Net<Listener = TcpListener, Stream = TcpStream>,
 {
-    let Ok(listener) = TcpListener::bind(rt, (Ipv4Addr::LOCALHOST, port)) else {
-        return Err(Fault::Bind);
-    };
+    let listener = TcpListener::bind(rt, (Ipv4Addr::LOCALHOST, port)).or(Err(Fault::Bind))?;
     println!(rt; "ready {port}").or(Err(Fault::Output))?;
     Ok(listener)
 }

@@ -1,78 +1,49 @@
-//! `journal` and `audit`: what two files tell, printed.
-ghost use Rattle.std.specs.Prelude.{[], IfOk};
-ghost use Rattle.clock_front.specs.Fronts.{StandsForTexts};
-ghost use Rattle.clock_auction.specs.Audits.{IsSomeRecount};
+//! A journal of which each closing is told on standard output.
+ghost use Rattle.std.specs.Prelude.{None};
 
-use crate::audit::{Recount, audit_of, recounted};
-use crate::journal_text::listing_of;
-use crate::kept::{bytes_of, is_plain, tell_journal};
-use crate::serve::{file_bytes, front_in};
-use clock_commands::Fault;
-use clock_device::{Sink, write_all};
-use clock_front::Front;
-use clock_journal::{Link, digest_of};
-use clock_queue::Woken;
-use clock_words::Files as Named;
-use std::alloc::Global;
-use std::fs::File;
-use std::rt::Files;
+use crate::digests::Hex;
+use clock_device::Failed;
+use clock_front::{Front, Progress, Reply};
+use clock_journal::{Durable, Journal};
+use clock_processor::Processor;
+use clock_serving::Keeper;
+use std::marker::Model;
 
-/// Prints what a journal holds.
-pub fn tell_texts<R>(rt: &R, out: &mut impl Sink, named: &Named) -> Result<(), Fault>
-where
-    R: Files<File = File> + Print + Alloc<A = Global>,
-{
-    let document = file_bytes(rt, named.setup)?;
-    let first = digest_of(document.as_slice());
-    drop(document);
-    let bytes = journal_bytes(rt, named.journal)?;
-    let listing = listing_of(rt.alloc(), first, bytes.as_slice())?;
-    write_all(out, listing.text()).or(Err(Fault::Output))?;
-    let (texts, chain) = listing.end();
-    tell_journal(rt, texts, chain)
+/// A journal that tells each closing with its digest.
+///
+/// Contracts see the journal. Which closings were told is not seen, as standard output tells none.
+#[derive(Drop)]
+pub struct Telling<'a, R, D: Durable> {
+    pub rt: &'a R,
+    pub journal: Journal<D>,
 }
 
-/// Prints an auction that is recounted from its journal.
-pub fn tell_audit<R>(rt: &R, out: &mut impl Sink, named: &Named) -> Result<(), Fault>
-where
-    R: Files<File = File> + Print + Alloc<A = Global>,
-{
-    let document = file_bytes(rt, named.setup)?;
-    let first = digest_of(document.as_slice());
-    let front = front_in(rt.alloc(), document)?;
-    let recount = recounted_of(rt, front, first, named.journal)?;
-    let (texts, chain) = recount.end();
-    let made = audit_of(rt.alloc(), &recount);
-    // let go by a call: at the end of the scope it would be proved part by part
-    drop(recount);
-    let text = made?;
-    write_all(out, text.as_slice()).or(Err(Fault::Output))?;
-    tell_journal(rt, texts, chain)
+impl<'a, R, D: Durable> Model for Telling<'a, R, D> {
+    ghost use Rattle.clock_journal.specs.Kept.{JournalState};
+
+    ghost Value = { JournalState };
+
+    ghost view = { λ telling. telling.journal };
 }
 
-/// An auction that was recounted from the file of its journal.
-fn recounted_of<R>(rt: &R, front: Front<Woken>, first: Link, path: &str) -> Result<Recount, Fault>
-where
-    R: Files<File = File> + Alloc<A = Global>,
-    requires { StandsForTexts [] front }
-    ensures { IfOk result (λ recount. IsSomeRecount recount.front recount.chain recount.texts recount.digests.items) }
-{
-    match journal_bytes(rt, path) {
-        Ok(bytes) => recounted(rt.alloc(), front, first, bytes.as_slice()),
-        Err(fault) => {
-            drop(front);
-            Err(fault)
-        }
+impl<R: Print, D: Durable> Keeper for Telling<'_, R, D> {
+    ghost journal = { λ telling. telling };
+
+    ghost told = { λ telling. None };
+
+    fn answer<P: Processor>(
+        &mut self,
+        front: &mut Front<P>,
+        text: &[u8],
+        progress: Progress,
+    ) -> Result<Reply, Failed> {
+        self.journal.answer(front, text, progress)
     }
-}
 
-/// All bytes of a journal.
-fn journal_bytes<R: Files<File = File> + Alloc<A = Global>>(
-    rt: &R,
-    path: &str,
-) -> Result<Vec<u8>, Fault> {
-    match File::open(rt, path) {
-        Ok(file) if is_plain(&file) => bytes_of(rt.alloc(), &file),
-        _ => Err(Fault::Journal),
+    /// The reply was given out, so nothing waits for the line.
+    fn round_closed(&mut self, round: u64) {
+        let rt = self.rt;
+        let digest = Hex(*self.journal.chain());
+        let _untold = println!(rt; "closed {round} {digest}");
     }
 }

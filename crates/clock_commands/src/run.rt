@@ -16,7 +16,7 @@ use clock_device::{Sink, Source, write_all};
 use clock_words::{Job, job_asked};
 use std::alloc::Global;
 
-/// What is shown of good words that ask for `serve`, which is no command on streams.
+/// What is shown of good words that ask for `serve`, `journal` or `audit`, which are no commands on streams.
 static NOT_HERE: &str =
     "error: `serve`, `journal` and `audit` are done by the program itself, and not over streams\n";
 
@@ -27,7 +27,8 @@ static NOT_HERE: &str =
 /// - 1: there was a fault. Its one line is shown on `faults`, and the writer has nothing, unless it
 ///   is the writer that failed.
 /// - 2: the words ask for nothing that is done here, or for help. What clap says of that is shown on
-///   `faults`, and nothing is read or written. `serve` is not done here: the program's `main` takes it.
+///   `faults`, and nothing is read or written. `serve`, `journal` and `audit` are not done here: the
+///   program's `main` takes them.
 ///
 /// At most 67,108,864 bytes are read, and one more to see that there are more, in at most
 /// 100,000,000 reads. A line that cannot be shown leaves the status as it is.

@@ -43,19 +43,15 @@ impl<F: Write + OpenFile> Durable for FileDisk<F> {
     ghost uncut = { λ disk. 0 };
 
     fn append(&mut self, bytes: &[u8]) -> Result<(), Failed> {
-        if self.file.write_all(bytes).is_err() {
-            self.has_failed = true;
-            return Err(Failed);
-        }
-        Ok(())
+        let done = self.file.write_all(bytes).or(Err(Failed));
+        self.has_failed = self.has_failed || done.is_err();
+        done
     }
 
     fn sync(&mut self) -> Result<(), Failed> {
-        if self.file.sync_data().is_err() {
-            self.has_failed = true;
-            return Err(Failed);
-        }
-        Ok(())
+        let done = self.file.sync_data().or(Err(Failed));
+        self.has_failed = self.has_failed || done.is_err();
+        done
     }
 
     fn cut(&mut self, place: usize) -> Result<(), Failed> {

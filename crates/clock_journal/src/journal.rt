@@ -56,7 +56,7 @@ fn append_record<D: Durable>(disk: &mut D, chain: &Link, text: &[u8]) -> Result<
 
 impl<D: Durable> Journal<D> {
     /// Begins a journal on an empty disk, for the set-up document of a digest: its head is on the disk.
-    pub fn begin(disk: D, digest: Link) -> Result<Journal<D>, Failed>
+    pub fn begin(mut disk: D, digest: Link) -> Result<Journal<D>, Failed>
     where
         D: Drop,
         requires unfailed { D.has_failed disk ≡ false }
@@ -64,7 +64,6 @@ impl<D: Durable> Journal<D> {
         ensures uncut { IfOk result (λ journal. journal.uncut ≡ D.uncut disk) }
         ensures unfailed { IfOk result (λ journal. journal.has_failed ≡ false) }
     {
-        let mut disk = disk;
         let head = head_of(&digest);
         disk.append(&head)?;
         disk.sync()?;
@@ -74,7 +73,7 @@ impl<D: Durable> Journal<D> {
 
     /// Goes on with the journal of a file that was taken over, for the set-up document of a digest. All that stands in
     /// the file is put on the disk, and what is torn is then cut off.
-    pub fn resume(disk: D, digest: Link, recovered: Recovered) -> Result<Journal<D>, Failed>
+    pub fn resume(mut disk: D, digest: Link, recovered: Recovered) -> Result<Journal<D>, Failed>
     where
         D: Drop,
         requires unfailed { D.has_failed disk ≡ false }
@@ -83,7 +82,6 @@ impl<D: Durable> Journal<D> {
             → IfOk result (λ journal. HasTexts digest texts journal) }
         ensures unfailed { IfOk result (λ journal. journal.has_failed ≡ false) }
     {
-        let mut disk = disk;
         // a stop while it is cut off leaves what stood up to that place, if that was on the disk
         disk.sync()?;
         disk.cut(recovered.end)?;

@@ -1,5 +1,4 @@
 ghost use Rattle.std.specs.Prelude.{◌≡◌, ◌∷◌, List, ℕ, Err, OnOk};
-ghost use Rattle.clock_journal.specs.declared.machine.Untaken.TheVariants as untaken;
 
 /// Why a text was not taken: it is none that changes the machine as it stands, or there was no memory. The machine is
 /// not to be used any more.
@@ -27,6 +26,6 @@ pub trait Machine {
         ensures taken { OnOk result ((texts : List (List ℕ))
             → stands_for self.old texts → stands_for self.new (text.now ∷ texts)) }
         ensures refused { (texts : List (List ℕ))
-            → result ≡ Err untaken.Refused → stands_for self.old texts → refuses (rules self.old) texts text.now }
+            → result ≡ Err Untaken.Refused → stands_for self.old texts → refuses (rules self.old) texts text.now }
         ensures rules { rules self.new ≡ rules self.old };
 }

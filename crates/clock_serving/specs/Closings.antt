@@ -10,6 +10,7 @@ use Rattle.clock_house.specs.History.{history}
 use Rattle.clock_front.specs.Fronts.{commands_of}
 use Rattle.clock_serving.specs.Exchanges.{GrowsBy}
 
+-- the closed rounds of the history that the commands in the texts make, from the beginning of the auction
 abbrev pub closed_by : SetupFields → List (List ℕ) → ℕ
 closed_by setup texts = length (history setup (commands_of setup texts)).closed
 
@@ -17,6 +18,7 @@ closed_by setup texts = length (history setup (commands_of setup texts)).closed
 abbrev pub rounds_between : ℕ → ℕ → List ℕ
 rounds_between before after = range_with_len (before + 1) (after - before)
 
+-- no round that was closed is open again, and behind what was told before comes each round that was closed since, once
 pub record TellsClosings (setup : SetupFields) (past end : List (List ℕ)) (told_old told_new : Option (List ℕ)) : Type 0 where
   pub more : closed_by setup past ≤ closed_by setup end
   pub told : GrowsBy told_old told_new (rounds_between (closed_by setup past) (closed_by setup end))

@@ -6,7 +6,6 @@
 #![tactic(auto)]
 
 mod acceptor;
-mod closed;
 mod fault;
 mod keeper;
 mod laws;
@@ -16,11 +15,10 @@ mod port;
 mod serving;
 
 pub use acceptor::{Acceptor, Connection};
-pub use closed::Closed;
 pub use fault::ServeFault;
 pub use keeper::{Keeper, Unkept};
 pub use laws::law_told_bytes;
-pub use listed::{Client, Listed};
+pub use listed::{Client, Closed, Listed};
 pub use listening::Listening;
 pub use port::serve_on;
 pub use serving::serve_all;

@@ -5,7 +5,6 @@ ghost use Rattle.clock_device.specs.SinkState.{sink_told};
 ghost use Rattle.clock_serving.specs.Exchanges.{Closes};
 
 use crate::acceptor::{Acceptor, Connection};
-use crate::closed::Closed;
 use clock_device::{Bounded, Failed, ListSink, ListSource, NoMemory, Stop};
 use std::alloc::Global;
 use std::marker::Model;
@@ -21,6 +20,38 @@ pub struct Client<'a> {
     pub room: usize,
     pub write: usize,
     pub write_stop: Option<u64>,
+}
+
+/// A connection in memory that was closed. Contracts see what was read and written on it.
+#[derive(Drop)]
+pub struct Closed<'a> {
+    offered: &'a [u8],
+    source: ListSource<'a>,
+    sink: ListSink,
+}
+
+impl<'a> Model for Closed<'a> {
+    ghost use Rattle.std.specs.Prelude.{[], Some};
+    ghost use Rattle.clock_device.specs.Told.{unread, unused};
+    ghost use Rattle.clock_device.specs.SourceState.{source_told};
+    ghost use Rattle.clock_device.specs.SinkState.{sink_told};
+    ghost use Rattle.clock_serving.specs.Exchanges.{Exchange};
+
+    ghost Value = { Exchange };
+
+    ghost view = { λ c. record {
+      reading = record { before = unread (Some c.offered.now); after = source_told c.source };
+      writing = record { before = unused (Some []); after = sink_told c.sink };
+    } };
+}
+
+impl<'a> Closed<'a> {
+    /// The bytes that were written on it.
+    pub fn written(&self) -> &[u8]
+        ensures { Some result.now ≡ self.now.writing.after.taken }
+    {
+        self.sink.bytes()
+    }
 }
 
 /// Connections in memory: one for each of these clients, in order. Where there is none left, taking one fails.

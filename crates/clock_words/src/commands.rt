@@ -1,13 +1,11 @@
 //! The commands and options of the program, as clap is told of them.
 ghost use Rattle.std.specs.Prelude.{◌≡◌, false, IfOk};
 ghost use Rattle.clap.specs.Words.{App, new_app, rule_of, with_subcommand};
-ghost use Rattle.clock_words.specs.Words.{files_grammar, grammar, needed_rule, number_rule, option_rule};
-ghost use Rattle.clock_words.specs.Words.{prices_grammar, program_alone_grammar, serve_grammar};
+ghost use Rattle.clock_words.specs.Words.{files_grammar, grammar, needed_rule, number_rule, option_rule, prices_grammar, program_alone_grammar, serve_grammar};
 ghost use Rattle.clock_words.specs.inside.Commands.{IsCommand};
 
 use crate::help::{
     AUDIT_HELP, JOURNAL_HELP, OPENING_HELP, PRICES_HELP, PROGRAM_HELP, REPLAY_HELP, SERVE_HELP,
-    number_help,
 };
 use clap::builder::ValueParser;
 use clap::{Arg, Command};
@@ -22,25 +20,6 @@ pub const MOST_PORT: u64 = 65_535;
 
 /// How many connections `serve` takes at most.
 pub const MOST_SERVED: u64 = 1_000_000;
-
-/// What is said of each number that an option takes.
-#[derive(Drop)]
-pub struct NumberHelps {
-    increment: String,
-    port: String,
-    connections: String,
-}
-
-/// The texts for the limits that there are.
-pub fn number_helps(alloc: Global) -> Result<NumberHelps, AllocError> {
-    let rise = "By how many percent prices rise";
-    let served = "How many connections are served";
-    Ok(NumberHelps {
-        increment: number_help(alloc, rise, LEAST_INCREMENT, MOST_INCREMENT)?,
-        port: number_help(alloc, "The port of 127.0.0.1", 1, MOST_PORT)?,
-        connections: number_help(alloc, served, 1, MOST_SERVED)?,
-    })
-}
 
 /// An option of one value, which may be left out.
 fn option<'a>(alloc: Global, name: &'a str, value: &'a str, help: &'a str) -> Arg<'a>
@@ -96,26 +75,28 @@ fn with_command<'a>(
 }
 
 /// `prices` and its option.
-fn prices_command<'a>(alloc: Global, helps: &'a NumberHelps) -> Result<Command<'a>, AllocError>
+fn prices_command<'a>(alloc: Global) -> Result<Command<'a>, AllocError>
     ensures { IfOk result (IsCommand prices_grammar) }
 {
     let about = "Prints each product's opening price and next clock price";
-    let increment = option(alloc, "increment", "N", helps.increment.as_str())
+    let rise = "By how many percent prices rise, from 1 to 50";
+    let increment = option(alloc, "increment", "N", rise)
         .value_parser(ValueParser::Unsigned(LEAST_INCREMENT, MOST_INCREMENT))
         .default_value("10");
     named(alloc, "prices", about, PRICES_HELP).arg(increment)
 }
 
 /// `serve` and its options.
-fn serve_command<'a>(alloc: Global, helps: &'a NumberHelps) -> Result<Command<'a>, AllocError>
+fn serve_command<'a>(alloc: Global) -> Result<Command<'a>, AllocError>
     ensures { IfOk result (IsCommand serve_grammar) }
 {
     let about = "Takes the bids and closings of an auction on a port of 127.0.0.1";
-    let served = helps.connections.as_str();
+    let port = "The port of 127.0.0.1, from 1 to 65535";
+    let served = "How many connections are served, from 1 to 1000000";
     let kept = "The file in which accepted sheets and closings are kept";
     named(alloc, "serve", about, SERVE_HELP)
         .arg(needed_option(alloc, "setup", SETUP_FILE))?
-        .arg(number_option(alloc, "port", MOST_PORT, helps.port.as_str()))?
+        .arg(number_option(alloc, "port", MOST_PORT, port))?
         .arg(number_option(alloc, "connections", MOST_SERVED, served))?
         .arg(option(alloc, "journal", "FILE", kept))
 }
@@ -148,15 +129,15 @@ fn program_alone<'a>(alloc: Global) -> Result<Command<'a>, AllocError>
 }
 
 /// The program's commands.
-pub fn program<'a>(alloc: Global, helps: &'a NumberHelps) -> Result<Command<'a>, AllocError>
+pub fn program<'a>(alloc: Global) -> Result<Command<'a>, AllocError>
     ensures { IfOk result (IsCommand grammar) }
 {
-    let priced = with_command(program_alone(alloc)?, prices_command(alloc, helps))?;
+    let priced = with_command(program_alone(alloc)?, prices_command(alloc))?;
     let about = "Prints the sheet of round 1";
     let opened = priced.subcommand(named(alloc, "opening", about, OPENING_HELP))?;
     let about = "Plays an auction of scripted bidders and prints its rounds and what each won";
     let replayed = opened.subcommand(named(alloc, "replay", about, REPLAY_HELP))?;
-    let served = with_command(replayed, serve_command(alloc, helps))?;
+    let served = with_command(replayed, serve_command(alloc))?;
     let about = "Prints what a journal holds, text by text";
     let told = with_command(served, files_command(alloc, "journal", about, JOURNAL_HELP))?;
     let about =

@@ -1,5 +1,4 @@
 //! What `--help` says of the program and of each command.
-use std::alloc::{AllocError, Global};
 
 /// Of the whole program.
 pub static PROGRAM_HELP: &str = "\
@@ -95,13 +94,3 @@ Example:
   closed 1 5be1a2c4..
   ..
   journal 12 90fe18c0..";
-
-/// What is said of a number that an option takes, with its limits.
-pub fn number_help(
-    alloc: Global,
-    meaning: &str,
-    least: u64,
-    most: u64,
-) -> Result<String, AllocError> {
-    format!(in alloc; "{meaning}, from {least} to {most}")
-}

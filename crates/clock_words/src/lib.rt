@@ -5,5 +5,4 @@ mod commands;
 mod help;
 mod words;
 
-pub use commands::{NumberHelps, number_helps};
 pub use words::{FileTask, Files, Job, Serving, file_task_asked, job_asked};

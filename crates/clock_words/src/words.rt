@@ -2,11 +2,10 @@
 ghost use Rattle.std.specs.Prelude.{◌≡◌, ◌≢◌, None, [], map, option_map, IfSome, IfOk, IfErr};
 ghost use Rattle.clock_terms.specs.Limits.{IsWithin};
 ghost use Rattle.clap.specs.Words.{fault_of, first_of, found_of, kind_of, rows_of, subcommand_of, subcommand_rows_of};
-ghost use Rattle.clock_words.specs.Words.{IsJob, files_from, files_told, given, grammar, job_met, job_of, number_of};
-ghost use Rattle.clock_words.specs.Words.{serving_from, serving_told, task_met, task_of, task_told};
+ghost use Rattle.clock_words.specs.Words.{IsJob, files_from, files_told, given, grammar, job_met, job_of, number_of, serving_from, serving_told, task_met, task_of, task_told};
 ghost use Rattle.clock_words.specs.inside.Commands.{within_limits as limited};
 
-use crate::commands::{MOST_PORT, MOST_SERVED, NumberHelps, number_helps, program};
+use crate::commands::{MOST_PORT, MOST_SERVED, program};
 use clap::error::ErrorKind;
 use clap::{ArgMatches, Error};
 use clock_money::{LEAST_INCREMENT, MOST_INCREMENT};
@@ -95,18 +94,14 @@ fn job_in(matches: &ArgMatches) -> Option<Job>
 }
 
 /// What clap has of the words.
-fn matches_in<'a>(
-    alloc: Global,
-    helps: &'a NumberHelps,
-    words: &'a [&'a str],
-) -> Result<ArgMatches<'a>, Error>
+fn matches_in<'a>(alloc: Global, words: &'a [&'a str]) -> Result<ArgMatches<'a>, Error>
     ensures taken { IfOk result (λ matches. fault_of grammar (map (λ word. word.now) words.entry.now) ≡ []) }
     ensures met { IfOk result (λ matches. subcommand_rows_of matches
         ≡ subcommand_of grammar (map (λ word. word.now) words.entry.now)) }
     ensures err { IfErr result (λ error. kind_of error ≢ ErrorKind.OutOfMemory
         → fault_of grammar (map (λ word. word.now) words.entry.now) ≢ []) }
 {
-    program(alloc, helps)?.try_get_matches_from(words)
+    program(alloc)?.try_get_matches_from(words)
 }
 
 /// The words, or those that stand for none.
@@ -128,12 +123,10 @@ pub fn job_asked(alloc: Global, words: &[&str]) -> Result<Option<Job>, Error>
     ensures err { IfErr result (λ error. kind_of error ≢ ErrorKind.OutOfMemory
         → job_of (map (λ word. word.now) words.entry.now) ≡ None) }
 {
-    let helps = number_helps(alloc)?;
-    let matches = matches_in(alloc, &helps, words_given(words))?;
+    let matches = matches_in(alloc, words_given(words))?;
     let job = job_in(&matches);
-    // let go by calls: at the end of the scope it would be proved part by part
+    // let go by a call: at the end of the scope it would be proved part by part
     drop(matches);
-    drop(helps);
     Ok(job)
 }
 
@@ -185,14 +178,13 @@ fn task_in<'a>(matches: &ArgMatches<'a>) -> Option<FileTask<'a>>
 /// words, or is the help that they ask for.
 pub fn file_task_asked<'a>(
     alloc: Global,
-    helps: &'a NumberHelps,
     words: &'a [&'a str],
 ) -> Result<Option<FileTask<'a>>, Error>
     ensures ok { IfOk result (λ task. option_map task_told task ≡ task_of (map (λ word. word.now) words.entry.now)) }
     ensures err { IfErr result (λ error. kind_of error ≢ ErrorKind.OutOfMemory
         → task_of (map (λ word. word.now) words.entry.now) ≡ None) }
 {
-    let matches = matches_in(alloc, helps, words)?;
+    let matches = matches_in(alloc, words)?;
     let task = task_in(&matches);
     drop(matches);
     Ok(task)

@@ -7,7 +7,7 @@ use Rattle.clock_words.proofs.words.job_asked.Goals as goal
 
 pub returns-in_err-matches-clause-err : goal.returns-in_err-matches-clause-err
 returns-in_err-matches-clause-err c =
-    let p = err_from_is_err_and c.from_residual-in_err-matches.result c.from_residual-in_err-matches.ensures.1 in
+    let p = err_from_is_err_and c.from_residual.result c.from_residual.ensures.1 in
     rw (p.1, ← c.words_given.ensures) (λ other. none_meant _ _ (c.in_err-matches.ensures.err (λ memory. other (ap kind_of p.2 ∙ memory))))
 
 pub returns-clause-ok : goal.returns-clause-ok
