@@ -43,8 +43,8 @@ fn answer_each<P: Processor>(
 ///
 /// A reply of want of memory has done nothing, and its text is struck out. Every other reply is the right one; to a
 /// bidder's own request it is a function of the public set-up, the bidder's row and what the bidder sees of the run, so
-/// that every other run in which a bidder sees the same gives it the same bytes. To a request with no token, or with one
-/// that nobody has, it is a function of the public set-up and the sheets of the closed rounds.
+/// that every other run in which a bidder sees the same gives it the same bytes. To a request with no token, or with
+/// one that nobody has, it is a function of the public set-up and the sheets of the closed rounds.
 pub fn run<P: Processor>(
     alloc: Global,
     setup: Setup,
