@@ -45,8 +45,7 @@ fn read_more<R: Source>(
     requires few { length document.old ≤ most_bytes }
     requires uncounted { (R.told reader.old).interruptions < most_document_reads }
     ensures step { IsStepOf (R.told reader.old).left (R.told reader.new).left document.old document.new result }
-    ensures used { IfOk result (λ ended. ended ≡ false
-        → length document.old + (R.told reader.old).interruptions
+    ensures used { IfOk result (λ ended. ended ≡ false → length document.old + (R.told reader.old).interruptions
         < length document.new + (R.told reader.new).interruptions) }
     ensures counted { (R.told reader.new).calls ≡ count_after (R.told reader.old).calls }
     ensures interrupted { GrowsByOneAtMost (R.told reader.old).interruptions (R.told reader.new).interruptions }

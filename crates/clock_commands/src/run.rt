@@ -45,8 +45,7 @@ pub fn command<R: Source, W: Sink, F: Sink>(
     ensures ending { ComesTo (job_of (map (λ word. word.now) words.entry.now))
         (record { before = R.told reader.old; after = R.told reader.new })
         (record { before = W.told writer.old; after = W.told writer.new })
-        (record { before = F.told faults.old; after = F.told faults.new })
-        result }
+        (record { before = F.told faults.old; after = F.told faults.new }) result }
     ensures reads { (R.told reader.new).calls ≤ most_document_reads }
 {
     match job_asked(alloc, words) {

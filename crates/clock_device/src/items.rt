@@ -8,8 +8,7 @@ use std::alloc::Global;
 use std::marker::Model;
 use std::ops::{DerefSlice, DerefSliceMut};
 
-/// A list that owns its items, and is read as a slice of them is. Contracts see the list of the
-/// items.
+/// A list that owns its items, and is read as a slice of them is. Contracts see the list of the items.
 ///
 /// The lists of the auction are this type under names of their own, as [`Text`] for bytes.
 #[derive(Drop)]

@@ -9,8 +9,7 @@ use std::io::{ErrorKind, Read, Write};
 
 /// Anything that std reads from, as a [`Source`].
 ///
-/// It tells the bytes that the reader tells: those of a slice or a list, and none of a file or a
-/// socket.
+/// It tells the bytes that the reader tells: those of a slice or a list, and none of a file or a socket.
 #[derive(Drop)]
 pub struct FromReader<R> {
     reader: R,

@@ -15,7 +15,6 @@ pub enum Stop {
     /// A signal came before a byte did. The read may be tried again.
     #[error("interrupted")]
     Interrupted,
-
     /// The source could not be read.
     #[error("the read failed")]
     Failed,
@@ -34,9 +33,8 @@ pub struct Failed;
 pub trait Source {
     ghost told: { Self → SourceTold };
 
-    /// Puts the next bytes at the front of the buffer and answers how many, which is 0 for a
-    /// buffer that is not empty exactly where no byte is left. Behind those bytes the buffer may
-    /// hold anything.
+    /// Puts the next bytes at the front of the buffer and answers how many, which is 0 for a buffer that is not empty
+    /// exactly where no byte is left. Behind those bytes the buffer may hold anything.
     fn read(&mut self, buffer: &mut [u8]) -> Result<usize, Stop>
         ensures within { ReadsAtMost result buffer.new }
         ensures bytes { ReadConsumes (told self.old).left (told self.new).left result buffer.new }

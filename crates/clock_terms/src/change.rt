@@ -6,7 +6,6 @@ use clock_money::Point;
 pub enum Kind {
     /// The demand is to rise.
     Increase,
-
     /// The demand is to fall.
     Reduction,
 }
@@ -16,22 +15,16 @@ pub enum Kind {
 pub struct Change {
     /// The bidder's number in the set-up, from 0.
     pub bidder: u32,
-
     /// The product's number in the set-up, from 0.
     pub product: u32,
-
     /// The number of the bid in the sheet's chain for the product, from 0.
     pub place: u32,
-
     /// Whether the demand is to rise or to fall.
     pub kind: Kind,
-
     /// In blocks.
     pub amount: u64,
-
     /// In whole dollars.
     pub price: u64,
-
     /// How far the price stands from the start price to the clock price.
     pub point: Point,
 }

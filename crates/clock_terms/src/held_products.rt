@@ -12,7 +12,6 @@ use std::marker::Model;
 pub struct Held {
     /// The product's number in the set-up, from 0.
     pub product: usize,
-
     /// In blocks: at least 1, and at most 1,000.
     pub demand: u64,
 }

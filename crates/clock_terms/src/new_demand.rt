@@ -7,10 +7,8 @@ ghost use Rattle.clock_terms.specs.Limits.{most_supply};
 pub enum NewDemand {
     /// So many blocks.
     Of(u64),
-
     /// So many blocks more.
     Raised(u64),
-
     /// So many blocks less.
     Lowered(u64),
 }

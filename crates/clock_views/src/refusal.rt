@@ -25,10 +25,8 @@ pub const REFUSAL_ROOM: u128 = 132;
 pub struct Refusal {
     /// Why the request is refused; never [`Code::Done`].
     pub code: Code,
-
     /// The place of the bid or of the tie number in its list, or the product's number, from 0.
     pub place: Option<u64>,
-
     /// The current round.
     pub round: Option<u64>,
 }
