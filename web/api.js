@@ -35,12 +35,7 @@ export class Asker {
         await pause(500 * (again + 1));
         continue;
       }
-      let page;
-      try {
-        page = await reply.json();
-      } catch {
-        throw noAnswer();
-      }
+      const page = await reply.json().catch(() => { throw noAnswer(); });
       if (reply.ok) return page;
       // the proxy that stands before the server answers, and no server behind it
       if (page.code === "proxy" && reply.status >= 500) throw noAnswer();

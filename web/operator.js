@@ -133,7 +133,9 @@ async function close() {
   const asked = closing();
   if (!asked) return say("⚠ Not closed: " + wordsOf("increment") + ".");
   if (asked.round === underWay) return say(`Round ${underWay} is being closed already.`);
-  if (!await question(`Close round ${asked.round} for all bidders? What is not sent by now does not count, and this can't be taken back.`)) return;
+  const percents = [asked.increments ?? asked.increment].flat(), low = Math.min(...percents), high = Math.max(...percents);
+  const prices = `Prices rise by ${low === high ? low : `${low} to ${high}`} percent.`;
+  if (!await question(`Close round ${asked.round} for all bidders? ${prices} What is not sent by now does not count, and this can't be taken back.`)) return;
   underWay = asked.round;
   say(`Round ${underWay} is being closed …`);
   try {

@@ -273,6 +273,7 @@ def each_increment(x, y, operator):
     fields[1].send_keys(Keys.BACKSPACE * 2)
     operator.held(False)
     operator.close_round()
+    expect("the question tells by how much", "Prices rise by 10 to 20 percent." in operator.run("return document.getElementById('asked').textContent"))
     wait_for("a closing that is under way is told to be so", lambda: operator.text("say") == "Round 1 is being closed …")
     operator.click("ask")
     expect("and no other is asked about", "closed already" in operator.text("say") and not operator.at("question").is_displayed())
