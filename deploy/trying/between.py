@@ -4,8 +4,8 @@ import threading
 
 
 class Between:
-    """Hands requests on to a server of this machine. `lose` is None, "request" or "reply", and holds for closings alone; `closings` are the
-    texts of closings that came; `look` is called for each before anything is done with it."""
+    """Hands requests on to a server of this machine. `lose` is None, "request", "reply" or "half" of it, and holds for closings alone;
+    `closings` are the texts of closings that came; `look` is called for each before anything is done with it."""
 
     def __init__(self, port, server_port):
         self.server_port, self.lose, self.closings, self.look = server_port, None, [], lambda: None
@@ -41,7 +41,7 @@ class Between:
                 while piece := server.recv(1 << 20):
                     reply += piece
             if lose != "reply":
-                peer.sendall(reply)
+                peer.sendall(reply[:-5] if lose == "half" else reply)
 
     def stop(self):
         try:
