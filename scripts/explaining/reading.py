@@ -107,7 +107,7 @@ class Reader:
 
     def look_at_numbers(self):
         """No number is above what 64 bits of a floating number hold, and there are no others than numbers."""
-        if not re.search(r"[eE][+]?[0-9]|[0-9]{300}|N", self.text):
+        if not re.search(r"[eE][+]?[0-9]|[0-9]{300}|N|Infinity", self.text):
             return
         for found in NUMBERS.finditer(self.text):
             if found[0][0] != '"' and (found[0][-1] in "Ny" or float(found[0]) in (float("inf"), float("-inf"))):
