@@ -6,8 +6,9 @@
 LIMITS is a file as {"North": [2300, 1900], "South": [610]}: for each product, up to which price each block is wanted, never rising. The
 token comes from the environment, so that it stands neither in the shell's history nor in the list of processes. URL begins with http:// or
 https://; CA names a file of certificates where the system's own do not do. It prints each round's sheet and slip, and at the end what was
-won. It asks for the status each second, or as seldom as it is told, and misses no round that lasts longer than that. Where no reply comes
-it asks again. It ends with status 1 where a sheet is refused, a round is missed, or the round falls: then another server answers.
+won. It asks for the status each second, or as seldom as it is told, and misses no round that lasts longer than that. Where no reply comes,
+or none that can be read, it asks again, for an hour. It ends with status 1 where a sheet is refused, a round is missed, or the round falls:
+then another server answers; and before any bid where LIMITS names no product of the auction, or is otherwise wrong.
 """
 import argparse
 import http.client
@@ -16,11 +17,19 @@ import os
 import ssl
 import sys
 import time
-import urllib.error
 import urllib.request
 
-BUSY = (429, 502, 503, 504)
-TRIES = 60
+BUSY = (408, 429, 500, 502, 503, 504)
+PATIENCE = 3600
+
+
+class EachReply(urllib.request.HTTPErrorProcessor):
+    """Hands on each reply as it came. No redirection is followed: the token is for one address alone."""
+
+    def http_response(self, request, response):
+        return response
+
+    https_response = http_response
 
 
 class Auction:
@@ -28,24 +37,28 @@ class Auction:
 
     def __init__(self, url, token, every):
         self.url, self.token, self.every = url.rstrip("/"), token, every
-        self.tls = ssl.create_default_context(cafile=os.environ.get("CA")) if url.startswith("https") else None
+        tls = ssl.create_default_context(cafile=os.environ.get("CA")) if url.startswith("https") else None
+        self.opener = urllib.request.build_opener(EachReply, urllib.request.HTTPSHandler(context=tls))
 
     def ask(self, path, sheet=None):
         """The page; asks again where no reply came, or who answered was busy. A refusal ends the program."""
         body = None if sheet is None else json.dumps(sheet).encode()
         headers = {"authorization": "Bearer " + self.token, "content-type": "application/json"}
         request = urllib.request.Request(self.url + path, body, headers, method="GET" if sheet is None else "PUT")
-        for _ in range(TRIES):
+        given_up = time.monotonic() + PATIENCE
+        while time.monotonic() < given_up:
             try:
-                with urllib.request.urlopen(request, timeout=30, context=self.tls) as reply:
-                    return json.load(reply)
-            except urllib.error.HTTPError as error:
-                if error.code not in BUSY:
-                    sys.exit(f"{path} is refused: {error.read().decode(errors='replace')}")
-            except (OSError, http.client.HTTPException) as error:
+                with self.opener.open(request, timeout=30) as reply:
+                    text = reply.read()
+                if reply.status < 300:
+                    return json.loads(text)
+                if reply.status not in BUSY:
+                    sys.exit(f"{path} is refused: {reply.status} {text.decode(errors='replace')}")
+                print("no reply:", reply.status, reply.reason, file=sys.stderr)
+            except (OSError, http.client.HTTPException, ValueError) as error:
                 print("no reply:", error, file=sys.stderr)
             time.sleep(self.every)
-        sys.exit(f"{path}: no reply after {TRIES} times")
+        sys.exit(f"{path}: no reply for {PATIENCE} seconds")
 
     def prices(self, products, number):
         """The start and clock prices of a round."""
@@ -54,9 +67,11 @@ class Auction:
         return [(product["posted"], product["next"]) for product in self.ask(f"/v1/rounds/{number - 1}")["products"]]
 
     def wait(self, number):
-        """Returns once a round is closed."""
-        while last_closed(self.ask("/v1/status"), number) < number:
+        """Returns once a round is closed. It sleeps first, since the status that a proxy keeps may be a second old."""
+        closed = number - 1
+        while closed < number:
             time.sleep(self.every)
+            closed = last_closed(self.ask("/v1/status"), number)
 
 
 def last_closed(page, number):
@@ -76,8 +91,8 @@ def first_bids(limits, clock):
 
 
 def later_bids(limits, held, start, clock):
-    """A held block leaves at its limit, or at the start price if that is higher; where none leaves, all are kept."""
-    limits = limits[:held]
+    """A held block leaves at its limit, or at the start price if that is higher or it has none; where none leaves, all are kept."""
+    limits = (limits + [0] * held)[:held]
     leaving = sorted({max(start, limit) for limit in limits if limit < clock})
     if held and not leaving:
         return [(held, clock)]
@@ -93,8 +108,25 @@ def bids_of(wanted, products, prices, held, number):
     return bids
 
 
+def limits_of(path):
+    """The limits in a file. Where they are not what they should be, the program ends."""
+    try:
+        with open(path, encoding="utf-8-sig") as file:
+            wanted = json.load(file)
+    except (OSError, ValueError) as error:
+        sys.exit(f"{path}: {error}")
+    if not isinstance(wanted, dict):
+        sys.exit(f"{path}: an object is wanted, with a list for each product")
+    for name, limits in wanted.items():
+        if not (isinstance(limits, list) and all(type(limit) is int for limit in limits) and limits == sorted(limits, reverse=True)):
+            sys.exit(f"{path}: the limits of {name} are to be a list of whole numbers, never rising")
+    return wanted
+
+
 def play(auction, wanted):
     products, account = auction.ask("/v1/products")["products"], auction.ask("/v1/me")
+    if strangers := wanted.keys() - {product["name"] for product in products}:
+        sys.exit(f"no product is called {', '.join(sorted(strangers))}")
     while not account["ended"]:
         number = account["round"]
         sheet = {"bids": bids_of(wanted, products, auction.prices(products, number), account["demands"], number), "round": number}
@@ -114,11 +146,14 @@ def main():
     parser.add_argument("limits")
     parser.add_argument("--every", type=float, default=1.0)
     arguments = parser.parse_args()
-    if "TOKEN" not in os.environ:
-        sys.exit("TOKEN is to be set in the environment")
-    with open(arguments.limits) as file:
-        wanted = json.load(file)
-    play(Auction(arguments.url, os.environ["TOKEN"], arguments.every), wanted)
+    if not arguments.url.startswith(("http://", "https://")):
+        parser.error("URL begins with http:// or https://")
+    if not 0 < arguments.every <= PATIENCE:
+        parser.error(f"SECONDS are above 0, and {PATIENCE} at most")
+    token = os.environ.get("TOKEN", "").strip()
+    if not token or not token.isascii() or not token.isprintable():
+        sys.exit("TOKEN is to be set in the environment, to letters and digits")
+    play(Auction(arguments.url, token, arguments.every), limits_of(arguments.limits))
 
 
 if __name__ == "__main__":
