@@ -67,7 +67,7 @@ class Auction:
         return [(product["posted"], product["next"]) for product in self.ask(f"/v1/rounds/{number - 1}")["products"]]
 
     def wait(self, number):
-        """Returns once a round is closed. It sleeps first, since the status that a proxy keeps may be a second old."""
+        """Returns once a round is closed. It sleeps first: the status that a proxy keeps may be a second old."""
         closed = number - 1
         while closed < number:
             time.sleep(self.every)
@@ -91,7 +91,7 @@ def first_bids(limits, clock):
 
 
 def later_bids(limits, held, start, clock):
-    """A held block leaves at its limit, or at the start price if that is higher or it has none; where none leaves, all are kept."""
+    """A held block leaves at its limit, or at the start price if that is higher or none is given. Else all are kept."""
     limits = (limits + [0] * held)[:held]
     leaving = sorted({max(start, limit) for limit in limits if limit < clock})
     if held and not leaving:
@@ -118,7 +118,8 @@ def limits_of(path):
     if not isinstance(wanted, dict):
         sys.exit(f"{path}: an object is wanted, with a list for each product")
     for name, limits in wanted.items():
-        if not (isinstance(limits, list) and all(type(limit) is int for limit in limits) and limits == sorted(limits, reverse=True)):
+        whole = isinstance(limits, list) and all(type(limit) is int for limit in limits)
+        if not whole or limits != sorted(limits, reverse=True):
             sys.exit(f"{path}: the limits of {name} are to be a list of whole numbers, never rising")
     return wanted
 
