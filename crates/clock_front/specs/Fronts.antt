@@ -6,8 +6,7 @@
 --     IsCutShort reply      the reply to a text that needed more, or that of want of memory
 --     IsStruckOut text reply      the reply of want of memory, to a text that needs some
 --     IsDoneBy text reply old new      the right reply, and the text's command was done, or there was no memory and
---         nothing changed,
---         whatever the house stood for
+--         nothing changed, whatever the house stood for
 --     AnswersText text reply old new      a text is answered by what is right, or there was no memory and it did
 --         nothing
 use Rattle.std.specs.Prelude.{◌≡◌, ◌⊎◌, ℕ, List, ◌∷◌, map}

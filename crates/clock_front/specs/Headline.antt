@@ -1,20 +1,20 @@
--- The headline: what is proved of a whole run of request texts, and of a run of pieces over connections. In plain
--- words: in a run each reply is the right one after the texts before it. And it is private: the reply to a bidder's own
--- request is the answer to what this bidder sees, and every other run, of another set-up and with other rivals, in
--- which a bidder with an equal row sees the same gives the same bytes. Whoever has no token of the set-up is told what
--- is public: to a request with none, every other run with the same public set-up and the same sheets of closed rounds
--- gives the same bytes, whatever bids they came from. At the end the auction is sound. This is not vacuous: `reply` is
--- a function that is computed, so exactly one reply is right, and `answer` has the public set-up, the bidder's row, its
--- view and its text as its only arguments; no rival occurs among them. What a view holds is to be read with care: own
--- requests, and of what others do only accepted closings, each as the round's sheet and the bidder's own slip (Views).
--- The operator sees all, so of the replies to its requests is said only that they are right. It does not speak of time,
--- of tokens on the wire, of what rivals tell each other, nor of requests that found no memory.
+-- The headline: what is proved of a whole run of request texts, and of a run of pieces over connections.
+-- In plain words: in a run each reply is the right one after the texts before it. And it is private: the reply to a
+-- bidder's own request is the answer to what this bidder sees, and every other run, of another set-up and with other
+-- rivals, in which a bidder with an equal row sees the same gives the same bytes. Whoever has no token of the set-up is
+-- told what is public: to a request with none, every other run with the same public set-up and the same sheets of
+-- closed rounds gives the same bytes, whatever bids they came from. At the end the auction is sound.
+-- This is not vacuous: `reply` is a function that is computed, so exactly one reply is right, and `answer` has the
+-- public set-up, the bidder's row, its view and its text as its only arguments; no rival occurs among them. What a view
+-- holds is to be read with care: own requests, and of what others do only accepted closings, each as the round's sheet
+-- and the bidder's own slip (Views). The operator sees all, so of the replies to its requests is said only that they
+-- are right. It does not speak of time, of tokens on the wire, of what rivals tell each other, nor of requests that
+-- found no memory.
 --     SeesTheSame one two ..      a bidder sees the same in two runs
 --     IsPrivate setup bidder past text one      a reply depends on what the bidder sees alone
 --     IsPublic setup past text one      a reply depends on what everybody sees alone
 --     IsRight setup past text one      a reply is the right one, private to each bidder whose own request it answers,
---         and public
---         where the request is of nobody
+--         and public where the request is of nobody
 --     Runs setup past texts answers end      each reply is the right one, or there was no memory and the text is struck
 --         out
 --     IsRun setup texts answers      what a run from the beginning answers, and what it has made of the auction

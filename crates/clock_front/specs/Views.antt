@@ -2,8 +2,7 @@
 --     is_own row text      the request is the bidder's: its head has the bidder's token
 --     SeenText      an own request, or an accepted closing as the round's sheet and the bidder's slip
 --     text_view setup bidder past      the run, the newest first, with every request struck out that is not the
---         bidder's own,
---         but each accepted closing stands as sheet and own slip
+--         bidder's own, but each accepted closing stands as sheet and own slip
 --     bidder_outcome setup row view ask      what a bidder is told by its sheets and closings: no rival, and no number
 --         of bidders, is an argument
 --     answer setup row view text      the reply to an own request, by the public set-up, the bidder's row and its view

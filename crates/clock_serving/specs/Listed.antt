@@ -1,7 +1,6 @@
 -- Connections that stand in memory.
 --     ListedState      whether one is open, what its source had where it was taken, what was read and written on each
---         closed one, and
---                      whether taking one has failed
+--         closed one, and whether taking one has failed
 use Rattle.std.specs.Prelude.{ℕ, Bool, List}
 use Rattle.clock_serving.specs.Exchanges.{Exchange}
 
