@@ -72,8 +72,7 @@ pub record IsUnrecounted (setup : SetupFields) (first bytes : List ℕ) (told : 
   pub is : IsRefusal first bytes fault
   pub rightly : IsRefusedRightly (IsRefused setup) (λ past. past ≡ []) first (drop head_length bytes) (length bytes) fault
 
--- the lines of the closed rounds, each with the digest of its closing, and what each bidder won where the auction has
--- ended
+-- the lines of the closed rounds, each with its closing's digest, and if the auction has ended what each bidder won
 abbrev pub text_of_rounds : SetupFields → List ClosedRound → List (List ℕ) → List ℕ
 text_of_rounds setup [] digests = []
 text_of_rounds setup (round ∷ closed) digests = audit_text (report_of setup (round ∷ closed)) digests

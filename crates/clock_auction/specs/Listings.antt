@@ -36,8 +36,7 @@ spaced number = decimal number ++ codes " "
 abbrev pub digest_line : List ℕ → List ℕ
 digest_line digest = encode_lower digest ++ codes "\n"
 
--- the word text, its number, its record's place and its length, each with a space behind it, and its digest; then the
--- text
+-- the word text, its number, its record's place and its length, each with a space behind, its digest, and the text
 abbrev pub text_listed : ℕ → ℕ → List ℕ → List ℕ → List ℕ
 text_listed count place chain text =
     codes "text " ++ spaced count ++ spaced place ++ spaced (length text) ++ digest_line chain ++ text ++ codes "\n"

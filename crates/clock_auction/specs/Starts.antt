@@ -14,8 +14,7 @@ use Rattle.clock_commands.specs.declared.fault.Fault.{Fault}
 use Rattle.clock_commands.specs.declared.fault.Fault.TheVariants as fault
 use Rattle.clock_auction.specs.Audits.{IsUnrecounted}
 
--- the file is the journal of these texts, but for a torn tail; they are on the disk, and the auction stands for all of
--- them; and so many are they
+-- the file is the journal of so many texts, but for a torn tail; all are on the disk, and the auction stands for them
 pub record IsGoingOn (digest bytes : List ℕ) (journal : JournalState) (house : HouseFields) (count : ℕ) : Type 0 where
   pub texts : List (List ℕ)
   pub recovered : Recovered

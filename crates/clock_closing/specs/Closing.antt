@@ -80,9 +80,8 @@ slip_after setup round eligibility demands = record {
 
 -- the slip of each bidder
 abbrev pub slips_after : PublicSetup → OpenRound → List (List ℕ) → List Slip
-slips_after setup now grid =
-    map (λ bidder. slip_after setup now.standing.round (holding_at now.holdings bidder).eligibility (row_of grid bidder))
-    (bidder_numbers now)
+slips_after setup now grid = map (λ bidder. slip_after setup now.standing.round
+    (holding_at now.holdings bidder).eligibility (row_of grid bidder)) (bidder_numbers now)
 
 -- the sheet and the slips of the round
 abbrev pub closed_round : PublicSetup → OpenRound → Increments → RoundResult → ClosedRound
@@ -93,8 +92,7 @@ closed_round setup now increments result = record {
 
 -- the round that a closing adds, or the first fault: ended, another round, bad increments or ties, a price too high
 abbrev pub closing : PublicSetup → OpenRound → ℕ → Increments → List Tie → Result ClosedRound CloseFault
-closing setup now round increments ties =
-    let result = round_result setup.products now ties in
+closing setup now round increments ties = let result = round_result setup.products now ties in
     unless (first_fault ((close_faults.Ended, not now.standing.ended)
     ∷ (close_faults.WrongRound now.standing.round, round == now.standing.round)
     ∷ (close_faults.Increment, are_increments (length setup.products) increments)

@@ -53,8 +53,7 @@ pub record HasSoundPrices (products : List Product) (now : Standing) : Type 0 wh
   pub rising : 2 ≤ now.round → All IsRising now.prices
   pub bounded : 2 ≤ now.round → now.round + length products ≤ 2 + sum_by (λ pair. pair.start) now.prices
 
--- an open round of a set-up: bidders within their limits, prices in order, and a good sheet of each bidder, as an empty
--- one is
+-- a set-up's open round: bidders within limits, prices in order, and a good sheet of each bidder, as an empty one is
 pub record IsOpen (setup : PublicSetup) (now : OpenRound) : Type 0 where
   pub limits : All IsProduct setup.products
   pub few_products : length setup.products ≤ most_products

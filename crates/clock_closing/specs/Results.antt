@@ -10,8 +10,7 @@ use Rattle.clock_closing.specs.declared.closed_round.Results.{Results}
 abbrev pub demands_of : List Slip → List (List ℕ)
 demands_of slips = map (λ slip. slip.demands) slips
 
--- there are next prices exactly where the auction goes on, those that the sheet shows; and the demands are those on the
--- slips
+-- there are next prices exactly where the auction goes on, as the sheet shows them; and demands are those on the slips
 pub record AreConsistent (results : Results) : Type 0 where
   pub end : IsNone results.next ↔ IsTrue results.closed.sheet.ended
   pub shown : IfSome results.next (λ next. next ≡ map next_pair results.closed.sheet.lines)

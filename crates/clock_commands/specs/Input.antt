@@ -39,9 +39,8 @@ TakesUpTo others reading bytes = Takes reading others bytes × (length bytes ≤
 abbrev pub ReadsTooMuch : Reading → Type 0
 ReadsTooMuch reading = (bytes : List ℕ) × Takes reading 0 bytes × (length bytes ≡ most_bytes + 1)
 
--- how reading ends: with the document; where a read failed, the only one that neither took a byte nor was interrupted,
--- or bytes and interruptions used all reads up; with one byte too many; or for want of memory. An interrupted read is
--- none of these, so it is tried again.
+-- how reading ends: a failed read is the only one that neither took a byte nor was interrupted, or bytes and
+-- interruptions used all reads up. An interrupted read is no end, so it is tried again
 abbrev pub IsReadingOf : Reading → Result (List ℕ) Fault → Type 0
 IsReadingOf reading (Ok document) = ReadsWhole reading document
 IsReadingOf reading (Err fault.Input) =

@@ -15,15 +15,12 @@ use Rattle.clock_commands.specs.declared.fault.Fault.TheVariants as fault
 
 -- all of the input is a document to which the job answers this
 abbrev pub HasAnswer : Job → Reading → Result (List ℕ) Fault → Type 0
-HasAnswer job reading answer =
-    (document : List ℕ) × ReadsWhole reading document × (answer_to job document ≡ answer)
+HasAnswer job reading answer = (document : List ℕ) × ReadsWhole reading document × (answer_to job document ≡ answer)
 
--- the run of a job prints the answer to the whole input, or it prints nothing and has the first fault: of reading, of
--- the document, of writing. Only where a write failed can a front of the text be written. Want of memory can stand in
--- place of any but a fault of reading or writing.
+-- the answer to the whole input is printed; or nothing is, and the fault is the first: of reading, of the document, of
+-- writing, where a front may be written. Want of memory can stand in place of any but a fault of reading or writing
 abbrev pub IsRunOf : {U : Type 0} → Job → Reading → Writing → Result U Fault → Type 0
-IsRunOf job reading output (Ok done) =
-    (text : List ℕ) × HasAnswer job reading (Ok text) × WritesWhole output text
+IsRunOf job reading output (Ok done) = (text : List ℕ) × HasAnswer job reading (Ok text) × WritesWhole output text
 IsRunOf job reading output (Err fault.Output) =
     (text : List ℕ) × HasAnswer job reading (Ok text) × WritesFront output text
 IsRunOf job reading output (Err fault.Input) = IsReadingOf reading (Err fault.Input) × WritesNothing output
@@ -60,8 +57,7 @@ RunsJob asked reading output result = (job : Job) × (asked ≡ Some job) × IsR
 -- a run whose answer is printed shows nothing, and one that stops shows the one line of its fault. Words that ask for
 -- no job are refused, and nothing is read. Want of memory can come before the words are known.
 abbrev pub HasEnding : Option Job → Reading → Writing → Writing → RunEnding → Type 0
-HasEnding asked reading output shown printed =
-    RunsJob {U = Unit {0}} asked reading output (Ok tt) × WritesNothing shown
+HasEnding asked reading output shown printed = RunsJob {U = Unit {0}} asked reading output (Ok tt) × WritesNothing shown
 HasEnding asked reading output shown (stopped fault.Memory) =
     IsReadingOf reading (Err fault.Memory) × WritesNothing output × Shows shown (fault_line fault.Memory)
 HasEnding asked reading output shown (stopped cause) =

@@ -20,8 +20,7 @@ most_request_reads = 2000000
 abbrev pub most_piece : ℕ
 most_piece = 16384
 
--- every read was needed: the bytes that came before the last read still needed more, and each read but the last took
--- one of them at least or was interrupted
+-- the bytes before the last read still needed more, and each earlier read took one at least or was interrupted
 pub record IsReadByNeed (reading : Reading) (front last : List ℕ) : Type 0 where
   pub read : HasRead reading.before.left reading.after.left (front ++ last)
   pub needed : needs_more front ≡ true
@@ -58,8 +57,7 @@ IsNotRead reading =
 abbrev pub HasNoRoom : Reading → Type 0
 HasNoRoom reading = (front : List ℕ) × (last : List ℕ) × IsReadByNeed reading front last × (reading.after.has_failed ≡ false)
 
--- how reading a request ends: with its text; where a read failed or all reads were made; or for want of memory. An
--- interrupted read is none of these, so it is tried again
+-- how reading a request ends; an interrupted read is no end, so it is tried again
 abbrev pub EndsArrival : Reading → Result (List ℕ) Unread → Type 0
 EndsArrival reading (Ok text) = HasArrived reading text
 EndsArrival reading (Err unread.Read) = IsNotRead reading

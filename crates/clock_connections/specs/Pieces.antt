@@ -21,18 +21,16 @@ text_at numbered number = slice_index_or numbered number None
 -- the request that an event completes: a piece the one that needs no more with it, and the end of input any that stands
 abbrev pub completed : Numbered → Event → Option (ℕ × List ℕ)
 completed numbered Connect = None
-completed numbered (Piece number piece) =
-    option_and_then (λ text. if needs_more (text ++ piece) then None else Some (number, text ++ piece))
-    (text_at numbered number)
+completed numbered (Piece number piece) = option_and_then
+    (λ text. if needs_more (text ++ piece) then None else Some (number, text ++ piece)) (text_at numbered number)
 completed numbered (Finish number) = option_map (λ text. (number, text)) (text_at numbered number)
 
 -- the connections after an event: a new one has no bytes, unless too many stand, and a text stands until it is complete
 abbrev pub after : Numbered → Event → Numbered
 after numbered Connect =
     numbered ++ (if nat_lt (count_by is_some numbered) most_connections then Some [] else None) ∷ []
-after numbered (Piece number piece) = slice_set numbered number
-    (option_and_then (λ text. if needs_more (text ++ piece) then Some (text ++ piece) else None)
-    (text_at numbered number))
+after numbered (Piece number piece) = slice_set numbered number (option_and_then
+    (λ text. if needs_more (text ++ piece) then Some (text ++ piece) else None) (text_at numbered number))
 after numbered (Finish number) = slice_set numbered number None
 
 abbrev pub and_then : Option (ℕ × List ℕ) → List (ℕ × List ℕ) → List (ℕ × List ℕ)

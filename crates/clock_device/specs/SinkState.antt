@@ -3,8 +3,7 @@ use Rattle.std.specs.Prelude.{◌==◌, ◌-◌, ◌||◌, ◌++◌, ℕ, Bool, 
 use Rattle.clock_device.specs.Calls.{count_after}
 use Rattle.clock_device.specs.Told.{SinkTold}
 
--- what it has taken, how many bytes it has room for in all, how many one write takes at most, the
--- write at which it fails, and what was done
+-- what it has taken, its room in all, how much one write takes at most, the write at which it fails, and what was done
 pub record SinkState : Type 0 where
   pub taken : List ℕ
   pub room : ℕ
@@ -37,8 +36,7 @@ is_stop_at (Some k) call = k == call
 abbrev pub some_above_zero : ℕ → Option ℕ
 some_above_zero count = if count == 0 then None else Some count
 
--- how many of so many bytes a write takes, and none where it fails: at its stop, where it is full,
--- and where there is no byte to take
+-- how many of so many bytes a write takes, or none where it fails: at its stop, without room, or without a byte to take
 abbrev pub write_count : SinkState → ℕ → Option ℕ
 write_count s offered = if is_stop_at s.stop s.calls then None
     else some_above_zero (min (min s.piece (s.room - length s.taken)) offered)

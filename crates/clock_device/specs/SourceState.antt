@@ -38,8 +38,7 @@ abbrev pub stopped_or : Option Stop → ℕ → Result ℕ Stop
 stopped_or (Some stop) count = Err stop
 stopped_or None count = Ok count
 
--- the answer of a read into a buffer of this length: its stop where it has come, else as many bytes
--- as piece, buffer and what is left allow
+-- a read into so much room: its stop where that has come, else as many bytes as piece, room and what is left allow
 abbrev pub read_answer : SourceState → ℕ → Result ℕ Stop
 read_answer s room = stopped_or (stop_at s.stop s.calls) (min (min s.piece room) (length s.left))
 

@@ -5,16 +5,14 @@
 --     Reading, Writing     what they told before and after some calls
 use Rattle.std.specs.Prelude.{◌≡◌, ℕ, List, Option, Bool, false}
 
--- the bytes that reads will still give, where the source tells them; how many reads were made and how many of them were
--- interrupted, numbers that stay at the greatest u64; and whether one of them failed
+-- the bytes still to be read, where told; how many reads were made, how many interrupted; and whether one has failed
 pub record SourceTold : Type 0 where
   pub left : Option (List ℕ)
   pub calls : ℕ
   pub interruptions : ℕ
   pub has_failed : Bool
 
--- the bytes that were taken, where the sink tells them; how many writes were made, a number that stays at the greatest
--- u64; and whether one of them failed
+-- the bytes that were taken, where told; how many writes were made; and whether one has failed
 pub record SinkTold : Type 0 where
   pub taken : Option (List ℕ)
   pub calls : ℕ

@@ -56,16 +56,14 @@ pub record IsStruckOut (text : List ℕ) (answer : Answer) : Type 0 where
   pub is : answer ≡ no_memory
   pub needs : (code : Code) → framing text ≡ refusal code → ⊥
 
--- the right reply as the house stands, which is followed by the text's command, whatever it stood for; or there was no
--- memory, and it stands as it did
+-- the right reply as the house stands, to which the text's command is added; or no memory, and it stands as it did
 abbrev pub IsDoneBy : List ℕ → Answer → HouseFields → HouseFields → Type 0
 IsDoneBy text answer old new =
     ((answer ≡ answer_of (outcome old (asker old.setup (request_of text).token) (request_of text).ask))
     × IsFollowedBy (text_command old.setup text) old new)
     ⊎ (IsStruckOut text answer × StandsStill old new)
 
--- the right reply, after which the front stands for the texts and this one; or the reply of want of memory, and it
--- stands for the texts
+-- the right reply, and the front stands for the texts and this one; or that of want of memory, and it stands for them
 abbrev pub AnswersText : List ℕ → Answer → HouseFields → HouseFields → Type 0
 AnswersText text answer old new = (texts : List (List ℕ)) → StandsForTexts texts old
     → ((answer ≡ reply old.setup texts text) × StandsForTexts (text ∷ texts) new)

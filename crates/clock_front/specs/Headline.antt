@@ -38,8 +38,7 @@ pub record SeesTheSame (one two : SetupFields) (bidder other_number : ℕ) (past
   pub row : bidder_at one bidder ≡ bidder_at two other_number
   pub view : text_view one bidder past ≡ text_view two other_number other_past
 
--- the reply to an own request is the answer to the bidder's view, and every other run in which a bidder sees the same
--- gives it too
+-- an own request's reply is the answer to the bidder's view; every other run in which a bidder sees the same gives it
 pub record IsPrivate (setup : SetupFields) (bidder : ℕ) (past : List (List ℕ)) (text : List ℕ) (one : Answer) : Type 0 where
   pub from_view : one ≡ answer (public_setup setup) (bidder_at setup bidder) (text_view setup bidder past) text
   pub elsewhere : (other : SetupFields) (other_number : ℕ) (other_past : List (List ℕ)) → HasOwnTokens other → other_number < length other.bidders
@@ -50,8 +49,7 @@ abbrev pub IsPublic : SetupFields → List (List ℕ) → List ℕ → Answer �
 IsPublic setup past text one = (other : SetupFields) (other_past : List (List ℕ)) → IsOfNobody other text
     → public_setup setup ≡ public_setup other → public_view setup past ≡ public_view other other_past → one ≡ reply other other_past text
 
--- the right reply after the texts of the past, private to each bidder whose own request it answers, and public where
--- the request is of nobody
+-- the right reply after the past, private to each bidder whose own request it answers, and public if that is nobody's
 pub record IsRight (setup : SetupFields) (past : List (List ℕ)) (text : List ℕ) (one : Answer) : Type 0 where
   pub is : one ≡ reply setup past text
   pub private : (bidder : ℕ) → bidder < length setup.bidders → is_own (bidder_at setup bidder) text ≡ true → IsPrivate setup bidder past text one

@@ -20,8 +20,7 @@ pub record HubFields : Type 0 where
   pub house : HouseFields
   pub connections : ConnectionFields
 
--- the request of a connection was answered, as the front answers its text: rightly after the texts before, and
--- privately to the bidder whose own request it is; or there was no memory, and the text is struck out
+-- a connection's text was answered, rightly and privately to the bidder whose own it is, or it was struck out
 pub record IsAnswered (old new : HubFields) (conn : Conn) (text : List ℕ) (reply : Answer) : Type 0 where
   pub gone : IsGone old.connections new.connections conn
   pub answered : AnswersText text reply old.house new.house

@@ -63,8 +63,7 @@ reply_room ask (done value) = page_room ask value
 reply_room ask (refused shown) = refusal_room
 reply_room ask (not_allowed page) = refusal_room
 
--- a request for a page alone is not answered only where just so much room was wanted as the page of the right reply is
--- given
+-- a request for a page alone is unanswered only where just the room was wanted that the right reply's page is given
 abbrev pub WantsRoom : Asker → Ask → Outcome → Unanswered → Type 0
 WantsRoom who ask right why = asks_for_page who ask ≡ true → why ≡ Room (reply_room ask right)
 

@@ -20,15 +20,13 @@ use Rattle.clock_front.specs.declared.stream.fault.StreamFault.TheVariants as fa
 abbrev pub IsLeftUnread : Reading → HouseFields → HouseFields → Type 0
 IsLeftUnread reading old new = IsNotRead reading × (new ≡ old)
 
--- the reply to the text that was read, private to each bidder whose own request it is; or that of want of memory for
--- the text itself, and the front is as it was
+-- the reply to what was read, private to each bidder whose own it is; or no memory for that, and the front is as it was
 abbrev pub IsAnswerTo : Reading → Answer → HouseFields → HouseFields → Type 0
 IsAnswerTo reading answer old new =
     ((text : List ℕ) × HasArrived reading text × AnswersText text answer old new × (IsStruckOut text answer ⊎ IsPrivateReply text old answer))
     ⊎ (HasNoRoom reading × (answer ≡ no_memory) × (new ≡ old))
 
--- how a stream is served: the reply was written, and the answer is its code; or nothing was answered, and nothing
--- written; or a write failed, and the request took effect as its code says
+-- the reply of this code was written; there was none; or a write failed, and the request took effect as the code says
 abbrev pub IsServed : Reading → Writing → HouseFields → HouseFields → Result Code StreamFault → Type 0
 IsServed reading writing old new (Ok code) =
     (answer : Answer) × IsAnswerTo reading answer old new × (answer.code ≡ code) × WritesWhole writing answer.bytes

@@ -51,8 +51,7 @@ closings_of (typed.accepted_close sheet slip ∷ rest) = seen_close sheet slip �
 
 -- what the bidder sees of one text, after the texts of the past
 abbrev pub seen_of_text : SetupFields → ℕ → List (List ℕ) → List ℕ → List SeenText
-seen_of_text setup bidder past text =
-    if is_own (bidder_at setup bidder) text then own text ∷ []
+seen_of_text setup bidder past text = if is_own (bidder_at setup bidder) text then own text ∷ []
     else closings_of (seen_of setup bidder (history setup (commands_of setup past)) (text_command setup text))
 
 -- what the bidder sees of all texts, the newest first
@@ -86,9 +85,8 @@ bidder_outcome setup row view asked.status =
 bidder_outcome setup row view asked.products = done (products_value setup)
 bidder_outcome setup row view (asked.sheet segment) =
     page_or_no_round (option_map (λ seen. sheet_value setup seen.0) (round_of_segment view segment))
-bidder_outcome setup row view asked.account = done
-    (account_value setup.products row.name (seen_standing setup view).round (seen_holding setup row view)
-    (seen_standing setup view).ended)
+bidder_outcome setup row view asked.account = done (account_value setup.products row.name
+    (seen_standing setup view).round (seen_holding setup row view) (seen_standing setup view).ended)
 bidder_outcome setup row view asked.bids =
     done (bids_value (seen_standing setup view).round (seen_in_force setup row view))
 bidder_outcome setup row view (asked.put (Err fault)) = refused (alone (body_code fault))

@@ -16,8 +16,7 @@ use Rattle.clock_house.specs.History.{ClosedRound, Auction, standing, holding}
 abbrev pub most_rounds : ℕ
 most_rounds = most_products * highest_price + 2
 
--- the closed rounds, the newest first, have the numbers down to 1, and each has a slip for each bidder and a line for
--- each product
+-- closed rounds, the newest first, are numbered down to 1, each with a slip for each bidder and a line for each product
 abbrev pub AreNumbered : ℕ → ℕ → List ClosedRound → Type 0
 AreNumbered bidders products [] = Unit {0}
 AreNumbered bidders products (round ∷ rounds) =

@@ -32,7 +32,6 @@ standing_after sheet = record {
 
 -- the auction has ended, the round is not the current one, or the bids have a fault
 abbrev pub put_fault : PublicSetup → Standing → Holding → ℕ → List Bid → Option PutFault
-put_fault setup standing holding round bids = first_fault (
-    (put_faults.Ended, not standing.ended)
+put_fault setup standing holding round bids = first_fault ((put_faults.Ended, not standing.ended)
     ∷ (put_faults.WrongRound standing.round, round == standing.round)
     ∷ fault_check put_faults.Bid (sheet_fault setup standing.round standing.prices holding bids))

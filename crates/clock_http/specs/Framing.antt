@@ -33,8 +33,7 @@ or_bad_head (Some head) = Ok head
 
 -- what an ended head is: its line ends are those of the header lines, of the request line and of the empty one
 abbrev pub ended_head : List ℕ → Result RequestHead Code
-ended_head bytes =
-    if nat_lt line_limit (line_ends bytes - 2) then Err LongHead
+ended_head bytes = if nat_lt line_limit (line_ends bytes - 2) then Err LongHead
     else (if is_loose bytes then Err BadHead else or_bad_head (head_of bytes))
 
 -- what is kept of a head
@@ -68,8 +67,7 @@ pub data Framing : Type 0 where
   refusal : Code → Framing
   whole : Head → List ℕ → Framing
 
--- a head of n bytes and the body that its lines tell, once that has come; bytes after the body are no part of the
--- request
+-- a head of n bytes and the body that its lines tell, once that has come; bytes behind it are not of the request
 abbrev pub framed_head : ℕ → List ℕ → Result (Head × ℕ) Code → Framing
 framed_head n text (Err fault) = refusal fault
 framed_head n text (Ok read) = if nat_lt (length text) (n + read.1) then incomplete else whole read.0 (take read.1 (drop n text))
@@ -107,8 +105,7 @@ head_in text = option_and_then (λ n. ok_head (ended_head (take n text))) (head_
 
 -- ---- what is known of a text so far
 
--- no head has ended among so many bytes, which are all; a head, its length and its body's, part of which is still to
--- come; the same with a body that has come; a refusal
+-- in so many bytes no head has ended; a head, its length and its body's, which is not all there yet, or is; a refusal
 pub data Known : Type 0 where
   unended : ℕ → Known
   waiting : Head → ℕ → ℕ → Known

@@ -19,8 +19,7 @@ last_segment path = after_last (λ b. b == 47) path
 
 -- the texts of the paths with their pages; where a text ends with a slash, one more segment stands behind it
 abbrev pub paths : List (List ℕ × Page)
-paths =
-    (codes "/v1/close", Close) ∷ (codes "/v1/me/bids", Bids) ∷ (codes "/v1/me/rounds/", Slip)
+paths = (codes "/v1/close", Close) ∷ (codes "/v1/me/bids", Bids) ∷ (codes "/v1/me/rounds/", Slip)
     ∷ (codes "/v1/me", Account) ∷ (codes "/v1/products", Products) ∷ (codes "/v1/results", Results)
     ∷ (codes "/v1/rounds/", Sheet) ∷ (codes "/v1/status", Status) ∷ []
 

@@ -12,8 +12,7 @@ use Rattle.clock_journal.specs.Recovering.{IsPlaced}
 use Rattle.clock_journal.specs.declared.recovered.Recovered.{Recovered}
 use Rattle.clock_journal.specs.Crash.{LeavesTexts, BeginsWith}
 
--- a front of the journal of some texts, in which all bytes of the first so many stand: these are read, and further ones
--- in order, and what is left is nothing or a torn record
+-- a front of a journal that holds all bytes of its first so many texts leaves these, and further ones in order
 abbrev pub EveryFront : Type 0
 EveryFront = (digest : List ℕ) (texts : List (List ℕ)) (least count : ℕ) → AllFit texts → least ≤ length texts
     → length (file_of digest (take least texts)) ≤ count → LeavesTexts digest (take count (file_of digest texts)) texts least
@@ -28,8 +27,7 @@ abbrev pub ReadsBack : Type 0
 ReadsBack = (chain bytes : List ℕ) (texts : List (List ℕ)) (rest : List ℕ) → ((place : ℕ) → get_or bytes place 0 < 256) → Reads chain bytes texts rest
     → (bytes ≡ records chain texts ++ rest) × AllFit texts
 
--- what a stop has left of a journal, all of it on the disk, is cut off where its last record ends: a stop in that
--- leaves as many of its texts
+-- what a stop left is cut off where its last record ends, all of it on the disk: a stop in that leaves as many texts
 abbrev pub CutLeaves : Type 0
 CutLeaves = (digest bytes : List ℕ) (texts read : List (List ℕ)) (least : ℕ) (recovered : Recovered) (left : List ℕ) → length digest ≡ 32
     → LeavesTexts digest bytes texts least → IsPlaced digest bytes read recovered → MayBeLeftOfCut (Some bytes) (Some bytes) recovered.end left

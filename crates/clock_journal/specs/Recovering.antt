@@ -76,7 +76,6 @@ IsRefusal digest bytes (fault.Refused place) =
 IsRefusal digest bytes fault.NoMemory = Unit {0}
 
 -- all before the place reads as texts, and there stands one that the machine refuses after them, whatever it stood for
--- before
 pub record IsRefusedAt (refuses : List (List ℕ) → List ℕ → Type 0) (old : List (List ℕ) → Type 0) (first bytes : List ℕ) (size place : ℕ) : Type 0 where
   pub text : List ℕ
   pub found : IsFoundAt first bytes size place (whole text)

@@ -43,8 +43,7 @@ pub record IsAccepted (text : List ℕ) (answer : Answer) : Type 0 where
 abbrev pub StandsForKept : List (List ℕ) → HouseFields → Type 0
 StandsForKept texts house = StandsForTexts (onto texts []) house
 
--- the file was only added to, and whatever texts the journal had, a stop at any moment since leaves these, and at most
--- this one more
+-- the file was only added to; whatever texts it had, a stop at any moment since leaves these, and at most this one more
 pub record LeavesOneMore (text : List ℕ) (old new : JournalState) : Type 0 where
   pub added_to : new.uncut ≡ old.uncut
   pub moments : (digest : List ℕ) (texts : List (List ℕ)) → HasTexts digest texts old

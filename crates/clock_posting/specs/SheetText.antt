@@ -7,8 +7,7 @@ use Rattle.clock_terms.specs.declared.setup.Product.{Product}
 use Rattle.clock_posting.specs.declared.sheet.Line.{Line}
 use Rattle.clock_posting.specs.declared.sheet.RoundSheet.{RoundSheet}
 
--- the product's name, its start price, clock price and posted price, its demand and its next clock price, parted by one
--- space
+-- the product's name, its start, clock and posted price, its demand and its next clock price, parted by one space
 abbrev pub line_text : Product → Line → List ℕ
 line_text product line =
     product.name ++ codes " " ++ decimal line.start ++ codes " " ++ decimal line.clock ++ codes " " ++ decimal line.posted ++ codes " "
@@ -20,5 +19,4 @@ lines_text products lines = flat_map (λ row. line_text row.0 row.1) (zip produc
 
 -- the round's number, then a line for each product
 abbrev pub sheet_text : List Product → RoundSheet → List ℕ
-sheet_text products sheet =
-    codes "round " ++ decimal sheet.round ++ codes "\n" ++ lines_text products sheet.lines
+sheet_text products sheet = codes "round " ++ decimal sheet.round ++ codes "\n" ++ lines_text products sheet.lines

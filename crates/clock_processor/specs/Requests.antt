@@ -28,8 +28,7 @@ AskWithinCaps products grid changes =
 abbrev pub most_requests : ℕ
 most_requests = most_bidders * (most_bids + most_products)
 
--- nothing was done on the board yet; there are no more requests than a round can have, each of the board's bidders and
--- products; together they keep each demand within 0 and the cap
+-- nothing was done; no more requests than a round can have, of the board's bidders and products, within 0 and the caps
 pub record CanSettle (board : BoardFields) (changes : List Change) : Type 0 where
   pub applied : board.applied ≡ 0
   pub tests : board.tests ≡ 0

@@ -31,9 +31,8 @@ abbrev pub HasNoRoom : BoardFields → List Change → SettledFields → ℕ →
 HasNoRoom board changes end place =
     room board.products board.eligibilities end.grid (slice_index_or changes place no_change) (slice_index end.left place) ≡ 0
 
--- the settling of the round comes to its end here: no request has room, none has more left than it asked for, no
--- product's total is below the smaller of its former value and its supply, and every bidder's demands are within the
--- caps and its eligibility
+-- the settling ends here: no request has room, or more left than it asked for; no product's total is below the smaller
+-- of its former value and its supply; and each bidder's demands are within the caps and its eligibility
 pub record IsProperEnd (board : BoardFields) (changes : List Change) (end : SettledFields) : Type 0 where
   pub settles : Settles board.products board.eligibilities changes (start_of board.products board.eligibilities changes board.grid) (end_of changes end)
   pub lengths : length end.left ≡ length changes

@@ -30,16 +30,14 @@ has_lists count (Sincere limits) = length limits == count
 
 -- the limits for a product are at most as many as its cap, and never rise
 unfoldable pub limit_checks : ℕ → ℕ → Product × List ℕ → List (ScriptFault × Bool)
-limit_checks bidder product line =
-    (Limits bidder product, nat_le (length line.1) line.0.cap && never_rises line.1) ∷ []
+limit_checks bidder product line = (Limits bidder product, nat_le (length line.1) line.0.cap && never_rises line.1) ∷ []
 
 -- the limits of a sincere bidder by rising product
 unfoldable pub script_checks : List Product → ℕ → Script → List (ScriptFault × Bool)
 script_checks products bidder (Literal sheets) = []
 script_checks products bidder (Sincere limits) = in_turn (limit_checks bidder) 0 (zip products limits)
 
--- the form of the closings, then the number of scripts, then that of the lists of limits, then the limits by rising
--- bidder
+-- the form of the closings, the number of scripts, then that of the lists of limits, then the limits by rising bidder
 unfoldable pub replay_checks : ReplayFields → List (ScriptFault × Bool)
 replay_checks replay =
     (Shape, are_of_version replay.setup.version replay.closings)

@@ -19,8 +19,7 @@ payment lines demands = sum_by (λ pair. pair.0.posted * pair.1) (zip lines dema
 
 -- the word won, the bidder's name, its demands by product and what it pays, parted by one space
 abbrev pub won_text : List Line → Bidder × List ℕ → List ℕ
-won_text lines won =
-    codes "won " ++ won.0.name ++ codes " " ++ flat_map (λ demand. decimal demand ++ codes " ") won.1
+won_text lines won = codes "won " ++ won.0.name ++ codes " " ++ flat_map (λ demand. decimal demand ++ codes " ") won.1
     ++ decimal (payment lines won.1) ++ codes "\n"
 
 -- the lines of the last round's sheet

@@ -15,8 +15,7 @@ use Rattle.clock_terms.specs.Prices.{prices_at}
 use Rattle.clock_terms.specs.Demands.{row_of}
 use Rattle.clock_bids.specs.declared.sheet.Bid.{Bid}
 
--- a block whose limit is below the clock price leaves at its limit, or at the start price where the limit is below that
--- too
+-- a block whose limit is below the clock price leaves at its limit, or at the start price if the limit is below that
 abbrev pub leaving_price : PricePair → ℕ → Option ℕ
 leaving_price pair limit = if nat_lt limit pair.clock then Some (max pair.start limit) else None
 

@@ -75,8 +75,7 @@ pub record HasReplied (past : List (List ℕ)) (exchanges : List Exchange) (told
   pub stands : StandsForTexts end new
   pub tells : TellsClosings old.setup past end told_old told_new
 
--- what they have made of the texts of the journal: all of these are on its disk; and a stop at any moment since has
--- left the first of them, in order, and none fewer than there were
+-- what they made of the kept texts is on disk; a stop at any moment since leaves the first, no fewer than there were
 pub record HasKept (digest : List ℕ) (past : List (List ℕ)) (exchanges : List Exchange) (journal_old journal_new : JournalState) (old new : HouseFields) : Type 0 where
   pub end : List (List ℕ)
   pub walks : Walks (KeepsText old.setup) past exchanges end
@@ -96,8 +95,7 @@ pub record HasKeptTold (digest : List ℕ) (past : List (List ℕ)) (served : Li
   pub on_disk : journal.synced ≡ Some (file_of digest end)
   pub left_ones : (left : List ℕ) → MayBeLeft (Some (file_of digest end)) journal.written left → LeavesTexts digest left (end ++ text ∷ []) (length end)
 
--- after these connections the text of the last one could not be kept, since a call of the disk has failed;
--- nothing was written on it, the file was only added to, and no round was told that it may have closed
+-- after these the disk failed to keep the last one's text: it got no reply, and no round it may have closed was told
 pub record EndsUnkept (served : List Exchange) (last : Exchange) (told_old told_new : Option (List ℕ)) (journal_old journal_new : JournalState) (old : HouseFields) : Type 0 where
   pub text : List ℕ
   pub arrived : HasArrived last.reading text
@@ -113,8 +111,7 @@ is_accept_fault (Ok done) = false
 is_accept_fault (Err fault.Accept) = true
 is_accept_fault (Err fault.Journal) = false
 
--- how serving so many connections ends: each was served; or one could not be taken, and those before it were served; or
--- the text of the last one that was taken could not be kept
+-- each was served; or one could not be taken, and those before it were served; or the last one's text could not be kept
 abbrev pub EndsServing : {U : Type 0} → ℕ → List Exchange → Option (List ℕ) → Option (List ℕ) → JournalState → JournalState
     → HouseFields → HouseFields → Result U ServeFault → Type 0
 EndsServing count exchanges told_old told_new journal_old journal_new old new (Ok done) =

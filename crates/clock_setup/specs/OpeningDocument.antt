@@ -33,8 +33,7 @@ demand_checks bidder product line = (Demand bidder product, nat_le line.1 line.0
 unfoldable pub row_checks : List Product → ℕ → Bidder × List ℕ → List (OpeningFault × Bool)
 row_checks products bidder line =
     in_turn (demand_checks bidder) 0 (zip products line.1)
-    ++ ((Activity bidder, nat_le (activity products line.1) line.0.eligibility)
-    ∷ [])
+    ++ ((Activity bidder, nat_le (activity products line.1) line.0.eligibility) ∷ [])
 
 -- the counts of the rows, then the bidders by rising number, then the increment
 unfoldable pub opening_checks : SetupFields → List (List ℕ) → ℕ → List (OpeningFault × Bool)

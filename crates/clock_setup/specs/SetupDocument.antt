@@ -46,8 +46,7 @@ has_distinct_names setup =
 abbrev pub has_distinct_tokens : SetupFields → Bool
 has_distinct_tokens setup = is_distinct (setup.operator ∷ map (λ bidder. bidder.token) setup.bidders)
 
--- the limits of a set-up, in the order in which they are looked at: its parts before the products, the products, the
--- bidders, and that names and tokens are distinct
+-- the limits of a set-up, in order: its parts before the products, products, bidders, and distinct names and tokens
 unfoldable pub setup_checks : SetupFields → List (SetupFault × Bool)
 setup_checks setup =
     (Range Requirement, is_within least_requirement most_requirement setup.requirement)

@@ -23,8 +23,7 @@ total_of grid product = sum_by (λ row. slice_index row product) grid
 
 -- the grid with one demand changed
 abbrev pub with_demand : List (List ℕ) → ℕ → ℕ → ℕ → List (List ℕ)
-with_demand grid bidder product demand =
-    slice_set grid bidder (slice_set (row_of grid bidder) product demand)
+with_demand grid bidder product demand = slice_set grid bidder (slice_set (row_of grid bidder) product demand)
 
 -- what a demand becomes: so many blocks, or so many more or less than it was
 abbrev pub demand_after : NewDemand → ℕ → ℕ

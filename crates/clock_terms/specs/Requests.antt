@@ -30,8 +30,7 @@ abbrev pub asked_of : Kind → ℕ → ℕ → List Change → ℕ
 asked_of kind bidder product changes =
     sum_by (λ change. if is_request_of kind bidder product change then change.amount else 0) changes
 
--- the change names the bidder and a product, asks for a block or more, up to the most that a product can have, and
--- stands at a price from the product's start price to its clock price
+-- a change of the bidder for a product, of 1 to 1,000 blocks, at a price from its start price to its clock price
 pub record IsChangeOf (products : List Product) (prices : List PricePair) (owner : ℕ) (change : Change) : Type 0 where
   pub bidder : change.bidder ≡ owner
   pub product : change.product < length products
@@ -58,8 +57,7 @@ pub record KeepWithinCap (products : List Product) (demands : List ℕ) (bidder 
   pub raised : slice_index demands product + asked_of Increase bidder product changes ≤ cap_of products product
   pub reduced : asked_of Reduction bidder product changes ≤ slice_index demands product
 
--- changes of one bidder, by rising product and place, in one direction for each product, which keep its demands within
--- 0 and the caps: at most one for each bid, and one for each product without a bid
+-- a bidder's changes by product and place, no more than bids and products, one way for each, within 0 and the caps
 pub record AreChangesOf (products : List Product) (prices : List PricePair) (demands : List ℕ) (bidder : ℕ) (changes : List Change) : Type 0 where
   pub count : length changes ≤ most_bids + most_products
   pub all : All (IsChangeOf products prices bidder) changes

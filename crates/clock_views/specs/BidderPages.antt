@@ -25,10 +25,8 @@ account_value products name round held ended = object_of (
 
 -- a bid as it is handed in
 unfoldable pub bid_value : Bid → Data
-bid_value bid = object_of (
-    ("price", whole bid.price) ∷
-    ("product", whole bid.product) ∷
-    ("quantity", whole bid.quantity) ∷ [])
+bid_value bid =
+    object_of (("price", whole bid.price) ∷ ("product", whole bid.product) ∷ ("quantity", whole bid.quantity) ∷ [])
 
 -- the bids of a sheet in the order given, or null where there is no sheet
 abbrev pub sheet_or_null : Option (List Bid) → Data
@@ -37,16 +35,12 @@ sheet_or_null (Some bids) = list_of bid_value bids
 
 -- the sheet in force, and the current round
 unfoldable pub bids_value : ℕ → Option (List Bid) → Data
-bids_value round sheet = object_of (
-    ("bids", sheet_or_null sheet) ∷
-    ("round", whole round) ∷ [])
+bids_value round sheet = object_of (("bids", sheet_or_null sheet) ∷ ("round", whole round) ∷ [])
 
 -- how many bids were accepted, and the current round
 unfoldable pub accepted_value : ℕ → ℕ → Data
-accepted_value round count = object_of (
-    ("accepted", boolean true) ∷
-    ("bids", whole count) ∷
-    ("round", whole round) ∷ [])
+accepted_value round count =
+    object_of (("accepted", boolean true) ∷ ("bids", whole count) ∷ ("round", whole round) ∷ [])
 
 -- the activity, demands and eligibility after a closed round, and the number of that round
 unfoldable pub slip_value : Slip → Data
@@ -59,5 +53,4 @@ slip_value slip = object_of (
 -- the accepted page, byte for byte
 abbrev pub accepted_bytes : ℕ → ℕ → List ℕ
 accepted_bytes round count =
-    codes "{\"accepted\":true,\"bids\":" ++ decimal count
-    ++ codes ",\"round\":" ++ decimal round ++ codes "}"
+    codes "{\"accepted\":true,\"bids\":" ++ decimal count ++ codes ",\"round\":" ++ decimal round ++ codes "}"

@@ -13,16 +13,12 @@ use Rattle.clock_views.specs.Values.{whole, list_of, object_of, true_or_false}
 
 -- the round that was closed, and whether the auction ends with it
 unfoldable pub closed_value : ℕ → Bool → Data
-closed_value round ended = object_of (
-    ("closed", whole round) ∷
-    ("ended", boolean ended) ∷ [])
+closed_value round ended = object_of (("closed", whole round) ∷ ("ended", boolean ended) ∷ [])
 
 -- the demands, eligibility and name of one bidder
 unfoldable pub result_value : List ℕ → Holding → Data
 result_value name held = object_of (
-    ("demands", list_of whole held.demands) ∷
-    ("eligibility", whole held.eligibility) ∷
-    ("name", string name) ∷ [])
+    ("demands", list_of whole held.demands) ∷ ("eligibility", whole held.eligibility) ∷ ("name", string name) ∷ [])
 
 -- what a bidder of a house holds
 abbrev pub result_in : HouseFields → ℕ → Data

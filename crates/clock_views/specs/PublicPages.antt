@@ -14,10 +14,8 @@ use Rattle.clock_views.specs.Values.{whole, whole_or_null, list_of, object_of, m
 
 -- whether the auction has ended, the current round, and the version of the set-up
 unfoldable pub status_value : PublicSetup → ℕ → Bool → Data
-status_value setup round ended = object_of (
-    ("ended", boolean ended) ∷
-    ("round", whole round) ∷
-    ("version", whole setup.version) ∷ [])
+status_value setup round ended =
+    object_of (("ended", boolean ended) ∷ ("round", whole round) ∷ ("version", whole setup.version) ∷ [])
 
 -- the same, byte for byte
 abbrev pub status_bytes : PublicSetup → ℕ → Bool → List ℕ

@@ -3,8 +3,7 @@
 use Rattle.std.specs.Prelude.{ℕ, ◌+◌, length}
 use Rattle.serde_json.specs.Data.{Data, null, boolean, number, string, array, object, Items, no_items, item, Members, no_members, member}
 
--- a number has 20 digits at most, a name 32 characters and two quotes; before an item stands a bracket or a comma, and
--- before a member that, its key in quotes and a colon
+-- a number has 20 digits at most, and a name 32 characters and two quotes
 abbrev mutual
   pub most_text : Data → ℕ
   most_text null = 20
@@ -14,12 +13,12 @@ abbrev mutual
   most_text (array items) = 2 + most_items items
   most_text (object members) = 2 + most_members members
 
-  -- the items of a list, each with what stands before it
+  -- the items of a list, each behind a bracket or a comma
   pub most_items : Items → ℕ
   most_items no_items = 0
   most_items (item value items) = 1 + most_text value + most_items items
 
-  -- the members of an object, each with its key and what stands before it
+  -- the members of an object, each behind a bracket or a comma, its key in quotes and a colon
   pub most_members : Members → ℕ
   most_members no_members = 0
   most_members (member key value members) = 4 + length key + most_text value + most_members members

@@ -103,8 +103,7 @@ abbrev pub job_met : Option (Text × List Row) → Option Job
 job_met None = None
 job_met (Some met) = job_named met.0 met.1
 
--- what `serve` is told: the file of the set-up, the port, how many connections, and the file of the journal if there is
--- to be one
+-- what `serve` is told: the set-up's file, the port, how many connections, and the journal's file if there is to be one
 pub record ServingTold : Type 0 where
   pub setup : Text
   pub port : ℕ
