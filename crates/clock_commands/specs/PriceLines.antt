@@ -7,7 +7,7 @@ use Rattle.clock_device.specs.Decimal.{number_or_dash}
 use Rattle.clock_money.specs.Price.{raise}
 use Rattle.clock_terms.specs.declared.setup.Product.{Product}
 
--- NAME OPENING CLOCK, parted by one space: the opening price, and that raised by so many percent to a whole granule
+-- NAME OPENING CLOCK, parted by one space: the opening price, and that raised by so many percent, up to whole granules
 abbrev pub price_line : ℕ → Product → List ℕ
 price_line increment product =
     product.name ++ codes " " ++ decimal product.opening ++ codes " " ++ number_or_dash (raise product.opening increment product.granule) ++ codes "\n"

@@ -26,7 +26,7 @@ IsAnswerTo reading answer old new =
     ((text : List ℕ) × HasArrived reading text × AnswersText text answer old new × (IsStruckOut text answer ⊎ IsPrivateReply text old answer))
     ⊎ (HasNoRoom reading × (answer ≡ no_memory) × (new ≡ old))
 
--- the reply of this code was written; there was none; or a write failed, and the request took effect as the code says
+-- the reply of this code was written; or none was; or a write failed, and the request took effect as the code says
 abbrev pub IsServed : Reading → Writing → HouseFields → HouseFields → Result Code StreamFault → Type 0
 IsServed reading writing old new (Ok code) =
     (answer : Answer) × IsAnswerTo reading answer old new × (answer.code ≡ code) × WritesWhole writing answer.bytes

@@ -105,7 +105,7 @@ head_in text = option_and_then (λ n. ok_head (ended_head (take n text))) (head_
 
 -- ---- what is known of a text so far
 
--- in so many bytes no head has ended; a head, its length and its body's, which is not all there yet, or is; a refusal
+-- a text's length where no head has ended; a head, its length and its body's, not all there yet, or all; a refusal
 pub data Known : Type 0 where
   unended : ℕ → Known
   waiting : Head → ℕ → ℕ → Known

@@ -57,7 +57,7 @@ pub record KeepWithinCap (products : List Product) (demands : List ℕ) (bidder 
   pub raised : slice_index demands product + asked_of Increase bidder product changes ≤ cap_of products product
   pub reduced : asked_of Reduction bidder product changes ≤ slice_index demands product
 
--- a bidder's changes by product and place, no more than bids and products, one way for each, within 0 and the caps
+-- a bidder's changes in order, no more than bids and products can be, one way for each product, within 0 and the caps
 pub record AreChangesOf (products : List Product) (prices : List PricePair) (demands : List ℕ) (bidder : ℕ) (changes : List Change) : Type 0 where
   pub count : length changes ≤ most_bids + most_products
   pub all : All (IsChangeOf products prices bidder) changes
