@@ -43,10 +43,7 @@ pub fn check_sheet(
     ensures fault { IfErr result (IsFirstFault BidFault.NoMemory
         (sheet_fault (public_setup setup.now) own.entry.round prices.now (holding_of own.entry) bids.now)) }
 {
-    judge_sheet(alloc, setup, prices, own, bids)?;
-    Ok(Sheet {
-        bids: Items::from_slice(alloc, bids)?,
-    })
+    take_sheet(alloc, setup, prices, own, Items::from_slice(alloc, bids)?)
 }
 
 /// Judges a sheet as [`check_sheet`] does, and takes its bids over: none is copied.
@@ -65,33 +62,14 @@ pub fn take_sheet(
     ensures fault { IfErr result (IsFirstFault BidFault.NoMemory
         (sheet_fault (public_setup setup.now) own.entry.round prices.now (holding_of own.entry) bids)) }
 {
-    judge_sheet(alloc, setup, prices, own, bids.as_slice())?;
-    Ok(Sheet { bids })
-}
-
-/// Judges the bids of a sheet as [`check_sheet`] does.
-fn judge_sheet(
-    alloc: Global,
-    setup: &Setup,
-    prices: &Prices,
-    own: Own,
-    bids: &[Bid],
-) -> Result<(), BidFault>
-    requires prices { length prices.now ≡ length setup.now.products }
-    requires demands { IsRow setup.now.products own.demands.now }
-    ensures good { OnOk result
-        (IsGoodSheet (public_setup setup.now) own.entry.round prices.now (holding_of own.entry) bids.now) }
-    ensures fault { IfErr result (IsFirstFault BidFault.NoMemory
-        (sheet_fault (public_setup setup.now) own.entry.round prices.now (holding_of own.entry) bids.now)) }
-{
     if bids.len() > MOST_BIDS {
         return Err(BidFault::TooMany);
     }
-    let taken = judge(alloc, setup, prices.as_slice(), own.demands, bids)?;
+    let taken = judge(alloc, setup, prices.as_slice(), own.demands, bids.as_slice())?;
     if taken as u128 > activity_limit(setup, own.round, own.eligibility) {
         return Err(BidFault::OverActivity);
     }
-    Ok(())
+    Ok(Sheet { bids })
 }
 
 /// The most activity that a sheet may ask for, in bidding units: in round 1 the eligibility, and from

@@ -1,0 +1,39 @@
+use Rattle.std.proofs.Common.{◌<◌, ◌≤◌, length, arith}
+use Rattle.std.proofs.lemmas.Result.{err_from_is_err_and}
+use Rattle.clock_terms.specs.Limits.{public_setup}
+use Rattle.clock_terms.specs.Eligibility.{activity}
+use Rattle.clock_bids.specs.Holding.{holding_of, activity_limit}
+use Rattle.clock_bids.specs.Sheet.{asked_demands, most_bids}
+use Rattle.clock_bids.proofs.Good.{sheet_fault-of_bid, sheet_fault-over, sheet_fault-none}
+use Rattle.clock_bids.proofs.check.take_sheet.Goals as goal
+
+pub returns-in_err-taken-clause-fault : goal.returns-in_err-taken-clause-fault
+returns-in_err-taken-clause-fault c =
+    let few : length c.args.bids ≤ most_bids = omega (arith, c.if-len-gt-MOST_BIDS.false, c.len.ensures) in
+    let found = rw (c.as_slice.ensures, c.as_slice-2.ensures) at c.in_err-taken.ensures.fault in
+    let told = err_from_is_err_and c.from_residual.result c.from_residual.ensures.1 in
+    rw (told.1, told.2)
+    (λ known. sheet_fault-of_bid (public_setup c.args.setup.now) c.args.own.round c.args.prices.now (holding_of c.args.own) c.args.bids few
+    c.in_err-taken.field-0.0 (found known))
+
+pub returns-then-taken-activity_limit-clause-fault : goal.returns-then-taken-activity_limit-clause-fault
+returns-then-taken-activity_limit-clause-fault c =
+    let setup = public_setup c.args.setup.now in
+    let holding = holding_of c.args.own in
+    let few : length c.args.bids ≤ most_bids = omega (arith, c.if-len-gt-MOST_BIDS.false, c.len.ensures) in
+    let good = rw (c.as_slice.ensures, c.as_slice-2.ensures) at c.in_ok-taken.ensures.ok in
+    let taken = rw c.as_slice-2.ensures at c.in_ok-taken.ensures.taken in
+    let over : activity_limit setup c.args.own.round holding.eligibility < activity setup.products (asked_demands (length setup.products) c.args.bids) =
+    omega (arith, c.if-taken-activity_limit.true, taken, c.activity_limit.ensures) in
+    λ known. sheet_fault-over setup c.args.own.round c.args.prices.now holding c.args.bids few good over
+
+pub returns-clause-good : goal.returns-clause-good
+returns-clause-good c =
+    let setup = public_setup c.args.setup.now in
+    let holding = holding_of c.args.own in
+    let few : length c.args.bids ≤ most_bids = omega (arith, c.if-len-gt-MOST_BIDS.false, c.len.ensures) in
+    let good = rw (c.as_slice.ensures, c.as_slice-2.ensures) at c.in_ok-taken.ensures.ok in
+    let taken = rw c.as_slice-2.ensures at c.in_ok-taken.ensures.taken in
+    let within : activity setup.products (asked_demands (length setup.products) c.args.bids) ≤ activity_limit setup c.args.own.round holding.eligibility =
+    omega (arith, c.if-taken-activity_limit.false, taken, c.activity_limit.ensures) in
+    sheet_fault-none setup c.args.own.round c.args.prices.now holding c.args.bids few good within
