@@ -9,7 +9,7 @@ use Rattle.clock_processor.specs.Settling.{Progress, Reaches, next, next_by, aft
 use Rattle.clock_processor.proofs.End.{step_reaches}
 use Rattle.clock_processor.proofs.FirstRoom.{first_has_room, none_has_room}
 use Rattle.clock_queue.specs.declared.queue.Queue.{Queue}
-use Rattle.clock_queue.specs.inside.Queue.{IsQueue, IsTracked, SameTerms, after_test, progress, room_in, with_first}
+use Rattle.clock_queue.specs.inside.Queue.{IsQueue, IsTracked, SameTerms, GoesOn, after_test, progress, room_in, with_first}
 use Rattle.clock_queue.proofs.Members.{Contains-cons_cases, none_in_nil}
 
 -- a request that is not ready has no room
@@ -99,6 +99,18 @@ pub reaches_on : (changes : List Change) (start old new : Queue) → SameTerms s
     Reaches start.board.products start.board.eligibilities changes (progress start) (progress new)
 reaches_on changes start old new same to_old to_new =
     reaches_from changes start.board.products start.board.eligibilities (progress start) old new same.products same.eligibilities to_old to_new
+
+-- a settling that went on goes on from there
+pub goes_further : (changes : List Change) (start old new : Queue) → GoesOn changes start old → GoesOn changes old new → GoesOn changes start new
+goes_further changes start old new to_old to_new = record {
+  queue = to_new.queue;
+  counts = to_new.counts;
+  terms = record {
+    products = to_new.terms.products ∙ to_old.terms.products;
+    eligibilities = to_new.terms.eligibilities ∙ to_old.terms.eligibilities;
+  };
+  reached = reaches_on changes start old new to_old.terms to_old.reached to_new.reached;
+}
 
 -- a test that applied the first ready request
 pub application_reaches : (changes : List Change) (old tested applied : Queue) (first : ℕ) (left : Progress) →

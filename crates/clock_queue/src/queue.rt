@@ -2,7 +2,7 @@ ghost use Rattle.std.specs.Prelude.{◌≡◌, ◌+◌, ◌<◌, ◌≤◌, [], 
 ghost use Rattle.std.specs.List.Sorted.{IsPermutation};
 ghost use Rattle.clock_processor.specs.Board.{IsBoard};
 ghost use Rattle.clock_processor.specs.Requests.{CanSettle};
-ghost use Rattle.clock_queue.specs.inside.Queue.{IsQueue, LeadsTo, SameTerms, StaysWithinTests, after_test, progress, progress_with, room_in, with_first, work};
+ghost use Rattle.clock_queue.specs.inside.Queue.{GoesOn, IsQueue, SameTerms, StaysWithinTests, after_test, progress, progress_with, room_in, with_first, work};
 
 use crate::lines::{WaitingLines, line_of, lines_for, woken_line};
 use crate::ready::Ready;
@@ -51,12 +51,9 @@ impl<'a> Queue<'a> {
         requires counts { StaysWithinTests changes.now self.old }
         requires none { self.old.ready ≡ [] }
         requires more { self.old.admitted < length changes.now }
-        ensures queue { OnOk result (IsQueue changes.now self.new) }
-        ensures counts { OnOk result (StaysWithinTests changes.now self.new) }
+        ensures goes_on { OnOk result (GoesOn changes.now self.old self.new) }
         ensures none { OnOk result (self.new.ready ≡ []) }
         ensures admitted { OnOk result (self.new.admitted ≡ self.old.admitted + 1) }
-        ensures terms { OnOk result (SameTerms self.old self.new) }
-        ensures reached { OnOk result (LeadsTo changes.now self.old self.new) }
     {
         let place = self.admitted;
         self.admitted += 1;
@@ -69,12 +66,9 @@ impl<'a> Queue<'a> {
     fn run(&mut self, changes: &[Change]) -> Result<(), NoMemory>
         requires queue { IsQueue changes.now self.old }
         requires counts { StaysWithinTests changes.now self.old }
-        ensures queue { OnOk result (IsQueue changes.now self.new) }
-        ensures counts { OnOk result (StaysWithinTests changes.now self.new) }
+        ensures goes_on { OnOk result (GoesOn changes.now self.old self.new) }
         ensures none { OnOk result (self.new.ready ≡ []) }
         ensures admitted { OnOk result (self.new.admitted ≡ self.old.admitted) }
-        ensures terms { OnOk result (SameTerms self.old self.new) }
-        ensures reached { OnOk result (LeadsTo changes.now self.old self.new) }
     {
         while let Some(place) = self.ready.pop() {
             self.test(changes, place)?;
@@ -88,18 +82,14 @@ impl<'a> Queue<'a> {
         requires queue { IsQueue changes.now (with_first place self.old) }
         requires counts { StaysWithinTests changes.now (with_first place self.old) }
         requires least { All (λ other. place ≤ other) self.old.ready }
-        ensures queue { OnOk result (IsQueue changes.now self.new) }
-        ensures counts { OnOk result (StaysWithinTests changes.now self.new) }
+        ensures goes_on { OnOk result (GoesOn changes.now self.old self.new) }
         ensures admitted { OnOk result (self.new.admitted ≡ self.old.admitted) }
-        ensures terms { OnOk result (SameTerms self.old self.new) }
-        ensures reached { OnOk result (LeadsTo changes.now self.old self.new) }
         ensures less { OnOk result (work changes.now self.new < work changes.now (with_first place self.old)) }
     {
         let room = self.room(changes, place);
-        if room == 0 {
-            return self.wait(changes, place);
+        if room > 0 {
+            self.apply(changes, place, room)?;
         }
-        self.apply(changes, place, room)?;
         self.wait(changes, place)?;
         Ok(())
     }

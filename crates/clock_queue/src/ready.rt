@@ -35,20 +35,12 @@ impl Ready {
         }
     }
 
-    /// Adds a place.
-    pub(crate) fn push(&mut self, place: usize) -> Result<(), NoMemory>
-        ensures { OnOk result (IsPermutation (place ∷ self.old) self.new) }
-    {
-        self.heap.push(Reverse(place))?;
-        Ok(())
-    }
-
     /// Adds places.
     pub(crate) fn extend(&mut self, places: &[usize]) -> Result<(), NoMemory>
         ensures { OnOk result (IsPermutation (self.old ++ places.now) self.new) }
     {
         for place in places {
-            self.push(*place)?;
+            self.heap.push(Reverse(*place))?;
         }
         Ok(())
     }

@@ -9,6 +9,7 @@
 --     IsQueue changes queue      what holds between the tests
 --     StaysWithinTests changes queue      the tests that were made, and those that the ready requests will take, are
 --         within the bound
+--     GoesOn changes old new      from one queue the settling goes on to another
 --     work changes queue      a number that falls with each test
 use Rattle.std.specs.Prelude.{◌≡◌, ℕ, ◌+◌, ◌*◌, ◌<◌, ◌≤◌, ◌==◌, ◌⊎◌, List, [], ◌∷◌, take, length, sum, count_by, All, slice_index, slice_index_or}
 use Rattle.std.specs.List.{Contains}
@@ -87,6 +88,13 @@ module _ (changes : List Change) where
   -- most of one product or bidder for each application
   abbrev pub StaysWithinTests : Queue → Type 0
   StaysWithinTests queue = queue.board.tests + length queue.ready ≤ queue.admitted + queue.board.applied * most_of_one changes
+
+  -- products and eligibilities stay, and the steps of the rescanned list lead there, within the bound
+  pub record GoesOn (old new : Queue) : Type 0 where
+    pub queue : IsQueue new
+    pub counts : StaysWithinTests new
+    pub terms : SameTerms old new
+    pub reached : LeadsTo old new
 
   -- each application takes a block away and makes no more ready than there are requests of one product or bidder; each
   -- test takes one out of the ready ones

@@ -4,9 +4,9 @@ use Rattle.std.proofs.lemmas.List.Elements.{All-nil}
 use Rattle.clock_processor.specs.Settling.{Reaches}
 use Rattle.clock_processor.proofs.End.{step_reaches}
 use Rattle.clock_queue.specs.declared.queue.Queue.{Queue}
-use Rattle.clock_queue.specs.inside.Queue.{progress}
+use Rattle.clock_queue.specs.inside.Queue.{GoesOn, progress}
 use Rattle.clock_queue.proofs.Waits.{admitted_next}
-use Rattle.clock_queue.proofs.Steps.{admission_is_next, reaches_on}
+use Rattle.clock_queue.proofs.Steps.{admission_is_next, reaches_on, goes_further}
 use Rattle.clock_queue.proofs.queue.Queue.settle_next.Goals as goal
 
 pub test-requires-clause-queue : goal.test-requires-clause-queue
@@ -17,21 +17,19 @@ test-requires-clause-least c =
     subst (λ (ready : List ℕ). All (λ other. c.args.self.now.admitted ≤ other) ready) (sym c.requires.none)
     (All-nil (λ other. c.args.self.now.admitted ≤ other))
 
-pub returns-clause-reached : goal.returns-clause-reached
-returns-clause-reached c =
+pub returns-clause-goes_on : goal.returns-clause-goes_on
+returns-clause-goes_on c =
     let old : Queue = c.args.self.now in
-    let admitted : Queue = record {
-      board = old.board;
-      left = old.left;
-      admitted = old.admitted + 1;
-      ready = old.ready;
-      lines = old.lines;
-    } in
+    let admitted : Queue = record old { admitted = old.admitted + 1 } in
+    let tested : GoesOn c.args.changes.now admitted c.test.new.self = c.in_ok-test.ensures.goes_on in
     let to_admitted : Reaches old.board.products old.board.eligibilities c.args.changes.now (progress old) (progress admitted) =
     step_reaches old.board.products old.board.eligibilities c.args.changes.now (progress old) (progress old) (progress admitted) (0, refl)
     (admission_is_next c.args.changes.now old c.requires.queue c.requires.none c.requires.more) in
-    reaches_on c.args.changes.now old c.test.new.self c.run.new.self
-    (record { products = c.in_ok-test.ensures.terms.products; eligibilities = c.in_ok-test.ensures.terms.eligibilities })
-    (reaches_on c.args.changes.now old admitted c.test.new.self (record { products = refl; eligibilities = refl }) to_admitted
-    c.in_ok-test.ensures.reached)
-    c.in_ok-run.ensures.reached
+    goes_further c.args.changes.now old c.test.new.self c.run.new.self
+    (record {
+      queue = tested.queue;
+      counts = tested.counts;
+      terms = record { products = tested.terms.products; eligibilities = tested.terms.eligibilities };
+      reached = reaches_on c.args.changes.now old admitted c.test.new.self (record { products = refl; eligibilities = refl }) to_admitted tested.reached;
+    })
+    c.in_ok-run.ensures.goes_on

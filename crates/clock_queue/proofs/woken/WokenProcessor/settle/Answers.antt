@@ -30,14 +30,14 @@ loop-place-init c = record {
 
 pub loop-place-preserved : goal.loop-place-preserved
 loop-place-preserved c = record {
-  queue = c.in_ok-settle_next.ensures.queue;
-  counts = c.in_ok-settle_next.ensures.counts;
+  queue = c.in_ok-settle_next.ensures.goes_on.queue;
+  counts = c.in_ok-settle_next.ensures.goes_on.counts;
   none = c.in_ok-settle_next.ensures.none;
   admitted = omega (arith, c.in_ok-settle_next.ensures.admitted, c.loop-place.invariant.admitted);
-  products = c.in_ok-settle_next.ensures.terms.products ∙ c.loop-place.invariant.products;
-  eligibilities = c.in_ok-settle_next.ensures.terms.eligibilities ∙ c.loop-place.invariant.eligibilities;
+  products = c.in_ok-settle_next.ensures.goes_on.terms.products ∙ c.loop-place.invariant.products;
+  eligibilities = c.in_ok-settle_next.ensures.goes_on.terms.eligibilities ∙ c.loop-place.invariant.eligibilities;
   reached = reaches_from c.as_slice-requests.result.now c.args.board.products c.args.board.eligibilities _ c.loop-place.queue c.settle_next.new.self
-      c.loop-place.invariant.products c.loop-place.invariant.eligibilities c.loop-place.invariant.reached c.in_ok-settle_next.ensures.reached;
+      c.loop-place.invariant.products c.loop-place.invariant.eligibilities c.loop-place.invariant.reached c.in_ok-settle_next.ensures.goes_on.reached;
 }
 
 pub returns : goal.returns
