@@ -1,4 +1,4 @@
-ghost use Rattle.std.specs.Prelude.{◌≡◌, ◌≤◌, ◌+◌, ◌*◌, Some, None, length, take, OnOk, IfOk, IfErr};
+ghost use Rattle.std.specs.Prelude.{◌≡◌, ◌<◌, ◌≤◌, ◌+◌, ◌*◌, Some, None, length, map, take, slice_index_or, All, OnOk, IfOk, IfErr};
 ghost use Rattle.std.specs.List.Sorted.{IsNonDecreasingBy};
 ghost use Rattle.clock_terms.specs.Limits.{IsRow, most_supply, most_units, public_setup, is_within};
 ghost use Rattle.clock_terms.specs.Faults.{first_fault, IsFirstFault};
@@ -8,11 +8,11 @@ ghost use Rattle.clock_bids.specs.Holding.{holding_of};
 ghost use Rattle.clock_bids.specs.inside.Parts.{checks_of_bids};
 ghost use Rattle.clock_bids.specs.Sheet.{IsGoodSheet, asked_demands, most_bids, sheet_fault};
 ghost use Rattle.clock_bids.specs.inside.Judging.{AreJudged};
-ghost use Rattle.clock_bids.specs.inside.Chains.{checks_by_last, quantity_of, step_checks};
+ghost use Rattle.clock_bids.specs.inside.Chains.{bid_at, checks_by_last, quantity_of, step_checks};
+ghost use Rattle.clock_bids.specs.inside.LastBids.{AreLastPlaces};
 
-use crate::last_bids::{last_bid, last_places};
 use crate::sheet::{Bid, BidFault, Own, Sheet};
-use clock_device::Items;
+use clock_device::{Items, NoMemory};
 use clock_terms::{PricePair, Prices, Product, Row, Setup};
 use std::alloc::Global;
 
@@ -65,7 +65,13 @@ pub fn take_sheet(
     if bids.len() > MOST_BIDS {
         return Err(BidFault::TooMany);
     }
-    let taken = judge(alloc, setup, prices.as_slice(), own.demands, bids.as_slice())?;
+    let taken = judge(
+        alloc,
+        setup,
+        prices.as_slice(),
+        own.demands,
+        bids.as_slice(),
+    )?;
     if taken as u128 > activity_limit(setup, own.round, own.eligibility) {
         return Err(BidFault::OverActivity);
     }
@@ -187,6 +193,38 @@ fn taken_with(taken: u64, units: u64, last: Option<Bid>, quantity: u64) -> u64
     match last {
         Some(last) => taken - units * last.quantity + units * quantity,
         None => taken + units * quantity,
+    }
+}
+
+/// For each product the place of the last bid for it, of those before a place, counted from 1 on, or 0 where there is
+/// none.
+#[inline(never)]
+fn last_places(
+    alloc: Global,
+    bids: &[Bid],
+    products: usize,
+    place: usize,
+) -> Result<Vec<u16>, NoMemory>
+    requires few { length bids.now ≤ most_bids }
+    requires place { place ≤ length bids.now }
+    requires known { All (λ bid. bid.product < products) (take place bids.now) }
+    ensures { IfOk result (λ places. AreLastPlaces products bids.now place places.items) }
+{
+    let mut places = vec![in alloc; 0; products]?;
+    for i in 0..place {
+        places[bids[i].product as usize] = i as u16 + 1;
+    }
+    Ok(places)
+}
+
+/// The last bid for a product, by such places, if any.
+fn last_bid(bids: &[Bid], places: &[u16], product: u64) -> Option<Bid>
+    ensures { result ≡ slice_index_or (map (bid_at bids.now) places.now) product None }
+{
+    let place = *places.get(product as usize)?;
+    match place {
+        0 => None,
+        _ => bids.get(place as usize - 1).copied(),
     }
 }
 

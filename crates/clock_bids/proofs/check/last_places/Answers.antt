@@ -1,6 +1,6 @@
 use Rattle.std.proofs.Common.{◌<◌, length, arith, rules}
 use Rattle.clock_bids.proofs.LastBids.{known_at, last_places-more, no_places}
-use Rattle.clock_bids.proofs.last_bids.last_places.Goals as goal
+use Rattle.clock_bids.proofs.check.last_places.Goals as goal
 
 pub loop-i-init : goal.loop-i-init
 loop-i-init c = no_places c.args.products c.args.bids.now _ (search rules)

@@ -1,5 +1,5 @@
 use Rattle.clock_bids.specs.inside.LastBids.{AreLastPlaces}
-use Rattle.clock_bids.proofs.last_bids.last_places.Given as goal
+use Rattle.clock_bids.proofs.check.last_places.Given as goal
 
 -- the places of the last of the bids so far
 abbrev pub invariant-loop-i : goal.invariant-loop-i

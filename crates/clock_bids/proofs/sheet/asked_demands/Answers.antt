@@ -1,7 +1,7 @@
 use Rattle.std.proofs.Common.{◌<◌, [], length, take, ◌∙◌, sym, ap, arith, get_or, set}
 use Rattle.clock_bids.specs.Sheet.{asked_demands}
 use Rattle.clock_bids.proofs.Tables.{no_bid, asked_demands-nil, asked_demands-more, length-asked_demands}
-use Rattle.clock_bids.proofs.demands.asked_demands.Goals as goal
+use Rattle.clock_bids.proofs.sheet.asked_demands.Goals as goal
 
 pub loop-bid-init : goal.loop-bid-init
 loop-bid-init c =

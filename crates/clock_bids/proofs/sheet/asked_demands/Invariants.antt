@@ -1,6 +1,6 @@
 use Rattle.std.proofs.Common.{◌≡◌, length, take}
 use Rattle.clock_bids.specs.Sheet.{asked_demands}
-use Rattle.clock_bids.proofs.demands.asked_demands.Given as goal
+use Rattle.clock_bids.proofs.sheet.asked_demands.Given as goal
 
 -- the demands that the bids so far ask for
 abbrev pub invariant-loop-bid : goal.invariant-loop-bid
