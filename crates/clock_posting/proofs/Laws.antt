@@ -90,6 +90,13 @@ opening_between products grid increments k below =
     let price : get_or (opening_posted products) k 0 ≡ (get_or products k no_product).opening = get_or-map _ products k no_product 0 below in
     record { from_start = omega (arith, ap (λ p. p.start) pair, price); to_clock = omega (arith, ap (λ p. p.clock) pair, price) }
 
+-- the start prices of the opening are those that are posted
+pub opening_starts : (products : List Product) (prices : List PricePair) (starts : List ℕ) → starts ≡ map (λ pair. pair.start) prices →
+    prices ≡ opening_prices products → starts ≡ opening_posted products
+opening_starts products prices starts are opening =
+    are ∙ ap (λ list. map (λ (pair : PricePair). pair.start) list) opening
+    ∙ map-map (λ (pair : PricePair). pair.start) (λ (product : Product). record { start = product.opening; clock = product.opening }) products
+
 -- what the first round has come to
 pub first_round_end : (products : List Product) (grid : List (List ℕ)) (increments : Increments) → All IsProduct products →
     All (λ row. length row ≡ length products) grid → AreIncrements (length products) increments →

@@ -1,6 +1,5 @@
-ghost use Rattle.std.specs.Prelude.{◌≡◌, ◌<◌, ◌≤◌, ℕ, length, max, slice_index, if◌then◌else◌, All, IfOk};
+ghost use Rattle.std.specs.Prelude.{◌≡◌, ◌<◌, ◌≤◌, ℕ, length, map, max, slice_index, if◌then◌else◌, All, IfOk};
 ghost use Rattle.clock_terms.specs.Prices.{prices_at};
-ghost use Rattle.clock_posting.specs.Posting.{opening_posted};
 ghost use Rattle.clock_posting.specs.PostedPrice as rules;
 ghost use Rattle.clock_posting.specs.inside.Parts.{applied_prices};
 
@@ -8,17 +7,6 @@ use clock_device::{Items, NoMemory};
 use clock_money::Price;
 use clock_terms::{Change, Grid, Kind, PricePair, Product};
 use std::alloc::Global;
-
-/// The prices posted in the first round.
-pub(crate) fn opening_posted(alloc: Global, products: &[Product]) -> Result<Items<Price>, NoMemory>
-    ensures { IfOk result (λ posted. posted ≡ opening_posted products.now) }
-{
-    let mut posted = Items::with_capacity(alloc, products.len())?;
-    for product in products {
-        posted.push(product.opening);
-    }
-    Ok(posted.into_items())
-}
 
 /// The posted price of each product in a round after the first.
 pub(crate) fn posted_prices(
@@ -66,10 +54,8 @@ fn reduced_prices(
 }
 
 /// The start price of each product.
-fn start_prices(alloc: Global, prices: &[PricePair]) -> Result<Items<Price>, NoMemory>
-    ensures lengths { IfOk result (λ starts. length starts ≡ length prices.now) }
-    ensures price { IfOk result (λ starts. (p : ℕ) → p < length prices.now →
-        slice_index starts p ≡ (prices_at prices.now p).start) }
+pub(crate) fn start_prices(alloc: Global, prices: &[PricePair]) -> Result<Items<Price>, NoMemory>
+    ensures { IfOk result (λ starts. starts ≡ map (λ pair. pair.start) prices.now) }
 {
     let mut starts = Items::with_capacity(alloc, prices.len())?;
     for pair in prices {

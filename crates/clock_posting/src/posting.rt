@@ -7,7 +7,7 @@ ghost use Rattle.clock_posting.specs.PostedPrice.{IsWithinPrices, posted_prices}
 ghost use Rattle.clock_posting.specs.Posting as rules;
 
 use crate::fault::PostFault;
-use crate::posted_prices::{opening_posted, posted_prices};
+use crate::posted_prices::{posted_prices, start_prices};
 use crate::round_end::RoundEnd;
 use crate::sheet::RoundSheet;
 use clock_processor::Settled;
@@ -49,7 +49,7 @@ pub fn post_first(
 {
     let products = setup.products.as_slice();
     let prices = Prices::opening(alloc, setup)?;
-    let posted = opening_posted(alloc, products)?;
+    let posted = start_prices(alloc, prices.as_slice())?;
     RoundEnd {
         products,
         round: 1,

@@ -29,22 +29,14 @@ pub fn with_sheet_lines(mut text: Text, setup: &Setup, sheet: &RoundSheet) -> Re
     requires { length sheet.now.lines ≡ length setup.now.products }
     ensures { IfOk result (λ lines. lines ≡ text ++ sheet_text setup.now.products sheet.now) }
 {
-    push_sheet(&mut text, setup.products.as_slice(), sheet)?;
-    Ok(text)
-}
-
-/// Adds the line of the round and those of the products.
-fn push_sheet(text: &mut Text, products: &[Product], sheet: &RoundSheet) -> Result<(), NoMemory>
-    requires { length sheet.now.lines ≡ length products.now }
-    ensures { OnOk result (text.new ≡ text.old ++ sheet_text products.now sheet.now) }
-{
+    let products = setup.products.as_slice();
     text.extend_from_slice(b"round ")?;
     text.push_number(sheet.round)?;
     text.push(b'\n')?;
     for (i, line) in sheet.lines.iter().enumerate() {
-        push_line(text, &products[i], line)?;
+        push_line(&mut text, &products[i], line)?;
     }
-    Ok(())
+    Ok(text)
 }
 
 /// Adds a space and a number, or a dash where there is none.

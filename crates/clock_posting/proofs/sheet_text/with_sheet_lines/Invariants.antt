@@ -1,6 +1,6 @@
 use Rattle.std.proofs.Common.{◌≡◌, ◌++◌, drop}
 use Rattle.clock_posting.specs.SheetText.{lines_text}
-use Rattle.clock_posting.proofs.sheet_text.push_sheet.Given as goal
+use Rattle.clock_posting.proofs.sheet_text.with_sheet_lines.Given as goal
 
 -- with the lines of the other products it is the whole text
 abbrev pub invariant-loop-i : goal.invariant-loop-i
