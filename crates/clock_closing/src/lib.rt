@@ -5,7 +5,6 @@
 #![tactic(auto)]
 
 mod closed_round;
-mod closing_inputs;
 mod fault;
 mod holdings;
 mod open_round;

@@ -8,13 +8,12 @@ ghost use Rattle.clock_closing.specs.Prepared.{Answers};
 ghost use Rattle.clock_closing.specs.inside.Postings.{IsAsked};
 
 mod outcome;
-mod slips;
 
-use crate::closing_inputs::{ClosingInputs, copy_of};
 use crate::fault::CloseFault;
 use crate::holdings::Holdings;
-use crate::prepared::Prepared;
+use crate::prepared::{ClosingInputs, Prepared};
 use clock_bids::{Own, Sheet};
+use clock_device::NoMemory;
 use clock_order::{Tie, Ties};
 use clock_processor::Processor;
 use clock_terms::{Grid, Increments, Prices, Setup};
@@ -147,5 +146,15 @@ impl<'a> OpenRound<'a> {
         ensures held { result ≡ length self.now.before.holdings }
     {
         self.holdings.count()
+    }
+}
+
+/// Equal increments.
+fn copy_of(alloc: Global, increments: &Increments) -> Result<Increments, NoMemory>
+    ensures { IfOk result (λ copy. copy ≡ increments.now) }
+{
+    match increments {
+        Increments::Single(increment) => Ok(Increments::Single(*increment)),
+        Increments::PerProduct(list) => Ok(Increments::PerProduct(list.copy(alloc)?)),
     }
 }

@@ -2,8 +2,16 @@ ghost use Rattle.std.specs.Prelude.{◌≡◌};
 ghost use Rattle.clock_closing.specs.Results.{AreConsistent};
 
 use crate::closed_round::Results;
-use crate::closing_inputs::ClosingInputs;
+use clock_order::Ties;
+use clock_terms::Increments;
 use std::marker::Model;
+
+/// What a closing is asked for: increments and tie numbers that have no fault.
+#[derive(Drop)]
+pub(crate) struct ClosingInputs {
+    pub(crate) increments: Increments,
+    pub(crate) ties: Ties,
+}
 
 /// A closing that is accepted and not made yet.
 ///

@@ -15,7 +15,7 @@ use Rattle.clock_terms.specs.Increments.{AreIncrements}
 use Rattle.clock_terms.specs.Faults.{first_fault, unless, IsFirstFault, IsRefusal}
 use Rattle.clock_terms.specs.declared.change.Change.{Change}
 use Rattle.clock_order.specs.declared.ties.Tie.{Tie}
-use Rattle.clock_closing.specs.declared.closing_inputs.ClosingInputs.{ClosingInputs}
+use Rattle.clock_closing.specs.declared.prepared.ClosingInputs.{ClosingInputs}
 use Rattle.clock_closing.specs.declared.fault.CloseFault.{CloseFault}
 use Rattle.clock_closing.specs.declared.closed_round.Results.{Results}
 use Rattle.clock_closing.specs.OpenRound.{OpenRound, OpenRoundFields, bidder_numbers}

@@ -1,27 +1,29 @@
 //! What a round comes to: in the first round the sheets' quantities stand as demands, in a later one all bidders'
-//! requests are settled in their order.
+//! requests are settled in their order. What is posted of the demands, and each bidder's slip, are its results.
 
 ghost use Rattle.std.specs.Prelude.{◌≡◌, ◌<◌, ◌≤◌, length, flat_map, AllPairs, IfOk};
-ghost use Rattle.clock_terms.specs.Limits.{IsRow};
+ghost use Rattle.clock_terms.specs.Limits.{IsRow, public_setup};
+ghost use Rattle.clock_terms.specs.Eligibility as eligibilities;
 ghost use Rattle.clock_terms.specs.Increments.{AreIncrements};
 ghost use Rattle.clock_terms.specs.Requests.{AreApart};
 ghost use Rattle.clock_bids.specs.Sheet as sheets;
 ghost use Rattle.clock_processor.specs.Board.{IsWithinEligibility};
-ghost use Rattle.clock_closing.specs.OpenRound.{bids_at, bidder_numbers};
+ghost use Rattle.clock_closing.specs.OpenRound.{bids_at, bidder_numbers, holding_at};
 ghost use Rattle.clock_closing.specs.inside.OpenRound.{eligibilities_of};
 ghost use Rattle.clock_closing.specs.Closing as rules;
-ghost use Rattle.clock_closing.specs.inside.Postings.{AreRequests, ComesTo, first_posted, posted_now};
+ghost use Rattle.clock_closing.specs.inside.Postings.{AreRequests, ComesTo, IsRoundOf, first_posted, posted_now};
+ghost use Rattle.clock_closing.specs.Results.{demands_of};
 
-use crate::closed_round::Results;
-use crate::closing_inputs::ClosingInputs;
+use crate::closed_round::{ClosedRound, Results, Slip, Slips};
 use crate::fault::CloseFault;
 use crate::open_round::OpenRound;
+use crate::prepared::ClosingInputs;
 use clock_bids::{Changes, asked_demands, bids_of, with_changes_of};
 use clock_device::NoMemory;
 use clock_order::{Ties, ordered};
-use clock_posting::{post, post_first};
+use clock_posting::{PostFault, Posting, post, post_first};
 use clock_processor::{Board, Processor, Settled};
-use clock_terms::{Grid, Increments, Row};
+use clock_terms::{Grid, Increments, Row, next_eligibility, units_held};
 use std::alloc::Global;
 
 impl OpenRound<'_> {
@@ -78,7 +80,7 @@ impl OpenRound<'_> {
     }
 
     /// The demands that a bidder's sheet in force asks for. No sheet is the same as an empty one.
-    pub(super) fn asked_row(&self, alloc: Global, bidder: u32) -> Result<Row, NoMemory>
+    fn asked_row(&self, alloc: Global, bidder: u32) -> Result<Row, NoMemory>
         requires { bidder < length self.now.setup.bidders }
         ensures asked { IfOk result (λ row. row ≡ sheets.asked_demands
             (length self.now.setup.products) (bids_at self.now.before.sheets bidder)) }
@@ -143,5 +145,58 @@ impl OpenRound<'_> {
         let grid = self.holdings.grid(alloc, old)?;
         let board = Board::on(alloc, self.setup, &eligibilities, grid)?;
         processor.settle(alloc, board, requests)
+    }
+
+    /// What a posting and these demands make of the round, or why there is no posting.
+    fn with_slips(
+        &self,
+        alloc: Global,
+        posting: Result<Posting, PostFault>,
+        demands: Grid,
+    ) -> Result<Results, CloseFault>
+        requires { IsWithinEligibility self.now.setup.products (eligibilities_of self.now.before) demands }
+        ensures { IsRoundOf self.now demands posting result }
+    {
+        let Posting { sheet, next } = posting?;
+        let slips = self.slips(alloc, &demands)?;
+        Ok(Results {
+            closed: ClosedRound { sheet, slips },
+            next,
+            demands,
+        })
+    }
+
+    /// Each bidder's slip after a round with these demands.
+    fn slips(&self, alloc: Global, demands: &Grid) -> Result<Slips, NoMemory>
+        requires { IsWithinEligibility self.now.setup.products (eligibilities_of self.now.before) demands.now }
+        ensures slips { IfOk result (λ slips. slips ≡
+            rules.slips_after (public_setup self.now.setup) self.now.before demands.now) }
+        ensures demands { IfOk result (λ slips. demands.now ≡ demands_of slips) }
+    {
+        let mut slips = Vec::with_capacity(alloc, self.bidders() as usize)?;
+        for bidder in 0..self.bidders() {
+            slips.push(self.slip_after(alloc, bidder, demands.row(bidder as usize))?)?;
+        }
+        Ok(Slips::from_vec(slips))
+    }
+
+    /// A bidder's slip after a round that leaves it these demands.
+    fn slip_after(&self, alloc: Global, bidder: u32, demands: &Row) -> Result<Slip, NoMemory>
+        requires bidder { bidder < length self.now.setup.bidders }
+        requires row { IsRow self.now.setup.products demands.now }
+        requires within { eligibilities.activity self.now.setup.products demands.now ≤
+            (holding_at self.now.before.holdings bidder).eligibility }
+        ensures { IfOk result (λ slip. slip ≡ rules.slip_after (public_setup self.now.setup)
+            self.now.before.standing.round (holding_at self.now.before.holdings bidder).eligibility demands.now) }
+    {
+        let setup = self.setup;
+        let used = units_held(setup.products.as_slice(), demands);
+        let held = self.holdings.eligibility(bidder);
+        Ok(Slip {
+            round: self.round,
+            activity: used,
+            eligibility: next_eligibility(held, used, setup.requirement),
+            demands: demands.kept(alloc)?,
+        })
     }
 }
