@@ -49,7 +49,7 @@ impl RoundEnd<'_> {
         Ok(Posting { sheet, next })
     }
 
-    /// The prices of the next round, or none where the auction has ended.
+    /// The prices of the next round, or none where the auction has ended, or the first product that can have none.
     fn prices_after(&self, alloc: Global) -> Result<Option<Prices>, PostFault>
         requires { FitsTogether self.now }
         ensures ok { IfOk result (λ next. next ≡ next_of self.now) }
@@ -59,10 +59,20 @@ impl RoundEnd<'_> {
         ensures err { IfErr result (IsFirstFault PostFault.NoMemory (rules.post_fault (limit_of self.now))) }
     {
         if has_ended(self.products, self.grid) {
-            Ok(None)
-        } else {
-            Ok(Some(next_prices(alloc, self.products, self.increments, self.posted)?))
+            return Ok(None);
         }
+        let mut next = Prices::with_capacity(alloc, self.products.len())?;
+        for product in 0..self.products.len() {
+            let Some(clock) = next_clock(self.products, self.increments, self.posted, product)
+            else {
+                return Err(PostFault::PriceLimit(product as u64));
+            };
+            next.push(PricePair {
+                start: self.posted[product],
+                clock,
+            });
+        }
+        Ok(Some(next.into_items()))
     }
 
     /// The lines of the round's sheet, by the prices of the next round.
@@ -124,36 +134,6 @@ fn has_ended(products: &[Product], grid: &Grid) -> bool
         }
     }
     true
-}
-
-/// The prices of the next round, or the first product that can have none.
-fn next_prices(
-    alloc: Global,
-    products: &[Product],
-    increments: &Increments,
-    posted: &[Price],
-) -> Result<Prices, PostFault>
-    requires limits { All IsProduct products.now }
-    requires increments { AreIncrements (length products.now) increments.now }
-    requires posted { length posted.now ≡ length products.now }
-    ensures ok { IfOk result (λ next. next ≡ rules.next_prices products.now increments.now posted.now) }
-    ensures clocks { IfOk result (HasClocks products.now increments.now posted.now) }
-    ensures rising { IfOk result (All rules.IsRising) }
-    ensures possible { IfOk result (λ _. first_at_limit products.now increments.now posted.now ≡ None) }
-    ensures err { IfErr result (IsFirstFault PostFault.NoMemory
-        (rules.post_fault (first_at_limit products.now increments.now posted.now))) }
-{
-    let mut next = Prices::with_capacity(alloc, products.len())?;
-    for product in 0..products.len() {
-        let Some(clock) = next_clock(products, increments, posted, product) else {
-            return Err(PostFault::PriceLimit(product as u64));
-        };
-        next.push(PricePair {
-            start: posted[product],
-            clock,
-        });
-    }
-    Ok(next.into_items())
 }
 
 /// The next clock price of a product: its posted price raised by its increment, to a whole multiple of
