@@ -1,10 +1,7 @@
 ghost use Rattle.std.specs.Prelude.{◌≡◌, ◌<◌, if◌then◌else◌, None, length, All, IfOk, IfErr, IfSome, slice_index};
 ghost use Rattle.clock_terms.specs.Faults.{IsFirstFault};
-ghost use Rattle.clock_terms.specs.Increments.{AreIncrements};
-ghost use Rattle.clock_terms.specs.Limits.{IsProduct};
 ghost use Rattle.clock_posting.specs.Posting as rules;
-ghost use Rattle.clock_posting.specs.inside.RoundEnd.{FitsTogether, HasClocks, HasClocksOf, IsPostingOf, limit_of, lines_of, next_of};
-ghost use Rattle.clock_posting.specs.inside.Parts.{first_at_limit};
+ghost use Rattle.clock_posting.specs.inside.RoundEnd.{FitsTogether, HasClocksOf, IsPostingOf, limit_of, lines_of, next_of};
 
 use crate::fault::PostFault;
 use crate::posting::Posting;
@@ -63,8 +60,7 @@ impl RoundEnd<'_> {
         }
         let mut next = Prices::with_capacity(alloc, self.products.len())?;
         for product in 0..self.products.len() {
-            let Some(clock) = next_clock(self.products, self.increments, self.posted, product)
-            else {
+            let Some(clock) = self.next_clock(product) else {
                 return Err(PostFault::PriceLimit(product as u64));
             };
             next.push(PricePair {
@@ -73,6 +69,22 @@ impl RoundEnd<'_> {
             });
         }
         Ok(Some(next.into_items()))
+    }
+
+    /// The next clock price of a product: its posted price raised by its increment, to a whole multiple of its granule.
+    /// `None` where that is above the highest price.
+    #[tactic(auto, using(clock_terms::proofs::IncrementLaws::increment_there))]
+    fn next_clock(&self, product: usize) -> Option<Price>
+        requires product { product < length self.now.products.now }
+        requires end { FitsTogether self.now }
+        ensures exact { result ≡ rules.next_clock self.now.products.now self.now.increments.now self.now.posted.now product }
+        ensures above { IfSome result (λ clock. slice_index self.now.posted.now product < clock) }
+    {
+        clock_price(
+            self.posted[product],
+            self.increments.at(product),
+            self.products[product].granule,
+        )
     }
 
     /// The lines of the round's sheet, by the prices of the next round.
@@ -134,27 +146,4 @@ fn has_ended(products: &[Product], grid: &Grid) -> bool
         }
     }
     true
-}
-
-/// The next clock price of a product: its posted price raised by its increment, to a whole multiple of
-/// its granule. `None` where that is above the highest price.
-#[tactic(auto, using(clock_terms::proofs::IncrementLaws::increment_there))]
-fn next_clock(
-    products: &[Product],
-    increments: &Increments,
-    posted: &[Price],
-    product: usize,
-) -> Option<Price>
-    requires product { product < length products.now }
-    requires limits { All IsProduct products.now }
-    requires increments { AreIncrements (length products.now) increments.now }
-    requires posted { length posted.now ≡ length products.now }
-    ensures exact { result ≡ rules.next_clock products.now increments.now posted.now product }
-    ensures above { IfSome result (λ clock. slice_index posted.now product < clock) }
-{
-    clock_price(
-        posted[product],
-        increments.at(product),
-        products[product].granule,
-    )
 }
