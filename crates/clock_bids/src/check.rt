@@ -167,18 +167,12 @@ fn judge_rising(
         if let Some(fault) = bid_fault(products, prices, demands, &mut near, None, i as u64, bid) {
             return Err(fault);
         }
-        taken = taken_with(
-            taken,
-            products[bid.product as usize].units,
-            None,
-            bid.quantity,
-        );
+        let units = products[bid.product as usize].units;
+        taken = taken_with(taken, units, None, bid.quantity);
         least = bid.product + 1;
     }
-    Ok(Judged {
-        count: bids.len(),
-        taken,
-    })
+    let count = bids.len();
+    Ok(Judged { count, taken })
 }
 
 /// The bidding units that demands take once a quantity stands in the place of the last bid's.
