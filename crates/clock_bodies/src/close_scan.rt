@@ -35,9 +35,7 @@ impl<'v> PartReader<'v> for TieReader {
     ghost shown = { tie_data };
 
     fn part(_alloc: Global, scan: &mut Scan<'v>) -> Result<Tie, ScanStop> {
-        if !scan.opens_array() {
-            return Err(ScanStop::Unusual);
-        }
+        scan.opens_array()?;
         let bidder = scan.number()?;
         let product = scan.number()?;
         let number = scan.number()?;

@@ -27,9 +27,7 @@ impl<'a> Scan<'a> {
             × Reads 1 self.old (numbers row) self.new) }
         ensures shorter { OnOk result (length self.new < length self.old) }
     {
-        if !self.opens_array() {
-            return Err(ScanStop::Unusual);
-        }
+        self.opens_array()?;
         'items: while !self.closes_array() {
             let next = self.number()?;
             push(list, next)?;
@@ -43,9 +41,7 @@ impl<'a> Scan<'a> {
         ensures value { IfOk result (λ list. Reads 2 self.old (rows list) self.new) }
         ensures shorter { OnOk result (length self.new < length self.old) }
     {
-        if !self.opens_array() {
-            return Err(ScanStop::Unusual);
-        }
+        self.opens_array()?;
         let mut numbers = Numbers::new(alloc);
         let mut lengths = Vec::new(alloc);
         let mut row = Vec::new(alloc);

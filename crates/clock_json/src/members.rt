@@ -45,9 +45,7 @@ impl<'v, M: ScannedMembers<'v>> PartReader<'v> for M {
     ghost shown = { M.shown };
 
     fn part(alloc: Global, scan: &mut Scan<'v>) -> Result<M::Whole, ScanStop> {
-        if !scan.opens_object() {
-            return Err(ScanStop::Unusual);
-        }
+        scan.opens_object()?;
         let mut found = M::nothing();
         'members: while !scan.closes_object() {
             let key = scan.key()?;

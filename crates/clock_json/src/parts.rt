@@ -39,9 +39,7 @@ pub fn scanned_parts<'v, R: PartReader<'v>>(
         Reads (suc R.levels) scan.old (array (items_of (map R.shown parts))) scan.new) }
     ensures shorter { OnOk result (length scan.new < length scan.old) }
 {
-    if !scan.opens_array() {
-        return Err(ScanStop::Unusual);
-    }
+    scan.opens_array()?;
     let mut parts = Items::from_vec(with_room(alloc, room)?);
     'items: while !scan.closes_array() {
         let next = R::part(alloc, scan)?;

@@ -56,17 +56,17 @@ impl<'a> Scan<'a> {
 
     /// Passes a mark that opens.
     #[inline(always)]
-    fn opens(&mut self, mark: u8) -> bool
+    fn opens(&mut self, mark: u8) -> Result<(), ScanStop>
         requires { 0 < mark }
-        ensures { (t : Token) → IsMark may_begin mark t fresh → IsTrue result → self.old ≡ t ∷ self.new }
+        ensures { (t : Token) → IsMark may_begin mark t fresh → OnOk result (self.old ≡ t ∷ self.new) }
     {
         let at = after_space(self.bytes, self.at);
         if !self.expected.may_begin() || byte_at(self.bytes, at) != mark {
-            return false;
+            return Err(ScanStop::Unusual);
         }
         self.at = at + 1;
         self.expected = Expected::Fresh;
-        true
+        Ok(())
     }
 
     /// Passes a mark that closes.
@@ -89,16 +89,16 @@ impl<'a> Scan<'a> {
 
     /// Passes a brace that opens.
     #[inline(always)]
-    pub fn opens_object(&mut self) -> bool
-        ensures { IsTrue result → self.old ≡ begin_object ∷ self.new }
+    pub fn opens_object(&mut self) -> Result<(), ScanStop>
+        ensures { OnOk result (self.old ≡ begin_object ∷ self.new) }
     {
         self.opens(b'{')
     }
 
     /// Passes a bracket that opens.
     #[inline(always)]
-    pub fn opens_array(&mut self) -> bool
-        ensures { IsTrue result → self.old ≡ begin_array ∷ self.new }
+    pub fn opens_array(&mut self) -> Result<(), ScanStop>
+        ensures { OnOk result (self.old ≡ begin_array ∷ self.new) }
     {
         self.opens(b'[')
     }

@@ -187,9 +187,7 @@ pub(crate) fn limit_lists(alloc: Global, scan: &mut Scan<'_>) -> Result<LimitLis
     ensures value { IfOk result (λ limits. Reads 2 scan.old (rows limits) scan.new) }
     ensures shorter { OnOk result (length scan.new < length scan.old) }
 {
-    if !scan.opens_array() {
-        return Err(ScanStop::Unusual);
-    }
+    scan.opens_array()?;
     let mut limits = LimitRows::new(alloc);
     let mut row = Vec::new(alloc);
     'items: while !scan.closes_array() {

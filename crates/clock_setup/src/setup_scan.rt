@@ -99,9 +99,7 @@ fn products<'v>(alloc: Global, scan: &mut Scan<'v>) -> Result<VersionedProducts<
     ensures value { IfOk result (λ list. Reads 2 scan.old (products_data list.version list.entries) scan.new) }
     ensures shorter { OnOk result (length scan.new < length scan.old) }
 {
-    if !scan.opens_array() {
-        return Err(ScanStop::Unusual);
-    }
+    scan.opens_array()?;
     let mut version = 0;
     let mut entries = Items::new(alloc);
     'items: while !scan.closes_array() {

@@ -14,7 +14,7 @@ items-init c =
     let more = c.in_ok-compact_bids.ensures in
     let same = more.1 ∙ ap (λ known. known ++ more.0) c.in_ok-list.ensures.items in (
       start,
-      c.opens_array.ensures (grind arith),
+      c.in_ok-opens_array.ensures,
       subst (λ list. HasItems 1 start (map bid_data list) here) (sym same)
           (items_push_all 1 bid_data start start here [] more.0 (items_start 1 start) more.2),
       omega (arith, all_shorter 1 start (map bid_data more.0) here more.2),

@@ -62,4 +62,4 @@ returns-clause-value c =
     let closed : l.scan ≡ Token.end_array ∷ c.closes_array.new.self = grind arith in
     subst (λ lists. Reads 2 c.args.scan.now (rows lists) c.closes_array.new.self) (sym c.in_ok-copy.ensures.same)
     (items_end 1 c.args.scan.now c.opens_array.new.self l.scan c.closes_array.new.self (map numbers (kept_limits l.limits))
-    (c.opens_array.ensures (grind arith)) l.invariant.read closed)
+    c.in_ok-opens_array.ensures l.invariant.read closed)

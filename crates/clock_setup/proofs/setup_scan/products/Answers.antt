@@ -51,4 +51,4 @@ returns-clause-value c =
     let l = c.items in
     let closed : l.scan ≡ Token.end_array ∷ c.closes_array.new.self = grind arith in
     items_end 1 c.args.scan.now c.opens_array.new.self l.scan c.closes_array.new.self (map (product_data l.version) l.entries)
-    (c.opens_array.ensures (grind arith)) l.invariant.0 closed
+    c.in_ok-opens_array.ensures l.invariant.0 closed

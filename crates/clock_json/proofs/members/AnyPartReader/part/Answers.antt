@@ -40,4 +40,4 @@ returns-clause-value g c =
     let found = members_of (members.fields l.found) in
     let closed : l.scan ≡ Token.end_object ∷ new = grind arith in
     whole_read (suc members.levels) old new (object found) members.shown c.whole.result c.ok_or.result c.ok_or.ensures.ok_part c.whole.ensures
-    (members_end members.levels old c.opens_object.new.self l.scan new found (c.opens_object.ensures (grind arith)) l.invariant.0 closed)
+    (members_end members.levels old c.opens_object.new.self l.scan new found c.in_ok-opens_object.ensures l.invariant.0 closed)

@@ -40,4 +40,4 @@ returns-clause-value c =
     let l = c.items in
     let closed : l.self ≡ Token.end_array ∷ c.closes_array.new.self = grind arith in
     items_end 1 c.args.self.now c.opens_array.new.self l.self c.closes_array.new.self (map numbers (cut l.lengths.items l.numbers))
-    (c.opens_array.ensures (grind arith)) l.invariant.0 closed
+    c.in_ok-opens_array.ensures l.invariant.0 closed

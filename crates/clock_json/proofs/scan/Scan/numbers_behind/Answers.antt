@@ -44,5 +44,5 @@ returns-clause-value c =
       l.invariant.0,
       l.invariant.1,
       items_end 0 c.args.self.now c.opens_array.new.self l.self c.closes_array.new.self (map whole l.invariant.0)
-          (c.opens_array.ensures (grind arith)) l.invariant.2 closed,
+          c.in_ok-opens_array.ensures l.invariant.2 closed,
     )

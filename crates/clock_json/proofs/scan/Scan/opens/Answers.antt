@@ -5,7 +5,7 @@ use Rattle.clock_json.proofs.LexLaws.{mark_at}
 use Rattle.clock_json.proofs.scan.Scan.opens.Goals as goal
 
 pub returns : goal.returns
-returns c = λ t reads _.
+returns c = λ t reads.
     let s = c.self.inside in
     let at = c.after_space-at.result in
     let may : may_begin (place_of s.expected) ≡ true = sym c.may_begin.ensures ∙ c.if-not-may_begin.false in
