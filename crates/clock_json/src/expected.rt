@@ -1,4 +1,4 @@
-ghost use Rattle.std.specs.Prelude.{◌≡◌, IsTrue};
+ghost use Rattle.std.specs.Prelude.{◌≡◌, true, false, IsTrue};
 ghost use Rattle.json.specs.Lex.{may_begin, may_close};
 ghost use Rattle.clock_json.specs.Left.{place_of};
 
@@ -19,18 +19,11 @@ impl Expected {
         matches!(self, Expected::Fresh | Expected::AfterComma)
     }
 
-    /// Whether a bracket or a brace may close here.
-    #[inline(always)]
-    pub(crate) fn may_close(self) -> bool
-        ensures { result ≡ may_close (place_of self) }
-    {
-        matches!(self, Expected::Fresh | Expected::AfterValue)
-    }
-
-    /// Whether a comma was right before.
+    /// Whether a comma was right before, so that no bracket and no brace may close here.
     #[inline(always)]
     pub(crate) fn is_after_comma(self) -> bool
-        ensures { IsTrue result → self ≡ Expected.AfterComma }
+        ensures comma { IsTrue result → self ≡ Expected.AfterComma }
+        ensures others { result ≡ false → may_close (place_of self) ≡ true }
     {
         matches!(self, Expected::AfterComma)
     }

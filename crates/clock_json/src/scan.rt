@@ -76,7 +76,7 @@ impl<'a> Scan<'a> {
         ensures { (t : Token) → IsMark may_close mark t after_value
             → MatchBool result (self.old ≡ t ∷ self.new) (self.new ≡ self.old) }
     {
-        if !self.expected.may_close() {
+        if self.expected.is_after_comma() {
             return false;
         }
         let at = after_space(self.bytes, self.at);
@@ -148,7 +148,7 @@ impl<'a> Scan<'a> {
         if !self.expected.may_begin() {
             return Err(ScanStop::Unusual);
         }
-        let (n, at) = decimal_at(self.bytes, at)?;
+        let (n, at) = decimal_at(self.bytes, at).ok_or(ScanStop::Unusual)?;
         (self.expected, self.at) = after_value(self.bytes, at);
         Ok(n)
     }

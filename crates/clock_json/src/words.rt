@@ -8,6 +8,7 @@ ghost use Rattle.json.specs.Align.{is_blank as is_blank_class};
 ghost use Rattle.serde_json.specs.Read.{read};
 ghost use Rattle.clock_json.specs.Left.{left};
 
+use crate::compact::has_room;
 use crate::digits::digits_up_to;
 use crate::expected::Expected;
 use crate::plain::plain_end;
@@ -127,22 +128,17 @@ fn ends_word(byte: u8) -> bool
 /// The number there in its digits, with no zero before them, below 10^19, and where it ends. It stands apart: within a
 /// caller LLVM keeps the number in memory while its digits are read.
 #[inline(never)]
-pub(crate) fn decimal_at(bytes: &[u8], at: usize) -> Result<(u64, usize), ScanStop>
-    ensures small { IfOk result (λ r. r.0 < 2 ^ 64) }
-    ensures value { IfOk result (λ r. lex between (drop at bytes.now)
+pub(crate) fn decimal_at(bytes: &[u8], at: usize) -> Option<(u64, usize)>
+    ensures small { IfSome result (λ r. r.0 < 2 ^ 64) }
+    ensures value { IfSome result (λ r. lex between (drop at bytes.now)
         ≡ token (number (decimal r.0)) ∷ lex between (drop r.1 bytes.now)) }
 {
-    if at >= bytes.len() {
-        return Err(ScanStop::Unusual);
-    }
-    let left = (bytes.len() - at).min(19);
-    let Some((n, end)) = digits_up_to(bytes, at, at + left) else {
-        return Err(ScanStop::Unusual);
-    };
+    let left = bytes.len().checked_sub(at)?.min(19);
+    let (n, end) = digits_up_to(bytes, at, at + left)?;
     if end == bytes.len() || !ends_word(bytes[end]) {
-        return Err(ScanStop::Unusual);
+        return None;
     }
-    Ok((n, end))
+    Some((n, end))
 }
 
 /// Where the word `null` ends that stands there.
@@ -150,12 +146,8 @@ pub(crate) fn decimal_at(bytes: &[u8], at: usize) -> Result<(u64, usize), ScanSt
 pub(crate) fn null_at(bytes: &[u8], at: usize) -> Option<usize>
     ensures { IfSome result (λ end. lex between (drop at bytes.now) ≡ token null ∷ lex between (drop end bytes.now)) }
 {
-    if bytes.len() < 5 || at > bytes.len() - 5 {
+    if !has_room(bytes, at, 5) || !is_key(&bytes[at..at + 4], "null") || !ends_word(bytes[at + 4]) {
         return None;
     }
-    let end = at + 4;
-    if !is_key(&bytes[at..end], "null") || !ends_word(bytes[end]) {
-        return None;
-    }
-    Some(end)
+    Some(at + 4)
 }

@@ -6,7 +6,7 @@ pub returns : goal.returns
 returns c =
     let bytes = c.args.bytes.now in
     let at = c.args.at in
-    let within : at + 4 < length bytes = omega (arith, c.if-bytes-lt5.false, c.if-at-bytes.false) in
+    let within : at + 4 < length bytes = omega (arith, c.has_room.ensures c.if-not-has_room.false) in
     let count : 4 ≡ (at + 4) - at = omega arith in
     null_word bytes at within (ap (λ n. take n (drop at bytes)) count ∙ c.is_key.ensures c.if-not-is_key.false)
     (c.ends_word.ensures c.if-not-ends_word.false)

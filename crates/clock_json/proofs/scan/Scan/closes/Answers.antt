@@ -8,7 +8,7 @@ pub returns : goal.returns
 returns c = λ t reads.
     let s = c.self.inside in
     let at = c.after_space-at.result in
-    let may : may_close (place_of s.expected) ≡ true = sym c.may_close.ensures ∙ c.if-not-may_close.false in
+    let may : may_close (place_of s.expected) ≡ true = c.is_after_comma.ensures.others c.if-is_after_comma.false in
     let is = c.if-byte_at-mark.false in
     sym c.self.view_is
     ∙ mark_at may_close c.args.mark t (place_of s.expected) after_value s.bytes.now s.at at reads may c.after_space-at.ensures

@@ -10,7 +10,7 @@ returns-then-not-is_after_comma c = refl
 pub returns : goal.returns
 returns c =
     let s = c.self.inside in
-    let behind = c.is_after_comma.ensures c.if-not-is_after_comma.false in
+    let behind = c.is_after_comma.ensures.comma c.if-not-is_after_comma.false in
     let values = replicate c.after_empties-count.result.0 (numbers []) in
     let end = c.after_empties-count.result.1 in
     subst (λ ts. ReadsAll 1 ts values (left s.expected (drop end s.bytes.now))) c.self.view_is

@@ -11,7 +11,7 @@ pub returns : goal.returns
 returns c =
     let s = c.self.inside in
     let read = c.in_ok-end.ensures in
-    let behind = c.is_after_comma.ensures c.if-not-is_after_comma.false in
+    let behind = c.is_after_comma.ensures.comma c.if-not-is_after_comma.false in
     let values = map whole read.0 in
     let end = c.in_ok-end.end in (
       read.0,

@@ -10,9 +10,10 @@ use Rattle.clock_json.proofs.scan.Scan.number.Goals as goal
 pub returns-clause-value : goal.returns-clause-value
 returns-clause-value c =
     let s = c.self.inside in
+    let told = rw c.in_ok-n.ensures.ok_part at c.decimal_at.ensures in
     let may : may_begin (place_of s.expected) ≡ true = sym c.may_begin.ensures ∙ c.if-not-may_begin.false in
-    number_reads c.in_ok-n.n c.args.self.now _ c.in_ok-n.ensures.small
-    (sym c.self.view_is ∙ number_begins (place_of s.expected) _ _ _ may (sym c.after_space-at.ensures ∙ c.in_ok-n.ensures.value)
+    number_reads c.in_ok-n.n c.args.self.now _ told.small
+    (sym c.self.view_is ∙ number_begins (place_of s.expected) _ _ _ may (sym c.after_space-at.ensures ∙ told.value)
     ∙ ap (λ ts. number (decimal c.in_ok-n.n) ∷ ts) (sym c.after_value.ensures))
 
 pub returns-clause-shorter : goal.returns-clause-shorter
