@@ -100,14 +100,10 @@ impl<'v> ScannedMembers<'v> for FoundClose {
     }
 
     fn whole(self) -> Option<ScannedClose> {
-        let increments = one_form(self.increment, self.increments);
-        let (Some(increments), Some(ties)) = (increments, self.ties) else {
-            return None;
-        };
         Some(ScannedClose {
             round: self.round,
-            increments,
-            ties,
+            increments: one_form(self.increment, self.increments)?,
+            ties: self.ties?,
         })
     }
 }
@@ -125,11 +121,8 @@ impl<'v> PartReader<'v> for CloseReader {
 
     fn part(alloc: Global, scan: &mut Scan<'v>) -> Result<CloseBody, ScanStop> {
         let close = FoundClose::part(alloc, scan)?;
-        let Some(round) = close.round else {
-            return Err(ScanStop::Unusual);
-        };
         Ok(CloseBody {
-            round,
+            round: close.round.ok_or(ScanStop::Unusual)?,
             increments: close.increments,
             ties: close.ties,
         })
