@@ -3,7 +3,6 @@
 
 mod pieces;
 mod request_writer;
-mod scripted;
 mod sheet_bodies;
 mod sincere;
 

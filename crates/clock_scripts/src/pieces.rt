@@ -1,14 +1,25 @@
-//! The pieces of requests that are written: each has a head and a body.
+//! The requests of scripted bidders and of the operator, and the pieces that they are written in: each has a head and a
+//! body.
 
-ghost use Rattle.std.specs.Prelude.{◌≡◌, ◌≤◌, ◌-◌, length, drop, IfOk};
-ghost use Rattle.clock_scripts.specs.RequestTexts.{request_text};
-ghost use Rattle.clock_scripts.specs.Pieces.{HoldsNothing, IsWrittenIn, Writes, is_awaited, piece_at};
+ghost use Rattle.std.specs.Prelude.{◌≡◌, ◌<◌, ◌≤◌, ◌-◌, false, length, drop, codes, IfOk, IfSome, option_map, slice_index_or, None};
+ghost use Rattle.clock_terms.specs.Limits.{IsToken};
+ghost use Rattle.clock_house.specs.History.{bidder_at};
+ghost use Rattle.clock_house.specs.House.{standing_in, holding_in};
+ghost use Rattle.clock_replays.specs.Replays.{IsScript, IsLimits};
+ghost use Rattle.clock_scripts.specs.Pieces.{AwaitsBody, HoldsNothing, IsWrittenIn, Writes, WritesIf, is_awaited, piece_at};
+ghost use Rattle.clock_scripts.specs.RequestTexts.{request_text, put_text};
+ghost use Rattle.clock_scripts.specs.ScriptedRequests as rules;
+ghost use Rattle.clock_scripts.specs.Sincere.{sincere_sheet};
 ghost use Rattle.clock_scripts.specs.inside.Heads.{HasHead};
 
-use crate::request_writer::push_head;
+use crate::request_writer::{push_close_body, push_head};
 use crate::sheet_bodies::Bodies;
+use crate::sincere::Sincere;
 use clock_device::NoMemory;
-use clock_http::MOST_BODY;
+use clock_house::House;
+use clock_http::{MOST_BODY, law_head_of_grammar};
+use clock_replays::{BidList, Closing, LimitLists, Script};
+use clock_terms::Setup;
 use std::alloc::Global;
 
 /// Where a piece stands in a text.
@@ -30,7 +41,7 @@ pub struct Written {
 pub struct Pieces {
     heads: Vec<u8>,
     /// The bodies, and behind them that of the request that is being written.
-    pub(crate) bodies: Bodies,
+    bodies: Bodies,
 }
 
 impl Written {
@@ -41,6 +52,15 @@ impl Written {
     {
         matches!(self.body.end - self.body.start, 1..=MOST_BODY)
     }
+}
+
+/// A bidder's token.
+fn token_of(setup: &Setup, bidder: u32) -> &[u8]
+    requires { bidder < length setup.now.bidders }
+    ensures own { result.now ≡ (bidder_at setup.now bidder).token }
+    ensures limits { IsToken result.now }
+{
+    setup.bidders.as_slice()[bidder as usize].token.as_slice()
 }
 
 impl Pieces {
@@ -63,13 +83,24 @@ impl Pieces {
         self.bodies.text.clear();
     }
 
+    /// The head of a request.
+    pub fn head(&self, written: &Written) -> &[u8]
+        requires { IsWrittenIn self.now written.now }
+        ensures { result.now ≡ piece_at self.now.heads.items written.now.head }
+    {
+        &self.heads.as_slice()[written.head.start..written.head.end]
+    }
+
+    /// The body of a request.
+    pub fn body(&self, written: &Written) -> &[u8]
+        requires { IsWrittenIn self.now written.now }
+        ensures { result.now ≡ piece_at self.now.bodies.text.items written.now.body }
+    {
+        &self.bodies.text.as_slice()[written.body.start..written.body.end]
+    }
+
     /// Writes the head of a request, whose body stands behind all others from a place on.
-    pub(crate) fn end_request(
-        &mut self,
-        line: &[u8],
-        token: &[u8],
-        body: usize,
-    ) -> Result<Written, NoMemory>
+    fn end_request(&mut self, line: &[u8], token: &[u8], body: usize) -> Result<Written, NoMemory>
         requires { body ≤ length self.old.bodies.text.items }
         ensures writes { IfOk result (Writes self.old self.new
             (request_text line.now token.now (drop body self.old.bodies.text.items))) }
@@ -87,19 +118,106 @@ impl Pieces {
         })
     }
 
-    /// The head of a request.
-    pub fn head(&self, written: &Written) -> &[u8]
-        requires { IsWrittenIn self.now written.now }
-        ensures { result.now ≡ piece_at self.now.heads.items written.now.head }
+    /// Writes the head of the request by which the holder of a token puts a sheet, whose body stands behind all others
+    /// from a place on.
+    fn end_put(&mut self, token: &[u8], body: usize) -> Result<Written, NoMemory>
+        requires body { body ≤ length self.old.bodies.text.items }
+        requires token { IsToken token.now }
+        ensures writes { IfOk result (Writes self.old self.new
+            (request_text (codes "PUT /v1/me/bids") token.now (drop body self.old.bodies.text.items))) }
+        ensures awaits { IfOk result (AwaitsBody self.new) }
     {
-        &self.heads.as_slice()[written.head.start..written.head.end]
+        law_head_of_grammar();
+        self.end_request(b"PUT /v1/me/bids", token, body)
     }
 
-    /// The body of a request.
-    pub fn body(&self, written: &Written) -> &[u8]
-        requires { IsWrittenIn self.now written.now }
-        ensures { result.now ≡ piece_at self.now.bodies.text.items written.now.body }
+    /// Writes the sheet that a sincere bidder puts.
+    fn write_sincere<P>(
+        &mut self,
+        house: &House<P>,
+        bidder: u32,
+        limits: &LimitLists,
+    ) -> Result<Written, NoMemory>
+        requires known { bidder < length house.now.setup.bidders }
+        requires going { (standing_in house.now).ended ≡ false }
+        requires limits { IsLimits house.now.setup.products limits.now }
+        ensures writes { IfOk result (Writes self.old self.new (put_text (bidder_at house.now.setup bidder).token
+            (standing_in house.now).round
+            (sincere_sheet (standing_in house.now).round (standing_in house.now).prices
+            (holding_in house.now bidder).demands limits.now))) }
+        ensures awaits { IfOk result (AwaitsBody self.new) }
     {
-        &self.bodies.text.as_slice()[written.body.start..written.body.end]
+        house.law_of_house();
+        let sheet = Sincere {
+            prices: house.prices().as_slice(),
+            own: house.own(bidder),
+            limits,
+        };
+        let start = self.bodies.text.len();
+        sheet.push(&mut self.bodies)?;
+        self.end_put(token_of(house.setup(), bidder), start)
+    }
+
+    /// Writes the sheet of a round in a list of sheets, from round 1 on, by the holder of a token, if there is one.
+    fn write_literal(
+        &mut self,
+        token: &[u8],
+        round: u64,
+        sheets: &[Option<BidList>],
+    ) -> Result<Option<Written>, NoMemory>
+        requires { IsToken token.now }
+        ensures writes { IfOk result (WritesIf self.old self.new
+            (option_map (put_text token.now round) (slice_index_or sheets.now (round - 1) None))) }
+        ensures awaits { IfOk result (λ written. IfSome written (AwaitsBody self.new)) }
+    {
+        match sheets.get(round.saturating_sub(1) as usize) {
+            Some(Some(bids)) => {
+                let start = self.bodies.text.len();
+                self.bodies.push_sheet(round, bids.as_slice())?;
+                Ok(Some(self.end_put(token, start)?))
+            }
+            _ => Ok(None),
+        }
+    }
+
+    /// Writes the request by which a bidder puts the sheet that its script gives, if there is one.
+    #[tactic(auto, unfolding(crate::specs::ScriptedRequests::scripted_put))]
+    pub fn write_put<P>(
+        &mut self,
+        house: &House<P>,
+        bidder: u32,
+        script: &Script,
+    ) -> Result<Option<Written>, NoMemory>
+        requires known { bidder < length house.now.setup.bidders }
+        requires going { (standing_in house.now).ended ≡ false }
+        requires script { IsScript house.now.setup.products script.now }
+        ensures writes { IfOk result (WritesIf self.old self.new
+            (rules.scripted_put house.now.setup house.now.closed bidder script.now)) }
+        ensures awaits { IfOk result (λ written. IfSome written (AwaitsBody self.new)) }
+    {
+        match script {
+            Script::Sincere(limits) => Ok(Some(self.write_sincere(house, bidder, limits)?)),
+            Script::Literal(sheets) => {
+                let token = token_of(house.setup(), bidder);
+                self.write_literal(token, house.round(), sheets.as_slice())
+            }
+        }
+    }
+
+    /// Writes the request by which the operator closes the current round.
+    pub fn write_close<P>(
+        &mut self,
+        house: &House<P>,
+        closing: &Closing,
+    ) -> Result<Written, NoMemory>
+        ensures { IfOk result (Writes self.old self.new
+            (rules.scripted_close house.now.setup house.now.closed closing.now)) }
+    {
+        let round = house.round();
+        let token = house.setup().operator.as_slice();
+        let start = self.bodies.text.len();
+        let ties = closing.ties.as_slice();
+        push_close_body(&mut self.bodies.text, round, &closing.increments, ties)?;
+        self.end_request(b"POST /v1/close", token, start)
     }
 }

@@ -58,20 +58,6 @@ impl BidStart {
         self.length > 0 && self.price == price && self.product == product
     }
 
-    /// Makes it the start of a bid at a price for a product, if there is room for its bytes.
-    fn keep(&mut self, price: u64, product: u64, start: &[u8])
-        requires { start.now ≡ bid_start price product }
-    {
-        let length = start.len();
-        if length <= START_ROOM {
-            self.length = 0;
-            self.text[..length].copy_from_slice(start);
-            self.price = price;
-            self.product = product;
-            self.length = length;
-        }
-    }
-
     /// Adds it to a text: all its bytes with the zeros behind them, of which the zeros are taken off again.
     #[inline(always)]
     fn push(&self, text: &mut Vec<u8>) -> Result<(), NoMemory>
@@ -89,7 +75,15 @@ impl BidStart {
     {
         let from = text.len();
         push_start(text, price, product)?;
-        self.keep(price, product, &text.as_slice()[from..]);
+        let start = &text.as_slice()[from..];
+        let length = start.len();
+        if length <= START_ROOM {
+            self.length = 0;
+            self.text[..length].copy_from_slice(start);
+            self.price = price;
+            self.product = product;
+            self.length = length;
+        }
         Ok(())
     }
 }
