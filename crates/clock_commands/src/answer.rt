@@ -1,17 +1,20 @@
-ghost use Rattle.std.specs.Prelude.{◌≡◌, ◌≤◌, Ok, length, IfOk, IfErr};
+ghost use Rattle.std.specs.Prelude.{◌≡◌, ◌≤◌, ◌++◌, Ok, All, length, IfOk, IfErr, OnOk};
 ghost use Rattle.clock_terms.specs.Demands.{IsGrid};
 ghost use Rattle.clock_terms.specs.Faults.{IsRefusal};
 ghost use Rattle.clock_terms.specs.Increments.{IsIncrement};
+ghost use Rattle.clock_terms.specs.Limits.{IsProduct};
 ghost use Rattle.clock_setup.specs.SetupDocument.{document_setup};
 ghost use Rattle.clock_commands.specs.Answers.{answer_to, first_round, read_in};
+ghost use Rattle.clock_commands.specs.PriceLines.{price_line, price_lines};
 ghost use Rattle.clock_words.specs.Words.{IsJob};
 
 use crate::fault::Fault;
-use crate::prices::prices_text;
-use clock_device::Text;
+use clock_device::{NoMemory, Text};
+use clock_money::clock_price;
 use clock_posting::{PostFault, post_first, sheet_lines};
 use clock_setup::{Increments, Opening, OpeningFault, Setup, SetupFault, read_opening, read_setup};
 use clock_sim::{Replay, ScriptFault, SimFault, read_replay, replay_text};
+use clock_terms::Product;
 use clock_words::Job;
 use std::alloc::Global;
 
@@ -38,6 +41,34 @@ pub fn setup_in(alloc: Global, document: &[u8]) -> Result<Setup, Fault>
         Err(SetupFault::NoMemory) => Err(Fault::Memory),
         Err(fault) => Err(Fault::Setup(fault)),
     }
+}
+
+/// The price lines of some products, with clock prices at this increment in percent.
+fn prices_text(alloc: Global, products: &[Product], increment: u64) -> Result<Text, NoMemory>
+    requires increment { IsIncrement increment }
+    requires limits { All IsProduct products.now }
+    ensures { IfOk result (λ text. text ≡ price_lines increment products.now) }
+{
+    let mut text = Text::new(alloc);
+    for product in products {
+        push_line(&mut text, product, increment)?;
+    }
+    Ok(text)
+}
+
+/// Adds the line of a product.
+fn push_line(text: &mut Text, product: &Product, increment: u64) -> Result<(), NoMemory>
+    requires increment { IsIncrement increment }
+    requires product { IsProduct product.now }
+    ensures { OnOk result (text.new ≡ text.old ++ price_line increment product.now) }
+{
+    text.extend_from_slice(product.name.as_slice())?;
+    text.push(b' ')?;
+    text.push_number(product.opening.get())?;
+    text.push(b' ')?;
+    let clock = clock_price(product.opening, increment, product.granule);
+    text.push_or_dash(clock.map(|price| price.get()))?;
+    text.push(b'\n')
 }
 
 /// The lines of opening and next prices for the set-up that a document means, or its first fault.

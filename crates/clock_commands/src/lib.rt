@@ -6,7 +6,6 @@ mod answer;
 mod fault;
 mod fault_lines;
 mod input;
-mod prices;
 mod run;
 
 pub use answer::setup_in;

@@ -103,10 +103,7 @@ fn run<R: Source, W: Sink>(
 {
     let document = read_all(alloc, reader)?;
     let text = answer(alloc, job, document)?;
-    match write_all(writer, text.as_slice()) {
-        Ok(()) => Ok(()),
-        Err(_) => Err(Fault::Output),
-    }
+    write_all(writer, text.as_slice()).or(Err(Fault::Output))
 }
 
 /// Shows the line of a fault, or a front of it where it cannot all be shown.

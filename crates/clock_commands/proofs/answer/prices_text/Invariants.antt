@@ -1,6 +1,6 @@
 use Rattle.std.proofs.Common.{◌≡◌, ◌++◌, drop}
 use Rattle.clock_commands.specs.PriceLines.{price_lines}
-use Rattle.clock_commands.proofs.prices.prices_text.Given as goal
+use Rattle.clock_commands.proofs.answer.prices_text.Given as goal
 
 -- with the lines of the other products it is the whole text
 abbrev pub invariant-loop-product : goal.invariant-loop-product
