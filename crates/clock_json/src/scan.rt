@@ -175,11 +175,9 @@ impl<'a> Scan<'a> {
         ensures { OnOk result ((row : List ℕ) × (list.new.items ≡ list.old.items ++ row)
             × ReadsAll 0 self.old (map whole row) self.new) }
     {
-        if !self.expected.is_after_comma() {
-            return Ok(());
+        if self.expected.is_after_comma() {
+            self.at = numbers_at(self.bytes, self.at, list)?;
         }
-        let end = numbers_at(self.bytes, self.at, list)?;
-        self.at = end;
         Ok(())
     }
 
