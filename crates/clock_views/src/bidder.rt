@@ -12,8 +12,10 @@ ghost use Rattle.clock_views.specs.Values.{list_of, IsPage, Adds};
 ghost use Rattle.clock_views.specs.inside.Rooms.{room_of_bid, room_of_array};
 ghost use Rattle.clock_views.specs.inside.Values.{item_text};
 
-use crate::pieces::{push_comma_if, push_demands, push_label, push_name, push_number, push_truth};
-use crate::room::{ITEM_ROOM, page_with_room};
+use crate::pieces::{
+    ITEM_ROOM, page_with_room, push_comma_if, push_demands, push_label, push_name, push_number,
+    push_truth,
+};
 use clock_bids::{Bid, Own, Sheet};
 use clock_device::{Bounded, NoMemory, Text};
 use clock_house::Slip;

@@ -17,7 +17,6 @@ mod operator;
 mod pieces;
 mod public;
 mod refusal;
-mod room;
 
 pub use bidder::{
     accepted_page, accepted_room, account_page, account_room, bids_page, bids_room,

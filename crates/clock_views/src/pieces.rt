@@ -1,6 +1,6 @@
-//! Pieces of compact JSON, which are pushed onto one text. There is room for each: it was taken before the first.
+//! Pieces of compact JSON, which are pushed onto one text. There is room for each: it is taken before the first.
 
-ghost use Rattle.std.specs.Prelude.{◌≡◌, ◌≤◌, ◌+◌, ◌-◌, ◌*◌, ◌++◌, ℕ, List, decimal, drop, length, nat_lt};
+ghost use Rattle.std.specs.Prelude.{◌≡◌, ◌≤◌, ◌+◌, ◌-◌, ◌*◌, ◌++◌, ℕ, List, [], IfOk, decimal, drop, length, nat_lt};
 ghost use Rattle.std.specs.List.{AllWithin};
 ghost use Rattle.serde_json.specs.Data.{string};
 ghost use Rattle.serde_json.specs.Written.{compact_text, comma_if};
@@ -9,8 +9,22 @@ ghost use Rattle.clock_views.specs.Values.{whole, whole_or_null, list_of, number
 ghost use Rattle.clock_views.specs.inside.Rooms.{room_of_number, room_of_name, room_of_truth, room_of_item, room_of_array};
 ghost use Rattle.clock_views.specs.inside.Values.{item_text, rest_text};
 
-use clock_device::Bounded;
+use clock_device::{Bounded, NoMemory, Text};
 use clock_terms::HeldProducts;
+use std::alloc::Global;
+
+/// How many bytes an item of an array of numbers takes at most, with the comma before it.
+pub(crate) const ITEM_ROOM: u128 = 21;
+
+/// An empty text with room for so many bytes.
+pub(crate) fn page_with_room(alloc: Global, bytes: u128) -> Result<Bounded<u8>, NoMemory>
+    ensures { IfOk result (λ text. text ≡ record { items = []; room = bytes }) }
+{
+    match usize::try_from(bytes) {
+        Ok(bytes) => Text::with_capacity(alloc, bytes),
+        Err(_) => Err(NoMemory),
+    }
+}
 
 /// Adds a label, as `{"bids":`, or a closing bracket.
 pub(crate) fn push_label(text: &mut Bounded<u8>, label: &[u8])

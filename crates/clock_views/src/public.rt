@@ -11,10 +11,9 @@ ghost use Rattle.clock_views.specs.Values.{list_of, IsPage, Adds};
 ghost use Rattle.clock_views.specs.inside.Values.{item_text};
 
 use crate::pieces::{
-    push_comma_if, push_label, push_name, push_number, push_number_if, push_number_or_null,
-    push_truth,
+    page_with_room, push_comma_if, push_label, push_name, push_number, push_number_if,
+    push_number_or_null, push_truth,
 };
-use crate::room::page_with_room;
 use clock_device::{Bounded, NoMemory, Text};
 use clock_posting::{Line, RoundSheet};
 use clock_terms::{Product, Setup};

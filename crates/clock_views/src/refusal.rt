@@ -6,8 +6,7 @@ ghost use Rattle.clock_views.specs.RefusalPage.{refusal_value, refusal_bytes};
 ghost use Rattle.clock_views.specs.Refusals.{IsShown, has_place, has_round, is_refusal, shown_bid, shown_tie, shown_put, shown_close, alone as code_alone, at_place as code_at_place, wrong_round as shown_wrong_round};
 ghost use Rattle.clock_views.specs.Values.{IsPage, Adds};
 
-use crate::pieces::{push_label, push_number, push_number_if};
-use crate::room::page_with_room;
+use crate::pieces::{page_with_room, push_label, push_number, push_number_if};
 use clock_bids::BidFault;
 use clock_device::{Bounded, NoMemory, Text};
 use clock_house::{CloseFault, PutFault};
