@@ -4,7 +4,7 @@ use Rattle.std.proofs.Common.{refl, sym, ◌∙◌, ap, subst, true≢false}
 use Rattle.clock_http.specs.Framing.{needs_more}
 use Rattle.clock_connections.proofs.ArrivalLaws.{nothing_needs_more}
 use Rattle.clock_connections.specs.declared.connections.Conn.{Conn}
-use Rattle.clock_connections.specs.declared.hub_fault.HubFault.{HubFault}
+use Rattle.clock_connections.specs.declared.connections.HubFault.{HubFault}
 use Rattle.clock_connections.specs.Connections.{ConnectionFields, IsConnected, KeepsOthers, text_of}
 use Rattle.clock_connections.specs.inside.Waiting.{AllNeedMore}
 

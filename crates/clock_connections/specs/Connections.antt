@@ -9,8 +9,8 @@
 use Rattle.std.specs.Prelude.{◌≡◌, ◌≢◌, ℕ, ◌+◌, Bool, true, false, ◌||◌, List, [], Option, Some, None, if◌then◌else◌, ◌==◌, nat_le}
 use Rattle.std.specs.Prelude.{is_some, count_by, slice_index_or}
 use Rattle.clock_connections.specs.declared.connections.Conn.{Conn}
-use Rattle.clock_connections.specs.declared.hub_fault.HubFault.{HubFault}
-use Rattle.clock_connections.specs.declared.hub_fault.HubFault.TheVariants.{Full, NoMemory, Unknown}
+use Rattle.clock_connections.specs.declared.connections.HubFault.{HubFault}
+use Rattle.clock_connections.specs.declared.connections.HubFault.TheVariants.{Full, NoMemory, Unknown}
 
 -- the most connections that stand at once (own limit)
 abbrev pub most_connections : ℕ

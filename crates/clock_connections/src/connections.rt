@@ -1,14 +1,15 @@
 ghost use Rattle.std.specs.Prelude.{◌≡◌, ◌++◌, ℕ, List, [], Some, IfOk, IfErr, IfSome, OnErr, OnOk, OnSome, false, is_some, IsSome};
 ghost use Rattle.clock_http.specs.Framing.{needs_more};
 ghost use Rattle.clock_http.specs.Shown.{IsFramed};
+ghost use Rattle.clock_connections.specs.declared.connections.HubFault.TheVariants as faults;
 ghost use Rattle.clock_connections.specs.Connections.{text_of, IsConnected, IsConnectFault, IsTaken, IsGone};
 
-use crate::hub_fault::HubFault;
 use clock_device::NoMemory;
 use clock_http::{Arriving, Framing};
 use slab::Slab;
 use std::alloc::Global;
 use std::marker::Model;
+use thiserror::Error;
 
 /// The most connections that stand at once.
 const MOST_CONNECTIONS: usize = 256;
@@ -33,6 +34,29 @@ impl Model for Partial {
     ghost Value = { OpenConnection };
 
     ghost view = { λ p. record { serial = p.serial; text = p.text } };
+}
+
+/// Why a connection was not made, or a piece not taken. Nothing has changed.
+///
+/// - `Full`: 256 connections stand, or the serial numbers have come to their end.
+/// - `NoMemory`: there was no memory.
+/// - `Unknown`: the connection does not stand: it is another hub's, or its request was answered.
+#[derive(Clone, Copy, Debug, PartialEq, Eq, Error)]
+pub enum HubFault {
+    #[error("no more connections")]
+    Full,
+    #[error("out of memory")]
+    NoMemory,
+    #[error("no such connection")]
+    Unknown,
+}
+
+impl From<NoMemory> for HubFault {
+    ghost from_gives = { λ _ fault. fault ≡ faults.NoMemory };
+
+    fn from(_e: NoMemory) -> HubFault {
+        HubFault::NoMemory
+    }
 }
 
 /// The connections that stand, each with its request on its way.

@@ -7,9 +7,7 @@
 mod arrival;
 mod connections;
 mod event;
-mod hub_fault;
 
 pub use arrival::{Unread, read_request};
-pub use connections::{Conn, Connections};
+pub use connections::{Conn, Connections, HubFault};
 pub use event::Event;
-pub use hub_fault::HubFault;

@@ -1,5 +1,5 @@
--- A closing that was prepared is the closing that was asked for; what is told of a first fault; what is no command.
-use Rattle.std.proofs.Common.{◌≡◌, ℕ, List, Option, Result, Ok, Err, refl, sym, ◌∙◌, ap, subst}
+-- A closing that was prepared is the closing that was asked for; and what is no command.
+use Rattle.std.proofs.Common.{◌≡◌, ℕ, List, Option, Result, refl, sym, ◌∙◌, ap, subst}
 use Rattle.clock_terms.specs.Limits.{SetupFields}
 use Rattle.clock_terms.specs.declared.increments.Increments.{Increments}
 use Rattle.clock_bids.specs.declared.sheet.Bid.{Bid}
@@ -9,11 +9,7 @@ use Rattle.clock_closing.specs.declared.closed_round.ClosedRound.{ClosedRound}
 use Rattle.clock_closing.specs.declared.fault.CloseFault.{CloseFault}
 use Rattle.clock_house.specs.House.{HouseFields, IsUnchanged, IsFollowedBy, StandsStill, closing_in}
 use Rattle.clock_house.specs.Prepared.{PreparedClosing, FitsClosing}
-use Rattle.std.specs.Prelude.{IfOk, OnOk}
-use Rattle.clock_closing.specs.declared.fault.CloseFault.TheVariants.{NoMemory}
-use Rattle.clock_views.specs.Refusals.{shown_close}
-use Rattle.clock_http.specs.Replies.{Answer}
-use Rattle.clock_front.specs.Outcomes.{Outcome, close_outcome, done, refused, answer_of}
+use Rattle.clock_front.specs.Outcomes.{close_outcome, done}
 use Rattle.clock_views.specs.OperatorPages.{closed_value}
 
 abbrev closing_by : ℕ → Increments → List Tie → SetupFields → List ClosedRound → List (Option (List Bid)) → Result ClosedRound CloseFault
@@ -54,12 +50,6 @@ closing_followed prepared old mid new round increments ties r i t still followed
     still_then (close round increments ties) old mid new still
     (subst (followed_by mid new round increments) t
     (subst (λ list. followed_by mid new round list prepared.ties) i (subst (λ n. followed_by mid new n prepared.increments prepared.ties) r followed)))
-
--- what is told of a fault is told of what has it as its first
-pub told_of_first : {N Known X : Type 0} (of : X → Outcome) (told : Result Answer N) (first fault : X) → OnOk told Known → (Known → first ≡ fault)
-    → IfOk told (λ reply. reply ≡ answer_of (of fault)) → IfOk told (λ reply. reply ≡ answer_of (of first))
-told_of_first of (Ok reply) first fault known is told = told ∙ ap (λ x. answer_of (of x)) (sym (is known))
-told_of_first of (Err e) first fault known is told = tt
 
 -- ---- what is no command
 

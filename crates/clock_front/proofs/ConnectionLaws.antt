@@ -6,8 +6,8 @@ use Rattle.clock_connections.specs.declared.connections.Conn.{Conn}
 use Rattle.clock_connections.specs.Connections.{ConnectionFields, IsTaken}
 use Rattle.clock_connections.specs.inside.Waiting.{AllNeedMore}
 use Rattle.clock_connections.proofs.WaitingLaws.{keeps_waiting, waits_with, waits_no_more}
-use Rattle.clock_front.specs.declared.hub.fed.Fed.{Fed}
-use Rattle.clock_front.specs.declared.hub.fed.Fed.TheVariants.{More, Reply}
+use Rattle.clock_front.specs.declared.hub.Fed.{Fed}
+use Rattle.clock_front.specs.declared.hub.Fed.TheVariants.{More, Reply}
 use Rattle.clock_front.specs.Hubs.{HubFields, IsAnswered, IsFed}
 use Rattle.clock_front.specs.inside.Hubs.{hub_of}
 

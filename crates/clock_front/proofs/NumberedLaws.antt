@@ -7,7 +7,7 @@ use Rattle.clock_connections.specs.Connections.{text_of}
 use Rattle.clock_connections.specs.Pieces.{Numbered, text_at}
 use Rattle.clock_connections.specs.inside.Numbers.{if_standing, conn_at, Stands}
 use Rattle.clock_connections.proofs.NumberLaws.{taken_stands, gone_stands, standing_text}
-use Rattle.clock_front.specs.declared.hub.fed.Fed.TheVariants.{More, Reply}
+use Rattle.clock_front.specs.declared.hub.Fed.TheVariants.{More, Reply}
 use Rattle.clock_front.specs.Hubs.{HubFields, IsFed, IsAnswered}
 
 -- what is told of what was done

@@ -1,13 +1,11 @@
 -- What a right answer tells, it tells by the bidder's view alone.
-use Rattle.std.proofs.Common.{◌≡◌, ◌≢◌, ℕ, ◌<◌, List, length, Some, None, Result, Ok, Err, sym, ◌∙◌, ap}
-use Rattle.std.specs.Prelude.{IfOk, IfErr, OnOk}
+use Rattle.std.proofs.Common.{◌≡◌, ℕ, ◌<◌, List, length, Some, None, Result, Ok, Err, sym, ◌∙◌, ap}
+use Rattle.std.specs.Prelude.{IfOk, IfErr}
 use Rattle.clock_terms.specs.Limits.{IsSetup, public_setup}
-use Rattle.clock_terms.specs.Faults.{IsFirstFault}
 use Rattle.clock_house.specs.History.{bidder_at}
 use Rattle.clock_house.specs.House.{HouseFields, ToView}
 use Rattle.clock_house.specs.View.{seen_put_fault}
 use Rattle.clock_house.specs.declared.fault.PutFault.{PutFault}
-use Rattle.clock_house.specs.declared.fault.PutFault.TheVariants.{NoMemory}
 use Rattle.clock_views.specs.Refusals.{Shown, shown_put}
 use Rattle.clock_front.specs.Askers.{asker}
 use Rattle.clock_front.specs.inside.Askers.{IsKnown}
@@ -97,18 +95,10 @@ unfolding known_outcome
 accepted_by_view house bidder sent answer seen is =
     λ commands stands. is ∙ ap (λ fault. answer_of (put_outcome sent fault)) (sym (seen commands stands))
 
-refused_answer : (house : HouseFields) (bidder : ℕ) (sent : PutBody) (fault : PutFault) (answer : Answer)
+-- the answer to a sheet that is not put in force
+pub refused_by_view : (house : HouseFields) (bidder : ℕ) (sent : PutBody) (fault : PutFault) (answer : Answer)
     → ToView house bidder (λ view. seen_put_fault (public_setup house.setup) (bidder_at house.setup bidder) view sent.round sent.bids ≡ Some fault)
     → answer ≡ answer_of (refused (shown_put fault)) → IsToldByView house bidder (put (Ok sent)) answer
 unfolding known_outcome
-refused_answer house bidder sent fault answer seen is =
+refused_by_view house bidder sent fault answer seen is =
     λ commands stands. is ∙ ap (λ first. answer_of (put_outcome sent first)) (sym (seen commands stands))
-
--- the answer to a sheet that is not put in force
-pub refused_by_view : {N : Type 0} (told : Result Answer N) (house : HouseFields) (bidder : ℕ) (sent : PutBody) (fault : PutFault)
-    → ToView house bidder (λ view. IsFirstFault NoMemory
-    (seen_put_fault (public_setup house.setup) (bidder_at house.setup bidder) view sent.round sent.bids) fault)
-    → IfOk told (λ reply. reply ≡ answer_of (refused (shown_put fault))) → OnOk told (fault ≢ NoMemory) → IfOk told (IsToldByView house bidder (put (Ok sent)))
-refused_by_view (Ok reply) house bidder sent fault seen is known =
-    refused_answer house bidder sent fault reply (λ commands stands. seen commands stands known) is
-refused_by_view (Err e) house bidder sent fault seen is known = tt

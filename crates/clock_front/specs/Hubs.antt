@@ -6,14 +6,14 @@ use Rattle.std.specs.Prelude.{◌≡◌, ◌⊎◌, ℕ, true, false, List, Opti
 use Rattle.clock_house.specs.House.{HouseFields}
 use Rattle.clock_connections.specs.Connections.{ConnectionFields, IsTaken, IsGone}
 use Rattle.clock_connections.specs.declared.connections.Conn.{Conn}
-use Rattle.clock_connections.specs.declared.hub_fault.HubFault.{HubFault}
-use Rattle.clock_connections.specs.declared.hub_fault.HubFault.TheVariants.{Full, NoMemory, Unknown}
+use Rattle.clock_connections.specs.declared.connections.HubFault.{HubFault}
+use Rattle.clock_connections.specs.declared.connections.HubFault.TheVariants.{Full, NoMemory, Unknown}
 use Rattle.clock_http.specs.Framing.{needs_more}
 use Rattle.clock_http.specs.Replies.{Answer}
 use Rattle.clock_front.specs.Fronts.{AnswersText, IsStruckOut}
 use Rattle.clock_front.specs.Private.{IsPrivateReply}
-use Rattle.clock_front.specs.declared.hub.fed.Fed.{Fed}
-use Rattle.clock_front.specs.declared.hub.fed.Fed.TheVariants.{More, Reply}
+use Rattle.clock_front.specs.declared.hub.Fed.{Fed}
+use Rattle.clock_front.specs.declared.hub.Fed.TheVariants.{More, Reply}
 
 -- the house of the front, and the connections
 pub record HubFields : Type 0 where

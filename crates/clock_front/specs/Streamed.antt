@@ -13,8 +13,8 @@ use Rattle.clock_front.specs.Private.{IsPrivateReply}
 use Rattle.clock_device.specs.Told.{Reading, Writing}
 use Rattle.clock_device.specs.Writings.{WritesWhole, WritesFront, WritesNothing}
 use Rattle.clock_connections.specs.Arrivals.{HasArrived, IsNotRead, HasNoRoom}
-use Rattle.clock_front.specs.declared.stream.fault.StreamFault.{StreamFault}
-use Rattle.clock_front.specs.declared.stream.fault.StreamFault.TheVariants as fault
+use Rattle.clock_front.specs.declared.stream.StreamFault.{StreamFault}
+use Rattle.clock_front.specs.declared.stream.StreamFault.TheVariants as fault
 
 -- a read failed or all were made, and the front is as it was
 abbrev pub IsLeftUnread : Reading → HouseFields → HouseFields → Type 0

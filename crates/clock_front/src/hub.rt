@@ -3,19 +3,24 @@ ghost use Rattle.clock_front.specs.Fronts.{IsCutShort};
 ghost use Rattle.clock_http.specs.Framing.{needs_more};
 ghost use Rattle.clock_connections.specs.Connections.{text_of, IsConnected, IsConnectFault};
 ghost use Rattle.clock_front.specs.Hubs.{IsFed, IsFeedFault, IsAnswered, IsFinishFault};
-ghost use Rattle.clock_front.specs.declared.hub.fed.Fed.TheVariants as fed;
 ghost use Rattle.clock_front.specs.inside.Hubs.{hub_of};
-
-mod fed;
 
 use crate::front::Front;
 use clock_connections::{Conn, Connections, HubFault};
 use clock_device::NoMemory;
 use clock_http::Reply;
 use clock_processor::Processor;
-pub use fed::Fed;
 use std::alloc::Global;
 use std::marker::Model;
+
+/// What a piece has led to.
+#[derive(Drop)]
+pub enum Fed {
+    /// The request needs more, and its connection stands.
+    More,
+    /// The request was answered, and its connection is gone.
+    Reply(Reply),
+}
 
 /// A front whose requests come in pieces over connections that stand at once.
 ///
@@ -62,7 +67,7 @@ fn complete_with<P: Processor>(
     requires { IsSome (text_of connections.old conn) }
     ensures fed { (text : List ℕ) → text_of connections.old conn ≡ Some text
         → IfSome result (λ reply. IsFed (hub_of front.old connections.old) (hub_of front.new connections.new) conn
-        (text ++ piece.now) (fed.Reply reply)) }
+        (text ++ piece.now) (Fed.Reply reply)) }
     ensures front { IfNone result (front.new ≡ front.old) }
     ensures connections { IfNone result (connections.new ≡ connections.old) }
 {
@@ -108,7 +113,7 @@ impl<P: Processor> Hub<P> {
         Ok(Fed::Reply(complete(&mut self.front, &mut self.connections, conn)))
     }
 
-    /// The same of more than one byte. It stands apart, so that what a single byte costs stays small.
+    /// The same of a piece that is not one byte. It stands apart, so that what a single byte costs stays small.
     #[inline(never)]
     fn feed_piece(&mut self, conn: Conn, piece: &[u8]) -> Result<Fed, NoMemory>
         requires { IsSome (text_of self.old.connections conn) }

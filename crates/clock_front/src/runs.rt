@@ -3,7 +3,6 @@ ghost use Rattle.clock_front.specs.Fronts.{StandsForTexts};
 ghost use Rattle.clock_front.specs.Headline.{IsRun, IsEventRun};
 ghost use Rattle.clock_connections.specs.inside.Numbers.{Stands};
 
-mod events;
 mod numbered;
 
 use crate::front::Front;
@@ -13,11 +12,17 @@ use clock_device::{Items, NoMemory, Text};
 use clock_http::Reply;
 use clock_processor::Processor;
 use clock_terms::Setup;
-pub use events::EventReply;
 use std::alloc::Global;
 
 /// Replies in the order of their requests.
 pub type Replies = Items<Reply>;
+
+/// The reply to the request of the connection of a number.
+#[derive(Drop)]
+pub struct EventReply {
+    pub number: u64,
+    pub reply: Reply,
+}
 
 /// Replies in the order in which their requests were complete.
 pub type EventReplies = Items<EventReply>;

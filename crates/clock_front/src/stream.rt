@@ -4,15 +4,28 @@ ghost use Rattle.clock_connections.specs.Arrivals.{most_request_reads};
 ghost use Rattle.clock_front.specs.Fronts.{StandsForTexts};
 ghost use Rattle.clock_front.specs.Streamed.{HasServed, IsServed};
 
-mod fault;
-
 use crate::front::{Front, no_memory_reply};
 use clock_connections::{Unread, read_request};
 use clock_device::{Sink, Source, write_all};
 use clock_http::Code;
 use clock_processor::Processor;
-pub use fault::StreamFault;
 use std::alloc::Global;
+use thiserror::Error;
+
+/// Why a stream was not served.
+///
+/// `Read`: a read failed, or 2,000,000 reads were made and the request was not whole. Nothing was answered and nothing
+/// written.
+///
+/// `Write`: a write failed, was interrupted or took no byte. The request took effect as its code says, and a front of
+/// its reply may have been written.
+#[derive(Clone, Copy, Debug, PartialEq, Eq, Error)]
+pub enum StreamFault {
+    #[error("the request could not be read")]
+    Read,
+    #[error("the reply could not be written")]
+    Write(Code),
+}
 
 /// Reads one request, answers it, and writes its reply. What the request did is told by the code of the reply.
 ///

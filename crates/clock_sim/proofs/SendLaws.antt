@@ -12,8 +12,8 @@ use Rattle.clock_http.specs.Replies.{Answer}
 use Rattle.clock_front.specs.Requests.{Request, request_of, ask_of}
 use Rattle.clock_front.specs.Hubs.{HubFields, IsFed, IsAnswered}
 use Rattle.clock_connections.specs.declared.connections.Conn.{Conn}
-use Rattle.clock_connections.specs.declared.hub_fault.HubFault.{HubFault}
-use Rattle.clock_front.specs.declared.hub.fed.Fed.TheVariants.{More}
+use Rattle.clock_connections.specs.declared.connections.HubFault.{HubFault}
+use Rattle.clock_front.specs.declared.hub.Fed.TheVariants.{More}
 
 -- a piece came, and then the input ended
 pub ended_after : (old mid new : HubFields) (conn : Conn) (text : List ℕ) (reply : Answer) → IsFed old mid conn text More → IsAnswered mid new conn text reply

@@ -4,7 +4,7 @@
 --     kept replies told      replies with one more, if there is one
 use Rattle.std.specs.Prelude.{ℕ, ◌++◌, List, [], ◌∷◌, map, Option, Some, None}
 use Rattle.clock_http.specs.Replies.{Answer}
-use Rattle.clock_front.specs.declared.runs.events.EventReply.{EventReply}
+use Rattle.clock_front.specs.declared.runs.EventReply.{EventReply}
 
 -- the number of each request's connection
 abbrev pub numbers_of_requests : List (ℕ × List ℕ) → List ℕ

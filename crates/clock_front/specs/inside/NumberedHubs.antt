@@ -3,7 +3,7 @@
 use Rattle.std.specs.Prelude.{◌≡◌, ℕ, List, Option, Some, None}
 use Rattle.clock_house.specs.House.{HouseFields}
 use Rattle.clock_front.specs.Fronts.{AnswersText}
-use Rattle.clock_front.specs.declared.runs.events.EventReply.{EventReply}
+use Rattle.clock_front.specs.declared.runs.EventReply.{EventReply}
 
 -- a request, if an event completes one, is answered under its number; otherwise the house is as it was
 abbrev pub HasCompleted : Option (ℕ × List ℕ) → HouseFields → HouseFields → Option EventReply → Type 0

@@ -5,7 +5,7 @@ ghost use Rattle.clock_house.specs.House.{put_fault_in, closing_in, IsFollowedBy
 ghost use Rattle.clock_house.specs.Command as command;
 ghost use Rattle.clock_bodies.specs.Bodies.{put_body};
 ghost use Rattle.clock_bodies.specs.CloseBodies.{close_body, in_version};
-ghost use Rattle.clock_front.specs.Outcomes.{answer_of, body_code, close_outcome, command_of, done, outcome, put_outcome, refused as told_refused};
+ghost use Rattle.clock_front.specs.Outcomes.{answer_of, body_code, close_outcome, command_of, done, outcome, put_outcome, refused};
 ghost use Rattle.clock_front.specs.Rooms.{WantsRoom};
 ghost use Rattle.clock_front.specs.inside.Askers.{IsKnown};
 ghost use Rattle.clock_front.specs.inside.Private.{IsToldByView};
@@ -27,21 +27,14 @@ use clock_terms::Setup;
 use clock_views::{Refusal, accepted_room, closed_room, push_accepted_page, push_closed_page};
 use std::alloc::Global;
 
-/// A refusal of a change.
-fn refused(alloc: Global, why: Refusal) -> Result<Reply, NoMemory>
-    ensures { IfOk result (λ reply. reply ≡ answer_of (told_refused why)) }
-{
-    Ok(refusal(alloc, why)?)
-}
-
 /// A refusal of a body for its fault, unless that is want of memory.
 fn refused_body(alloc: Global, fault: BodyFault) -> Result<Reply, NoMemory>
-    ensures reply { IfOk result (λ reply. reply ≡ answer_of (told_refused (alone (body_code fault)))) }
+    ensures reply { IfOk result (λ reply. reply ≡ answer_of (refused (alone (body_code fault)))) }
     ensures known { OnOk result (fault ≢ BodyFault.NoMemory) }
 {
     match fault {
-        BodyFault::NotJson => refused(alloc, Refusal::alone(Code::BadJson)),
-        BodyFault::Shape => refused(alloc, Refusal::alone(Code::Shape)),
+        BodyFault::NotJson => Ok(refusal(alloc, Refusal::alone(Code::BadJson))?),
+        BodyFault::Shape => Ok(refusal(alloc, Refusal::alone(Code::Shape))?),
         BodyFault::NoMemory => Err(NoMemory),
     }
 }
@@ -82,7 +75,7 @@ fn put_sheet<P: Processor>(
             }
         },
         Err(PutFault::NoMemory) => Err(NoMemory),
-        Err(fault) => refused(alloc, Refusal::from(fault)),
+        Err(fault) => Ok(refusal(alloc, Refusal::from(fault))?),
     }
 }
 
@@ -95,8 +88,10 @@ pub(crate) fn answer_put<P: Processor>(
 ) -> Result<Reply, Unanswered>
     requires { IsKnown (length house.old.setup.bidders) asker }
     ensures reply { IfOk result (λ reply. reply ≡ answer_of (outcome house.old asker (asked.put (put_body body.now)))) }
-    ensures wanted { IfErr result (WantsRoom asker (asked.put (put_body body.now)) (outcome house.old asker (asked.put (put_body body.now)))) }
-    ensures followed { OnOk result (IsFollowedBy (command_of house.old.setup asker (asked.put (put_body body.now))) house.old house.new) }
+    ensures wanted { IfErr result (WantsRoom asker (asked.put (put_body body.now))
+        (outcome house.old asker (asked.put (put_body body.now)))) }
+    ensures followed { OnOk result (IsFollowedBy (command_of house.old.setup asker (asked.put (put_body body.now)))
+        house.old house.new) }
     ensures still { OnErr result (StandsStill house.old house.new) }
 {
     match bidder_of(asker) {
@@ -141,7 +136,7 @@ fn close_round<P: Processor>(
             }
         },
         Err(CloseFault::NoMemory) => Err(NoMemory),
-        Err(why) => refused(alloc, Refusal::from(why)),
+        Err(why) => Ok(refusal(alloc, Refusal::from(why))?),
     }
 }
 
@@ -166,9 +161,12 @@ pub(crate) fn answer_close<P: Processor>(
     asker: Asker,
     body: &[u8],
 ) -> Result<Reply, Unanswered>
-    ensures reply { IfOk result (λ reply. reply ≡ answer_of (outcome house.old asker (asked.close (close_body body.now)))) }
-    ensures wanted { IfErr result (WantsRoom asker (asked.close (close_body body.now)) (outcome house.old asker (asked.close (close_body body.now)))) }
-    ensures followed { OnOk result (IsFollowedBy (command_of house.old.setup asker (asked.close (close_body body.now))) house.old house.new) }
+    ensures reply { IfOk result (λ reply. reply
+        ≡ answer_of (outcome house.old asker (asked.close (close_body body.now)))) }
+    ensures wanted { IfErr result (WantsRoom asker (asked.close (close_body body.now))
+        (outcome house.old asker (asked.close (close_body body.now)))) }
+    ensures followed { OnOk result (IsFollowedBy (command_of house.old.setup asker (asked.close (close_body body.now)))
+        house.old house.new) }
     ensures still { OnErr result (StandsStill house.old house.new) }
 {
     match operator_of(asker) {

@@ -4,7 +4,6 @@ ghost use Rattle.std.specs.Prelude.{◌≡◌, ◌<◌, ℕ, length, IfOk, IfErr
 ghost use Rattle.clock_front.specs.inside.Askers.{IsKnown};
 ghost use Rattle.clock_front.specs.Outcomes.{Outcome, answer_of, outcome, refused, to_bidder, to_operator};
 ghost use Rattle.clock_front.specs.Rooms.{refusal_room, reply_room};
-ghost use Rattle.clock_front.specs.declared.front.unanswered.Unanswered.TheVariants as unanswered;
 ghost use Rattle.clock_front.specs.inside.ShownAsked.{shown_reading};
 ghost use Rattle.clock_front.specs.inside.KeptPage.{IsProductsPage};
 
@@ -48,7 +47,7 @@ pub(crate) fn operator_of(asker: Asker) -> Result<(), Refusal>
 /// The refusal of a request that changes nothing.
 pub(crate) fn turn_away(alloc: Global, why: Refusal) -> Result<Reply, Unanswered>
     ensures reply { IfOk result (λ reply. reply ≡ answer_of (refused why)) }
-    ensures wanted { IfErr result (λ wanted. wanted ≡ unanswered.Room refusal_room) }
+    ensures wanted { IfErr result (λ wanted. wanted ≡ Unanswered.Room refusal_room) }
 {
     Ok(refusal(alloc, why)?)
 }

@@ -1,3 +1,6 @@
+ghost use Rattle.std.specs.Prelude.{◌≡◌};
+ghost use Rattle.clock_front.specs.declared.front.unanswered.Unanswered.TheVariants as unanswered;
+
 use clock_device::NoMemory;
 use clock_http::NoRoom;
 
@@ -11,9 +14,6 @@ pub enum Unanswered {
 }
 
 impl From<NoRoom> for Unanswered {
-    ghost use Rattle.std.specs.Prelude.{◌≡◌};
-    ghost use Rattle.clock_front.specs.declared.front.unanswered.Unanswered.TheVariants as unanswered;
-
     ghost from_gives = { λ refused why. why ≡ unanswered.Room refused };
 
     fn from(refused: NoRoom) -> Unanswered {
@@ -22,9 +22,6 @@ impl From<NoRoom> for Unanswered {
 }
 
 impl From<NoMemory> for Unanswered {
-    ghost use Rattle.std.specs.Prelude.{◌≡◌};
-    ghost use Rattle.clock_front.specs.declared.front.unanswered.Unanswered.TheVariants as unanswered;
-
     ghost from_gives = { λ _ why. why ≡ unanswered.Change };
 
     fn from(_refused: NoMemory) -> Unanswered {

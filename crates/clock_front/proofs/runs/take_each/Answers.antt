@@ -3,7 +3,7 @@ use Rattle.clock_terms.specs.Limits.{SetupFields, IsSetup}
 use Rattle.clock_house.specs.History.{history}
 use Rattle.clock_house.specs.House.{HouseFields}
 use Rattle.clock_house.specs.Laws.{IsSound}
-use Rattle.clock_front.specs.declared.runs.events.EventReply.{EventReply}
+use Rattle.clock_front.specs.declared.runs.EventReply.{EventReply}
 use Rattle.clock_front.specs.inside.EventRuns.{kept}
 use Rattle.clock_front.proofs.EventLaws.{IsOnItsWay, begins, goes_on, ends}
 use Rattle.clock_front.proofs.runs.take_each.Goals as goal

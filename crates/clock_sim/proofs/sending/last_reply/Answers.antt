@@ -1,8 +1,8 @@
 use Rattle.std.proofs.Common.{◌≡◌, ◌++◌, ℕ, List, Some, subst}
 use Rattle.clock_connections.specs.Connections.{text_of}
 use Rattle.clock_front.specs.Hubs.{IsFed}
-use Rattle.clock_front.specs.declared.hub.fed.Fed.{Fed}
-use Rattle.clock_front.specs.declared.hub.fed.Fed.TheVariants.{More}
+use Rattle.clock_front.specs.declared.hub.Fed.{Fed}
+use Rattle.clock_front.specs.declared.hub.Fed.TheVariants.{More}
 use Rattle.clock_sim.proofs.SendLaws.{answered_at_end}
 use Rattle.clock_sim.proofs.sending.last_reply.Goals as goal
 

@@ -3,8 +3,8 @@ use Rattle.clock_house.specs.House.{HouseFields}
 use Rattle.clock_front.specs.Fronts.{AnswersText}
 use Rattle.clock_connections.specs.Connections.{text_of}
 use Rattle.clock_front.specs.Hubs.{IsFed}
-use Rattle.clock_front.specs.declared.hub.fed.Fed.{Fed}
-use Rattle.clock_front.specs.declared.hub.fed.Fed.TheVariants.{Reply}
+use Rattle.clock_front.specs.declared.hub.Fed.{Fed}
+use Rattle.clock_front.specs.declared.hub.Fed.TheVariants.{Reply}
 use Rattle.clock_sim.proofs.SendLaws.{answered_early}
 use Rattle.clock_sim.proofs.StepLaws.{sent}
 use Rattle.clock_sim.proofs.sending.send.Goals as goal

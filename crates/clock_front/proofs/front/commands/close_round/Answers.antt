@@ -1,8 +1,11 @@
-use Rattle.std.proofs.Common.{Bool, Err, ap, sym, ◌∙◌, rules}
+use Rattle.std.proofs.Common.{Bool, List, Result, ap, sym, ◌∙◌, rules}
+use Rattle.clock_order.specs.declared.ties.Tie.{Tie}
+use Rattle.clock_closing.specs.declared.closed_round.ClosedRound.{ClosedRound}
+use Rattle.clock_closing.specs.declared.fault.CloseFault.{CloseFault}
 use Rattle.clock_house.specs.House.{closing_in}
 use Rattle.clock_views.specs.OperatorPages.{closed_value}
 use Rattle.clock_front.specs.Outcomes.{answer_of, close_outcome, done}
-use Rattle.clock_front.proofs.ChangeLaws.{closed_outcome, closing_followed, told_of_first}
+use Rattle.clock_front.proofs.ChangeLaws.{closed_outcome, closing_followed}
 use Rattle.clock_front.proofs.front.commands.close_round.Goals as goal
 
 pub returns-in-Ok-closed-clause-reply : goal.returns-in-Ok-closed-clause-reply
@@ -21,10 +24,9 @@ returns-in-Ok-closed-clause-followed g c =
     closing_followed c.in-Ok.settled c.args.house.now c.prepare.new.self c.commit.new.self closing.round closing.increments closing.ties
     asked.0 asked.1 (asked.2 ∙ c.as_slice.ensures) c.in-Ok.ensures.stands c.commit.ensures.followed
 
-pub returns-in-Err-clause-reply : goal.returns-in-Err-clause-reply
-returns-in-Err-clause-reply g c =
+pub returns-in_ok-refusal-in-Err-clause-reply : goal.returns-in_ok-refusal-in-Err-clause-reply
+returns-in_ok-refusal-in-Err-clause-reply g c =
     let closing = c.args.closing.now in
-    told_of_first (close_outcome closing.round) c.refused.result (closing_in c.args.house.now closing.round closing.increments closing.ties)
-    (Err c.in-Err.why) (search rules)
-    (λ known. sym (ap (closing_in c.args.house.now closing.round closing.increments) c.as_slice.ensures) ∙ c.in-Err.ensures.answer known)
-    (rw c.from.ensures at c.refused.ensures)
+    (rw c.from.ensures at c.in_ok-refusal-in-Err.ensures.reply)
+    ∙ ap (λ (first : Result ClosedRound CloseFault). answer_of (close_outcome closing.round first)) (sym (c.in-Err.ensures.answer (search rules)))
+    ∙ ap (λ (ties : List Tie). answer_of (close_outcome closing.round (closing_in c.args.house.now closing.round closing.increments ties))) c.as_slice.ensures

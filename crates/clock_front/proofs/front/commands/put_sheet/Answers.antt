@@ -1,11 +1,10 @@
-use Rattle.std.proofs.Common.{ℕ, Option, Some, length, ap, subst, sym, ◌∙◌, rules}
+use Rattle.std.proofs.Common.{ℕ, Option, length, ap, subst, sym, ◌∙◌, rules}
 use Rattle.clock_house.specs.Command.{put}
-use Rattle.clock_house.specs.House.{IsFollowedBy, put_fault_in}
+use Rattle.clock_house.specs.House.{IsFollowedBy}
 use Rattle.clock_house.specs.Prepared.{PreparedSheet}
 use Rattle.clock_house.specs.declared.fault.PutFault.{PutFault}
 use Rattle.clock_views.specs.BidderPages.{accepted_value}
 use Rattle.clock_front.specs.Outcomes.{answer_of, done, put_outcome}
-use Rattle.clock_front.proofs.ChangeLaws.{told_of_first}
 use Rattle.clock_front.proofs.PrivateLaws.{accepted_by_view, refused_by_view}
 use Rattle.clock_front.proofs.front.commands.put_sheet.Goals as goal
 
@@ -27,13 +26,12 @@ returns-in-Ok-accepted-clause-followed g c =
     subst (λ (made : PreparedSheet). IsFollowedBy (put made.bidder made.round made.bids) c.args.house.now c.commit_put.new.self)
     c.in-Ok.ensures.asked c.commit_put.ensures.followed
 
-pub returns-in-Err-clause-reply : goal.returns-in-Err-clause-reply
-returns-in-Err-clause-reply g c =
-    let sheet = c.args.sheet in
-    told_of_first (put_outcome sheet) c.refused.result (put_fault_in c.args.house.now c.args.bidder sheet.round sheet.bids) (Some c.in-Err.fault)
-    (search rules) c.in-Err.ensures.answer (rw c.from.ensures at c.refused.ensures)
+pub returns-in_ok-refusal-in-Err-clause-reply : goal.returns-in_ok-refusal-in-Err-clause-reply
+returns-in_ok-refusal-in-Err-clause-reply g c =
+    (rw c.from.ensures at c.in_ok-refusal-in-Err.ensures.reply)
+    ∙ ap (λ (first : Option PutFault). answer_of (put_outcome c.args.sheet first)) (sym (c.in-Err.ensures.answer (search rules)))
 
-pub returns-in-Err-clause-private : goal.returns-in-Err-clause-private
-returns-in-Err-clause-private g c =
-    refused_by_view c.refused.result c.args.house.now c.args.bidder c.args.sheet c.in-Err.fault c.in-Err.ensures.seen
-    (rw c.from.ensures at c.refused.ensures) (search rules)
+pub returns-in_ok-refusal-in-Err-clause-private : goal.returns-in_ok-refusal-in-Err-clause-private
+returns-in_ok-refusal-in-Err-clause-private g c =
+    refused_by_view c.args.house.now c.args.bidder c.args.sheet c.in-Err.fault _ (λ commands stands. c.in-Err.ensures.seen commands stands (search rules))
+    (rw c.from.ensures at c.in_ok-refusal-in-Err.ensures.reply)

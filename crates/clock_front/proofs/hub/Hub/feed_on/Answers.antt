@@ -1,7 +1,7 @@
 use Rattle.std.proofs.Common.{◌≡◌, ◌++◌, Some, IsSome, is_some, refl, sym, ◌∙◌, ap, subst, rules}
 use Rattle.clock_connections.specs.Connections.{text_of}
 use Rattle.clock_connections.proofs.WaitingLaws.{keeps_waiting, waits_no_more}
-use Rattle.clock_front.specs.declared.hub.fed.Fed.TheVariants.{More, Reply}
+use Rattle.clock_front.specs.declared.hub.Fed.TheVariants.{More, Reply}
 use Rattle.clock_front.specs.Hubs.{HubFields, IsFed}
 use Rattle.clock_front.specs.inside.Hubs.{hub_of}
 use Rattle.clock_front.proofs.ConnectionLaws.{some_text, fed_and_answered, fed_keeps}

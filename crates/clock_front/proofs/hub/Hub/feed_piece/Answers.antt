@@ -1,6 +1,6 @@
 use Rattle.std.proofs.Common.{◌≡◌, ◌++◌, Some, IsSome, IfOk, sym, ◌∙◌, ap, subst, rules}
 use Rattle.clock_connections.specs.Connections.{text_of}
-use Rattle.clock_front.specs.declared.hub.fed.Fed.TheVariants.{Reply}
+use Rattle.clock_front.specs.declared.hub.Fed.TheVariants.{Reply}
 use Rattle.clock_front.specs.Hubs.{HubFields, IsFed}
 use Rattle.clock_front.specs.inside.Hubs.{hub_of}
 use Rattle.clock_front.proofs.ConnectionLaws.{some_text, fed_keeps}

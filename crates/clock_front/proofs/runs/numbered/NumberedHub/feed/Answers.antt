@@ -1,6 +1,6 @@
 use Rattle.std.proofs.Common.{◌≡◌, ◌++◌, ℕ, List, Some, refl, sym, subst}
-use Rattle.clock_front.specs.declared.hub.fed.Fed.{Fed}
-use Rattle.clock_front.specs.declared.hub.fed.Fed.TheVariants.{More, Reply}
+use Rattle.clock_front.specs.declared.hub.Fed.{Fed}
+use Rattle.clock_front.specs.declared.hub.Fed.TheVariants.{More, Reply}
 use Rattle.clock_connections.specs.Connections.{text_of}
 use Rattle.clock_front.specs.Hubs.{IsFed}
 use Rattle.clock_connections.specs.Pieces.{text_at}
