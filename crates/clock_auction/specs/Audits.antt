@@ -19,8 +19,8 @@ use Rattle.clock_commands.specs.declared.fault.Fault.{Fault}
 use Rattle.clock_journal.specs.Format.{head_length, link}
 use Rattle.clock_journal.specs.Reading.{onto}
 use Rattle.clock_journal.specs.Recovering.{IsPlaced, IsRefusal, IsRefusedRightly}
-use Rattle.clock_journal.specs.declared.fault.JournalFault.{JournalFault}
-use Rattle.clock_journal.specs.declared.recovered.Recovered.{Recovered}
+use Rattle.clock_journal.specs.declared.recovery.JournalFault.{JournalFault}
+use Rattle.clock_journal.specs.declared.recovery.Recovered.{Recovered}
 use Rattle.clock_keeping.specs.Keeping.{IsRefused, counted}
 use Rattle.clock_reports.specs.FinalReport.{report_of}
 use Rattle.clock_reports.specs.ReportText.{audit_text}

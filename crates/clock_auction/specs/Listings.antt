@@ -11,9 +11,9 @@ use Rattle.hex.specs.Hex.{encode_lower}
 use Rattle.clock_journal.specs.Format.{before_text, head_length}
 use Rattle.clock_journal.specs.Reading.{onto}
 use Rattle.clock_journal.specs.Recovering.{IsPlaced, IsRefusal}
-use Rattle.clock_journal.specs.declared.fault.JournalFault.{JournalFault}
-use Rattle.clock_journal.specs.declared.fault.JournalFault.TheVariants.{Refused}
-use Rattle.clock_journal.specs.declared.recovered.Recovered.{Recovered}
+use Rattle.clock_journal.specs.declared.recovery.JournalFault.{JournalFault}
+use Rattle.clock_journal.specs.declared.recovery.JournalFault.TheVariants.{Refused}
+use Rattle.clock_journal.specs.declared.recovery.Recovered.{Recovered}
 use Rattle.clock_commands.specs.FaultLines.{of_journal}
 use Rattle.clock_commands.specs.declared.fault.Fault.{Fault}
 use Rattle.clock_keeping.specs.Keeping.{counted}

@@ -8,7 +8,7 @@ use Rattle.clock_terms.specs.Limits.{SetupFields}
 use Rattle.clock_house.specs.House.{HouseFields}
 use Rattle.clock_journal.specs.Kept.{JournalState}
 use Rattle.clock_journal.specs.Recovering.{IsPlaced}
-use Rattle.clock_journal.specs.declared.recovered.Recovered.{Recovered}
+use Rattle.clock_journal.specs.declared.recovery.Recovered.{Recovered}
 use Rattle.clock_keeping.specs.Keeping.{IsInStep, IsTakenUp, counted}
 use Rattle.clock_commands.specs.declared.fault.Fault.{Fault}
 use Rattle.clock_commands.specs.declared.fault.Fault.TheVariants as fault

@@ -11,7 +11,7 @@ use Rattle.clock_journal.specs.Reading.{Next, ended, torn, damaged, whole, marke
 use Rattle.clock_journal.specs.Crash.{ReadsSome, LeavesTexts}
 use Rattle.clock_journal.specs.Recovering.{IsHeaded}
 use Rattle.clock_journal.specs.Laws.{CutLeaves}
-use Rattle.clock_journal.specs.declared.recovered.Recovered.{Recovered}
+use Rattle.clock_journal.specs.declared.recovery.Recovered.{Recovered}
 use Rattle.clock_journal.proofs.Records.{next_none, next_short, next_cut}
 use Rattle.clock_journal.proofs.Fronts.{reads_once, reads_records, ends_stop}
 use Rattle.clock_journal.proofs.Moments.{length-head}

@@ -4,7 +4,7 @@ use Rattle.clock_journal.specs.Disks.{IsCut}
 use Rattle.clock_journal.specs.Format.{head, records}
 use Rattle.clock_journal.specs.Kept.{Keeps}
 use Rattle.clock_journal.specs.Recovering.{IsPlaced}
-use Rattle.clock_journal.specs.declared.recovered.Recovered.{Recovered}
+use Rattle.clock_journal.specs.declared.recovery.Recovered.{Recovered}
 use Rattle.clock_journal.proofs.Moments.{length-head}
 
 -- a file that is cut off at its beginning has no texts

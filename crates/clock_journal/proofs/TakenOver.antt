@@ -9,9 +9,9 @@ use Rattle.clock_journal.specs.Kept.{file_of}
 use Rattle.clock_journal.specs.Crash.{ReadsSome, LeavesTexts}
 use Rattle.clock_journal.specs.inside.Replays.{IsReplayed, IsStopped}
 use Rattle.clock_journal.specs.Recovering.{HasTaken, IsFoundAt, IsHeaded, IsRecovered, IsRefusal, IsRefusedRightly, IsUntaken}
-use Rattle.clock_journal.specs.declared.recovered.Recovered.{Recovered}
-use Rattle.clock_journal.specs.declared.fault.JournalFault.{JournalFault}
-use Rattle.clock_journal.specs.declared.fault.JournalFault.TheVariants.{Unknown, Setup, Damaged, Refused, NoMemory}
+use Rattle.clock_journal.specs.declared.recovery.Recovered.{Recovered}
+use Rattle.clock_journal.specs.declared.recovery.JournalFault.{JournalFault}
+use Rattle.clock_journal.specs.declared.recovery.JournalFault.TheVariants.{Unknown, Setup, Damaged, Refused, NoMemory}
 use Rattle.clock_journal.proofs.Whole.{read_back}
 use Rattle.clock_journal.proofs.Fronts.{reads_once, ends_stop, damage_stops, ends_undamaged}
 use Rattle.clock_journal.proofs.Moments.{length-head}

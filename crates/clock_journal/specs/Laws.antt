@@ -9,7 +9,7 @@ use Rattle.clock_journal.specs.Reading.{Reads, Stops}
 use Rattle.clock_journal.specs.Kept.{file_of}
 use Rattle.clock_journal.specs.Disks.{MayBeLeftOfCut}
 use Rattle.clock_journal.specs.Recovering.{IsPlaced}
-use Rattle.clock_journal.specs.declared.recovered.Recovered.{Recovered}
+use Rattle.clock_journal.specs.declared.recovery.Recovered.{Recovered}
 use Rattle.clock_journal.specs.Crash.{LeavesTexts, BeginsWith}
 
 -- a front of a journal that holds all bytes of its first so many texts leaves these, and further ones in order

@@ -14,9 +14,9 @@ use Rattle.clock_journal.specs.Format.{head, head_length, last_link, AllFit}
 use Rattle.clock_journal.specs.Kept.{file_of}
 use Rattle.clock_journal.specs.Headings.{heading, headed, of_another, unknown}
 use Rattle.clock_journal.specs.Reading.{Reads, Ends, Next, next, damaged, whole, onto}
-use Rattle.clock_journal.specs.declared.recovered.Recovered.{Recovered}
-use Rattle.clock_journal.specs.declared.fault.JournalFault.{JournalFault}
-use Rattle.clock_journal.specs.declared.fault.JournalFault.TheVariants as fault
+use Rattle.clock_journal.specs.declared.recovery.Recovered.{Recovered}
+use Rattle.clock_journal.specs.declared.recovery.JournalFault.{JournalFault}
+use Rattle.clock_journal.specs.declared.recovery.JournalFault.TheVariants as fault
 
 -- whatever the machine stood for, it stands for that and for the first of the texts, so many at least
 pub record HasTaken (old new : List (List ℕ) → Type 0) (texts : List (List ℕ)) (least : ℕ) : Type 0 where

@@ -7,10 +7,8 @@ ghost use Rattle.clock_journal.specs.Kept.{HasTexts};
 ghost use Rattle.clock_journal.specs.Recovering.{IsPlaced};
 
 use crate::durable::Durable;
-use crate::heading::head_of;
-use crate::link::{Link, link_of};
-use crate::record::front_of;
-use crate::recovered::Recovered;
+use crate::format::{Link, front_of, head_of, link_of};
+use crate::recovery::Recovered;
 use clock_device::Failed;
 use std::marker::Model;
 

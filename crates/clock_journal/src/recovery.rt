@@ -1,15 +1,64 @@
-ghost use Rattle.std.specs.Prelude.{◌≡◌, ◌≤◌, List, ℕ, MatchResult, drop, length};
+//! How a journal is taken over from a file: its texts go to a machine, one after the other.
+
+ghost use Rattle.std.specs.Prelude.{◌≡◌, ◌≤◌, ◌∷◌, List, ℕ, Err, MatchResult, OnOk, drop, length};
 ghost use Rattle.clock_journal.specs.Crash.{LeavesTexts};
 ghost use Rattle.clock_journal.specs.Format.{head_length};
 ghost use Rattle.clock_journal.specs.Recovering.{HasTaken, IsRecovered, IsRefusal, IsRefusedRightly, IsUntaken};
 ghost use Rattle.clock_journal.specs.inside.Replays.{IsReplayed, IsStopped};
 
-use crate::fault::JournalFault;
-use crate::heading::{Heading, heading_of};
-use crate::link::Link;
-use crate::machine::{Machine, Untaken};
-use crate::record::{BEFORE_TEXT, Next, next_record};
-use crate::recovered::Recovered;
+use crate::format::{BEFORE_TEXT, Heading, Link, Next, heading_of, next_record};
+
+/// Why a text was not taken: it is none that changes the machine as it stands, or there was no memory. The machine is
+/// not to be used any more.
+#[derive(Clone, Copy, Debug, PartialEq, Eq)]
+pub enum Untaken {
+    Refused,
+    NoMemory,
+}
+
+/// What stands for a list of texts.
+pub trait Machine {
+    /// What it goes by, which no text changes.
+    ghost Rules: { Type 0 } = { Unit {0} };
+
+    ghost rules: { Self → Self.Rules };
+
+    /// It stands for these texts, of which the newest stands first.
+    ghost stands_for: { Self → List (List ℕ) → Type 0 };
+
+    /// By what it goes by, a text is none for it after these texts.
+    ghost refuses: { Self.Rules → List (List ℕ) → List ℕ → Type 0 };
+
+    /// Takes one more text.
+    fn take(&mut self, text: &[u8]) -> Result<(), Untaken>
+        ensures taken { OnOk result ((texts : List (List ℕ))
+            → stands_for self.old texts → stands_for self.new (text.now ∷ texts)) }
+        ensures refused { (texts : List (List ℕ))
+            → result ≡ Err Untaken.Refused → stands_for self.old texts → refuses (rules self.old) texts text.now }
+        ensures rules { rules self.new ≡ rules self.old };
+}
+
+/// How a journal was taken over.
+#[derive(Clone, Copy, Debug, PartialEq, Eq)]
+pub struct Recovered {
+    /// The digest of its last text.
+    pub chain: Link,
+    /// Where its last record ends: what stands behind that is torn, and to be cut off. It is 0 where there is no whole
+    /// head.
+    pub end: usize,
+}
+
+/// Why a file is not taken over as the journal: it is none, or one of another set-up, or damaged at a place, that is it
+/// has there what no stop of the machine leaves, or the text of the record at a place is refused by the machine, or
+/// there was no memory.
+#[derive(Clone, Copy, Debug, PartialEq, Eq)]
+pub enum JournalFault {
+    Unknown,
+    Setup,
+    Damaged(usize),
+    Refused(usize),
+    NoMemory,
+}
 
 /// Takes all texts of the records of a file of this size, in order. What stands behind its last record is torn, or
 /// nothing.

@@ -4,9 +4,9 @@ use Rattle.clock_house.specs.House.{HouseFields}
 use Rattle.clock_front.specs.Fronts.{StandsForTexts}
 use Rattle.clock_journal.specs.Reading.{onto}
 use Rattle.clock_journal.specs.Recovering.{HasTaken, IsRecovered, IsRefusal, IsRefusedRightly, IsUntaken}
-use Rattle.clock_journal.specs.declared.fault.JournalFault.{JournalFault}
-use Rattle.clock_journal.specs.declared.recovered.Recovered.{Recovered}
-use Rattle.clock_journal.specs.declared.fault.JournalFault.TheVariants.{Unknown, Setup, Damaged, Refused, NoMemory}
+use Rattle.clock_journal.specs.declared.recovery.JournalFault.{JournalFault}
+use Rattle.clock_journal.specs.declared.recovery.Recovered.{Recovered}
+use Rattle.clock_journal.specs.declared.recovery.JournalFault.TheVariants.{Unknown, Setup, Damaged, Refused, NoMemory}
 use Rattle.clock_keeping.specs.Keeping.{HasTakenUp, IsTakenUp, counted}
 
 -- the texts in the other order are as many

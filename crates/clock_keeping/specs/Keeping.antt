@@ -23,7 +23,7 @@ use Rattle.clock_journal.specs.Disks.{MayBeLeft}
 use Rattle.clock_journal.specs.Kept.{JournalState, HasTexts}
 use Rattle.clock_journal.specs.Reading.{onto}
 use Rattle.clock_journal.specs.Recovering.{IsPlaced}
-use Rattle.clock_journal.specs.declared.recovered.Recovered.{Recovered}
+use Rattle.clock_journal.specs.declared.recovery.Recovered.{Recovered}
 
 -- a framed text is a whole request by GET
 abbrev pub is_get_framed : Framing → Bool

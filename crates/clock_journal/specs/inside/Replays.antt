@@ -6,9 +6,9 @@ use Rattle.std.specs.Prelude.{◌≡◌, ◌≤◌, ◌+◌, ℕ, List, length}
 use Rattle.clock_journal.specs.Format.{last_link}
 use Rattle.clock_journal.specs.Reading.{Reads, Ends, damaged, whole, onto}
 use Rattle.clock_journal.specs.Recovering.{IsFoundAt}
-use Rattle.clock_journal.specs.declared.recovered.Recovered.{Recovered}
-use Rattle.clock_journal.specs.declared.fault.JournalFault.{JournalFault}
-use Rattle.clock_journal.specs.declared.fault.JournalFault.TheVariants as fault
+use Rattle.clock_journal.specs.declared.recovery.Recovered.{Recovered}
+use Rattle.clock_journal.specs.declared.recovery.JournalFault.{JournalFault}
+use Rattle.clock_journal.specs.declared.recovery.JournalFault.TheVariants as fault
 
 -- the bytes read as texts, and whatever the machine stood for, it stands for that and for these texts
 pub record IsReplayed (old new : List (List ℕ) → Type 0) (first bytes : List ℕ) (size : ℕ) (recovered : Recovered) : Type 0 where

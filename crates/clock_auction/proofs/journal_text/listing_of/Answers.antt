@@ -1,8 +1,8 @@
 use Rattle.std.proofs.Common.{◌≡◌, List, [], ℕ, drop, length, refl, subst}
 use Rattle.std.proofs.lemmas.Result.{err_from_is_err_and}
 use Rattle.clock_journal.specs.Recovering.{IsRefusedRightly}
-use Rattle.clock_journal.specs.declared.fault.JournalFault.{JournalFault}
-use Rattle.clock_journal.specs.declared.fault.JournalFault.TheVariants.{NoMemory, Refused}
+use Rattle.clock_journal.specs.declared.recovery.JournalFault.{JournalFault}
+use Rattle.clock_journal.specs.declared.recovery.JournalFault.TheVariants.{NoMemory, Refused}
 use Rattle.clock_auction.specs.Listings.{IsListed}
 use Rattle.clock_auction.proofs.journal_text.listing_of.Goals as goal
 

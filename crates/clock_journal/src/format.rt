@@ -1,9 +1,88 @@
-ghost use Rattle.std.specs.Prelude.{◌≡◌, ◌≤◌, ◌+◌, ◌++◌, length, IsTrue};
-ghost use Rattle.clock_journal.specs.Format.{mark, mark_length, before_text, most_text};
-ghost use Rattle.clock_journal.specs.Reading.{is_marked as is_marked_in, checked_text as checked_text_in, next, marked_length as marked_length_in};
-ghost use Rattle.clock_journal.specs.inside.Shown.{shown, IsRecord};
+//! The bytes of a journal: digests, its head, and the records behind that.
 
-use crate::link::{Link, link_of};
+ghost use Rattle.std.specs.Prelude.{◌≡◌, ◌≤◌, ◌+◌, ◌++◌, length, IsTrue};
+ghost use Rattle.sha2.specs.Sha256.{sha256};
+ghost use Rattle.clock_journal.specs.Format.{before_text, head, link, mark, mark_length, most_text};
+ghost use Rattle.clock_journal.specs.Headings.{heading};
+ghost use Rattle.clock_journal.specs.Reading.{checked_text as checked_text_in, is_marked as is_marked_in};
+ghost use Rattle.clock_journal.specs.Reading.{marked_length as marked_length_in, next};
+ghost use Rattle.clock_journal.specs.inside.Shown.{IsRecord, shown, shown_heading};
+
+use sha2::{Digest, Sha256};
+
+/// The digest of a text and of all before it.
+pub type Link = [u8; 32];
+
+/// The digest of a text behind another digest.
+#[tactic(auto, unfolding(crate::specs::Format::link))]
+pub fn link_of(chain: &Link, text: &[u8]) -> Link
+    ensures { result ≡ link chain.now text.now }
+{
+    let mut hasher = Sha256::new();
+    hasher.update(chain.as_slice());
+    hasher.update(text);
+    hasher.finalize()
+}
+
+/// The digest of a set-up document, with which its journal begins.
+pub fn digest_of(document: &[u8]) -> Link
+    ensures { result ≡ sha256 document.now }
+{
+    Sha256::digest(document)
+}
+
+/// How many bytes stand before the first record of a journal.
+pub const HEAD_LENGTH: usize = 56;
+
+/// How many of them are the same in every journal.
+const KIND_LENGTH: usize = 24;
+
+/// What every journal of this format begins with.
+const KIND: &[u8; KIND_LENGTH] = b"clock_auction journal 1\n";
+
+/// How a file begins.
+pub enum Heading<'a> {
+    /// With less than a head: no text was added to it yet.
+    Begun,
+    /// With the head, and then these bytes.
+    Headed(&'a [u8]),
+    /// With the head for another set-up.
+    OfAnother,
+    /// With no head of a journal.
+    Unknown,
+}
+
+/// What a journal begins with, for the set-up document of a digest.
+#[tactic(auto, unfolding(crate::specs::Format::head, crate::specs::Format::kind))]
+pub fn head_of(digest: &Link) -> [u8; HEAD_LENGTH]
+    ensures { result ≡ head digest.now }
+{
+    let mut bytes = [0; HEAD_LENGTH];
+    bytes[..KIND_LENGTH].copy_from_slice(KIND);
+    bytes[KIND_LENGTH..].copy_from_slice(digest);
+    bytes
+}
+
+/// How a file begins.
+#[tactic(auto, unfolding(crate::specs::Headings::heading, crate::specs::Format::kind))]
+pub fn heading_of<'a>(digest: &Link, bytes: &'a [u8]) -> Heading<'a>
+    ensures { shown_heading result ≡ heading digest.now bytes.now }
+{
+    let head = head_of(digest);
+    if bytes.len() < HEAD_LENGTH {
+        if bytes[..] == head[..bytes.len()] {
+            Heading::Begun
+        } else {
+            Heading::Unknown
+        }
+    } else if bytes[..HEAD_LENGTH] == head[..] {
+        Heading::Headed(bytes.split_at(HEAD_LENGTH).1)
+    } else if bytes[..KIND_LENGTH] == KIND[..] {
+        Heading::OfAnother
+    } else {
+        Heading::Unknown
+    }
+}
 
 /// How long a text may be.
 pub const MOST_TEXT: usize = 16_777_215;

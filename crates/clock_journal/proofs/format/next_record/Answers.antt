@@ -1,7 +1,7 @@
 use Rattle.std.proofs.Common.{ℕ, length, ◌+◌, ◌<◌, sym, ◌∙◌, subst, arith}
 use Rattle.clock_journal.specs.Format.{before_text}
 use Rattle.clock_journal.proofs.Records.{next_cut}
-use Rattle.clock_journal.proofs.record.next_record.Goals as goal
+use Rattle.clock_journal.proofs.format.next_record.Goals as goal
 
 pub returns-then-bytes-count-clause-next : goal.returns-then-bytes-count-clause-next
 returns-then-bytes-count-clause-next c =
