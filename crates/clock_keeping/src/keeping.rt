@@ -3,7 +3,7 @@ ghost use Rattle.clock_http.specs.Shown.{Knows};
 ghost use Rattle.clock_front.specs.Fronts.{AnswersText, IsStruckOut};
 ghost use Rattle.clock_front.specs.Private.{IsPrivateReply};
 ghost use Rattle.clock_journal.specs.Format.{most_text};
-ghost use Rattle.clock_keeping.specs.Keeping.{IsInStep, IsKept, LeavesOneMore, is_get as is_get_of};
+ghost use Rattle.clock_keeping.specs.Keeping.{GetsChangeNothing, IsInStep, IsKept, LeavesOneMore, is_get as is_get_of};
 
 use clock_device::Failed;
 use clock_front::{Framing, Front, Progress, Reply};
@@ -58,3 +58,8 @@ pub fn answer_and_keep<P: Processor, D: Durable>(
         Err(failed) => Err(failed),
     }
 }
+
+/// A law, which does nothing when it runs: a request by GET changes nothing, so it is not kept.
+pub fn law_gets_change_nothing()
+    ensures { GetsChangeNothing }
+{}

@@ -4,9 +4,7 @@
 #![tactic(auto)]
 
 mod keeping;
-mod laws;
 mod taking;
 
-pub use keeping::answer_and_keep;
-pub use laws::law_gets_change_nothing;
+pub use keeping::{answer_and_keep, law_gets_change_nothing};
 pub use taking::{Auction, take_up};
