@@ -5,8 +5,8 @@ use Rattle.clock_house.specs.House.{HouseFields}
 use Rattle.clock_journal.specs.Disks.{MayBeLeft}
 use Rattle.clock_journal.specs.Kept.{JournalState}
 use Rattle.clock_keeping.specs.Keeping.{IsInStep, LeavesOneMore}
-use Rattle.clock_serving.specs.declared.fault.ServeFault.{ServeFault}
-use Rattle.clock_serving.specs.declared.fault.ServeFault.TheVariants.{Accept, Journal}
+use Rattle.clock_serving.specs.declared.serving.ServeFault.{ServeFault}
+use Rattle.clock_serving.specs.declared.serving.ServeFault.TheVariants.{Accept, Journal}
 use Rattle.clock_serving.specs.Exchanges.{Exchange, GrowsBy, HasClosed}
 use Rattle.clock_serving.specs.Closings.{TellsClosings}
 use Rattle.clock_serving.specs.Serving.{AreServed, EndsServing, EndsUnkept, HasKeptTold}

@@ -27,8 +27,8 @@ use Rattle.clock_journal.specs.Reading.{onto}
 use Rattle.clock_keeping.specs.Keeping.{IsInStep, IsNextKept}
 use Rattle.clock_serving.specs.Exchanges.{Exchange}
 use Rattle.clock_serving.specs.Closings.{TellsClosings}
-use Rattle.clock_serving.specs.declared.fault.ServeFault.{ServeFault}
-use Rattle.clock_serving.specs.declared.fault.ServeFault.TheVariants as fault
+use Rattle.clock_serving.specs.declared.serving.ServeFault.{ServeFault}
+use Rattle.clock_serving.specs.declared.serving.ServeFault.TheVariants as fault
 
 -- all of the reply was written; or a front of it, and a write failed
 abbrev pub WritesReply : Writing → Answer → Type 0

@@ -6,19 +6,13 @@
 #![tactic(auto)]
 
 mod acceptor;
-mod fault;
 mod keeper;
-mod laws;
 mod listed;
 mod listening;
-mod port;
 mod serving;
 
 pub use acceptor::{Acceptor, Connection};
-pub use fault::ServeFault;
 pub use keeper::{Keeper, Unkept};
-pub use laws::law_told_bytes;
 pub use listed::{Client, Closed, Listed};
-pub use listening::Listening;
-pub use port::serve_on;
-pub use serving::serve_all;
+pub use listening::{Listening, serve_on};
+pub use serving::{ServeFault, law_told_bytes, serve_all};

@@ -2,7 +2,7 @@ ghost use Rattle.std.specs.Prelude.{◌≡◌, [], IfOk, Some, true, false};
 ghost use Rattle.clock_device.specs.Told.{unread, unused};
 ghost use Rattle.clock_device.specs.SourceState.{source_told};
 ghost use Rattle.clock_device.specs.SinkState.{sink_told};
-ghost use Rattle.clock_serving.specs.Exchanges.{Closes};
+ghost use Rattle.clock_serving.specs.Exchanges.{Closes, Exchange};
 
 use crate::acceptor::{Acceptor, Connection};
 use clock_device::{Bounded, Failed, ListSink, ListSource, NoMemory, Stop};
@@ -31,12 +31,6 @@ pub struct Closed<'a> {
 }
 
 impl<'a> Model for Closed<'a> {
-    ghost use Rattle.std.specs.Prelude.{[], Some};
-    ghost use Rattle.clock_device.specs.Told.{unread, unused};
-    ghost use Rattle.clock_device.specs.SourceState.{source_told};
-    ghost use Rattle.clock_device.specs.SinkState.{sink_told};
-    ghost use Rattle.clock_serving.specs.Exchanges.{Exchange};
-
     ghost Value = { Exchange };
 
     ghost view = { λ c. record {

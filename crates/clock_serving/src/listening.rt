@@ -1,8 +1,18 @@
-ghost use Rattle.std.specs.Prelude.{◌≡◌, None, false};
+//! A port of this machine: its connections, and the loop over them where nothing is kept.
+
+ghost use Rattle.std.specs.Prelude.{◌≡◌, ◌≢◌, ℕ, List, None, Err, false};
 ghost use Rattle.clock_device.specs.Told.{unread, unused};
+ghost use Rattle.clock_serving.specs.declared.serving.ServeFault.TheVariants.{Journal as JournalFault};
+ghost use Rattle.clock_serving.specs.Exchanges.{Exchange, no_journal};
+ghost use Rattle.clock_serving.specs.Serving.{EndsServing};
 
 use crate::acceptor::{Acceptor, Connection};
+use crate::keeper::Unkept;
+use crate::serving::{ServeFault, serve_all};
 use clock_device::{Failed, FromReader, ToWriter};
+use clock_front::Front;
+use clock_processor::Processor;
+use std::alloc::Global;
 use std::net::{TcpListener, TcpStream};
 
 /// The connections of a port of this machine that is listened on. It tells no bytes, as sockets tell none.
@@ -64,4 +74,28 @@ impl Acceptor for Listening<'_> {
         self.is_open = false;
         drop(connection);
     }
+}
+
+/// Serves so many connections of a port, one after the other, with one request each. A fault of a stream ends its
+/// connection alone.
+///
+/// It waits for each connection, and for each peer, as long as these take.
+pub fn serve_on<P: Processor>(
+    alloc: Global,
+    front: &mut Front<P>,
+    listener: &TcpListener,
+    connections: u64,
+) -> Result<(), ServeFault>
+    ensures served { (exchanges : List Exchange)
+        × EndsServing connections exchanges None None no_journal no_journal front.old front.new result }
+    ensures kept { result ≢ Err JournalFault }
+    ensures setup { front.new.setup ≡ front.old.setup }
+{
+    serve_all(
+        alloc,
+        front,
+        &mut Unkept,
+        &mut Listening::new(listener),
+        connections,
+    )
 }

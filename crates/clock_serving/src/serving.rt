@@ -3,14 +3,29 @@ ghost use Rattle.clock_device.specs.Told.{IsUnread, IsUnused};
 ghost use Rattle.clock_serving.specs.Exchanges.{Exchange, GrowsBy, HasClosed};
 ghost use Rattle.clock_serving.specs.Serving.{EndsServing, is_accept_fault};
 ghost use Rattle.clock_serving.specs.inside.Served.{EndsOne, IsServed, IsUnkept, round_if};
+ghost use Rattle.clock_serving.specs.Laws.{ToldBytes};
 
 use crate::acceptor::Acceptor;
-use crate::fault::ServeFault;
 use crate::keeper::Keeper;
 use clock_device::{Failed, Sink, Source, write_all};
 use clock_front::{Front, Unread, no_memory_reply, read_request};
 use clock_processor::Processor;
 use std::alloc::Global;
+use thiserror::Error;
+
+/// Why not all connections were served. Those before were.
+///
+/// `Accept`: a connection could not be taken.
+///
+/// `Journal`: the text of the last connection that was taken could not be kept. Nothing was replied there, and neither
+/// the front nor what keeps its texts is to be used any more.
+#[derive(Clone, Copy, Debug, PartialEq, Eq, Error)]
+pub enum ServeFault {
+    #[error("a connection could not be taken")]
+    Accept,
+    #[error("a text could not be kept")]
+    Journal,
+}
 
 /// Reads one request, answers it, keeps it where it was accepted as a sheet or a closing, and then writes its reply.
 fn serve_one<P: Processor, K: Keeper, R: Source, W: Sink>(
@@ -119,3 +134,9 @@ pub fn serve_all<P: Processor, K: Keeper, C: Acceptor>(
     }
     Ok(())
 }
+
+/// A law, which does nothing when it runs: where a connection tells its bytes, its request was their beginning, and its
+/// client has the reply or a front of it.
+pub fn law_told_bytes()
+    ensures { ToldBytes }
+{}

@@ -18,8 +18,8 @@ use Rattle.clock_journal.specs.Kept.{JournalState}
 use Rattle.clock_keeping.specs.Keeping.{IsInStep, IsKept, LeavesOneMore}
 use Rattle.clock_serving.specs.Serving.{WritesReply}
 use Rattle.clock_serving.specs.Exchanges.{Exchange, HasClosed}
-use Rattle.clock_serving.specs.declared.fault.ServeFault.{ServeFault}
-use Rattle.clock_serving.specs.declared.fault.ServeFault.TheVariants as fault
+use Rattle.clock_serving.specs.declared.serving.ServeFault.{ServeFault}
+use Rattle.clock_serving.specs.declared.serving.ServeFault.TheVariants as fault
 
 -- no request could be read; front and journal are as they were
 abbrev pub IsLeftAlone : Reading → JournalState → JournalState → HouseFields → HouseFields → Type 0
