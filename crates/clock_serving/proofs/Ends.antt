@@ -7,33 +7,35 @@ use Rattle.clock_journal.specs.Kept.{JournalState}
 use Rattle.clock_keeping.specs.Keeping.{IsInStep, LeavesOneMore}
 use Rattle.clock_serving.specs.declared.serving.ServeFault.{ServeFault}
 use Rattle.clock_serving.specs.declared.serving.ServeFault.TheVariants.{Accept, Journal}
-use Rattle.clock_serving.specs.Exchanges.{Exchange, GrowsBy, HasClosed}
+use Rattle.clock_serving.specs.Exchanges.{Came, Exchange, GrowsBy, HasClosed, bytes_given}
 use Rattle.clock_serving.specs.Closings.{TellsClosings}
 use Rattle.clock_serving.specs.Serving.{AreServed, EndsServing, EndsUnkept, HasKeptTold}
 use Rattle.clock_serving.specs.inside.Served.{EndsOne, IsUnkept, round_if}
-use Rattle.clock_serving.proofs.Walking.{grown_more}
+use Rattle.clock_serving.proofs.Walking.{came_more, grown_more}
 use Rattle.clock_serving.proofs.Served.{served_more}
 
 -- so many connections were served
-pub record HasServed (count : ℕ) (closed_old closed_new : Option (List Exchange)) (told_old told_new : Option (List ℕ))
+pub record HasServed (count : ℕ) (coming_old coming_new : Option (List (List ℕ))) (closed_old closed_new : Option (List Exchange)) (told_old told_new : Option (List ℕ))
     (journal_old journal_new : JournalState) (old new : HouseFields) : Type 0 where
   pub exchanges : List Exchange
   pub closed : HasClosed closed_old closed_new exchanges
+  pub came : Came coming_old coming_new (bytes_given exchanges)
   pub counted : length exchanges ≡ count
   pub served : AreServed exchanges told_old told_new journal_old journal_new old new
 
-module _ (count : ℕ) (first mid last : Option (List Exchange)) (told_old told_mid told_new : Option (List ℕ))
+module _ (count : ℕ) (coming_old coming_mid coming_new : Option (List (List ℕ))) (first mid last : Option (List Exchange)) (told_old told_mid told_new : Option (List ℕ))
     (journal_old journal_mid journal_new : JournalState) (old now new : HouseFields) (limits : IsSetup old.setup) (same : now.setup ≡ old.setup)
-    (before : HasServed count first mid told_old told_mid journal_old journal_mid old now) where
+    (before : HasServed count coming_old coming_mid first mid told_old told_mid journal_old journal_mid old now) where
   -- one more was
-  pub one_more : {U : Type 0} (done : U) → EndsOne mid last journal_mid journal_new now new (Ok done) → new.setup ≡ now.setup
+  pub one_more : {U : Type 0} (done : U) → EndsOne coming_mid coming_new mid last journal_mid journal_new now new (Ok done) → new.setup ≡ now.setup
       → GrowsBy told_mid told_new (round_if (length now.closed) (length new.closed))
-      → HasServed (count + 1) first last told_old told_new journal_old journal_new old new
+      → HasServed (count + 1) coming_old coming_new first last told_old told_new journal_old journal_new old new
   one_more done ends still tells = record {
     exchanges = before.exchanges ++ ends.0 ∷ [];
     closed = grown_more first mid last before.exchanges (ends.0 ∷ []) before.closed ends.1;
+    came = came_more coming_old coming_mid coming_new before.exchanges ends.0 before.came ends.2;
     counted = omega (arith, length-append before.exchanges (ends.0 ∷ []), before.counted);
-    served = served_more before.exchanges ends.0 told_old told_mid told_new journal_old journal_mid journal_new old now new limits same still before.served ends.2
+    served = served_more before.exchanges ends.0 told_old told_mid told_new journal_old journal_mid journal_new old now new limits same still before.served ends.3
         tells;
   }
 
@@ -67,28 +69,30 @@ module _ (count : ℕ) (first mid last : Option (List Exchange)) (told_old told_
   }
 
   -- it ends the run
-  pub ends_by : {U : Type 0} (result : Result U ServeFault) (most : ℕ) (fault : ServeFault) → count < most → EndsOne {U = U} mid last journal_mid journal_new now new (Err fault)
+  pub ends_by : {U : Type 0} (result : Result U ServeFault) (most : ℕ) (fault : ServeFault) → count < most → EndsOne {U = U} coming_mid coming_new mid last journal_mid journal_new now new (Err fault)
       → told_new ≡ told_mid
-      → (exchanges : List Exchange) × HasClosed first last exchanges
+      → (exchanges : List Exchange) × HasClosed first last exchanges × Came coming_old coming_new (bytes_given exchanges)
       × EndsServing {U = U} most exchanges told_old told_new journal_old journal_new old new (Err fault)
   ends_by result most Accept below ends untold = (
     before.exchanges,
     subst (λ (closed : Option (List Exchange)). HasClosed first closed before.exchanges) (sym ends.0) before.closed,
+    subst (λ (coming : Option (List (List ℕ))). Came coming_old coming (bytes_given before.exchanges)) (sym ends.1) before.came,
     (
       omega (arith, before.counted, below),
-      subst (λ (house : HouseFields). AreServed before.exchanges told_old told_new journal_old journal_new old house) (sym ends.2)
-          (subst (λ (journal : JournalState). AreServed before.exchanges told_old told_new journal_old journal old now) (sym ends.1)
+      subst (λ (house : HouseFields). AreServed before.exchanges told_old told_new journal_old journal_new old house) (sym ends.3)
+          (subst (λ (journal : JournalState). AreServed before.exchanges told_old told_new journal_old journal old now) (sym ends.2)
           (subst (λ (told : Option (List ℕ)). AreServed before.exchanges told_old told journal_old journal_mid old now) (sym untold) before.served)),
     ),
   )
   ends_by result most Journal below ends untold = (
     before.exchanges ++ ends.0 ∷ [],
     grown_more first mid last before.exchanges (ends.0 ∷ []) before.closed ends.1,
+    came_more coming_old coming_mid coming_new before.exchanges ends.0 before.came ends.2,
     (
       before.exchanges,
       ends.0,
       refl,
       omega (arith, length-append before.exchanges (ends.0 ∷ []), before.counted, below),
-      ends_unkept ends.0 ends.2 untold,
+      ends_unkept ends.0 ends.3 untold,
     ),
   )

@@ -1,8 +1,9 @@
 -- Connections that follow one another.
-use Rattle.std.proofs.Common.{◌≡◌, inl, inr, ℕ, List, [], ◌∷◌, ◌++◌, Option, Some, None, refl, sym, ap, ◌∙◌, subst, append_assoc, append-nil}
+use Rattle.std.proofs.Common.{◌≡◌, inl, inr, ℕ, List, [], ◌∷◌, ◌++◌, map, Option, Some, None, refl, sym, ap, ◌∙◌, subst, append_assoc, append-nil}
 use Rattle.clock_terms.specs.Limits.{SetupFields}
 use Rattle.clock_device.specs.Told.{Reading, SinkTold, SourceTold, Writing}
-use Rattle.clock_serving.specs.Exchanges.{Closes, Exchange, GrowsBy, HasClosed, Offer}
+use Rattle.std.proofs.lemmas.List.{map-append}
+use Rattle.clock_serving.specs.Exchanges.{Came, Closes, Exchange, GrowsBy, HasClosed, Offer, bytes_given}
 use Rattle.clock_serving.specs.Serving.{KeepsText, Walks}
 
 -- none was added
@@ -16,6 +17,35 @@ pub grown_more : {A : Type 0} (first mid last : Option (List A)) (some others : 
 grown_more None mid last some others before after = tt
 grown_more {A = A} (Some old) mid last some others before after =
     subst (λ (list : Option (List A)). GrowsBy list last others) before after ∙ ap Some (append_assoc old some others)
+
+-- none came
+pub came_none : (coming : Option (List (List ℕ))) → Came coming coming []
+came_none None = tt
+came_none (Some coming) = (coming, refl, refl)
+
+came_then : (first mid last : Option (List (List ℕ))) (some others : List (Option (List ℕ))) → Came first mid some → Came mid last others
+    → Came first last (some ++ others)
+came_then None mid last some others before after = tt
+came_then (Some coming) mid last some others before after =
+    let later : Came (Some before.0) last others = subst (λ (left : Option (List (List ℕ))). Came left last others) before.1 after in (
+      later.0,
+      later.1,
+      before.2 ∙ ap (λ (given : List (Option (List ℕ))). some ++ given) later.2 ∙ sym (append_assoc some others (map Some later.0)),
+    )
+
+-- these came, and then one more
+pub came_more : (first mid last : Option (List (List ℕ))) (exchanges : List Exchange) (one : Exchange) → Came first mid (bytes_given exchanges)
+    → Came mid last (bytes_given (one ∷ [])) → Came first last (bytes_given (exchanges ++ one ∷ []))
+came_more first mid last exchanges one before after =
+    subst (λ (given : List (Option (List ℕ))). Came first last given) (sym (map-append (λ one. one.reading.before.left) exchanges (one ∷ [])))
+    (came_then first mid last (bytes_given exchanges) (bytes_given (one ∷ [])) before after)
+
+-- the one that was taken came
+pub came_one : (first mid last : Option (List (List ℕ))) (offer : Offer) (one : Exchange) → Came first mid (offer.source.left ∷ [])
+    → last ≡ mid → offer.source ≡ one.reading.before → Came first last (bytes_given (one ∷ []))
+came_one first mid last offer one came still from =
+    subst (λ (left : Option (List (List ℕ))). Came first left (one.reading.before.left ∷ [])) (sym still)
+    (subst (λ (told : SourceTold). Came first mid (told.left ∷ [])) from came)
 
 -- one connection more
 pub walks_on : (step : List (List ℕ) → Exchange → List (List ℕ) → Type 0) (past : List (List ℕ)) (exchanges : List Exchange) (end : List (List ℕ))

@@ -3,9 +3,11 @@
 --     Exchange      what was read and written on a connection until it was closed
 --     GrowsBy old new more      these were added at the end, where that is told
 --     HasClosed old new exchanges      these connections were closed, in order, and no others
+--     Came old new given      connections came that were given these bytes, in order, and the others are still to come
+--     bytes_given exchanges      what the source of each had before it was read
 --     Closes old new reading writing      one was
 --     no_journal      what is kept where nothing is
-use Rattle.std.specs.Prelude.{◌≡◌, ◌++◌, false, List, [], ◌∷◌, Option, Some, None}
+use Rattle.std.specs.Prelude.{◌≡◌, ◌++◌, ℕ, false, List, [], ◌∷◌, map, Option, Some, None}
 use Rattle.clock_device.specs.Told.{Reading, SinkTold, SourceTold, Writing}
 use Rattle.clock_journal.specs.Kept.{JournalState}
 
@@ -27,6 +29,16 @@ GrowsBy None new more = Unit {0}
 -- these connections were closed, in order, and no others
 abbrev pub HasClosed : Option (List Exchange) → Option (List Exchange) → List Exchange → Type 0
 HasClosed old new exchanges = GrowsBy old new exchanges
+
+-- of those that were to come these came first, in order, and the rest is still to come; nothing is said where they are
+-- not told
+abbrev pub Came : Option (List (List ℕ)) → Option (List (List ℕ)) → List (Option (List ℕ)) → Type 0
+Came None left given = Unit {0}
+Came (Some coming) left given = (rest : List (List ℕ)) × (left ≡ Some rest) × (map Some coming ≡ given ++ map Some rest)
+
+-- what the source of each had where it was taken, where it tells its bytes
+abbrev pub bytes_given : List Exchange → List (Option (List ℕ))
+bytes_given exchanges = map (λ one. one.reading.before.left) exchanges
 
 -- one connection was closed
 abbrev pub Closes : Option (List Exchange) → Option (List Exchange) → Reading → Writing → Type 0

@@ -1,10 +1,11 @@
 -- Connections that stand in memory.
---     ListedState      whether one is open, what its source had where it was taken, what was read and written on each
---         closed one, and whether taking one has failed
+--     ListedState      the bytes of those that are still to come, in order; whether one is open, what its source had
+--         where it was taken, what was read and written on each closed one, and whether taking one has failed
 use Rattle.std.specs.Prelude.{ℕ, Bool, List}
 use Rattle.clock_serving.specs.Exchanges.{Exchange}
 
 pub record ListedState : Type 0 where
+  pub coming : List (List ℕ)
   pub is_open : Bool
   pub offered : List ℕ
   pub closed : List Exchange

@@ -1,6 +1,6 @@
-ghost use Rattle.std.specs.Prelude.{◌≡◌, ◌||◌, Bool, List, Option, IfOk, is_err, not, true, false};
+ghost use Rattle.std.specs.Prelude.{◌≡◌, ◌||◌, ◌∷◌, [], ℕ, Bool, List, Option, IfOk, OnOk, OnErr, is_err, not, true, false};
 ghost use Rattle.clock_device.specs.Told.{IsUnread, IsUnused};
-ghost use Rattle.clock_serving.specs.Exchanges.{Closes, Exchange, Offer};
+ghost use Rattle.clock_serving.specs.Exchanges.{Came, Closes, Exchange, Offer};
 
 use clock_device::{Failed, Sink, Source};
 
@@ -13,12 +13,15 @@ pub struct Connection<R, W> {
 
 /// What connections are taken from, one after the other, each closed before the next.
 ///
-/// Contracts see whether one is open, what it had where it was taken, and what was read and written on each that was
-/// closed, where it tells them: a source and a sink belong to one connection, since no two are open at once.
+/// Contracts see the bytes of those that are still to come, in order, whether one is open, what it had where it was
+/// taken, and what was read and written on each that was closed, where it tells them: a source and a sink belong to one
+/// connection, since no two are open at once.
 pub trait Acceptor {
     type Reader: Source;
 
     type Writer: Sink;
+
+    ghost coming: { Self → Option (List (List ℕ)) };
 
     ghost is_open: { Self → Bool };
 
@@ -29,7 +32,7 @@ pub trait Acceptor {
     /// Whether taking one has failed.
     ghost has_failed: { Self → Bool };
 
-    /// Takes the next connection. It waits for one as long as that takes.
+    /// Takes the next connection, the first of those that are to come. It waits for one as long as that takes.
     fn accept(&mut self) -> Result<Connection<Self::Reader, Self::Writer>, Failed>
         requires { is_open self.old ≡ false }
         ensures open { is_open self.new ≡ not (is_err result) }
@@ -37,6 +40,8 @@ pub trait Acceptor {
         ensures sink { IfOk result (λ one. (offer self.new).sink ≡ Self.Writer.told one.sink) }
         ensures unread { IfOk result (λ one. IsUnread (Self.Reader.told one.source)) }
         ensures unused { IfOk result (λ one. IsUnused (Self.Writer.told one.sink)) }
+        ensures came { OnOk result (Came (coming self.old) (coming self.new) ((offer self.new).source.left ∷ [])) }
+        ensures still { OnErr result (coming self.new ≡ coming self.old) }
         ensures closed { closed self.new ≡ closed self.old }
         ensures failed { has_failed self.new ≡ (has_failed self.old || is_err result) };
 
@@ -44,6 +49,7 @@ pub trait Acceptor {
     fn close(&mut self, connection: Connection<Self::Reader, Self::Writer>)
         requires { is_open self.old ≡ true }
         ensures open { is_open self.new ≡ false }
+        ensures coming { coming self.new ≡ coming self.old }
         ensures failed { has_failed self.new ≡ has_failed self.old }
         ensures closed { Closes (closed self.old) (closed self.new)
             (record { before = (offer self.old).source; after = Self.Reader.told connection.source })

@@ -1,4 +1,4 @@
-ghost use Rattle.std.specs.Prelude.{◌≡◌, [], IfOk, Some, true, false};
+ghost use Rattle.std.specs.Prelude.{◌≡◌, [], IfOk, Some, map, true, false};
 ghost use Rattle.clock_device.specs.Told.{unread, unused};
 ghost use Rattle.clock_device.specs.SourceState.{source_told};
 ghost use Rattle.clock_device.specs.SinkState.{sink_told};
@@ -48,7 +48,8 @@ impl<'a> Closed<'a> {
     }
 }
 
-/// Connections in memory: one for each of these clients, in order. Where there is none left, taking one fails.
+/// Connections in memory: one for each of these clients, in order. Where there is none left, taking one fails. Contracts
+/// see the bytes of the clients that are still to come.
 #[derive(Drop)]
 pub struct Listed<'a> {
     alloc: Global,
@@ -61,12 +62,18 @@ pub struct Listed<'a> {
 }
 
 impl<'a> Model for Listed<'a> {
-    ghost use Rattle.std.specs.Prelude.{◌≤◌, ◌+◌, length, MatchBool};
+    ghost use Rattle.std.specs.Prelude.{◌≤◌, ◌+◌, drop, length, map, MatchBool};
     ghost use Rattle.clock_serving.specs.Listed.{ListedState};
 
     ghost Value = { ListedState };
 
-    ghost view = { λ l. record { is_open = l.is_open; offered = l.offered.now; closed = l.closed.items; has_failed = l.has_failed } };
+    ghost view = { λ l. record {
+      coming = map (λ client. client.bytes.now) (drop l.next l.clients.now);
+      is_open = l.is_open;
+      offered = l.offered.now;
+      closed = l.closed.items;
+      has_failed = l.has_failed;
+    } };
 
     ghost invariant = { λ l. (l.next ≤ length l.clients.now) × (length l.clients.now ≤ l.next + l.closed.room)
         × MatchBool l.is_open (length l.clients.now + 1 ≤ l.next + l.closed.room) (Unit {0}) };
@@ -75,8 +82,13 @@ impl<'a> Model for Listed<'a> {
 impl<'a> Listed<'a> {
     /// The connections of these clients, of which none was taken yet.
     pub fn new(alloc: Global, clients: &'a [Client<'a>]) -> Result<Listed<'a>, NoMemory>
-        ensures { IfOk result (λ listed. listed
-            ≡ record { is_open = false; offered = []; closed = []; has_failed = false }) }
+        ensures { IfOk result (λ listed. listed ≡ record {
+          coming = map (λ client. client.bytes.now) clients.now;
+          is_open = false;
+          offered = [];
+          closed = [];
+          has_failed = false;
+        }) }
     {
         Ok(Listed {
             alloc,
@@ -101,6 +113,8 @@ impl<'a> Acceptor for Listed<'a> {
     type Reader = ListSource<'a>;
 
     type Writer = ListSink;
+
+    ghost coming = { λ listed. Some listed.coming };
 
     ghost is_open = { λ listed. listed.is_open };
 
@@ -136,6 +150,7 @@ impl<'a> Acceptor for Listed<'a> {
     fn close(&mut self, connection: Connection<ListSource<'a>, ListSink>)
         requires { self.old.is_open ≡ true }
         ensures open { self.new.is_open ≡ false }
+        ensures coming { Some self.new.coming ≡ Some self.old.coming }
         ensures failed { self.new.has_failed ≡ self.old.has_failed }
         ensures closed { Closes (Some self.old.closed) (Some self.new.closed)
             (record { before = unread (Some self.old.offered); after = source_told connection.entry.source })

@@ -43,6 +43,8 @@ impl Acceptor for Listening<'_> {
 
     type Writer = ToWriter<TcpStream>;
 
+    ghost coming = { λ listening. None };
+
     ghost is_open = { λ listening. listening.is_open };
 
     ghost offer = { λ listening. record { source = unread None; sink = unused None } };

@@ -1,6 +1,6 @@
 ghost use Rattle.std.specs.Prelude.{◌≡◌, ◌≤◌, ℕ, List, OnOk, MatchResult, false, length};
 ghost use Rattle.clock_device.specs.Told.{IsUnread, IsUnused};
-ghost use Rattle.clock_serving.specs.Exchanges.{Exchange, GrowsBy, HasClosed};
+ghost use Rattle.clock_serving.specs.Exchanges.{Came, Exchange, GrowsBy, HasClosed, bytes_given};
 ghost use Rattle.clock_serving.specs.Serving.{EndsServing, is_accept_fault};
 ghost use Rattle.clock_serving.specs.inside.Served.{EndsOne, IsServed, IsUnkept, round_if};
 ghost use Rattle.clock_serving.specs.Laws.{ToldBytes};
@@ -78,8 +78,8 @@ fn serve_next<P: Processor, K: Keeper, C: Acceptor>(
     requires unfailed { (K.journal keeper.old).has_failed ≡ false }
     requires closed { C.is_open connections.old ≡ false }
     requires taken { C.has_failed connections.old ≡ false }
-    ensures ends { EndsOne (C.closed connections.old) (C.closed connections.new) (K.journal keeper.old)
-        (K.journal keeper.new) front.old front.new result }
+    ensures ends { EndsOne (C.coming connections.old) (C.coming connections.new) (C.closed connections.old)
+        (C.closed connections.new) (K.journal keeper.old) (K.journal keeper.new) front.old front.new result }
     ensures told { MatchResult result
         (λ done. GrowsBy (K.told keeper.old) (K.told keeper.new) (round_if (length front.old.closed)
         (length front.new.closed)))
@@ -120,6 +120,7 @@ pub fn serve_all<P: Processor, K: Keeper, C: Acceptor>(
     requires taken { C.has_failed connections.old ≡ false }
     ensures served { (exchanges : List Exchange) × HasClosed (C.closed connections.old)
         (C.closed connections.new) exchanges
+        × Came (C.coming connections.old) (C.coming connections.new) (bytes_given exchanges)
         × EndsServing count exchanges (K.told keeper.old) (K.told keeper.new) (K.journal keeper.old)
         (K.journal keeper.new) front.old front.new result }
     ensures closed { C.is_open connections.new ≡ false }

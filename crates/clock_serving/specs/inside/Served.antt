@@ -3,7 +3,7 @@
 --     IsAnswered reading answer ..      the reply to what was read, or that of want of memory for it
 --     IsServed one ..      one connection was served
 --     IsUnkept one ..      its text could not be kept
---     EndsOne old new .. result      how serving one ends
+--     EndsOne coming_old coming_new .. result      how serving one ends
 --     round_if before after      the last closed round, where it was not closed before
 use Rattle.std.specs.Prelude.{◌≡◌, ◌⊎◌, ℕ, true, List, [], ◌∷◌, Option, Result, Ok, Err, nat_lt, if◌then◌else◌}
 use Rattle.clock_device.specs.Told.{Reading}
@@ -17,7 +17,7 @@ use Rattle.clock_front.specs.Streamed.{IsLeftUnread}
 use Rattle.clock_journal.specs.Kept.{JournalState}
 use Rattle.clock_keeping.specs.Keeping.{IsInStep, IsKept, LeavesOneMore}
 use Rattle.clock_serving.specs.Serving.{WritesReply}
-use Rattle.clock_serving.specs.Exchanges.{Exchange, HasClosed}
+use Rattle.clock_serving.specs.Exchanges.{Came, Exchange, HasClosed, bytes_given}
 use Rattle.clock_serving.specs.declared.serving.ServeFault.{ServeFault}
 use Rattle.clock_serving.specs.declared.serving.ServeFault.TheVariants as fault
 
@@ -60,14 +60,16 @@ IsUnkept one journal_old journal_new = FailsToKeep one.reading journal_old journ
 
 -- how serving one connection ends: it was served; or it could not be taken, and nothing has changed; or its text could
 -- not be kept
-abbrev pub EndsOne : {U : Type 0} → Option (List Exchange) → Option (List Exchange) → JournalState → JournalState → HouseFields → HouseFields
-    → Result U ServeFault → Type 0
-EndsOne closed_old closed_new journal_old journal_new old new (Ok done) =
-    (one : Exchange) × HasClosed closed_old closed_new (one ∷ []) × IsServed one journal_old journal_new old new
-EndsOne closed_old closed_new journal_old journal_new old new (Err fault.Accept) =
-    (closed_new ≡ closed_old) × (journal_new ≡ journal_old) × (new ≡ old)
-EndsOne closed_old closed_new journal_old journal_new old new (Err fault.Journal) =
-    (one : Exchange) × HasClosed closed_old closed_new (one ∷ []) × IsUnkept one journal_old journal_new
+abbrev pub EndsOne : {U : Type 0} → Option (List (List ℕ)) → Option (List (List ℕ)) → Option (List Exchange) → Option (List Exchange)
+    → JournalState → JournalState → HouseFields → HouseFields → Result U ServeFault → Type 0
+EndsOne coming_old coming_new closed_old closed_new journal_old journal_new old new (Ok done) =
+    (one : Exchange) × HasClosed closed_old closed_new (one ∷ []) × Came coming_old coming_new (bytes_given (one ∷ []))
+    × IsServed one journal_old journal_new old new
+EndsOne coming_old coming_new closed_old closed_new journal_old journal_new old new (Err fault.Accept) =
+    (closed_new ≡ closed_old) × (coming_new ≡ coming_old) × (journal_new ≡ journal_old) × (new ≡ old)
+EndsOne coming_old coming_new closed_old closed_new journal_old journal_new old new (Err fault.Journal) =
+    (one : Exchange) × HasClosed closed_old closed_new (one ∷ []) × Came coming_old coming_new (bytes_given (one ∷ []))
+    × IsUnkept one journal_old journal_new
 
 -- the last of so many closed rounds, where there were fewer before
 abbrev pub round_if : ℕ → ℕ → List ℕ

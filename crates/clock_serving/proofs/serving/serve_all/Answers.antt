@@ -1,7 +1,7 @@
 use Rattle.std.proofs.Common.{◌≡◌, [], refl, subst, ◌∙◌}
 use Rattle.clock_terms.specs.Limits.{IsSetup}
 use Rattle.clock_house.specs.House.{HouseFields}
-use Rattle.clock_serving.proofs.Walking.{grown_none}
+use Rattle.clock_serving.proofs.Walking.{came_none, grown_none}
 use Rattle.clock_serving.proofs.Served.{served_none}
 use Rattle.clock_serving.proofs.Ends.{ends_by, one_more}
 use Rattle.clock_serving.proofs.serving.serve_all.Goals as goal
@@ -15,6 +15,7 @@ loop-connection-init g c = record {
   served = record {
     exchanges = [];
     closed = grown_none (g.C.Acceptor.closed c.args.connections.now);
+    came = came_none (g.C.Acceptor.coming c.args.connections.now);
     counted = refl;
     served = served_none (g.K.Keeper.told c.args.keeper.now) (g.K.Keeper.journal c.args.keeper.now) c.args.front.now;
   };
@@ -26,23 +27,25 @@ loop-connection-init g c = record {
 
 pub returns-in-Err-clause-served : goal.returns-in-Err-clause-served
 returns-in-Err-clause-served g c =
+    let coming = g.C.Acceptor.coming in
     let closed = g.C.Acceptor.closed in
     let journal = g.K.Keeper.journal in
     let told = g.K.Keeper.told in
     let loop = c.loop-connection in
-    ends_by loop._connection (closed c.args.connections.now) (closed loop.connections) (closed c.serve_next.new.connections)
+    ends_by loop._connection (coming c.args.connections.now) (coming loop.connections) (coming c.serve_next.new.connections) (closed c.args.connections.now) (closed loop.connections) (closed c.serve_next.new.connections)
     (told c.args.keeper.now) (told loop.keeper) (told c.serve_next.new.keeper) (journal c.args.keeper.now) (journal loop.keeper) (journal c.serve_next.new.keeper) c.args.front.now loop.front c.serve_next.new.front
     (limits_of c.house.result.now c.args.front.now c.house.ensures c.law_of_house.ensures.limits) loop.invariant.setup loop.invariant.served
     c.serve_next.result c.args.count c.in-Err.fault c.loop-connection-test.true c.in-Err.ensures.ends c.in-Err.ensures.told
 
 pub loop-connection-preserved : goal.loop-connection-preserved
 loop-connection-preserved g c =
+    let coming = g.C.Acceptor.coming in
     let closed = g.C.Acceptor.closed in
     let journal = g.K.Keeper.journal in
     let told = g.K.Keeper.told in
     let loop = c.loop-connection in
     record {
-      served = one_more loop._connection (closed c.args.connections.now) (closed loop.connections) (closed c.serve_next.new.connections)
+      served = one_more loop._connection (coming c.args.connections.now) (coming loop.connections) (coming c.serve_next.new.connections) (closed c.args.connections.now) (closed loop.connections) (closed c.serve_next.new.connections)
           (told c.args.keeper.now) (told loop.keeper) (told c.serve_next.new.keeper) (journal c.args.keeper.now) (journal loop.keeper) (journal c.serve_next.new.keeper) c.args.front.now loop.front c.serve_next.new.front
           (limits_of c.house.result.now c.args.front.now c.house.ensures c.law_of_house.ensures.limits) loop.invariant.setup loop.invariant.served
           c.in_default.field-0 c.in_default.ensures.ends c.in_default.ensures.setup c.in_default.ensures.told;

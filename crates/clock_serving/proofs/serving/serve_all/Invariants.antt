@@ -5,7 +5,7 @@ use Rattle.clock_serving.proofs.serving.serve_all.Given as goal
 -- so many connections were served, none is open, each could be taken, and no call of the disk has failed
 abbrev pub invariant-loop-connection : goal.invariant-loop-connection
 invariant-loop-connection g l = record {
-  served : HasServed l._connection (g.C.Acceptor.closed l.initial.connections) (g.C.Acceptor.closed l.connections)
+  served : HasServed l._connection (g.C.Acceptor.coming l.initial.connections) (g.C.Acceptor.coming l.connections) (g.C.Acceptor.closed l.initial.connections) (g.C.Acceptor.closed l.connections)
       (g.K.Keeper.told l.initial.keeper) (g.K.Keeper.told l.keeper) (g.K.Keeper.journal l.initial.keeper) (g.K.Keeper.journal l.keeper) l.initial.front l.front;
   unfailed : (g.K.Keeper.journal l.keeper).has_failed ≡ false;
   closed : g.C.Acceptor.is_open l.connections ≡ false;

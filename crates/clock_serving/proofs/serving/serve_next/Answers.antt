@@ -2,7 +2,7 @@ use Rattle.std.proofs.Common.{refl, sym, subst, ◌∙◌}
 use Rattle.clock_journal.specs.Kept.{JournalState}
 use Rattle.clock_serving.specs.Exchanges.{Exchange}
 use Rattle.clock_serving.specs.inside.Served.{IsServed}
-use Rattle.clock_serving.proofs.Walking.{closed_one}
+use Rattle.clock_serving.proofs.Walking.{came_one, closed_one}
 use Rattle.clock_serving.proofs.serving.serve_next.Goals as goal
 
 pub returns-in-Ok-kept-clause-ends : goal.returns-in-Ok-kept-clause-ends
@@ -18,6 +18,8 @@ returns-in-Ok-kept-clause-ends g c =
       closed_one (g.C.Acceptor.closed c.args.connections.now) (g.C.Acceptor.closed c.accept.new.self) (g.C.Acceptor.closed c.close.new.self)
           (g.C.Acceptor.offer c.accept.new.self) one.reading one.writing
           c.in-Ok.ensures.closed c.in-Ok.ensures.source c.in-Ok.ensures.sink c.close.ensures.closed,
+      came_one (g.C.Acceptor.coming c.args.connections.now) (g.C.Acceptor.coming c.accept.new.self) (g.C.Acceptor.coming c.close.new.self)
+          (g.C.Acceptor.offer c.accept.new.self) one c.in-Ok.ensures.came c.close.ensures.coming c.in-Ok.ensures.source,
       subst (λ (kept : JournalState). IsServed one (journal c.args.keeper.now) kept c.args.front.now c.serve_one-kept.new.front)
           (sym c.tell_closing.ensures.kept) c.in-Ok-kept.ensures.served,
     )
@@ -34,6 +36,8 @@ returns-in-Err-clause-ends g c =
       closed_one (g.C.Acceptor.closed c.args.connections.now) (g.C.Acceptor.closed c.accept.new.self) (g.C.Acceptor.closed c.close.new.self)
           (g.C.Acceptor.offer c.accept.new.self) one.reading one.writing
           c.in-Ok.ensures.closed c.in-Ok.ensures.source c.in-Ok.ensures.sink c.close.ensures.closed,
+      came_one (g.C.Acceptor.coming c.args.connections.now) (g.C.Acceptor.coming c.accept.new.self) (g.C.Acceptor.coming c.close.new.self)
+          (g.C.Acceptor.offer c.accept.new.self) one c.in-Ok.ensures.came c.close.ensures.coming c.in-Ok.ensures.source,
       c.in-Err.ensures.served,
     )
 
