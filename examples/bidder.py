@@ -7,11 +7,14 @@ LIMITS is a file as {"North": [2300, 1900], "South": [610]}: for each product, u
 token comes from the environment, so that it stands neither in the shell's history nor in the list of processes. URL begins with http:// or
 https://; CA names a file of certificates where the system's own do not do. It prints each round's sheet and slip, and at the end what was
 won. It asks for the status each second, or as seldom as it is told, and misses no round that lasts longer than that. Where no reply comes,
-or none that can be read, it asks again, for an hour. It ends with status 1 where a sheet is refused, a round is missed, or the round falls:
-then another server answers; and before any bid where LIMITS names no product of the auction, or is otherwise wrong.
+or another page than the server's, as a proxy gives one, it says so and asks again, for an hour. After that, and with each thirtieth status,
+it looks for its sheet: where none is in force any more, as when a server without a journal was started again within the round, it says so
+and puts it again; one that was put for the bidder by another way stays. It ends with status 1 where a sheet is refused, a round is missed,
+or the round falls: then another server answers; and before any bid where LIMITS names no product of the auction, or is otherwise wrong.
 """
 import argparse
 import http.client
+import itertools
 import json
 import os
 import ssl
@@ -21,15 +24,32 @@ import urllib.request
 
 BUSY = (408, 429, 500, 502, 503, 504)
 PATIENCE = 3600
+LOOK = 30
+
+# What is read of each page: some keys of an object, and each entry of a list, which has one for each product.
+STATUS = {"ended": bool, "round": int}
+PRODUCTS = {"products": [{"name": str, "opening": int}]}
+PRICES = {"products": [{"next": int, "posted": int}]}
+RESULT = {"products": [{"posted": int}]}
+SLIP = {"demands": [int]}
+ACCOUNT = {**STATUS, **SLIP, "name": str}
+IN_FORCE = {"bids": (list, type(None))}
+ACCEPTED = {"accepted": bool}
+
+
+def has_shape(page, shape, products):
+    """Whether a page has what is read of it; the number of products is None until it is known."""
+    if isinstance(shape, dict):
+        return isinstance(page, dict) and all(key in page and has_shape(page[key], inner, products) for key, inner in shape.items())
+    if isinstance(shape, list):
+        return isinstance(page, list) and products in (None, len(page)) and all(has_shape(part, shape[0], products) for part in page)
+    return isinstance(page, shape)
 
 
 class EachReply(urllib.request.HTTPErrorProcessor):
     """Hands on each reply as it came. No redirection is followed: the token is for one address alone."""
 
-    def http_response(self, request, response):
-        return response
-
-    https_response = http_response
+    http_response = https_response = lambda self, request, reply: reply
 
 
 class Auction:
@@ -37,11 +57,13 @@ class Auction:
 
     def __init__(self, url, token, every):
         self.url, self.token, self.every = url.rstrip("/"), token, every
+        self.products, self.is_in_doubt = None, False
         tls = ssl.create_default_context(cafile=os.environ.get("CA")) if url.startswith("https") else None
-        self.opener = urllib.request.build_opener(EachReply, urllib.request.HTTPSHandler(context=tls))
+        proxies = urllib.request.ProxyHandler(None if tls else {})      # without TLS `http_proxy` of the shell would be shown the token
+        self.opener = urllib.request.build_opener(EachReply, proxies, urllib.request.HTTPSHandler(context=tls))
 
-    def ask(self, path, sheet=None):
-        """The page; asks again where no reply came, or who answered was busy. A refusal ends the program."""
+    def ask(self, path, shape, sheet=None):
+        """The page; asks again where none came, or another, or who answered was busy. A refusal ends the program."""
         body = None if sheet is None else json.dumps(sheet).encode()
         headers = {"authorization": "Bearer " + self.token, "content-type": "application/json"}
         request = urllib.request.Request(self.url + path, body, headers, method="GET" if sheet is None else "PUT")
@@ -50,13 +72,15 @@ class Auction:
             try:
                 with self.opener.open(request, timeout=30) as reply:
                     text = reply.read()
-                if reply.status < 300:
-                    return json.loads(text)
-                if reply.status not in BUSY:
+                if reply.status >= 300 and reply.status not in BUSY:
                     sys.exit(f"{path} is refused: {reply.status} {text.decode(errors='replace')}")
-                print("no reply:", reply.status, reply.reason, file=sys.stderr)
-            except (OSError, http.client.HTTPException, ValueError) as error:
-                print("no reply:", error, file=sys.stderr)
+                if reply.status < 300 and has_shape(page := json.loads(text), shape, self.products):
+                    return page
+                fault = f"{reply.status} {reply.reason}, and no page of the server: {text[:80]}"
+            except (OSError, http.client.HTTPException, RecursionError, ValueError) as error:
+                fault = error
+            print(f"no reply to {path}: {fault}", file=sys.stderr)
+            self.is_in_doubt = True
             time.sleep(self.every)
         sys.exit(f"{path}: no reply for {PATIENCE} seconds")
 
@@ -64,14 +88,19 @@ class Auction:
         """The start and clock prices of a round."""
         if number == 1:
             return [(product["opening"], product["opening"]) for product in products]
-        return [(product["posted"], product["next"]) for product in self.ask(f"/v1/rounds/{number - 1}")["products"]]
+        return [(product["posted"], product["next"]) for product in self.ask(f"/v1/rounds/{number - 1}", PRICES)["products"]]
 
-    def wait(self, number):
+    def wait(self, number, sheet):
         """Returns once a round is closed. It sleeps first: the status that a proxy keeps may be a second old."""
-        closed = number - 1
-        while closed < number:
+        for times in itertools.count(1):
             time.sleep(self.every)
-            closed = last_closed(self.ask("/v1/status"), number)
+            if last_closed(self.ask("/v1/status", STATUS), number) == number:
+                return
+            looks, self.is_in_doubt = self.is_in_doubt or times % LOOK == 0, False
+            if looks and self.ask("/v1/me/bids", IN_FORCE)["bids"] is None:
+                if last_closed(self.ask("/v1/me", ACCOUNT), number) < number:       # else none is in force since the round is closed
+                    print(f"the sheet of round {number} is in force no more, and is put again", file=sys.stderr)
+                    self.ask("/v1/me/bids", ACCEPTED, sheet)
 
 
 def last_closed(page, number):
@@ -125,18 +154,20 @@ def limits_of(path):
 
 
 def play(auction, wanted):
-    products, account = auction.ask("/v1/products")["products"], auction.ask("/v1/me")
+    products = auction.ask("/v1/products", PRODUCTS)["products"]
+    auction.products = len(products)
+    account = auction.ask("/v1/me", ACCOUNT)
     if strangers := wanted.keys() - {product["name"] for product in products}:
         sys.exit(f"no product is called {', '.join(sorted(strangers))}")
     while not account["ended"]:
         number = account["round"]
         sheet = {"bids": bids_of(wanted, products, auction.prices(products, number), account["demands"], number), "round": number}
-        print("sheet", json.dumps(sheet), auction.ask("/v1/me/bids", sheet)["accepted"], flush=True)
-        auction.wait(number)
-        print("slip", json.dumps(auction.ask(f"/v1/me/rounds/{number}")), flush=True)
-        account = auction.ask("/v1/me")
+        print("sheet", json.dumps(sheet), auction.ask("/v1/me/bids", ACCEPTED, sheet)["accepted"], flush=True)
+        auction.wait(number, sheet)
+        print("slip", json.dumps(auction.ask(f"/v1/me/rounds/{number}", SLIP)), flush=True)
+        account = auction.ask("/v1/me", ACCOUNT)
         last_closed(account, number)
-    last = auction.ask(f"/v1/rounds/{account['round']}")["products"]
+    last = auction.ask(f"/v1/rounds/{account['round']}", RESULT)["products"]
     pay = sum(blocks * product["posted"] for blocks, product in zip(account["demands"], last))
     print("won", account["name"], *account["demands"], pay)
 
@@ -154,7 +185,11 @@ def main():
     token = os.environ.get("TOKEN", "").strip()
     if not token or not token.isascii() or not token.isprintable():
         sys.exit("TOKEN is to be set in the environment, to letters and digits")
-    play(Auction(arguments.url, token, arguments.every), limits_of(arguments.limits))
+    try:
+        auction = Auction(arguments.url, token, arguments.every)
+    except OSError as error:
+        sys.exit(f"CA: {error}")
+    play(auction, limits_of(arguments.limits))
 
 
 if __name__ == "__main__":
