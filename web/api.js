@@ -10,7 +10,6 @@ export class Fault extends Error {
     super(page.code);
     this.code = page.code;
     this.place = page.place;
-    this.round = page.round;
     this.status = status;
   }
 }

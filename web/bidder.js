@@ -2,7 +2,7 @@
 
 import { Asker, watch } from "./api.js";
 import { readBids, save, writtenBids } from "./csv.js";
-import { at, cell, counted, dollars, door, facts, lastClosed, make, number, question, rowHead, say, sum, tell, unask } from "./page.js";
+import { at, cell, counted, dollars, door, drawn, facts, lastClosed, make, number, question, rowHead, say, sum, tell, timeOfDay, unask } from "./page.js";
 import { Past } from "./past.js";
 import { activityLimit, activityOf, askedDemands, costOf, faultsOf, wordsOf } from "./rules.js";
 import { Sheet } from "./sheet.js";
@@ -36,7 +36,7 @@ async function load() {
   if (changed || accepted === then) takeForce(reply?.bids ?? null, "as it stood at"); // else a later sheet is in force than the reply tells
   if (!before && force.bids) sheet.take(force.bids);
   if (changed) tellChange(before);
-  drawAll();
+  drawn(drawAll);
   past.draw(asker, terms.products, last);
 }
 
@@ -52,9 +52,8 @@ function takeForce(bids, words) {
   for (const bid of bids ?? []) by.set(bid.product, [...(by.get(bid.product) ?? []), bid]);
   force = { bids: bids && plain(bids).sort((a, b) => a.product - b.product), by };
   if (bids) past.ask(me.round, bids);
-  const time = new Date().toLocaleTimeString("en-GB");
   const what = bids ? `a sheet of ${counted(bids.length, "bid")}, ${words}` : "no sheet, as it stood at";
-  at("force").textContent = me.ended ? "The auction is over: no sheet is in force any more." : `In force: ${what} ${time}.`;
+  at("force").textContent = me.ended ? "The auction is over: no sheet is in force any more." : `In force: ${what} ${timeOfDay()}.`;
 }
 
 function tellChange(before) {

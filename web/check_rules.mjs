@@ -111,7 +111,7 @@ async function play(folder) {
     let accepted = [];
     for (let n = 0; n < EACH && sheets < SHEETS; n++, sheets++) {
       const bids = randomSheet(now), reply = await ask(port, "PUT", "/v1/me/bids", TOKEN, { bids, round: now.round });
-      const mine = rules.firstFault(now, bids), code = reply.accepted ? "accepted" : reply.code;
+      const [mine] = rules.faultsOf(now, bids), code = reply.accepted ? "accepted" : reply.code;
       told[code] = (told[code] ?? 0) + 1;
       if (reply.accepted) accepted = bids;
       if ((mine?.code ?? "accepted") === code && mine?.place === reply.place) continue;

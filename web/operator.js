@@ -2,7 +2,9 @@
 
 import { Asker, watch } from "./api.js";
 import { save, written } from "./csv.js";
-import { at, cell, counted, demandOf, dollars, door, facts, lastClosed, make, number, offerRounds, question, rowHead, say, sum, tell, unask } from "./page.js";
+import {
+  at, cell, counted, demandOf, dollars, door, drawn, facts, lastClosed, make, number, offerRounds, question, rowHead, say, sum, tell, timeOfDay, unask,
+} from "./page.js";
 import { activityOf, wordsOf } from "./rules.js";
 import { Rows } from "./table.js";
 
@@ -31,7 +33,7 @@ function drawTies() {
     [places[k], places[other]] = [places[other], places[k]];
   }
   ties = places.slice(0, listed).map((pair, k) => [Math.floor(pair / products), pair % products, k + 1]);
-  const time = new Date().toLocaleTimeString("en-GB"), whole = `all ${number(pairs)} pairs of bidder and product`;
+  const time = timeOfDay(), whole = `all ${number(pairs)} pairs of bidder and product`;
   at("ties").textContent = listed === pairs ? `Drawn at random at ${time}, for ${whole}.`
     : `Drawn at random at ${time}, for ${number(listed)} of ${whole}: a closing may list no more. The others have 0 and come before them.`;
 }
@@ -45,7 +47,7 @@ async function load() {
   if (last > 0) rounds.set(last, sold);
   results = now;
   drawTies();
-  drawAll(last);
+  drawn(() => drawAll(last));
 }
 
 function drawAll(last) {

@@ -19,6 +19,8 @@ export const dollars = (n) => (n === null || n === undefined ? "–" : "$" + num
 export const counted = (n, word) => `${number(n)} ${word}${n === 1 ? "" : "s"}`;
 export const sum = (numbers) => numbers.reduce((a, b) => a + b, 0);
 
+export const timeOfDay = () => new Date().toLocaleTimeString("en-GB");
+
 /** The last closed round of an auction of that status, or 0. */
 export const lastClosed = (status) => (status.ended ? status.round : status.round - 1);
 /** What was asked for of a product in a closed round, which is told only where it is above the supply. */
@@ -52,6 +54,13 @@ export function offerRounds(last) {
   const select = at("which"), stays = Number(select.value) < Number(select.options[0]?.value);
   options(select, Array.from({ length: last }, (_, n) => [last - n, last - n]));
   if (!stays) select.value = last || "";
+}
+
+/** Draws anew. Where that takes away what the cursor stands on, it goes to the round, and a person goes on from there. */
+export function drawn(draw) {
+  const stood = document.activeElement;
+  draw();
+  if (stood !== document.body && document.activeElement.matches("body, :disabled, [hidden], [hidden] *")) at("round").focus({ preventScroll: true });
 }
 
 /** Asks a question with a yes and a no; true for yes. Escape, and `unask`, are no; nothing follows where another is asked within the same frame. */

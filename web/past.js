@@ -1,7 +1,7 @@
 // A bidder's closed rounds: the sheet and the own slip of each, what was asked beside what was applied, and a chart of one product.
 
 import { chart } from "./chart.js";
-import { at, cell, counted, demandOf, dollars, make, number, offerRounds, options, rowHead, sum } from "./page.js";
+import { at, cell, counted, demandOf, dollars, make, number, offerRounds, options, rowHead, sum, timeOfDay } from "./page.js";
 import { Rows } from "./table.js";
 
 const AT_ONCE = 20;
@@ -43,9 +43,9 @@ export class Past {
   products(round) { return this.#rounds.get(round); }
   slip(round) { return this.#slips.get(round); }
 
-  /** Notes what this bidder asks for in a round, each time that it is known; null where nobody knows. */
+  /** Notes what this bidder asks for in a round, each time that it is seen, and when; null where nobody knows. */
   ask(round, bids) {
-    this.#asked.set(round, bids);
+    this.#asked.set(round, bids && { bids, time: timeOfDay() });
     if (Number(at("which").value) === round) this.#drawRound();
   }
 
@@ -91,8 +91,9 @@ export class Past {
       return this.#table.set([]);
     }
     at("slip").textContent = `Your slip of round ${round}: ${counted(sum(slip.demands), "block")} held, ` +
-      `activity ${number(slip.activity)}, eligibility ${number(slip.eligibility)}.`;
-    const mine = new Set(asked?.map((bid) => bid.product));
+      `activity ${number(slip.activity)}, eligibility ${number(slip.eligibility)}.` +
+      (asked ? ` What you asked is as this tab last saw it, at ${asked.time}.` : "");
+    const mine = new Set(asked?.bids.map((bid) => bid.product));
     slip.demands.forEach((blocks, p) => { if (blocks) mine.add(p); });
     this.#table.set(this.#products.map((_, p) => p).filter((p) => !at("narrow").checked || mine.has(p)).map(String));
   }
@@ -108,7 +109,7 @@ export class Past {
 
   #row(key) {
     const p = Number(key), round = Number(at("which").value), product = this.#products[p], sold = this.#rounds.get(round)[p];
-    const asked = this.#asked.get(round)?.filter((bid) => bid.product === p), held = this.#slips.get(round).demands[p];
+    const asked = this.#asked.get(round)?.bids.filter((bid) => bid.product === p), held = this.#slips.get(round).demands[p];
     return make("tr", { class: held ? "held" : "" }, rowHead(product.name),
       cell("Start", dollars(sold.start)), cell("Clock", dollars(sold.clock)), cell("Posted", dollars(sold.posted)),
       cell("Demand", demandOf(sold, product)), cell("You asked", askedWords(asked)), cell("Applied", number(held)));

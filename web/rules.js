@@ -2,7 +2,7 @@
 // Nothing is decided here. The server judges; this says beforehand what it would say. Numbers of activity and cost are
 // BigInt, since 4,096 products of 1,000 blocks at 10^12 dollars pass what a Number keeps whole.
 
-export const MOST_BIDS = 8192;
+const MOST_BIDS = 8192;
 
 /** What each fault of a sheet, a closing or a request means, and what to do: in the words of docs/bidders.md and docs/operators.md. */
 export const WORDS = {
@@ -59,9 +59,7 @@ export function activityLimit(round, eligibility, limit = 100) {
 export function costOf(products, bids) {
   const last = new Map();
   for (const bid of bids) last.set(bid.product, BigInt(bid.quantity) * BigInt(bid.price));
-  let sum = 0n;
-  for (const cost of last.values()) sum += cost;
-  return sum;
+  return [...last.values()].reduce((sum, cost) => sum + cost, 0n);
 }
 
 /** The first fault of one more bid, or null. `before` are the product's bids before it, none of them at fault. */
@@ -82,8 +80,7 @@ function faultOfBid(terms, before, bid) {
 /** Every fault of the bids, as {code, place}, by rising place; a bid behind a fault of its product is judged as if the faulty one were not. */
 export function faultsOf(terms, bids) {
   if (bids.length > MOST_BIDS) return [{ code: "too_many" }];
-  const faults = [];
-  const chains = new Map();
+  const faults = [], chains = new Map();
   bids.forEach((bid, place) => {
     const before = chains.get(bid.product) ?? [];
     const code = faultOfBid(terms, before, bid);
@@ -96,6 +93,3 @@ export function faultsOf(terms, bids) {
   }
   return faults;
 }
-
-/** The first fault, which is what the server tells, or null. */
-export const firstFault = (terms, bids) => faultsOf(terms, bids)[0] ?? null;

@@ -6,7 +6,7 @@ const BESIDE = 6; // rows that are laid out above and below what is seen
 
 export class Rows {
   #keys = [];
-  #shown = new Map();
+  shown = new Map(); // the rows that are laid out now, by key
 
   /** `draw` makes the row of a key. */
   constructor(frame, body, draw) {
@@ -17,9 +17,6 @@ export class Rows {
     new ResizeObserver(() => this.lay()).observe(frame);
   }
 
-  /** The rows that are laid out now, by key. */
-  get shown() { return this.#shown; }
-
   get #high() {
     return parseFloat(getComputedStyle(this.frame).getPropertyValue("--row")) || 44;
   }
@@ -28,7 +25,7 @@ export class Rows {
   set(keys) {
     const typing = this.#typing(), scrolled = this.frame.scrollTop;
     this.#keys = keys;
-    this.#shown.clear();
+    this.shown.clear();
     this.body.replaceChildren(this.above, this.below);
     this.above.style.height = 0;
     this.below.style.height = keys.length * this.#high + "px";
@@ -56,18 +53,18 @@ export class Rows {
     const first = Math.max(0, Math.floor(this.frame.scrollTop / high) - BESIDE);
     const seen = Math.ceil(this.frame.clientHeight / high) + 2 * BESIDE;
     const keys = this.#keys.slice(first, first + seen), wanted = new Set(keys);
-    for (const [key, row] of this.#shown) {
+    for (const [key, row] of this.shown) {
       if (wanted.has(key)) continue;
       row.remove();
-      this.#shown.delete(key);
+      this.shown.delete(key);
     }
     let before = this.above;
     keys.forEach((key, place) => {
-      let row = this.#shown.get(key);
+      let row = this.shown.get(key);
       if (!row) {
         row = this.draw(key);
         row.setAttribute("aria-rowindex", first + place + 2);
-        this.#shown.set(key, row);
+        this.shown.set(key, row);
         before.after(row);
       }
       before = row;

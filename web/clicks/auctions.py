@@ -1,10 +1,12 @@
 """Auctions by clicks: the live round of the first page, faults, tables of bids, a server that is gone, closings that are refused."""
+import re
 import time
 
 from selenium.webdriver.common.keys import Keys
 
 from clicks.stand import expect, wait_for
 
+SEEN_LAST = re.compile(r"What you asked is as this tab last saw it, at \d\d:\d\d:\d\d\.$")
 X, Y, Z, OPERATOR = "X" * 16, "Y" * 16, "Z" * 16, "OPERATOROPERATOR"
 OPERATORS = "operator.html"
 
@@ -60,7 +62,15 @@ def live_round(x, y, operator, work):
     wait_for("an earlier round is shown", lambda: x.rows("pastbody") == [["A", "$100", "$100", "$100", "3 of 2", "2 at 100", "2"]])
     told = x.run("return document.querySelector('#chart title').textContent")
     expect("the chart tells both rounds", "round 1: 100 dollars, 2 held; round 2: 103 dollars, 1 held" in told)
+    expect("and as of when it is told", SEEN_LAST.search(x.text("slip")))
     results_saved(operator, work)
+
+
+def second_tab(stand, window):
+    """Another tab of X, which saw no sheet of X in force: what is told there is true as well."""
+    enter(stand, (window, X))
+    wait_for("what was asked is not known there", lambda: window.rows("pastbody") == [["A", "$100", "$110", "$103", "≤ 2", "not known here", "1"]])
+    expect("nor as of when", "1 block held" in window.text("slip") and "asked" not in window.text("slip"))
 
 
 def results_saved(operator, work):

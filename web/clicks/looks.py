@@ -251,7 +251,13 @@ def by_keys(window, operator, stand):
     operator.run("document.getElementById('question').close('no'); document.getElementById('ask').click()")
     wait_for("asked a third time, before the browser tells that the second question is gone", lambda: operator.run("return document.activeElement.id") == "no")
     operator.press(Keys.TAB, Keys.ENTER)
-    wait_for("closed by keys alone", lambda: "Round 1 is closed" in operator.text("say"))
+    wait_for("closed by keys alone", lambda: "Round 1 is closed. The auction has ended." in operator.text("say"))
+    wait_for("the bidder is told of the end", lambda: window.text("round") == "Ended after round 1")
+    for each in (window, operator):
+        time.sleep(0.2)     # a browser takes the cursor away with its next frame
+        expect("where its button is gone, the cursor is at the round", each.run("return document.activeElement.id") == "round")
+    operator.press(Keys.TAB)
+    expect("from where the results come next", operator.run("return document.activeElement.id") == "save")
 
 
 def pictured(stand, windows, folder):
