@@ -7,7 +7,10 @@ BUILT = pathlib.Path(__file__).resolve().parent.parent / "crates" / "clock_aucti
 
 
 def program():
-    """Its path. Where nothing is there, the script ends and says so."""
+    """Its path. Where nothing is there, the script ends and says so; where help is wanted, it gives its head."""
+    if sys.argv[1:2] in (["-h"], ["--help"]):
+        print(sys.modules["__main__"].__doc__.strip())
+        sys.exit()
     path = pathlib.Path(sys.argv[1]).absolute() if len(sys.argv) > 1 else BUILT
     if not path.is_file():
         sys.exit(f"{path} is not there: `rt run` in crates/clock_auction builds the program")
