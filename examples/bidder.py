@@ -113,14 +113,8 @@ def last_closed(page, number):
     return closed
 
 
-def first_bids(limits, clock):
-    """As many blocks as have a limit at or above the opening price."""
-    quantity = sum(limit >= clock for limit in limits)
-    return [(quantity, clock)] if quantity else []
-
-
-def later_bids(limits, held, start, clock):
-    """A held block leaves at its limit, or at the start price if that is higher or none is given. Else all are kept."""
+def steps_of(limits, held, start, clock):
+    """Quantities and prices: a held block leaves at its limit, or at the start price if that is higher or none is given. Else all are kept."""
     limits = (limits + [0] * held)[:held]
     leaving = sorted({max(start, limit) for limit in limits if limit < clock})
     if held and not leaving:
@@ -132,8 +126,9 @@ def bids_of(wanted, products, prices, held, number):
     bids = []
     for place, (product, (start, clock)) in enumerate(zip(products, prices)):
         limits = wanted.get(product["name"], [])
-        steps = first_bids(limits, clock) if number == 1 else later_bids(limits, held[place], start, clock)
-        bids += [{"price": price, "product": place, "quantity": quantity} for quantity, price in steps]
+        # in round 1 blocks with a limit at or above the opening price are asked for, as if they were held
+        blocks = sum(limit >= clock for limit in limits) if number == 1 else held[place]
+        bids += [{"price": price, "product": place, "quantity": quantity} for quantity, price in steps_of(limits, blocks, start, clock)]
     return bids
 
 
