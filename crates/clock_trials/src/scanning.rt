@@ -37,9 +37,7 @@ fn flat_rows_of(alloc: Global, text: &[u8]) -> (usize, u64, bool) {
 
 /// How long the key and the text of an object with one member are, where it comes next.
 fn next_member(scan: &mut Scan<'_>) -> Option<(usize, usize)> {
-    if !scan.opens_object() {
-        return None;
-    }
+    scan.opens_object().ok()?;
     let key = scan.key().ok()?.len();
     let value = scan.text().ok()?.len();
     if scan.closes_object() {
@@ -104,7 +102,7 @@ fn members_with_texts(rt: HostRuntime) {
 /// Whether a text is a list of one `null`.
 fn is_one_null(text: &[u8]) -> bool {
     let mut scan = Scan::new(text);
-    scan.opens_array() && scan.null() && scan.closes_array() && scan.ends()
+    scan.opens_array().is_ok() && scan.null() && scan.closes_array() && scan.ends()
 }
 
 /// Texts, whether each is blank, and whether it is a list of one `null`.
