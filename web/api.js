@@ -34,10 +34,10 @@ export class Asker {
         await pause(500 * (again + 1));
         continue;
       }
-      const page = await reply.json().catch(() => { throw noAnswer(); });
-      if (reply.ok) return page;
-      // the proxy that stands before the server answers, and no server behind it
-      if (page.code === "proxy" && reply.status >= 500) throw noAnswer();
+      const page = await reply.json().catch(() => null);
+      if (reply.ok && ["round", "products", "closed"].some((key) => page?.[key])) return page;
+      // the proxy that stands before the server answers and no server behind it, or somebody else
+      if (reply.ok || !page?.code || (page.code === "proxy" && reply.status >= 500)) throw noAnswer();
       throw new Fault(page, reply.status);
     }
   }

@@ -126,6 +126,15 @@ class Window:
                 return reply || asked(path, options);
             }""", answers)
 
+    def answered(self, page):
+        """What the page sends next comes to nobody, and is answered by this page with status 200."""
+        self.run("""const asked = window.fetch, page = arguments[0];
+            window.fetch = (path, options) => {
+                if (!options.body) return asked(path, options);
+                window.fetch = asked;
+                return Promise.resolve(new Response(page));
+            }""", page)
+
     def let_go(self):
         self.run("window.let_go()")
 
