@@ -1,6 +1,6 @@
 -- Reading an option as a number and looking at its limits gives what the definition says of its text.
 use Rattle.std.proofs.Common.{◌≡◌, ◌≤◌, ℕ, Bool, List, Option, Some, None, Ok, Err, Result, nat_le, ◌&&◌, cond, option_and_then}
-use Rattle.std.proofs.Common.{true, false, refl, sym, subst}
+use Rattle.std.proofs.Common.{true, false, refl, sym, subst, ◌∙◌}
 use Rattle.std.proofs.lemmas.Bool.{leb-true, le-leb}
 use Rattle.std.specs.Str.Parse.{ParsesUnsigned}
 use Rattle.clap.specs.Matches.{ReadsOne}
@@ -8,6 +8,7 @@ use Rattle.clap.specs.ValueTests.{is_unsigned_in}
 use Rattle.clap.specs.declared.builder.value_parser.ValueParser.TheVariants as parser
 use Rattle.clap.proofs.ValueTestLemmas.{accepts-Accepts, Accepts-accepts}
 use Rattle.clap.proofs.WalkLemmas.{both}
+use Rattle.clock_terms.specs.Limits.{is_within}
 use Rattle.clock_words.specs.Words.{number_from}
 use Rattle.clock_words.specs.inside.Commands.{within_limits}
 
@@ -47,3 +48,21 @@ module _ {E : Type 0} (gives : List ℕ → Result ℕ E → Type 0) (parses : (
       → ((t : List ℕ) → text ≡ Some t → ReadsOne gives t r) → within_limits least most r ≡ option_and_then (number_from least most) text
   number_read None r none some = rw (none refl) refl
   number_read (Some t) r none some = read_at t r (some t refl)
+
+  -- a number within the limits is kept, and no other
+  pub kept : (text : Option (List ℕ)) (r : Option ℕ) (n : ℕ) → r ≡ Some n → is_within least most n ≡ true → (text ≡ None → r ≡ None)
+      → ((t : List ℕ) → text ≡ Some t → ReadsOne gives t r) → Some n ≡ option_and_then (number_from least most) text
+  kept text r n is test none some =
+      subst (λ (o : Option ℕ). Some n ≡ within_limits least most o) (sym is)
+      (subst (λ (b : Bool). Some n ≡ cond b (Some n) None) (sym test) refl) ∙ number_read text r none some
+
+  pub left_out : (text : Option (List ℕ)) (r : Option ℕ) (n : ℕ) → r ≡ Some n → is_within least most n ≡ false → (text ≡ None → r ≡ None)
+      → ((t : List ℕ) → text ≡ Some t → ReadsOne gives t r) → None ≡ option_and_then (number_from least most) text
+  left_out text r n is test none some =
+      subst (λ (o : Option ℕ). None ≡ within_limits least most o) (sym is)
+      (subst (λ (b : Bool). ◌≡◌ {A = Option ℕ} None (cond b (Some n) None)) (sym test) refl) ∙ number_read text r none some
+
+  pub none_read : (text : Option (List ℕ)) (r : Option ℕ) → r ≡ None → (text ≡ None → r ≡ None)
+      → ((t : List ℕ) → text ≡ Some t → ReadsOne gives t r) → None ≡ option_and_then (number_from least most) text
+  none_read text r is none some =
+      subst (λ (o : Option ℕ). None ≡ within_limits least most o) (sym is) refl ∙ number_read text r none some

@@ -3,12 +3,12 @@ ghost use Rattle.std.specs.Prelude.{◌≡◌, ◌≢◌, None, [], map, option_
 ghost use Rattle.clock_terms.specs.Limits.{IsWithin};
 ghost use Rattle.clap.specs.Words.{fault_of, first_of, found_of, kind_of, rows_of, subcommand_of, subcommand_rows_of};
 ghost use Rattle.clock_words.specs.Words.{IsJob, files_from, files_told, given, grammar, job_met, job_of, number_of, serving_from, serving_told, task_met, task_of, task_told};
-ghost use Rattle.clock_words.specs.inside.Commands.{within_limits as limited};
 
 use crate::commands::{MOST_PORT, MOST_SERVED, program};
 use clap::error::ErrorKind;
 use clap::{ArgMatches, Error};
 use clock_money::{LEAST_INCREMENT, MOST_INCREMENT};
+use clock_terms::is_within;
 use std::alloc::Global;
 
 /// What the words ask the program to do.
@@ -58,23 +58,15 @@ pub enum FileTask<'a> {
 /// What a run without any word does.
 static WITHOUT_WORDS: [&str; 3] = ["prices", "--increment", "10"];
 
-/// The number, where it is within the limits.
-fn within_limits(least: u64, most: u64, number: Option<u64>) -> Option<u64>
-    ensures value { result ≡ limited least most number }
-    ensures limits { IfSome result (IsWithin least most) }
-{
-    match number {
-        Some(number) if (least..=most).contains(&number) => Some(number),
-        _ => None,
-    }
-}
-
 /// The number that an option is given, where it is within the limits.
 fn number_in(options: &ArgMatches, name: &str, least: u64, most: u64) -> Option<u64>
     ensures value { result ≡ number_of name.now least most (rows_of (found_of options.now)) }
     ensures limits { IfSome result (IsWithin least most) }
 {
-    within_limits(least, most, options.get_one::<u64>(name))
+    match options.get_one::<u64>(name) {
+        Some(number) if is_within(least, most, number) => Some(number),
+        _ => None,
+    }
 }
 
 /// The job that the matches name.

@@ -1,13 +1,24 @@
-use Rattle.std.proofs.Common.{◌∙◌}
+use Rattle.std.proofs.Common.{◌∙◌, sym}
 use Rattle.std.specs.Str.Parse.{ParsesUnsigned, ExplainsUnsignedError, HasUnsignedDigitsIfOk}
-use Rattle.clock_words.proofs.NumberText.{number_read}
+use Rattle.clock_words.proofs.NumberText.{kept, left_out, none_read}
 use Rattle.clap.specs.Words.{found_of, one_text}
 use Rattle.clap.proofs.WalkLemmas.{one_text-rows}
 use Rattle.clock_words.proofs.words.number_in.Goals as goal
 
-pub returns-clause-value : goal.returns-clause-value
-returns-clause-value c =
-    let read = number_read (λ bs r. ParsesUnsigned 64 10 bs r × ExplainsUnsignedError 10 bs r × HasUnsignedDigitsIfOk bs r) (λ t r g. g.0)
-    c.args.least c.args.most
-    (one_text (found_of c.args.options.now) c.args.name.now) c.get_one.result c.get_one.ensures.none c.get_one.ensures.value in
-    rw (← one_text-rows) (c.within_limits.ensures.value ∙ read)
+pub returns-in-Some-clause-value : goal.returns-in-Some-clause-value
+returns-in-Some-clause-value c =
+    rw (← one_text-rows) (kept (λ bs r. ParsesUnsigned 64 10 bs r × ExplainsUnsignedError 10 bs r × HasUnsignedDigitsIfOk bs r) (λ t r g. g.0)
+    c.args.least c.args.most (one_text (found_of c.args.options.now) c.args.name.now) c.get_one.result c.in-Some.number c.in-Some.is
+    (sym c.is_within.ensures ∙ c.if-is_within.true) c.get_one.ensures.none c.get_one.ensures.value)
+
+pub returns-in_default-clause-value : goal.returns-in_default-clause-value
+returns-in_default-clause-value c =
+    rw (← one_text-rows) (left_out (λ bs r. ParsesUnsigned 64 10 bs r × ExplainsUnsignedError 10 bs r × HasUnsignedDigitsIfOk bs r) (λ t r g. g.0)
+    c.args.least c.args.most (one_text (found_of c.args.options.now) c.args.name.now) c.get_one.result c.in-Some.number c.in-Some.is
+    (sym c.is_within.ensures ∙ c.if-is_within.false) c.get_one.ensures.none c.get_one.ensures.value)
+
+pub returns-in_default-2-clause-value : goal.returns-in_default-2-clause-value
+returns-in_default-2-clause-value c =
+    rw (← one_text-rows) (none_read (λ bs r. ParsesUnsigned 64 10 bs r × ExplainsUnsignedError 10 bs r × HasUnsignedDigitsIfOk bs r) (λ t r g. g.0)
+    c.args.least c.args.most (one_text (found_of c.args.options.now) c.args.name.now) c.get_one.result c.in_default.is
+    c.get_one.ensures.none c.get_one.ensures.value)
