@@ -13,6 +13,7 @@ const keyOf = (product, step) => `${product}.${step}`;
 const partsOf = (key) => key.split(".").map(Number);
 const plain = (bids) => bids.map(({ price, product, quantity }) => ({ price, product, quantity }));
 
+const tabs = new BroadcastChannel("sheets"); // the other tabs of this browser hear that a sheet was sent, and nothing of what it says
 // who asks, the account, what the sheet is judged by, the slip of the round before, and the sheet in force
 let asker, me, terms, earlier, force = { bids: null, by: new Map() };
 // the faults of what is typed, by row; the server's own refusal; whether something could not be had; whether a sheet is under way; how many were taken
@@ -244,6 +245,7 @@ async function send() {
     tellRefused(fault, round, bids);
   } finally {
     sending = false;
+    tabs.postMessage("sent");
   }
 }
 
@@ -350,4 +352,4 @@ at("drop").addEventListener("click", () => fill(() => sheet.clear(), "All bids a
 at("back").addEventListener("click", () => { fill(() => sheet.take(force.bids), "Filled in: the sheet that is in force."); at("again").focus(); });
 at("down").addEventListener("click", download);
 at("up").addEventListener("change", upload);
-document.addEventListener("visibilitychange", () => { gone = true; }); // another tab may have sent a sheet
+for (const [from, event] of [[tabs, "message"], [document, "visibilitychange"]]) from.addEventListener(event, () => { gone = true; }); // a sheet may be sent elsewhere

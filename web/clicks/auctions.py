@@ -194,6 +194,22 @@ def gone_and_back(stand, window):
     return f"the status is asked for each {fast:.1f} s, each {slow:.1f} s while nothing answers"
 
 
+def side_by_side(stand, window):
+    """Two windows of one browser: what one sends is told in the other, where nobody does anything."""
+    driver, first = window.driver, window.driver.current_window_handle
+    driver.switch_to.new_window("window")
+    window.open(stand, "", X)
+    wait_for("a second window has the sheet in force", lambda: "a sheet of 1 bid" in window.text("force"))
+    for product in (0, 1):
+        window.bid(product, 1, 100)
+    window.send("Accepted: 2 bids")
+    driver.close()
+    driver.switch_to.window(first)
+    wait_for("the first window tells what the second one sent",
+             lambda: "a sheet of 2 bids, as it stood at" in window.text("force") and [row[6] for row in window.rows("body")] == ["1 at 100", "1 at 100"])
+    expect("and that it is not what is typed here", "what is typed is not what is in force" in window.text("todo"))
+
+
 def strangers(stand, window):
     """Tokens of nobody, and of somebody for whom the page is not, are told at the door, which stays open."""
     nobody, another = "no token, or a token of nobody", "this token is not for this page"
