@@ -1,6 +1,7 @@
-ghost use Rattle.std.specs.Prelude.{◌≡◌, ℕ, ◌+◌, ◌*◌, ◌≤◌, ◌<◌, length, All, IfOk, slice_index};
-ghost use Rattle.clock_terms.specs.Limits.{IsRow, most_bidders, most_products, most_supply};
+ghost use Rattle.std.specs.Prelude.{◌≡◌, ℕ, List, ◌+◌, ◌*◌, ◌≤◌, ◌<◌, length, All, IfOk, slice_index};
+ghost use Rattle.clock_terms.specs.Limits.{IsRow, most_bidders, most_supply};
 ghost use Rattle.clock_terms.specs.Demands.{total_of, demand_at, demand_after, row_of, with_demand, no_demands};
+ghost use Rattle.clock_terms.specs.inside.Demands.{IsKeptGrid};
 
 use crate::new_demand::NewDemand;
 use crate::row::Row;
@@ -21,9 +22,6 @@ pub struct Grid {
 }
 
 impl Model for Grid {
-    ghost use Rattle.std.specs.Prelude.{List, ℕ};
-    ghost use Rattle.clock_terms.specs.inside.Demands.{IsKeptGrid};
-
     ghost Value = { List (List ℕ) };
 
     ghost view = { λ a. a.rows.items };

@@ -1,5 +1,6 @@
 ghost use Rattle.std.specs.Prelude.{◌≡◌, IfOk};
 ghost use Rattle.clock_terms.specs.Prices.{opening_prices};
+ghost use Rattle.clock_terms.specs.declared.setup.Setup.{Setup};
 
 use crate::setup::{Product, Setup};
 use clock_device::{Items, NoMemory};
@@ -20,8 +21,6 @@ pub type Prices = Items<PricePair>;
 
 /// Gives [`Prices`] the call `Prices::opening`.
 pub trait OpeningPrices: Sized {
-    ghost use Rattle.clock_terms.specs.declared.setup.Setup.{Setup};
-
     ghost is_opening: { Setup → Self → Type 0 };
 
     /// The prices of the first round: of each product, start and clock price are its opening price.

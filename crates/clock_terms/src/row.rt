@@ -1,6 +1,8 @@
-ghost use Rattle.std.specs.Prelude.{◌≡◌, ◌≤◌, ◌<◌, length, replicate, IfOk, slice_index, slice_set};
+ghost use Rattle.std.specs.Prelude.{◌≡◌, ℕ, List, ◌≤◌, ◌<◌, length, replicate, IfOk, slice_index, slice_set, vec_capacity};
 ghost use Rattle.std.specs.List.{AllWithin};
 ghost use Rattle.clock_terms.specs.Demands.{demand_after};
+ghost use Rattle.clock_terms.specs.HeldDemands.{demands_of};
+ghost use Rattle.clock_terms.specs.inside.Rows.{IsKeptRow};
 ghost use Rattle.clock_terms.specs.Limits.{IsRow, most_products, most_supply};
 
 use crate::held_list::{
@@ -28,10 +30,6 @@ pub struct Row {
 }
 
 impl Model for Row {
-    ghost use Rattle.std.specs.Prelude.{List, ℕ, vec_capacity};
-    ghost use Rattle.clock_terms.specs.HeldDemands.{demands_of};
-    ghost use Rattle.clock_terms.specs.inside.Rows.{IsKeptRow};
-
     ghost Value = { List ℕ };
 
     ghost view = { λ r. demands_of r.count r.held.items };

@@ -1,4 +1,5 @@
 ghost use Rattle.std.specs.Prelude.{◌≡◌, IfOk};
+ghost use Rattle.clock_terms.specs.Limits.{IsSetup, SetupFields};
 
 use clock_device::{Items, NoMemory, Text};
 use clock_money::Price;
@@ -61,8 +62,6 @@ pub struct Setup {
 }
 
 impl Model for Setup {
-    ghost use Rattle.clock_terms.specs.Limits.{SetupFields, IsSetup};
-
     ghost Value = { SetupFields };
 
     ghost view = { λ s. record {
