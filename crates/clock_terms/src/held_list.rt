@@ -50,10 +50,8 @@ pub(crate) fn is_at(held: &[HeldDemand], place: usize, product: usize) -> bool
     ensures { IsTrue result → (place < length held.now)
         × ((d : HeldDemand) → (slice_index_or held.now place d).product ≡ product) }
 {
-    match held.get(place) {
-        Some(one) => one.product as usize == product,
-        None => false,
-    }
+    held.get(place)
+        .is_some_and(|one| one.product as usize == product)
 }
 
 /// The same, looked for from the start of the product's group. Where all products of the group are held, it stands as
@@ -89,31 +87,6 @@ pub(crate) fn demand_at(held: &[HeldDemand], place: Result<usize, usize>, produc
     }
 }
 
-/// The places from one group on are one further.
-fn raise_starts(starts: &mut Vec<u16>, from: usize)
-    requires { All (λ start. start ≤ most_products) starts.old.items }
-    ensures kept { length starts.new.items ≡ length starts.old.items }
-    ensures below { (group : ℕ) → group < from → slice_index starts.new.items group ≡ slice_index starts.old.items group }
-    ensures raised { (group : ℕ) → from ≤ group → group < length starts.old.items
-        → slice_index starts.new.items group ≡ slice_index starts.old.items group + 1 }
-{
-    for group in from..starts.len() {
-        starts[group] += 1;
-    }
-}
-
-/// The places from one group on are one less far.
-fn lower_starts(starts: &mut Vec<u16>, from: usize)
-    ensures kept { length starts.new.items ≡ length starts.old.items }
-    ensures below { (group : ℕ) → group < from → slice_index starts.new.items group ≡ slice_index starts.old.items group }
-    ensures lowered { (group : ℕ) → from ≤ group → group < length starts.old.items
-        → slice_index starts.new.items group ≡ slice_index starts.old.items group - 1 }
-{
-    for group in from..starts.len() {
-        starts[group] = starts[group].saturating_sub(1);
-    }
-}
-
 /// Puts in a demand at its place.
 fn put_in(held: &mut Vec<HeldDemand>, starts: &mut Vec<u16>, place: usize, one: HeldDemand)
     requires place { WouldStandAt held.old.items one.product place }
@@ -126,7 +99,10 @@ fn put_in(held: &mut Vec<HeldDemand>, starts: &mut Vec<u16>, place: usize, one: 
     ensures groups { length starts.new.items ≡ length starts.old.items }
 {
     held.insert(place, one).unwrap();
-    raise_starts(starts, one.product as usize / GROUP_SIZE + 1);
+    let from = one.product as usize / GROUP_SIZE + 1;
+    for group in from..starts.len() {
+        starts[group] += 1;
+    }
 }
 
 /// Takes out the demand for a product, at its place.
@@ -139,7 +115,10 @@ fn take_out(held: &mut Vec<HeldDemand>, starts: &mut Vec<u16>, place: usize, pro
     ensures groups { length starts.new.items ≡ length starts.old.items }
 {
     held.remove(place);
-    lower_starts(starts, product / GROUP_SIZE + 1);
+    let from = product / GROUP_SIZE + 1;
+    for group in from..starts.len() {
+        starts[group] = starts[group].saturating_sub(1);
+    }
 }
 
 /// Stores a demand whose product was looked for. One of no block is not kept.

@@ -110,8 +110,7 @@ impl Row {
         ensures is { result ≡ slice_index self.now product }
         ensures small { result ≤ most_supply }
     {
-        let mut place = 0;
-        self.find(&mut place, product)
+        self.find(&mut 0, product)
     }
 
     /// The same, looked for first where the last one was found and behind that, as for one product after another. The

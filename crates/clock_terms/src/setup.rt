@@ -139,16 +139,13 @@ impl Setup {
     pub fn copy(&self, alloc: Global) -> Result<Setup, NoMemory>
         ensures { IfOk result (λ copy. copy ≡ self.now) }
     {
-        let operator = self.operator.copy(alloc)?;
-        let products = products_copy(alloc, self.products.as_slice())?;
-        let bidders = bidders_copy(alloc, self.bidders.as_slice())?;
         Ok(Setup {
             version: self.version,
             limit: self.limit,
             requirement: self.requirement,
-            operator,
-            products,
-            bidders,
+            operator: self.operator.copy(alloc)?,
+            products: products_copy(alloc, self.products.as_slice())?,
+            bidders: bidders_copy(alloc, self.bidders.as_slice())?,
         })
     }
 }
