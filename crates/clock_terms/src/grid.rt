@@ -3,8 +3,7 @@ ghost use Rattle.clock_terms.specs.Limits.{IsRow, most_bidders, most_supply};
 ghost use Rattle.clock_terms.specs.Demands.{total_of, demand_at, demand_after, row_of, with_demand, no_demands};
 ghost use Rattle.clock_terms.specs.inside.Demands.{IsKeptGrid};
 
-use crate::new_demand::NewDemand;
-use crate::row::Row;
+use crate::row::{NewDemand, Row};
 use crate::setup::Setup;
 use clock_device::{Items, NoMemory};
 use std::alloc::Global;

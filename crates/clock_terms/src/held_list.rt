@@ -1,4 +1,4 @@
-ghost use Rattle.std.specs.Prelude.{◌≡◌, ◌≢◌, ℕ, ◌+◌, ◌-◌, ◌≤◌, ◌<◌, slice_index_or, length, take, All, IfOk, IfErr, slice_index, insert, remove, vec_capacity, IsTrue};
+ghost use Rattle.std.specs.Prelude.{◌≡◌, ℕ, ◌+◌, ◌-◌, ◌≤◌, ◌<◌, slice_index_or, length, take, All, IfOk, IfErr, insert, remove, vec_capacity, IsTrue};
 ghost use Rattle.clock_terms.specs.HeldDemands.{demand_for, demands_of};
 ghost use Rattle.clock_terms.specs.Limits.{most_products, most_supply};
 ghost use Rattle.clock_terms.specs.inside.Rows.{AreHeld, AreStarts, IsStart, IsStored, StandsAt, WouldStandAt};
@@ -148,29 +148,8 @@ pub(crate) fn store(
     }
 }
 
-/// Writes the demand for a product behind so many for lower ones, and tells how many are kept then: one more where a
-/// block is held. It is written in any case, since a jump past those that are not held is mostly guessed wrong.
-#[inline(always)]
-fn write_demand(room: &mut [HeldDemand], kept: usize, product: usize, demand: u64) -> usize
-    requires within { kept < length room.old }
-    requires order { AreHeld 0 (take kept room.old) product }
-    requires few { product < most_products }
-    requires small { demand ≤ most_supply }
-    ensures length { length room.new ≡ length room.old }
-    ensures count { result ≤ kept + 1 }
-    ensures order { AreHeld 0 (take result room.new) (product + 1) }
-    ensures here { demand_for (take result room.new) product ≡ demand }
-    ensures others { (other : ℕ) → other ≢ product
-        → demand_for (take result room.new) other ≡ demand_for (take kept room.old) other }
-{
-    room[kept] = HeldDemand {
-        product: product as u16,
-        demand: demand as u16,
-    };
-    if demand > 0 { kept + 1 } else { kept }
-}
-
-/// Writes the demands of which a block is held, of those for the products from the first on, and tells how many.
+/// Writes the demands of which a block is held, of those for the products from the first on, and tells how many. Each is
+/// written at the next place in any case, since a jump past those that are not held is mostly guessed wrong.
 fn write_held(room: &mut [HeldDemand], demands: &[u64]) -> usize
     requires room { length room.old ≡ length demands.now }
     requires few { length demands.now ≤ most_products }
@@ -182,7 +161,13 @@ fn write_held(room: &mut [HeldDemand], demands: &[u64]) -> usize
 {
     let mut kept = 0;
     for (product, demand) in demands.iter().enumerate() {
-        kept = write_demand(room, kept, product, *demand);
+        room[kept] = HeldDemand {
+            product: product as u16,
+            demand: *demand as u16,
+        };
+        if *demand > 0 {
+            kept += 1;
+        }
     }
     kept
 }

@@ -10,11 +10,35 @@ use crate::held_list::{
 };
 use crate::held_products::HeldProducts;
 use crate::kept_row::KeptRow;
-use crate::new_demand::NewDemand;
 use crate::setup::Setup;
 use clock_device::NoMemory;
 use std::alloc::Global;
 use std::marker::Model;
+
+/// What a demand is to become, in blocks.
+#[derive(Clone, Copy)]
+pub enum NewDemand {
+    /// So many blocks.
+    Of(u64),
+    /// So many blocks more.
+    Raised(u64),
+    /// So many blocks less.
+    Lowered(u64),
+}
+
+impl NewDemand {
+    /// What it becomes, by what it was. It is at most 1,000 blocks.
+    pub(crate) fn after(self, before: u64) -> u64
+        requires { demand_after self before ≤ most_supply }
+        ensures { result ≡ demand_after self before }
+    {
+        match self {
+            NewDemand::Of(demand) => demand,
+            NewDemand::Raised(amount) => before + amount,
+            NewDemand::Lowered(amount) => before.saturating_sub(amount),
+        }
+    }
+}
 
 /// A bidder's demands, one for each product, in blocks. None is above 1,000. Contracts see the list of the demands, and
 /// nothing of how it is kept.

@@ -91,8 +91,11 @@ returns-clause-demand c =
     ap (λ (one : HeldDemand). one.demand) c.in_ok-one.ensures.lookup.1
     ∙ is_demand walk.count walk.held.now walk.given c.in_ok-one.one.now c.self.invariant more
     ∙ ap (λ wanted. demand_for walk.held.now wanted) (sym is)
-    ∙ sym (shown walk.count walk.held.now product 0 (omega (arith, is,
-    (held_at 0 walk.held.now walk.count walk.given c.in_ok-one.one.now c.self.invariant.0 more).1)))
+    ∙ sym (shown walk.count walk.held.now product 0 (omega (
+      arith,
+      is,
+      (held_at 0 walk.held.now walk.count walk.given c.in_ok-one.one.now c.self.invariant.0 more).1,
+    )))
     ∙ ap (λ w. get_or w.demands product 0) c.self.view_is
 
 pub returns-clause-held : goal.returns-clause-held
