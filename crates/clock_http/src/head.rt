@@ -2,7 +2,6 @@ ghost use Rattle.std.specs.Prelude.{◌≡◌, ◌==◌, position, ◌≤◌, �
 ghost use Rattle.httparse.specs.Grammar.{RequestHead};
 ghost use Rattle.httparse.specs.Spans.{IsRequestWithin, IsRequestAt, IsWithin, span_bytes};
 ghost use Rattle.clock_http.specs.Heads.{head_of};
-ghost use Rattle.http_uri.specs.ByteClasses.{question_mark};
 ghost use Rattle.clock_http.specs.Scans.{line_ends as count_of_line_ends, is_loose as is_loose_text};
 ghost use Rattle.clock_http.specs.inside.HeadParts.{path_of_target, head_with_length};
 ghost use Rattle.clock_http.specs.Shown.{IsHeadWithin};
@@ -51,20 +50,13 @@ fn parse_head(bytes: &[u8], headers: &mut [HeaderSpan]) -> Option<RequestSpans>
     }
 }
 
-/// Where the first question mark of a target stands.
-fn first_question_mark(target: &[u8]) -> Option<usize>
-    ensures { result ≡ position (λ b. b == question_mark) target.now }
-{
-    target.iter().position(|b| *b == b'?')
-}
-
 /// Where the path of a target stands.
 fn path_of(text: &[u8], target: Span) -> Span
     requires { IsWithin (length text.now) target }
     ensures shown { span_bytes text.now result ≡ path_of_target (span_bytes text.now target) }
     ensures within { IsWithin (length text.now) result }
 {
-    match first_question_mark(target.of(text)) {
+    match target.of(text).iter().position(|b| *b == b'?') {
         Some(length) => Span {
             start: target.start,
             end: target.start + length,

@@ -1,4 +1,4 @@
-ghost use Rattle.std.specs.Prelude.{◌≡◌, ◌+◌, ◌≤◌, ◌++◌, drop, length, codes, IfOk, IfErr, IfSome};
+ghost use Rattle.std.specs.Prelude.{◌≡◌, ℕ, ◌+◌, ◌≤◌, ◌++◌, drop, length, codes, IfOk, IfErr};
 ghost use Rattle.clock_http.specs.Replies.{allow_line, challenge_line, reply_bytes};
 ghost use Rattle.clock_http.specs.inside.ReplyLines.{status_line, lines_and_page};
 
@@ -26,8 +26,6 @@ pub struct NoRoom {
 }
 
 impl Model for NoRoom {
-    ghost use Rattle.std.specs.Prelude.{ℕ};
-
     ghost Value = { ℕ };
 
     ghost view = { λ refused. refused.page };
@@ -39,20 +37,13 @@ impl From<NoRoom> for NoMemory {
     }
 }
 
-/// How many bytes a page of so many takes together with the head, if a machine can count as many.
-fn with_head(page: u128) -> Option<usize>
-    ensures { IfSome result (λ bytes. bytes ≡ HEAD_ROOM + page) }
-{
-    HEAD_ROOM.checked_add(usize::try_from(page).ok()?)
-}
-
 /// A text with room for a head, and behind it for a page of so many bytes. It is the only memory that the reply takes.
 pub fn text_with_room(alloc: Global, page: u128) -> Result<Bounded<u8>, NoRoom>
     ensures head { IfOk result (λ text. length text.items ≡ HEAD_ROOM) }
     ensures room { IfOk result (λ text. page ≤ text.room) }
     ensures refused { IfErr result (λ refused. refused ≡ page) }
 {
-    let Some(bytes) = with_head(page) else {
+    let Ok(bytes) = usize::try_from(page.saturating_add(HEAD_ROOM as u128)) else {
         return Err(NoRoom { page });
     };
     let Ok(mut text) = Text::with_capacity(alloc, bytes) else {
