@@ -6,4 +6,3 @@ pub mod HeadParts
 pub mod HeadTests
 pub mod ReplyLines
 pub mod Routing
-pub mod PlainNumbers

@@ -18,10 +18,7 @@ pub(crate) fn number(digits: &[u8]) -> Option<u64>
     requires { IsTrue (spec.is_number digits.now) }
     ensures { SomeIff result (digits_value 10 digits.now < 2 ^ 64) (digits_value 10 digits.now) }
 {
-    let Ok(text) = std::str::from_utf8(digits) else {
-        return None;
-    };
-    text.parse().ok()
+    std::str::from_utf8(digits).ok()?.parse().ok()
 }
 
 /// The number that a text writes in digits without leading zeros, if it has at most 64 bits.

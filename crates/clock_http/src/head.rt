@@ -1,7 +1,5 @@
-ghost use Rattle.std.specs.Prelude.{◌≡◌, ◌==◌, position, ◌≤◌, ◌+◌, ◌-◌, length, false, Some, None, IfSome, IfNone, IfOk};
-ghost use Rattle.httparse.specs.Grammar.{RequestHead};
-ghost use Rattle.httparse.specs.Spans.{IsRequestWithin, IsRequestAt, IsWithin, span_bytes};
-ghost use Rattle.clock_http.specs.Heads.{head_of};
+ghost use Rattle.std.specs.Prelude.{◌≡◌, ◌==◌, position, ◌≤◌, ◌+◌, ◌-◌, length, false, Some, None, IfOk};
+ghost use Rattle.httparse.specs.Spans.{IsWithin, span_bytes};
 ghost use Rattle.clock_http.specs.Scans.{line_ends as count_of_line_ends, is_loose as is_loose_text};
 ghost use Rattle.clock_http.specs.inside.HeadParts.{path_of_target, head_with_length};
 ghost use Rattle.clock_http.specs.Shown.{IsHeadWithin};
@@ -11,7 +9,7 @@ use crate::code::Code;
 use crate::headers::fields_of;
 use crate::scan::line_ends;
 use httparse::Status;
-use httparse::spans::{EMPTY_HEADER_SPAN, HeaderSpan, RequestSpans, Span, parse_request};
+use httparse::spans::{EMPTY_HEADER_SPAN, HeaderSpan, Span, parse_request};
 
 /// The most header lines of a head.
 const LINE_LIMIT: usize = 64;
@@ -33,21 +31,6 @@ pub struct EndedHead {
     pub length: usize,
     /// How many bytes the body has: its `content-length`, or 0 without such a line.
     pub body: usize,
-}
-
-/// The parts of an ended head.
-fn parse_head(bytes: &[u8], headers: &mut [HeaderSpan]) -> Option<RequestSpans>
-    requires room { count_of_line_ends bytes.now - 2 ≤ length headers.old }
-    requires tight { is_loose_text bytes.now ≡ false }
-    ensures none { IfNone result (head_of bytes.now ≡ None) }
-    ensures within { IfSome result (λ r. IsRequestWithin bytes.now headers.new r) }
-    ensures found { IfSome result (λ r. (h : RequestHead) × (head_of bytes.now ≡ Some h)
-        × IsRequestAt bytes.now headers.new r h) }
-{
-    match parse_request(bytes, headers) {
-        Ok(Status::Complete(found)) if found.len == bytes.len() => Some(found),
-        _ => None,
-    }
 }
 
 /// Where the path of a target stands.
@@ -74,7 +57,10 @@ fn read_parts(bytes: &[u8], spans: &mut [HeaderSpan]) -> Result<EndedHead, Code>
     ensures within { IfOk result (IsHeadWithin (length bytes.now)) }
     ensures all { IfOk result (λ head. head.length ≡ length bytes.now) }
 {
-    let found = parse_head(bytes, spans).ok_or(Code::BadHead)?;
+    let found = match parse_request(bytes, spans) {
+        Ok(Status::Complete(found)) if found.len == bytes.len() => found,
+        _ => return Err(Code::BadHead),
+    };
     let fields = fields_of(bytes, &spans[..found.headers]);
     let body = fields.body_length(bytes)?;
     Ok(EndedHead {

@@ -1,19 +1,7 @@
-use Rattle.std.proofs.Common.{◌≡◌, Some, None, Result, Ok, Err, MatchResult, subst, ◌∙◌}
-use Rattle.std.specs.Result.{result_ok}
+use Rattle.std.proofs.Common.{None, ◌∙◌}
+use Rattle.clock_http.proofs.ResultLaws.{fault_told, value_told}
 use Rattle.clock_http.proofs.RouteLaws.{page_seen, no_page}
 use Rattle.clock_http.proofs.routes.Routes.page_of.Goals as goal
-
--- what is told of a result by cases, where its value is asked for
-value_told : {T E : Type 0} (result : Result T E) (P : T → Type 0) (Q : E → Type 0) {value : T} → Some value ≡ result_ok result
-    → MatchResult result P Q → P value
-value_told (Ok same) P Q is told = subst P (let e : same ≡ _ = cc in e) told
-value_told (Err fault) P Q is told = absurd (cc)
-
--- and where there is none
-fault_told : {T E : Type 0} (result : Result T E) (P : T → Type 0) (Q : E → Type 0) → None ≡ result_ok result → MatchResult result P Q
-    → (fault : E) × Q fault
-fault_told (Ok value) P Q is told = absurd (cc)
-fault_told (Err fault) P Q is told = (fault, told)
 
 pub returns-in_err-text : goal.returns-in_err-text
 returns-in_err-text c =
