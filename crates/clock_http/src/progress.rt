@@ -1,4 +1,4 @@
-ghost use Rattle.std.specs.Prelude.{◌≡◌, ◌≤◌, ◌<◌, ℕ, List, [], length, take, Some, None, codes};
+ghost use Rattle.std.specs.Prelude.{◌≡◌, ◌≤◌, ◌<◌, ℕ, List, [], length, take, None, codes};
 ghost use Rattle.clock_http.specs.Scans.{head_length as length_of_head};
 ghost use Rattle.clock_http.specs.Framing as spec;
 ghost use Rattle.clock_http.specs.Heads.{same_bytes};
