@@ -4,6 +4,7 @@ ghost use Rattle.clock_device.specs.Told.{IsUnread};
 ghost use Rattle.clock_http.specs.Framing.{needs_more};
 ghost use Rattle.clock_device.specs.inside.Readings.{GrowsByOneAtMost};
 ghost use Rattle.clock_connections.specs.Arrivals.{most_piece, most_request_reads, EndsArrival};
+ghost use Rattle.clock_connections.specs.declared.arrival.Unread.TheVariants as unread;
 ghost use Rattle.clock_connections.specs.inside.Arrivals.{IsStepOf, is_read_fault};
 
 use clock_device::{NoMemory, Source, Stop, room_for_read};
@@ -26,8 +27,6 @@ pub enum Unread {
 }
 
 impl From<NoMemory> for Unread {
-    ghost use Rattle.clock_connections.specs.declared.arrival.Unread.TheVariants as unread;
-
     ghost from_gives = { λ _ fault. fault ≡ unread.Memory };
 
     fn from(_refused: NoMemory) -> Unread {
