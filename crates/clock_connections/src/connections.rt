@@ -2,7 +2,7 @@ ghost use Rattle.std.specs.Prelude.{◌≡◌, ◌++◌, ℕ, List, [], Some, If
 ghost use Rattle.clock_http.specs.Framing.{needs_more};
 ghost use Rattle.clock_http.specs.Shown.{IsFramed};
 ghost use Rattle.clock_connections.specs.declared.connections.HubFault.TheVariants as faults;
-ghost use Rattle.clock_connections.specs.Connections.{text_of, IsConnected, IsConnectFault, IsTaken, IsGone};
+ghost use Rattle.clock_connections.specs.Connections.{text_of, ConnectionFields, IsConnected, IsConnectFault, IsGone, IsTaken, OpenConnection};
 
 use clock_device::NoMemory;
 use clock_http::{Arriving, Framing};
@@ -29,8 +29,6 @@ pub struct Partial {
 }
 
 impl Model for Partial {
-    ghost use Rattle.clock_connections.specs.Connections.{OpenConnection};
-
     ghost Value = { OpenConnection };
 
     ghost view = { λ p. record { serial = p.serial; text = p.text } };
@@ -68,8 +66,6 @@ pub struct Connections {
 }
 
 impl Model for Connections {
-    ghost use Rattle.clock_connections.specs.Connections.{ConnectionFields};
-
     ghost Value = { ConnectionFields };
 
     ghost view = { λ c. record { slots = c.slab.slots; next = c.next } };
@@ -98,9 +94,8 @@ impl Connections {
         }
         let serial = self.next;
         let text = Arriving::new(self.alloc);
-        let Ok(slot) = self.slab.insert(Partial { serial, text }) else {
-            return Err(HubFault::NoMemory);
-        };
+        let partial = Partial { serial, text };
+        let slot = self.slab.insert(partial).or(Err(HubFault::NoMemory))?;
         self.next += 1;
         Ok(Conn { slot, serial })
     }
@@ -110,10 +105,9 @@ impl Connections {
     pub fn stands(&self, conn: Conn) -> bool
         ensures { result ≡ is_some (text_of self.now conn) }
     {
-        match self.slab.get(conn.slot) {
-            Some(partial) => partial.serial == conn.serial,
-            None => false,
-        }
+        self.slab
+            .get(conn.slot)
+            .is_some_and(|partial| partial.serial == conn.serial)
     }
 
     /// Takes a piece, or nothing of it, and tells whether the text of its connection still needs more.

@@ -1,4 +1,5 @@
-ghost use Rattle.std.specs.Prelude.{◌≡◌, [], ◌∷◌, ◌++◌, ◌+◌, ◌≤◌, length, IfOk};
+ghost use Rattle.std.specs.Prelude.{◌≡◌, [], ◌∷◌, ◌++◌, ◌+◌, ◌-◌, ◌≤◌, length, IfOk, vec_len, vec_capacity};
+ghost use Rattle.clock_device.specs.Bounded.{BoundedList};
 
 use crate::items::Items;
 use crate::no_memory::NoMemory;
@@ -13,9 +14,6 @@ pub struct Bounded<T> {
 }
 
 impl<T> Model for Bounded<T> {
-    ghost use Rattle.std.specs.Prelude.{◌-◌, vec_len, vec_capacity};
-    ghost use Rattle.clock_device.specs.Bounded.{BoundedList};
-
     ghost Value = { BoundedList T };
 
     ghost view = { λ b. record { items = b.held.items; room = vec_capacity b.held - vec_len b.held } };

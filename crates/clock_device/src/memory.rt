@@ -1,10 +1,10 @@
-ghost use Rattle.std.specs.Prelude.{◌≡◌, ◌≤◌, ◌||◌, ◌++◌, ℕ, length, take, drop, IfOk, OnErr, MatchResult, Some, None, vec_len, vec_capacity, is_err};
+ghost use Rattle.std.specs.Prelude.{◌≡◌, ◌≤◌, ◌||◌, ◌++◌, length, take, drop, IfOk, OnErr, Some, vec_len, vec_capacity, is_err};
 ghost use Rattle.std.specs.Result.{result_ok};
 ghost use Rattle.std.specs.Io.{ReadsAtMost};
 ghost use Rattle.std.specs.Io.KnownBytes.{ReadConsumes, WriteAppends};
-ghost use Rattle.clock_device.specs.Calls.{count_after, interruptions_after, is_failed_read, is_failure};
+ghost use Rattle.clock_device.specs.Calls.{count_after, interruptions_after, is_failed_read};
 ghost use Rattle.clock_device.specs.Streams.{CountsTaken};
-ghost use Rattle.clock_device.specs.SourceState.{SourceState, after_read, new_source, read_answer, source_told, stop_at};
+ghost use Rattle.clock_device.specs.SourceState.{SourceState, after_read, new_source, read_answer, source_told};
 ghost use Rattle.clock_device.specs.SinkState.{SinkState, after_write, new_sink, sink_told, write_count};
 
 use crate::no_memory::NoMemory;
@@ -54,29 +54,6 @@ impl<'a> ListSource<'a> {
             has_failed: false,
         }
     }
-
-    // The stop that comes at the next read.
-    fn stop_now(&self) -> Option<Stop>
-        ensures { result ≡ stop_at self.now.stop self.now.calls }
-    {
-        match self.stop {
-            Some((call, stop)) if call == self.calls => Some(stop),
-            _ => None,
-        }
-    }
-
-    // Remembers a read that was stopped.
-    fn note(&mut self, stop: Stop)
-        ensures { self.new ≡ record self.old {
-          interruptions = interruptions_after {N = ℕ} self.old.interruptions (Err stop);
-          has_failed = self.old.has_failed || is_failure stop;
-        } }
-    {
-        match stop {
-            Stop::Interrupted => self.interruptions = self.interruptions.saturating_add(1),
-            Stop::Failed => self.has_failed = true,
-        }
-    }
 }
 
 impl Source for ListSource<'_> {
@@ -95,16 +72,24 @@ impl Source for ListSource<'_> {
         ensures ok { IfOk result (λ n. buffer.new ≡ take n self.old.left ++ drop n buffer.old) }
         ensures err { OnErr result (buffer.new ≡ buffer.old) }
     {
-        let stop = self.stop_now();
-        self.calls = self.calls.saturating_add(1);
-        if let Some(stop) = stop {
-            self.note(stop);
-            return Err(stop);
+        let call = self.calls;
+        self.calls = call.saturating_add(1);
+        match self.stop {
+            Some((at, Stop::Interrupted)) if at == call => {
+                self.interruptions = self.interruptions.saturating_add(1);
+                Err(Stop::Interrupted)
+            }
+            Some((at, Stop::Failed)) if at == call => {
+                self.has_failed = true;
+                Err(Stop::Failed)
+            }
+            _ => {
+                let count = self.piece.min(buffer.len()).min(self.left.len());
+                buffer[..count].copy_from_slice(&self.left[..count]);
+                self.left = &self.left[count..];
+                Ok(count)
+            }
         }
-        let count = self.piece.min(buffer.len()).min(self.left.len());
-        buffer[..count].copy_from_slice(&self.left[..count]);
-        self.left = &self.left[count..];
-        Ok(count)
     }
 }
 

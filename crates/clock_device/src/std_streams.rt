@@ -1,7 +1,4 @@
-ghost use Rattle.std.specs.Prelude.{◌≡◌, ◌||◌, is_err};
-ghost use Rattle.std.specs.Io.{ReadsAtMost};
-ghost use Rattle.std.specs.Io.KnownBytes.{ReadConsumes, WriteAppends};
-ghost use Rattle.clock_device.specs.Calls.{count_after, interruptions_after, is_failed_read};
+ghost use Rattle.std.specs.Prelude.{◌≡◌};
 ghost use Rattle.clock_device.specs.Told.{IsUnread, IsUnused, unread, unused};
 
 use crate::stream::{Failed, Sink, Source, Stop};
@@ -45,14 +42,13 @@ impl<R: Read> Source for FromReader<R> {
         self.calls = self.calls.saturating_add(1);
         match self.reader.read(buffer) {
             Ok(count) => Ok(count),
-            Err(error) => {
-                if error.kind() == ErrorKind::Interrupted {
-                    self.interruptions = self.interruptions.saturating_add(1);
-                    Err(Stop::Interrupted)
-                } else {
-                    self.has_failed = true;
-                    Err(Stop::Failed)
-                }
+            Err(error) if error.kind() == ErrorKind::Interrupted => {
+                self.interruptions = self.interruptions.saturating_add(1);
+                Err(Stop::Interrupted)
+            }
+            Err(_) => {
+                self.has_failed = true;
+                Err(Stop::Failed)
             }
         }
     }

@@ -8,5 +8,6 @@ mod TextLaws
 pub mod ProgressLaws
 pub mod FramedLaws
 mod RoutePages
+mod ResultLaws
 mod RouteLaws
 mod Examples

@@ -70,3 +70,22 @@ read_is bytes headers r h method target path token n few tight head at m t p k l
     ap (λ x. parted x path token n) (m ∙ at.method) ∙ ap (λ x. parted h.method x token n) routed
     ∙ ap (λ x. parted h.method (path_of_target h.target) x n) tokened
     ∙ sym (ap length_read ended ∙ ap (and_length h) sized)
+
+-- bytes with no head of the grammar are refused
+pub no_head : (bytes : List ℕ) → line_ends bytes ≤ 66 → is_loose bytes ≡ false → head_of bytes ≡ None → Err BadHead ≡ head_with_length bytes
+no_head bytes few tight none =
+    let short : nat_lt 64 (line_ends bytes - 2) ≡ false = (let le : line_ends bytes - 2 ≤ 64 = omega arith in grind (arith, nat_tests)) in
+    sym (ap length_read (ap (λ u. cond u (Err LongHead) (cond (is_loose bytes) (Err BadHead) (or_bad_head (head_of bytes)))) short
+    ∙ ap (λ u. cond u (Err BadHead) (or_bad_head (head_of bytes))) tight ∙ ap or_bad_head none))
+
+-- nor is one taken whose length is refused
+pub no_length : (bytes : List ℕ) (headers : List HeaderSpan) (r : RequestSpans) (h : RequestHead) (fault : Code) → line_ends bytes ≤ 66
+    → is_loose bytes ≡ false → head_of bytes ≡ Some h → IsRequestAt bytes headers r h
+    → Err fault ≡ body_length (map (header_bytes bytes) (take r.headers headers)) → Err fault ≡ head_with_length bytes
+no_length bytes headers r h fault few tight head at refused =
+    let short : nat_lt 64 (line_ends bytes - 2) ≡ false = (let le : line_ends bytes - 2 ≤ 64 = omega arith in grind (arith, nat_tests)) in
+    let ended : ended_head bytes ≡ Ok h =
+    ap (λ u. cond u (Err LongHead) (cond (is_loose bytes) (Err BadHead) (or_bad_head (head_of bytes)))) short
+    ∙ ap (λ u. cond u (Err BadHead) (or_bad_head (head_of bytes))) tight ∙ ap or_bad_head head in
+    let pairs : map (header_bytes bytes) (take r.headers headers) ≡ pairs_of h = at.fields in
+    sym (ap length_read ended ∙ ap (and_length h) (ap body_length (sym pairs) ∙ sym refused))

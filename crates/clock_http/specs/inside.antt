@@ -4,6 +4,4 @@ pub mod Framed
 pub mod HeadFields
 pub mod HeadParts
 pub mod HeadTests
-pub mod ReplyLines
 pub mod Routing
-pub mod PlainNumbers

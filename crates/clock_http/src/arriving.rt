@@ -1,6 +1,6 @@
 ghost use Rattle.std.specs.Prelude.{◌≡◌, ◌+◌, ◌≤◌, ◌++◌, ℕ, List, [], false, length, take, IfOk, IfSome, OnErr, OnOk, OnSome};
 ghost use Rattle.clock_http.specs.Framing.{needs_more};
-ghost use Rattle.clock_http.specs.Shown.{IsFramed, Knows, KnowsOfStart};
+ghost use Rattle.clock_http.specs.Shown.{IsFramed, Knows};
 ghost use Rattle.clock_http.specs.inside.Followed.{IsFollowed};
 
 use crate::progress::{Framing, Progress, head_in};
@@ -24,9 +24,6 @@ pub struct Arriving {
 }
 
 impl Model for Arriving {
-    ghost use Rattle.std.specs.Prelude.{ℕ, List, take};
-    ghost use Rattle.clock_http.specs.inside.Followed.{IsFollowed};
-
     ghost Value = { List ℕ };
 
     ghost view = { λ a. take a.count a.room.items };
@@ -46,19 +43,6 @@ fn make_places(room: &mut Vec<u8>, awaited: usize) -> usize
         return 0;
     }
     places + 1
-}
-
-/// What is known of the beginning of a text becomes what is known of the text, which fills its room. It tells whether
-/// the text needs more.
-fn look_on(room: &mut Vec<u8>, progress: &mut Progress, quiet: &mut usize) -> bool
-    requires { KnowsOfStart room.old.items progress.old }
-    ensures kept { take (length room.old.items) room.new.items ≡ room.old.items }
-    ensures followed { IsFollowed room.new.items (length room.old.items) progress.new quiet.new }
-    ensures short { result ≡ needs_more room.old.items }
-{
-    *progress = progress.advance(room.as_slice());
-    *quiet = make_places(room, progress.awaited());
-    progress.needs_more()
 }
 
 /// Makes room for three times as many bytes again, but for none beyond those awaited, where that is more than are to be
@@ -146,7 +130,9 @@ impl Arriving {
         make_room(&mut self.room, piece.len(), self.progress.awaited())?;
         append(&mut self.room, piece)?;
         self.count = self.room.len();
-        Ok(look_on(&mut self.room, &mut self.progress, &mut self.quiet))
+        self.progress = self.progress.advance(self.room.as_slice());
+        self.quiet = make_places(&mut self.room, self.progress.awaited());
+        Ok(self.progress.needs_more())
     }
 
     /// What the bytes are.

@@ -1,25 +1,15 @@
 //! Numbers written in decimal digits.
 
 ghost use Rattle.std.specs.Prelude.{◌≡◌, ◌<◌, ◌^◌, IsTrue};
-ghost use Rattle.std.specs.Char.{is_ascii_digit};
-ghost use Rattle.std.specs.List.{list_all};
 ghost use Rattle.std.specs.Option.{SomeIff};
 ghost use Rattle.std.specs.Str.Parse.{digits_value};
 ghost use Rattle.clock_http.specs.Decimals as spec;
-ghost use Rattle.clock_http.specs.inside.PlainNumbers.{is_plain_number};
-
-/// Whether all bytes are digits.
-fn all_digits(text: &[u8]) -> bool
-    ensures { result ≡ list_all is_ascii_digit text.now }
-{
-    text.iter().all(|b| b.is_ascii_digit())
-}
 
 /// Whether these are one or more digits.
 pub(crate) fn is_number(text: &[u8]) -> bool
     ensures { result ≡ spec.is_number text.now }
 {
-    !text.is_empty() && all_digits(text)
+    !text.is_empty() && text.iter().all(|b| b.is_ascii_digit())
 }
 
 /// The number that digits write, if it has at most 64 bits.
@@ -27,24 +17,14 @@ pub(crate) fn number(digits: &[u8]) -> Option<u64>
     requires { IsTrue (spec.is_number digits.now) }
     ensures { SomeIff result (digits_value 10 digits.now < 2 ^ 64) (digits_value 10 digits.now) }
 {
-    let Ok(text) = std::str::from_utf8(digits) else {
-        return None;
-    };
-    text.parse().ok()
-}
-
-/// Whether these are digits of which the first is no 0, unless it is the only one.
-fn is_plain_number(text: &[u8]) -> bool
-    ensures { result ≡ is_plain_number text.now }
-{
-    is_number(text) && (text.len() == 1 || text[0] != b'0')
+    std::str::from_utf8(digits).ok()?.parse().ok()
 }
 
 /// The number that a text writes in digits without leading zeros, if it has at most 64 bits.
 pub fn plain_number(text: &[u8]) -> Option<u64>
     ensures { result ≡ spec.plain_number text.now }
 {
-    if is_plain_number(text) {
+    if is_number(text) && (text.len() == 1 || text[0] != b'0') {
         number(text)
     } else {
         None

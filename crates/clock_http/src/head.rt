@@ -1,8 +1,5 @@
-ghost use Rattle.std.specs.Prelude.{◌≡◌, ◌==◌, position, ◌≤◌, ◌+◌, ◌-◌, length, false, Some, None, IfSome, IfNone, IfOk};
-ghost use Rattle.httparse.specs.Grammar.{RequestHead};
-ghost use Rattle.httparse.specs.Spans.{IsRequestWithin, IsRequestAt, IsWithin, span_bytes};
-ghost use Rattle.clock_http.specs.Heads.{head_of};
-ghost use Rattle.http_uri.specs.ByteClasses.{question_mark};
+ghost use Rattle.std.specs.Prelude.{◌≡◌, ◌≤◌, ◌+◌, ◌-◌, length, false, IfOk};
+ghost use Rattle.httparse.specs.Spans.{IsWithin, span_bytes};
 ghost use Rattle.clock_http.specs.Scans.{line_ends as count_of_line_ends, is_loose as is_loose_text};
 ghost use Rattle.clock_http.specs.inside.HeadParts.{path_of_target, head_with_length};
 ghost use Rattle.clock_http.specs.Shown.{IsHeadWithin};
@@ -12,7 +9,7 @@ use crate::code::Code;
 use crate::headers::fields_of;
 use crate::scan::line_ends;
 use httparse::Status;
-use httparse::spans::{EMPTY_HEADER_SPAN, HeaderSpan, RequestSpans, Span, parse_request};
+use httparse::spans::{EMPTY_HEADER_SPAN, HeaderSpan, Span, parse_request};
 
 /// The most header lines of a head.
 const LINE_LIMIT: usize = 64;
@@ -36,35 +33,13 @@ pub struct EndedHead {
     pub body: usize,
 }
 
-/// The parts of an ended head.
-fn parse_head(bytes: &[u8], headers: &mut [HeaderSpan]) -> Option<RequestSpans>
-    requires room { count_of_line_ends bytes.now - 2 ≤ length headers.old }
-    requires tight { is_loose_text bytes.now ≡ false }
-    ensures none { IfNone result (head_of bytes.now ≡ None) }
-    ensures within { IfSome result (λ r. IsRequestWithin bytes.now headers.new r) }
-    ensures found { IfSome result (λ r. (h : RequestHead) × (head_of bytes.now ≡ Some h)
-        × IsRequestAt bytes.now headers.new r h) }
-{
-    match parse_request(bytes, headers) {
-        Ok(Status::Complete(found)) if found.len == bytes.len() => Some(found),
-        _ => None,
-    }
-}
-
-/// Where the first question mark of a target stands.
-fn first_question_mark(target: &[u8]) -> Option<usize>
-    ensures { result ≡ position (λ b. b == question_mark) target.now }
-{
-    target.iter().position(|b| *b == b'?')
-}
-
 /// Where the path of a target stands.
 fn path_of(text: &[u8], target: Span) -> Span
     requires { IsWithin (length text.now) target }
     ensures shown { span_bytes text.now result ≡ path_of_target (span_bytes text.now target) }
     ensures within { IsWithin (length text.now) result }
 {
-    match first_question_mark(target.of(text)) {
+    match target.of(text).iter().position(|b| *b == b'?') {
         Some(length) => Span {
             start: target.start,
             end: target.start + length,
@@ -82,7 +57,10 @@ fn read_parts(bytes: &[u8], spans: &mut [HeaderSpan]) -> Result<EndedHead, Code>
     ensures within { IfOk result (IsHeadWithin (length bytes.now)) }
     ensures all { IfOk result (λ head. head.length ≡ length bytes.now) }
 {
-    let found = parse_head(bytes, spans).ok_or(Code::BadHead)?;
+    let found = match parse_request(bytes, spans) {
+        Ok(Status::Complete(found)) if found.len == bytes.len() => found,
+        _ => return Err(Code::BadHead),
+    };
     let fields = fields_of(bytes, &spans[..found.headers]);
     let body = fields.body_length(bytes)?;
     Ok(EndedHead {

@@ -102,12 +102,7 @@ fn leading_spaces(text: &[u8]) -> usize
     ensures within { result ≤ length text.now }
     ensures rest { drop result text.now ≡ lines.skip_spaces text.now }
 {
-    for i in 0..text.len() {
-        if text[i] != b' ' {
-            return i;
-        }
-    }
-    text.len()
+    text.iter().position(|b| *b != b' ').unwrap_or(text.len())
 }
 
 /// How many bytes of a value stand before the token behind the word `Bearer`.

@@ -1,4 +1,4 @@
-ghost use Rattle.std.specs.Prelude.{◌≡◌, ◌≤◌, ◌<◌, ℕ, List, [], length, take, Some, None, codes};
+ghost use Rattle.std.specs.Prelude.{◌≡◌, ◌≤◌, ◌<◌, ℕ, List, [], length, take, None, codes};
 ghost use Rattle.clock_http.specs.Scans.{head_length as length_of_head};
 ghost use Rattle.clock_http.specs.Framing as spec;
 ghost use Rattle.clock_http.specs.Heads.{same_bytes};
@@ -91,16 +91,13 @@ fn read_on(text: &[u8], looked_at: usize) -> Progress
 {
     let limit = text.len().min(HEAD_LIMIT);
     // an empty line of four bytes may have begun among the last three
-    let Some(length) = head_length(&text[..limit], looked_at.saturating_sub(3)) else {
-        return if text.len() < HEAD_LIMIT {
-            Progress::Unended(text.len())
-        } else {
-            Progress::Refused(Code::LongHead)
-        };
-    };
-    match read_head(&text[..length]) {
-        Ok(head) => with_body(head, text.len()),
-        Err(fault) => Progress::Refused(fault),
+    match head_length(&text[..limit], looked_at.saturating_sub(3)) {
+        Some(length) => match read_head(&text[..length]) {
+            Ok(head) => with_body(head, text.len()),
+            Err(fault) => Progress::Refused(fault),
+        },
+        None if text.len() < HEAD_LIMIT => Progress::Unended(text.len()),
+        None => Progress::Refused(Code::LongHead),
     }
 }
 
@@ -122,8 +119,7 @@ impl Progress {
         match self {
             Progress::Unended(looked_at) => read_on(text, looked_at),
             Progress::Waiting(head) => with_body(head, text.len()),
-            Progress::Complete(head) => Progress::Complete(head),
-            Progress::Refused(fault) => Progress::Refused(fault),
+            decided => decided,
         }
     }
 
@@ -141,10 +137,7 @@ impl Progress {
     pub fn needs_more(self) -> bool
         ensures { (text : List ℕ) → Knows text self → result ≡ spec.needs_more text }
     {
-        match self {
-            Progress::Unended(_) | Progress::Waiting(_) => true,
-            Progress::Complete(_) | Progress::Refused(_) => false,
-        }
+        matches!(self, Progress::Unended(_) | Progress::Waiting(_))
     }
 
     /// What the text is of which this is known. It takes no memory, and all slices are of the text.

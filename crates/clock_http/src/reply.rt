@@ -1,6 +1,5 @@
-ghost use Rattle.std.specs.Prelude.{◌≡◌, ◌+◌, ◌≤◌, ◌++◌, drop, length, codes, IfOk, IfErr, IfSome};
+ghost use Rattle.std.specs.Prelude.{◌≡◌, ℕ, ◌+◌, ◌≤◌, ◌++◌, drop, length, codes, IfOk, IfErr};
 ghost use Rattle.clock_http.specs.Replies.{allow_line, challenge_line, reply_bytes};
-ghost use Rattle.clock_http.specs.inside.ReplyLines.{status_line, lines_and_page};
 
 use crate::code::Code;
 use crate::routes::Page;
@@ -15,9 +14,6 @@ pub(crate) const HEAD_ROOM: usize = 256;
 /// The most bytes of each piece of a head that depends on the code or the page: a reason phrase has 31.
 const LONGEST_PIECE: usize = 31;
 
-/// How many bytes of the room are left for the status line, when the other lines stand.
-const STATUS_ROOM: usize = 100;
-
 /// Room for a page of so many bytes that was asked for and refused, or that is more than a machine can count. One is
 /// made there alone: so who has one knows that so much was wanted. Contracts see the number of bytes.
 #[derive(Debug, Drop)]
@@ -26,8 +22,6 @@ pub struct NoRoom {
 }
 
 impl Model for NoRoom {
-    ghost use Rattle.std.specs.Prelude.{ℕ};
-
     ghost Value = { ℕ };
 
     ghost view = { λ refused. refused.page };
@@ -39,20 +33,13 @@ impl From<NoRoom> for NoMemory {
     }
 }
 
-/// How many bytes a page of so many takes together with the head, if a machine can count as many.
-fn with_head(page: u128) -> Option<usize>
-    ensures { IfSome result (λ bytes. bytes ≡ HEAD_ROOM + page) }
-{
-    HEAD_ROOM.checked_add(usize::try_from(page).ok()?)
-}
-
 /// A text with room for a head, and behind it for a page of so many bytes. It is the only memory that the reply takes.
 pub fn text_with_room(alloc: Global, page: u128) -> Result<Bounded<u8>, NoRoom>
     ensures head { IfOk result (λ text. length text.items ≡ HEAD_ROOM) }
     ensures room { IfOk result (λ text. page ≤ text.room) }
     ensures refused { IfErr result (λ refused. refused ≡ page) }
 {
-    let Some(bytes) = with_head(page) else {
+    let Ok(bytes) = usize::try_from(page.saturating_add(HEAD_ROOM as u128)) else {
         return Err(NoRoom { page });
     };
     let Ok(mut text) = Text::with_capacity(alloc, bytes) else {
@@ -119,7 +106,7 @@ fn last_lines(code: Code) -> &'static [u8]
 }
 
 /// Writes bytes right before a place of a text, and tells where they begin.
-pub(crate) fn put_before(text: &mut Text, end: usize, piece: &[u8]) -> usize
+fn put_before(text: &mut Text, end: usize, piece: &[u8]) -> usize
     requires room { length piece.now ≤ end }
     requires within { end ≤ length text.old }
     ensures start { result + length piece.now ≡ end }
@@ -129,37 +116,6 @@ pub(crate) fn put_before(text: &mut Text, end: usize, piece: &[u8]) -> usize
     let start = end - piece.len();
     text[start..end].copy_from_slice(piece);
     start
-}
-
-/// Writes the header lines of a reply before its page, and tells where they begin.
-fn put_lines(text: &mut Text, code: Code, allowed: Option<Page>) -> usize
-    requires { HEAD_ROOM ≤ length text.old }
-    ensures bytes { drop result text.new ≡ lines_and_page code allowed (drop HEAD_ROOM text.old) }
-    ensures room { STATUS_ROOM ≤ result }
-    ensures within { result ≤ length text.new }
-{
-    let page = text.as_slice().len() - HEAD_ROOM;
-    let mut number = Buffer::new();
-    let last = put_before(text, HEAD_ROOM, last_lines(code));
-    let kind = put_before(text, last, b"\r\ncontent-type: application/json\r\n");
-    let length = put_before(text, kind, number.format(page).as_bytes());
-    let connection = put_before(text, length, b"connection: close\r\ncontent-length: ");
-    put_before(text, connection, allow_bytes(allowed))
-}
-
-/// Writes the status line before the other lines, and tells where it begins.
-fn put_status(text: &mut Text, lines: usize, code: Code) -> usize
-    requires room { STATUS_ROOM ≤ lines }
-    requires within { lines ≤ length text.old }
-    ensures bytes { drop result text.new ≡ status_line code (drop lines text.old) }
-    ensures within { result ≤ length text.new }
-{
-    let mut number = Buffer::new();
-    let end = put_before(text, lines, b"\r\n");
-    let words = put_before(text, end, code.reason().as_bytes());
-    let space = put_before(text, words, b" ");
-    let status = put_before(text, space, number.format(code.status()).as_bytes());
-    put_before(text, status, b"HTTP/1.1 ")
 }
 
 impl Reply {
@@ -178,9 +134,21 @@ impl Reply {
         requires { HEAD_ROOM ≤ length text.items }
         ensures { result ≡ record { code = code; bytes = reply_bytes code allowed (drop HEAD_ROOM text.items) } }
     {
+        // the head is written from its end to its start
         let mut text = text.into_items();
-        let lines = put_lines(&mut text, code, allowed);
-        let start = put_status(&mut text, lines, code);
+        let page = text.len() - HEAD_ROOM;
+        let mut count = Buffer::new();
+        let last = put_before(&mut text, HEAD_ROOM, last_lines(code));
+        let kind = put_before(&mut text, last, b"\r\ncontent-type: application/json\r\n");
+        let length = put_before(&mut text, kind, count.format(page).as_bytes());
+        let connection = put_before(&mut text, length, b"connection: close\r\ncontent-length: ");
+        let allow = put_before(&mut text, connection, allow_bytes(allowed));
+        let mut number = Buffer::new();
+        let end = put_before(&mut text, allow, b"\r\n");
+        let words = put_before(&mut text, end, code.reason().as_bytes());
+        let space = put_before(&mut text, words, b" ");
+        let status = put_before(&mut text, space, number.format(code.status()).as_bytes());
+        let start = put_before(&mut text, status, b"HTTP/1.1 ");
         Reply {
             code,
             held: ReplyBytes::Written(TextFrom { text, start }),

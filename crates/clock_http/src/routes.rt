@@ -1,4 +1,4 @@
-ghost use Rattle.std.specs.Prelude.{◌≡◌, ◌+◌, ◌-◌, ◌*◌, [], OnOk, Some, None};
+ghost use Rattle.std.specs.Prelude.{◌≡◌, [], OnOk};
 ghost use Rattle.clock_http.specs.Heads.{same_bytes};
 ghost use Rattle.clock_http.specs.Routes as spec;
 ghost use Rattle.clock_http.specs.inside.Routing as routing;
@@ -76,23 +76,17 @@ impl Routes {
     /// The routes of all pages.
     pub fn new(alloc: Global) -> Result<Routes, NoMemory> {
         let mut router = Router::new(alloc);
-        match add_routes(&mut router) {
-            Ok(()) => Ok(Routes { router }),
-            Err(_) => Err(NoMemory),
-        }
+        add_routes(&mut router).or(Err(NoMemory))?;
+        Ok(Routes { router })
     }
 
     /// The page that a path names. It takes no memory.
     pub fn page_of(&self, path: &[u8]) -> Option<Page>
         ensures { result ≡ spec.page_of path.now }
     {
-        let Ok(text) = std::str::from_utf8(path) else {
-            return None;
-        };
-        match self.router.at(text) {
-            Ok(found) => Some(*found.value),
-            Err(_) => None,
-        }
+        let text = std::str::from_utf8(path).ok()?;
+        let found = self.router.at(text).ok()?;
+        Some(*found.value)
     }
 }
 

@@ -4,7 +4,7 @@
 //! HTTP-message = start-line CRLF *( field-line CRLF ) CRLF [ message-body ]    (RFC 9112, section 2.1)
 //! ```
 
-ghost use Rattle.std.specs.Prelude.{◌≡◌, ◌+◌, ◌≤◌, None, drop, length, option_map};
+ghost use Rattle.std.specs.Prelude.{◌≡◌, ◌+◌, ◌≤◌, drop, length, option_map};
 ghost use Rattle.clock_http.specs.Scans.{head_length as length_of_head, line_ends as count_of_line_ends, is_loose as is_loose_text};
 
 use memchr::memchr;

@@ -1,9 +1,8 @@
-ghost use Rattle.std.specs.Prelude.{◌≡◌, ◌++◌, ◌||◌, [], ◌∷◌, List, ℕ, OnOk, OnErr, IfOk, Some, false, is_err, length};
-ghost use Rattle.clock_device.specs.Streams.{WritesText};
+ghost use Rattle.std.specs.Prelude.{◌≡◌, ◌++◌, [], ◌∷◌, List, ℕ, OnOk, OnErr, IfOk, Some, false, is_err, length};
 ghost use Rattle.clock_journal.specs.Disks.{MayBeLeft};
-ghost use Rattle.clock_journal.specs.Format.{Fits, link, record_of};
+ghost use Rattle.clock_journal.specs.Format.{Fits, link};
 ghost use Rattle.clock_journal.specs.Crash.{LeavesTexts};
-ghost use Rattle.clock_journal.specs.Kept.{HasTexts};
+ghost use Rattle.clock_journal.specs.Kept.{HasTexts, JournalState};
 ghost use Rattle.clock_journal.specs.Recovering.{IsPlaced};
 
 use crate::durable::Durable;
@@ -23,8 +22,6 @@ pub struct Journal<D: Durable> {
 }
 
 impl<D: Durable> Model for Journal<D> {
-    ghost use Rattle.clock_journal.specs.Kept.{JournalState};
-
     ghost Value = { JournalState };
 
     ghost view = { λ j. record {
@@ -34,22 +31,6 @@ impl<D: Durable> Model for Journal<D> {
       uncut = D.uncut j.disk;
       chain = j.chain;
     } };
-}
-
-/// Adds the record of a text, or a front of it where it fails.
-fn append_record<D: Durable>(disk: &mut D, chain: &Link, text: &[u8]) -> Result<Link, Failed>
-    requires { Fits text.now }
-    ensures written { WritesText (D.written disk.old) (D.written disk.new) (record_of chain.now text.now) result }
-    ensures synced { D.synced disk.new ≡ D.synced disk.old }
-    ensures uncut { D.uncut disk.new ≡ D.uncut disk.old }
-    ensures link { IfOk result (λ digest. digest ≡ link chain.now text.now) }
-    ensures failed { D.has_failed disk.new ≡ (D.has_failed disk.old || is_err result) }
-{
-    let digest = link_of(chain, text);
-    let front = front_of(text.len(), &digest);
-    disk.append(&front)?;
-    disk.append(text)?;
-    Ok(digest)
 }
 
 impl<D: Durable> Journal<D> {
@@ -62,8 +43,7 @@ impl<D: Durable> Journal<D> {
         ensures uncut { IfOk result (λ journal. journal.uncut ≡ D.uncut disk) }
         ensures unfailed { IfOk result (λ journal. journal.has_failed ≡ false) }
     {
-        let head = head_of(&digest);
-        disk.append(&head)?;
+        disk.append(&head_of(&digest))?;
         disk.sync()?;
         let chain = digest;
         Ok(Journal { disk, chain })
@@ -108,13 +88,11 @@ impl<D: Durable> Journal<D> {
         ensures link { OnOk result (self.new.chain ≡ link self.old.chain text.now) }
         ensures failed { self.new.has_failed ≡ is_err result }
     {
-        match append_record(&mut self.disk, &self.chain, text) {
-            Ok(digest) => {
-                self.chain = digest;
-                self.disk.sync()
-            }
-            Err(failed) => Err(failed),
-        }
+        let digest = link_of(&self.chain, text);
+        self.disk.append(&front_of(text.len(), &digest))?;
+        self.disk.append(text)?;
+        self.chain = digest;
+        self.disk.sync()
     }
 
     /// The digest of its last text, or of the set-up document: it stands for all texts.

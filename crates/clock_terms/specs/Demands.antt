@@ -6,8 +6,8 @@
 --     no_demands bidders products      all demands 0
 --     IsGrid bidders products grid      the grid has these numbers of rows and columns
 use Rattle.std.specs.Prelude.{◌≡◌, ℕ, ◌+◌, ◌-◌, List, [], length, replicate, slice_index, slice_index_or, slice_set, sum_by, All}
-use Rattle.clock_terms.specs.declared.new_demand.NewDemand.{NewDemand}
-use Rattle.clock_terms.specs.declared.new_demand.NewDemand.TheVariants.{Of, Raised, Lowered}
+use Rattle.clock_terms.specs.declared.row.NewDemand.{NewDemand}
+use Rattle.clock_terms.specs.declared.row.NewDemand.TheVariants.{Of, Raised, Lowered}
 
 -- a bidder's demands
 abbrev pub row_of : List (List ℕ) → ℕ → List ℕ

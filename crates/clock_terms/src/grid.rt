@@ -1,9 +1,9 @@
-ghost use Rattle.std.specs.Prelude.{◌≡◌, ℕ, ◌+◌, ◌*◌, ◌≤◌, ◌<◌, length, All, IfOk, slice_index};
-ghost use Rattle.clock_terms.specs.Limits.{IsRow, most_bidders, most_products, most_supply};
+ghost use Rattle.std.specs.Prelude.{◌≡◌, ℕ, List, ◌+◌, ◌*◌, ◌≤◌, ◌<◌, length, All, IfOk, slice_index};
+ghost use Rattle.clock_terms.specs.Limits.{IsRow, most_bidders, most_supply};
 ghost use Rattle.clock_terms.specs.Demands.{total_of, demand_at, demand_after, row_of, with_demand, no_demands};
+ghost use Rattle.clock_terms.specs.inside.Demands.{IsKeptGrid};
 
-use crate::new_demand::NewDemand;
-use crate::row::Row;
+use crate::row::{NewDemand, Row};
 use crate::setup::Setup;
 use clock_device::{Items, NoMemory};
 use std::alloc::Global;
@@ -21,9 +21,6 @@ pub struct Grid {
 }
 
 impl Model for Grid {
-    ghost use Rattle.std.specs.Prelude.{List, ℕ};
-    ghost use Rattle.clock_terms.specs.inside.Demands.{IsKeptGrid};
-
     ghost Value = { List (List ℕ) };
 
     ghost view = { λ a. a.rows.items };
@@ -61,21 +58,6 @@ fn totals_of(alloc: Global, products: usize, rows: &[Row]) -> Result<Amounts, No
     Ok(totals)
 }
 
-/// Rows that are equal to others, in the memory of old ones as far as that reaches.
-fn rows_like(alloc: Global, old: Vec<Row>, others: &[Row]) -> Result<Vec<Row>, NoMemory>
-    ensures { IfOk result (λ rows. rows.items ≡ others.now) }
-{
-    let mut old = old.into_iter();
-    let mut rows = Vec::with_capacity(alloc, others.len())?;
-    for row in others {
-        rows.push(match old.next() {
-            Some(old) => old.renewed(row)?,
-            None => row.copy(alloc)?,
-        })?;
-    }
-    Ok(rows)
-}
-
 impl Grid {
     /// The grid of these rows, which are taken over: one for each bidder of a set-up, and in each a demand for each
     /// product, none above its cap.
@@ -84,8 +66,7 @@ impl Grid {
         requires rows { All (IsRow setup.now.products) rows.items }
         ensures { IfOk result (λ grid. grid ≡ rows.items) }
     {
-        let products = setup.products.len();
-        let totals = totals_of(alloc, products, rows.as_slice())?;
+        let totals = totals_of(alloc, setup.products.len(), rows.as_slice())?;
         Ok(Grid { rows, totals })
     }
 
@@ -105,22 +86,30 @@ impl Grid {
     pub fn copy(&self, alloc: Global) -> Result<Grid, NoMemory>
         ensures { IfOk result (λ copy. copy ≡ self.now) }
     {
-        let rows = rows_like(alloc, Vec::new(alloc), self.rows.as_slice())?;
-        Ok(Grid {
-            rows,
-            totals: self.totals.copy(alloc)?,
-        })
+        Grid::like(alloc, Vec::new(alloc), self)
     }
 
     /// A grid that is equal to another, in the memory of this one as far as that reaches.
     pub fn renewed(self, alloc: Global, other: &Grid) -> Result<Grid, NoMemory>
         ensures { IfOk result (λ grid. grid ≡ other.now) }
     {
-        let rows = rows_like(alloc, self.rows, other.rows.as_slice())?;
-        Ok(Grid {
-            rows,
-            totals: other.totals.copy(alloc)?,
-        })
+        Grid::like(alloc, self.rows, other)
+    }
+
+    /// A grid that is equal to another, in the memory of old rows as far as that reaches.
+    fn like(alloc: Global, old: Vec<Row>, other: &Grid) -> Result<Grid, NoMemory>
+        ensures { IfOk result (λ grid. grid ≡ other.now) }
+    {
+        let mut old = old.into_iter();
+        let mut rows = Vec::with_capacity(alloc, other.rows.len())?;
+        for row in other.rows.as_slice() {
+            rows.push(match old.next() {
+                Some(old) => old.renewed(row)?,
+                None => row.copy(alloc)?,
+            })?;
+        }
+        let totals = other.totals.copy(alloc)?;
+        Ok(Grid { rows, totals })
     }
 
     /// A bidder's demand for a product, in blocks. Bidder and product are those of the grid.

@@ -1,4 +1,4 @@
-ghost use Rattle.std.specs.Prelude.{◌≡◌, ◌≢◌, ℕ, ◌+◌, ◌-◌, ◌≤◌, ◌<◌, slice_index_or, length, take, All, IfOk, IfErr, slice_index, insert, remove, vec_capacity, IsTrue};
+ghost use Rattle.std.specs.Prelude.{◌≡◌, ℕ, ◌≤◌, ◌<◌, slice_index_or, length, take, All, IfOk, IfErr, insert, remove, vec_capacity, IsTrue};
 ghost use Rattle.clock_terms.specs.HeldDemands.{demand_for, demands_of};
 ghost use Rattle.clock_terms.specs.Limits.{most_products, most_supply};
 ghost use Rattle.clock_terms.specs.inside.Rows.{AreHeld, AreStarts, IsStart, IsStored, StandsAt, WouldStandAt};
@@ -50,10 +50,8 @@ pub(crate) fn is_at(held: &[HeldDemand], place: usize, product: usize) -> bool
     ensures { IsTrue result → (place < length held.now)
         × ((d : HeldDemand) → (slice_index_or held.now place d).product ≡ product) }
 {
-    match held.get(place) {
-        Some(one) => one.product as usize == product,
-        None => false,
-    }
+    held.get(place)
+        .is_some_and(|one| one.product as usize == product)
 }
 
 /// The same, looked for from the start of the product's group. Where all products of the group are held, it stands as
@@ -89,31 +87,6 @@ pub(crate) fn demand_at(held: &[HeldDemand], place: Result<usize, usize>, produc
     }
 }
 
-/// The places from one group on are one further.
-fn raise_starts(starts: &mut Vec<u16>, from: usize)
-    requires { All (λ start. start ≤ most_products) starts.old.items }
-    ensures kept { length starts.new.items ≡ length starts.old.items }
-    ensures below { (group : ℕ) → group < from → slice_index starts.new.items group ≡ slice_index starts.old.items group }
-    ensures raised { (group : ℕ) → from ≤ group → group < length starts.old.items
-        → slice_index starts.new.items group ≡ slice_index starts.old.items group + 1 }
-{
-    for group in from..starts.len() {
-        starts[group] += 1;
-    }
-}
-
-/// The places from one group on are one less far.
-fn lower_starts(starts: &mut Vec<u16>, from: usize)
-    ensures kept { length starts.new.items ≡ length starts.old.items }
-    ensures below { (group : ℕ) → group < from → slice_index starts.new.items group ≡ slice_index starts.old.items group }
-    ensures lowered { (group : ℕ) → from ≤ group → group < length starts.old.items
-        → slice_index starts.new.items group ≡ slice_index starts.old.items group - 1 }
-{
-    for group in from..starts.len() {
-        starts[group] = starts[group].saturating_sub(1);
-    }
-}
-
 /// Puts in a demand at its place.
 fn put_in(held: &mut Vec<HeldDemand>, starts: &mut Vec<u16>, place: usize, one: HeldDemand)
     requires place { WouldStandAt held.old.items one.product place }
@@ -126,7 +99,10 @@ fn put_in(held: &mut Vec<HeldDemand>, starts: &mut Vec<u16>, place: usize, one: 
     ensures groups { length starts.new.items ≡ length starts.old.items }
 {
     held.insert(place, one).unwrap();
-    raise_starts(starts, one.product as usize / GROUP_SIZE + 1);
+    let from = one.product as usize / GROUP_SIZE + 1;
+    for group in from..starts.len() {
+        starts[group] += 1;
+    }
 }
 
 /// Takes out the demand for a product, at its place.
@@ -139,7 +115,10 @@ fn take_out(held: &mut Vec<HeldDemand>, starts: &mut Vec<u16>, place: usize, pro
     ensures groups { length starts.new.items ≡ length starts.old.items }
 {
     held.remove(place);
-    lower_starts(starts, product / GROUP_SIZE + 1);
+    let from = product / GROUP_SIZE + 1;
+    for group in from..starts.len() {
+        starts[group] = starts[group].saturating_sub(1);
+    }
 }
 
 /// Stores a demand whose product was looked for. One of no block is not kept.
@@ -169,29 +148,8 @@ pub(crate) fn store(
     }
 }
 
-/// Writes the demand for a product behind so many for lower ones, and tells how many are kept then: one more where a
-/// block is held. It is written in any case, since a jump past those that are not held is mostly guessed wrong.
-#[inline(always)]
-fn write_demand(room: &mut [HeldDemand], kept: usize, product: usize, demand: u64) -> usize
-    requires within { kept < length room.old }
-    requires order { AreHeld 0 (take kept room.old) product }
-    requires few { product < most_products }
-    requires small { demand ≤ most_supply }
-    ensures length { length room.new ≡ length room.old }
-    ensures count { result ≤ kept + 1 }
-    ensures order { AreHeld 0 (take result room.new) (product + 1) }
-    ensures here { demand_for (take result room.new) product ≡ demand }
-    ensures others { (other : ℕ) → other ≢ product
-        → demand_for (take result room.new) other ≡ demand_for (take kept room.old) other }
-{
-    room[kept] = HeldDemand {
-        product: product as u16,
-        demand: demand as u16,
-    };
-    if demand > 0 { kept + 1 } else { kept }
-}
-
-/// Writes the demands of which a block is held, of those for the products from the first on, and tells how many.
+/// Writes the demands of which a block is held, of those for the products from the first on, and tells how many. Each is
+/// written at the next place in any case, since a jump past those that are not held is mostly guessed wrong.
 fn write_held(room: &mut [HeldDemand], demands: &[u64]) -> usize
     requires room { length room.old ≡ length demands.now }
     requires few { length demands.now ≤ most_products }
@@ -203,7 +161,13 @@ fn write_held(room: &mut [HeldDemand], demands: &[u64]) -> usize
 {
     let mut kept = 0;
     for (product, demand) in demands.iter().enumerate() {
-        kept = write_demand(room, kept, product, *demand);
+        room[kept] = HeldDemand {
+            product: product as u16,
+            demand: *demand as u16,
+        };
+        if *demand > 0 {
+            kept += 1;
+        }
     }
     kept
 }

@@ -1,8 +1,9 @@
-ghost use Rattle.std.specs.Prelude.{◌≡◌, ◌+◌, ◌≤◌, ◌<◌, length, slice_index, unwrap_or, option_map, IfSome};
+ghost use Rattle.std.specs.Prelude.{◌≡◌, ◌+◌, ◌≤◌, ◌<◌, length, drop, slice_index, unwrap_or, option_map, IfSome};
 ghost use Rattle.std.specs.List.{AllWithin};
 ghost use Rattle.clock_terms.specs.HeldDemands.{demands_of, next_of};
 ghost use Rattle.clock_terms.specs.inside.Rows.{IsKeptWalk};
 ghost use Rattle.clock_terms.specs.Limits.{most_supply};
+ghost use Rattle.clock_terms.specs.Walks.{Walk};
 
 use crate::held_list::HeldDemand;
 use std::marker::Model;
@@ -26,11 +27,6 @@ pub struct HeldProducts<'a> {
 }
 
 impl<'a> Model for HeldProducts<'a> {
-    ghost use Rattle.std.specs.Prelude.{drop};
-    ghost use Rattle.clock_terms.specs.Walks.{Walk};
-    ghost use Rattle.clock_terms.specs.HeldDemands.{demands_of, next_of};
-    ghost use Rattle.clock_terms.specs.inside.Rows.{IsKeptWalk};
-
     ghost Value = { Walk };
 
     ghost view = { λ h. record {
@@ -77,11 +73,7 @@ impl<'a> HeldProducts<'a> {
         ensures ahead { IfSome result (λ held.
             AllWithin (λ demand. demand ≡ 0) self.old.demands (held.product + 1) self.new.from) }
     {
-        let held = self.held;
-        if self.given == held.len() {
-            return None;
-        }
-        let one = held[self.given];
+        let one = self.held.get(self.given)?;
         self.given += 1;
         Some(Held {
             product: one.product as usize,

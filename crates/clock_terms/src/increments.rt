@@ -1,5 +1,4 @@
 ghost use Rattle.std.specs.Prelude.{◌≡◌};
-ghost use Rattle.std.specs.List.{list_all};
 ghost use Rattle.clock_terms.specs.Increments.{HasIncrement, are_increments, increment_at, is_increment};
 
 use crate::grid::Amounts;
@@ -20,13 +19,6 @@ fn is_percentage(increment: u64) -> bool
     ensures { result ≡ is_increment increment }
 {
     is_within(LEAST_INCREMENT, MOST_INCREMENT, increment)
-}
-
-/// Whether each number of percent is 1 to 50.
-fn are_percentages(increments: &[u64]) -> bool
-    ensures { result ≡ list_all is_increment increments.now }
-{
-    increments.iter().all(|increment| is_percentage(*increment))
 }
 
 impl Increments {
@@ -50,7 +42,7 @@ impl Increments {
         match self {
             Increments::Single(increment) => is_percentage(*increment),
             Increments::PerProduct(increments) => {
-                increments.len() == products && are_percentages(increments)
+                increments.len() == products && increments.iter().all(|i| is_percentage(*i))
             }
         }
     }

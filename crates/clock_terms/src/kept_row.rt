@@ -1,5 +1,7 @@
-ghost use Rattle.std.specs.Prelude.{◌≡◌, ◌≤◌, ◌<◌, length, slice_index};
+ghost use Rattle.std.specs.Prelude.{◌≡◌, ℕ, List, ◌≤◌, ◌<◌, length, slice_index};
 ghost use Rattle.std.specs.List.{AllWithin};
+ghost use Rattle.clock_terms.specs.HeldDemands.{demands_of};
+ghost use Rattle.clock_terms.specs.inside.Rows.{AreHeld};
 ghost use Rattle.clock_terms.specs.Limits.{most_products};
 
 use crate::held_list::{HeldDemand, demand_at, place_of};
@@ -15,11 +17,6 @@ pub struct KeptRow {
 }
 
 impl Model for KeptRow {
-    ghost use Rattle.std.specs.Prelude.{List, ℕ, ◌≤◌};
-    ghost use Rattle.clock_terms.specs.HeldDemands.{demands_of};
-    ghost use Rattle.clock_terms.specs.inside.Rows.{AreHeld};
-    ghost use Rattle.clock_terms.specs.Limits.{most_products};
-
     ghost Value = { List ℕ };
 
     ghost view = { λ r. demands_of r.count r.held.items };

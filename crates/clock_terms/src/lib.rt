@@ -10,7 +10,6 @@ mod held_products;
 mod increments;
 mod kept_row;
 mod limits;
-mod new_demand;
 mod prices;
 mod row;
 mod setup;
@@ -26,7 +25,6 @@ pub use limits::{
     LONGEST_TOKEN, MOST_BIDDERS, MOST_ELIGIBILITY, MOST_LIMIT, MOST_PRODUCTS, MOST_REQUIREMENT,
     MOST_SUPPLY, MOST_UNITS, SHORTEST_TOKEN, is_within,
 };
-pub use new_demand::NewDemand;
 pub use prices::{OpeningPrices, PricePair, Prices};
-pub use row::Row;
+pub use row::{NewDemand, Row};
 pub use setup::{Bidder, Bidders, Product, Products, Setup, products_copy};

@@ -1,7 +1,8 @@
 ghost use Rattle.std.specs.Prelude.{◌≡◌, IfOk};
 ghost use Rattle.clock_terms.specs.Prices.{opening_prices};
+ghost use Rattle.clock_terms.specs.declared.setup.Setup.{Setup};
 
-use crate::setup::{Product, Setup};
+use crate::setup::Setup;
 use clock_device::{Items, NoMemory};
 use clock_money::Price;
 use std::alloc::Global;
@@ -20,8 +21,6 @@ pub type Prices = Items<PricePair>;
 
 /// Gives [`Prices`] the call `Prices::opening`.
 pub trait OpeningPrices: Sized {
-    ghost use Rattle.clock_terms.specs.declared.setup.Setup.{Setup};
-
     ghost is_opening: { Setup → Self → Type 0 };
 
     /// The prices of the first round: of each product, start and clock price are its opening price.
@@ -33,20 +32,14 @@ impl OpeningPrices for Prices {
     ghost is_opening = { λ setup prices. prices ≡ opening_prices setup.products };
 
     fn opening(alloc: Global, setup: &Setup) -> Result<Prices, NoMemory> {
-        opening_pairs(alloc, setup.products.as_slice())
+        let products = setup.products.as_slice();
+        let mut prices = Prices::with_capacity(alloc, products.len())?;
+        for product in products {
+            prices.push(PricePair {
+                start: product.opening,
+                clock: product.opening,
+            });
+        }
+        Ok(prices.into_items())
     }
-}
-
-/// Both prices of each product are its opening price.
-fn opening_pairs(alloc: Global, products: &[Product]) -> Result<Prices, NoMemory>
-    ensures { IfOk result (λ prices. prices ≡ opening_prices products.now) }
-{
-    let mut prices = Prices::with_capacity(alloc, products.len())?;
-    for product in products {
-        prices.push(PricePair {
-            start: product.opening,
-            clock: product.opening,
-        });
-    }
-    Ok(prices.into_items())
 }

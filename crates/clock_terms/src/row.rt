@@ -1,6 +1,8 @@
-ghost use Rattle.std.specs.Prelude.{◌≡◌, ◌≤◌, ◌<◌, length, replicate, IfOk, slice_index, slice_set};
+ghost use Rattle.std.specs.Prelude.{◌≡◌, ℕ, List, ◌≤◌, ◌<◌, length, replicate, IfOk, slice_index, slice_set, vec_capacity};
 ghost use Rattle.std.specs.List.{AllWithin};
 ghost use Rattle.clock_terms.specs.Demands.{demand_after};
+ghost use Rattle.clock_terms.specs.HeldDemands.{demands_of};
+ghost use Rattle.clock_terms.specs.inside.Rows.{IsKeptRow};
 ghost use Rattle.clock_terms.specs.Limits.{IsRow, most_products, most_supply};
 
 use crate::held_list::{
@@ -8,11 +10,35 @@ use crate::held_list::{
 };
 use crate::held_products::HeldProducts;
 use crate::kept_row::KeptRow;
-use crate::new_demand::NewDemand;
 use crate::setup::Setup;
 use clock_device::NoMemory;
 use std::alloc::Global;
 use std::marker::Model;
+
+/// What a demand is to become, in blocks.
+#[derive(Clone, Copy)]
+pub enum NewDemand {
+    /// So many blocks.
+    Of(u64),
+    /// So many blocks more.
+    Raised(u64),
+    /// So many blocks less.
+    Lowered(u64),
+}
+
+impl NewDemand {
+    /// What it becomes, by what it was. It is at most 1,000 blocks.
+    pub(crate) fn after(self, before: u64) -> u64
+        requires { demand_after self before ≤ most_supply }
+        ensures { result ≡ demand_after self before }
+    {
+        match self {
+            NewDemand::Of(demand) => demand,
+            NewDemand::Raised(amount) => before + amount,
+            NewDemand::Lowered(amount) => before.saturating_sub(amount),
+        }
+    }
+}
 
 /// A bidder's demands, one for each product, in blocks. None is above 1,000. Contracts see the list of the demands, and
 /// nothing of how it is kept.
@@ -28,10 +54,6 @@ pub struct Row {
 }
 
 impl Model for Row {
-    ghost use Rattle.std.specs.Prelude.{List, ℕ, vec_capacity};
-    ghost use Rattle.clock_terms.specs.HeldDemands.{demands_of};
-    ghost use Rattle.clock_terms.specs.inside.Rows.{IsKeptRow};
-
     ghost Value = { List ℕ };
 
     ghost view = { λ r. demands_of r.count r.held.items };
@@ -112,8 +134,7 @@ impl Row {
         ensures is { result ≡ slice_index self.now product }
         ensures small { result ≤ most_supply }
     {
-        let mut place = 0;
-        self.find(&mut place, product)
+        self.find(&mut 0, product)
     }
 
     /// The same, looked for first where the last one was found and behind that, as for one product after another. The

@@ -1,4 +1,5 @@
 ghost use Rattle.std.specs.Prelude.{◌≡◌, IfOk};
+ghost use Rattle.clock_terms.specs.Limits.{IsSetup, SetupFields};
 
 use clock_device::{Items, NoMemory, Text};
 use clock_money::Price;
@@ -61,8 +62,6 @@ pub struct Setup {
 }
 
 impl Model for Setup {
-    ghost use Rattle.clock_terms.specs.Limits.{SetupFields, IsSetup};
-
     ghost Value = { SetupFields };
 
     ghost view = { λ s. record {
@@ -140,16 +139,13 @@ impl Setup {
     pub fn copy(&self, alloc: Global) -> Result<Setup, NoMemory>
         ensures { IfOk result (λ copy. copy ≡ self.now) }
     {
-        let operator = self.operator.copy(alloc)?;
-        let products = products_copy(alloc, self.products.as_slice())?;
-        let bidders = bidders_copy(alloc, self.bidders.as_slice())?;
         Ok(Setup {
             version: self.version,
             limit: self.limit,
             requirement: self.requirement,
-            operator,
-            products,
-            bidders,
+            operator: self.operator.copy(alloc)?,
+            products: products_copy(alloc, self.products.as_slice())?,
+            bidders: bidders_copy(alloc, self.bidders.as_slice())?,
         })
     }
 }

@@ -2,7 +2,7 @@ use Rattle.std.proofs.Common.{◌≡◌, [], List, ℕ, sym, subst, ap, ◌∙�
 use Rattle.std.proofs.lemmas.Result.{err_from_is_err_and}
 use Rattle.clock_device.specs.Streams.{HasRead}
 use Rattle.clock_http.specs.Framing.{needs_more}
-use Rattle.clock_connections.proofs.ArrivalLaws.{arrived, no_room_at_first, nothing_needs_more, nothing_read, stopped}
+use Rattle.clock_connections.proofs.ArrivalLaws.{no_room, no_room_at_first, nothing_needs_more, nothing_read}
 use Rattle.clock_connections.proofs.arrival.read_request.Goals as goal
 
 pub returns-in_err-piece-clause-arrival : goal.returns-in_err-piece-clause-arrival
@@ -25,22 +25,12 @@ loop-read-init g c =
       unfailed = c.requires.unfailed;
     }
 
-pub returns-in_err-read_once-clause-arrival : goal.returns-in_err-read_once-clause-arrival
-returns-in_err-read_once-clause-arrival g c =
-    let p = err_from_is_err_and c.from_residual-in_err-read_once.result c.from_residual-in_err-read_once.ensures.1 in
+pub returns-in_err-short-clause-arrival : goal.returns-in_err-short-clause-arrival
+returns-in_err-short-clause-arrival g c =
+    let p = err_from_is_err_and c.from_residual-in_err-short.result c.from_residual-in_err-short.ensures.1 in
     let told = g.R.Source.told in
     let loop = c.loop-read in
-    let once = c.in_err-read_once.ensures in
-    rw (p.1, p.2) (stopped (record { before = told c.args.source.now; after = told c.read_once.new.source }) (told loop.source) loop.request
+    let once = c.in-Ok.ensures in
+    rw (p.1, p.2) (no_room (record { before = told c.args.source.now; after = told c.read.new.self }) (told loop.source) loop.request
     loop.invariant.read loop.invariant.needed (omega (arith, loop.invariant.counted, loop.invariant.used)) loop.invariant.unfailed
-    (omega (arith, once.counted, loop.invariant.counted)) once.interrupted.least _ once.failed c.read_once.new.request once.step)
-
-pub returns-then-branch-clause-arrival : goal.returns-then-branch-clause-arrival
-returns-then-branch-clause-arrival g c =
-    let told = g.R.Source.told in
-    let loop = c.loop-read in
-    let once = c.in_ok-read_once.ensures in
-    arrived (record { before = told c.args.source.now; after = told c.read_once.new.source }) (told loop.source) loop.request
-    loop.invariant.read loop.invariant.needed (omega (arith, loop.invariant.counted, loop.invariant.used)) loop.invariant.unfailed
-    (omega (arith, once.counted, loop.invariant.counted)) once.interrupted.least c.in_ok-read_once.field-0 c.if-branch.true once.failed
-    c.read_once.new.request once.step
+    (omega (arith, once.counted, loop.invariant.counted)) (omega (arith, once.interrupted)) _ once.bytes.0 once.failed)

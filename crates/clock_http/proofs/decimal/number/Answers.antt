@@ -1,8 +1,12 @@
 use Rattle.clock_http.proofs.DecimalLaws.{digits_text, number_read}
+use Rattle.clock_http.proofs.ResultLaws.{fault_told, value_told}
 use Rattle.clock_http.proofs.decimal.number.Goals as goal
 
-pub returns-in_default : goal.returns-in_default
-returns-in_default c = absurd (c.in_default.ensures.cases.0 (digits_text c.args.digits.now c.requires))
+pub returns-in_err-ok : goal.returns-in_err-ok
+returns-in_err-ok c =
+    absurd ((fault_told c.from_utf8.result _ _ c.in_err-ok.ensures.value c.from_utf8.ensures.cases).1.0 (digits_text c.args.digits.now c.requires))
 
 pub returns : goal.returns
-returns c = number_read c.args.digits.now c.requires c.in-Ok.text.now c.parse.result c.ok.result c.in-Ok.ensures.cases.0 c.parse.ensures.value.0 c.ok.ensures.value
+returns c =
+    let text = value_told c.from_utf8.result _ _ c.in_ok-ok.ensures.value c.from_utf8.ensures.cases in
+    number_read c.args.digits.now c.requires c.in_ok-ok.field-0.now c.parse.result c.ok-2.result text.0 c.parse.ensures.value.0 c.ok-2.ensures.value

@@ -6,15 +6,15 @@ pub head_length-requires-clause-none : goal.head_length-requires-clause-none
 head_length-requires-clause-none c =
     scan_from c.args.text.now c.min-limit.result c.args.looked_at _ c.min-limit.ensures c.requires.within c.requires.short c.requires.unended (omega arith)
 
-pub returns-then-text-lt-HEAD_LIMIT : goal.returns-then-text-lt-HEAD_LIMIT
-returns-then-text-lt-HEAD_LIMIT c = record {
-  is = known_unended c.args.text.now c.min-limit.result c.min-limit.ensures (sym c.in_default.is ∙ c.head_length.ensures) c.if-text-lt-HEAD_LIMIT.true;
+pub returns-in-None : goal.returns-in-None
+returns-in-None c = record {
+  is = known_unended c.args.text.now c.min-limit.result c.min-limit.ensures (sym c.in-None.is ∙ c.head_length.ensures) c.if-text-lt-HEAD_LIMIT.true;
   within = tt;
 }
 
-pub returns-else-text-lt-HEAD_LIMIT : goal.returns-else-text-lt-HEAD_LIMIT
-returns-else-text-lt-HEAD_LIMIT c = record {
-  is = known_long c.args.text.now c.min-limit.result c.min-limit.ensures (sym c.in_default.is ∙ c.head_length.ensures) c.if-text-lt-HEAD_LIMIT.false;
+pub returns-in-None-2 : goal.returns-in-None-2
+returns-in-None-2 c = record {
+  is = known_long c.args.text.now c.min-limit.result c.min-limit.ensures (sym c.in-None-2.is ∙ c.head_length.ensures) c.if-text-lt-HEAD_LIMIT.false;
   within = tt;
 }
 

@@ -1,8 +1,51 @@
-use Rattle.std.proofs.Common.{◌≡◌, ◌<◌, ◌∙◌, length, take, refl, arith}
-use Rattle.std.proofs.lemmas.List.{ext_get_or}
-use Rattle.clock_terms.specs.HeldDemands.{demands_of}
-use Rattle.clock_terms.proofs.HeldLaws.{length-demands, order_none, shown}
+use Rattle.std.proofs.Common.{◌≡◌, ℕ, ◌+◌, ◌<◌, ◌≤◌, ◌∙◌, List, length, take, set, get_or, refl, sym, ap, subst, ⊎_elim, arith}
+use Rattle.std.proofs.lemmas.Bool.{cases_lt}
+use Rattle.std.proofs.lemmas.List.{ext_get_or, length-set, take-set, take_more_set}
+use Rattle.clock_terms.specs.declared.held_list.HeldDemand.{HeldDemand}
+use Rattle.clock_terms.specs.HeldDemands.{demand_for, demands_of}
+use Rattle.clock_terms.specs.Limits.{most_supply}
+use Rattle.clock_terms.specs.inside.Rows.{AreHeld}
+use Rattle.clock_terms.proofs.HeldLaws.{held_more, held_push, length-demands, none_behind, order_none, push_here, push_other, shown}
 use Rattle.clock_terms.proofs.held_list.write_held.Goals as goal
+use Rattle.clock_terms.proofs.held_list.write_held.Goals.{then-demand-gt0, else-demand-gt0}
+
+-- where a demand was written behind so many, the first ones are in order, and tell it and those before
+record IsWritten (room : List HeldDemand) (kept product demand next : ℕ) : Type 0 where
+  count : next ≤ kept + 1
+  order : AreHeld 0 (take next (set room kept (record { product = product; demand = demand }))) (product + 1)
+  here : demand_for (take next (set room kept (record { product = product; demand = demand }))) product ≡ demand
+  others : (other : ℕ) → other < product
+      → demand_for (take next (set room kept (record { product = product; demand = demand }))) other ≡ demand_for (take kept room) other
+
+-- some blocks are kept
+some : (room : List HeldDemand) (kept product demand : ℕ) → kept < length room → AreHeld 0 (take kept room) product → 0 < demand
+    → demand ≤ most_supply → IsWritten room kept product demand (kept + 1)
+some room kept product demand within are more few =
+    let one : HeldDemand = record { product = product; demand = demand } in
+    let grown = take_more_set room kept one within in
+    record {
+      count = omega arith;
+      order = subst (λ (list : List HeldDemand). AreHeld 0 list (product + 1)) (sym grown)
+          (held_push 0 (take kept room) product one are (omega arith) more few);
+      here = ap (λ (list : List HeldDemand). demand_for list product) grown ∙ push_here 0 (take kept room) product one are (omega arith);
+      others = λ other below.
+          ap (λ (list : List HeldDemand). demand_for list other) grown ∙ push_other (take kept room) one other (λ same. omega (arith, same, below));
+    }
+
+-- and none is not
+none : (room : List HeldDemand) (kept product demand : ℕ) → AreHeld 0 (take kept room) product → demand ≤ 0
+    → IsWritten room kept product demand kept
+none room kept product demand are nothing =
+    let one : HeldDemand = record { product = product; demand = demand } in
+    let same = take-set room kept one in
+    record {
+      count = omega arith;
+      order = subst (λ (list : List HeldDemand). AreHeld 0 list (product + 1)) (sym same)
+          (held_more 0 (take kept room) product (product + 1) are (omega arith));
+      here = ap (λ (list : List HeldDemand). demand_for list product) same
+          ∙ none_behind 0 (take kept room) product product are (omega arith) ∙ omega (arith, nothing);
+      others = λ other below. ap (λ (list : List HeldDemand). demand_for list other) same;
+    }
 
 pub loop-product-init : goal.loop-product-init
 loop-product-init c = record {
@@ -11,6 +54,34 @@ loop-product-init c = record {
   order = order_none (take 0 c.args.room.now) 0 refl;
   shown = λ k below. absurd (omega (arith, below));
 }
+
+pub loop-product-preserved : goal.loop-product-preserved
+loop-product-preserved c =
+    let room = c.loop-product.room in
+    let kept = c.loop-product.kept in
+    let product = c.loop-product.product in
+    let demands = c.args.demands.now in
+    let are = c.loop-product.invariant.order in
+    let written : IsWritten room kept product (get_or demands product 0) c.if-demand-gt0.kept =
+    elim c.if-demand-gt0.branch [
+      | then-demand-gt0 w ↦ subst (λ (next : ℕ). IsWritten room kept product (get_or demands product 0) next) (sym w.kept-is)
+          (some room kept product (get_or demands product 0) (omega arith) are w.if-demand-gt0.true (omega arith))
+      | else-demand-gt0 w ↦ subst (λ (next : ℕ). IsWritten room kept product (get_or demands product 0) next) (sym w.kept-is)
+          (none room kept product (get_or demands product 0) are (omega arith))
+    ] in
+    record {
+      few = omega (arith, written.count);
+      same = length-set room kept (record { product = product; demand = get_or demands product 0 }) ∙ c.loop-product.invariant.same;
+      order = written.order;
+      shown = λ k below.
+          ⊎_elim
+          (λ (before : k < product). written.others k before ∙ c.loop-product.invariant.shown k before)
+          (λ (last : product ≤ k).
+          let after = set room kept (record { product = product; demand = get_or demands product 0 }) in
+          let here : product ≡ k = omega (arith, below, last) in
+          subst (λ (place : ℕ). demand_for (take c.if-demand-gt0.kept after) place ≡ get_or demands place 0) here written.here)
+          (cases_lt k product);
+    }
 
 pub returns-clause-demands : goal.returns-clause-demands
 returns-clause-demands c =

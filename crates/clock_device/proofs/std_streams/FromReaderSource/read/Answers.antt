@@ -2,8 +2,8 @@ use Rattle.std.proofs.Common.{sym}
 use Rattle.std.proofs.Math.Bool.{or-true}
 use Rattle.clock_device.proofs.std_streams.FromReaderSource.read.Goals as goal
 
-pub returns-then-eq-clause-interrupted : goal.returns-then-eq-clause-interrupted
-returns-then-eq-clause-interrupted g c = c.saturating_add-self-then-eq.ensures
+pub returns-in-Err-clause-interrupted : goal.returns-in-Err-clause-interrupted
+returns-in-Err-clause-interrupted g c = c.saturating_add-self-in-Err.ensures
 
-pub returns-else-eq-clause-failed : goal.returns-else-eq-clause-failed
-returns-else-eq-clause-failed g c = sym (or-true c.args.self.now.has_failed)
+pub returns-in-Err-2-clause-failed : goal.returns-in-Err-2-clause-failed
+returns-in-Err-2-clause-failed g c = sym (or-true c.args.self.now.has_failed)

@@ -1,9 +1,45 @@
-use Rattle.std.proofs.Common.{take, ◌++◌, ◌∙◌, ap}
+use Rattle.std.proofs.Common.{◌≡◌, ℕ, ◌+◌, ◌++◌, List, length, take, sym, subst, ap, ◌∙◌, arith, length-append}
+use Rattle.std.proofs.Math.Seq.{take-append_seam}
+use Rattle.clock_http.specs.Shown.{Knows}
+use Rattle.clock_http.specs.inside.Followed.{WaitsBelow}
+use Rattle.clock_http.proofs.ProgressLaws.{knows_start}
 use Rattle.clock_http.proofs.arriving.Arriving.take_piece.Goals as goal
+
+-- the bytes stand before the places that were made
+taken : (c : goal.After-needs_more) → take c.len-self-inside.result c.make_places-self-inside.new.room.items ≡ c.append.new.room.items
+taken c =
+    let text = c.append.new.room.items in
+    let places = c.make_places-self-inside.ensures.kept in
+    ap (λ n. take n c.make_places-self-inside.new.room.items) (c.len-self-inside.ensures ∙ c.append.new.room.ok.0)
+    ∙ ap (take (length text)) places.1 ∙ take-append_seam text places.0
+
+-- what is known of them
+known : (c : goal.After-needs_more) → Knows c.append.new.room.items c.advance-self-inside.result
+known c = subst (λ (text : List ℕ). Knows text c.advance-self-inside.result) c.as_slice.ensures.value c.advance-self-inside.ensures
+
+pub invariant_of-self-2 : goal.invariant_of-self-2
+invariant_of-self-2 c =
+    let text = c.append.new.room.items in
+    let progress = c.advance-self-inside.result in
+    let quiet = c.make_places-self-inside.result in
+    let places = c.make_places-self-inside.ensures in
+    let below : WaitsBelow quiet text progress = λ more less.
+    c.awaited-2.ensures (text ++ more) (knows_start text more progress (known c)) (let limit = places.below in omega arith) in
+    let size : length c.make_places-self-inside.new.room.items ≡ length text + length places.kept.0 =
+    ap length places.kept.1 ∙ length-append text places.kept.0 in
+    let count : c.len-self-inside.result ≡ length text = c.len-self-inside.ensures ∙ c.append.new.room.ok.0 in
+    record {
+      knows = subst (λ (text : List ℕ). Knows text progress) (sym (taken c)) (known c);
+      below = subst (λ (text : List ℕ). WaitsBelow quiet text progress) (sym (taken c)) below;
+      held = omega (arith, size, count);
+      placed = places.placed;
+    }
 
 pub returns-clause-ok : goal.returns-clause-ok
 returns-clause-ok c =
-    ap (λ n. take n c.look_on.new.room.items) (c.len-self-inside.ensures ∙ c.append.new.room.ok.0)
-    ∙ c.look_on.ensures.kept
-    ∙ c.in_ok-append.ensures.ok
+    taken c ∙ c.in_ok-append.ensures.ok
     ∙ ap (λ bytes. bytes ++ c.args.piece.now) (c.in_ok-make_room.ensures ∙ c.truncate.ensures.items ∙ c.self.view_is)
+
+pub returns-clause-short : goal.returns-clause-short
+returns-clause-short c =
+    c.needs_more.ensures _ (subst (λ (text : List ℕ). Knows text c.advance-self-inside.result) (sym (taken c)) (known c))

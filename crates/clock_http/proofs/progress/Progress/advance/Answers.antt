@@ -1,5 +1,8 @@
-use Rattle.std.proofs.Common.{take, length, sym, ◌∙◌, ap, subst, arith}
+use Rattle.std.proofs.Common.{◌≡◌, ℕ, List, take, length, refl, sym, ◌∙◌, ap, subst, arith}
 use Rattle.clock_http.specs.Framing as spec
+use Rattle.clock_http.specs.declared.head.EndedHead.{EndedHead}
+use Rattle.clock_http.specs.declared.progress.Progress.{Progress}
+use Rattle.clock_http.specs.declared.progress.Progress.TheVariants as so_far
 use Rattle.clock_http.specs.Scans.{head_length}
 use Rattle.clock_http.specs.Shown.{Knows}
 use Rattle.clock_http.proofs.ProgressLaws.{unended_is, known_waiting, known_complete, request_longer, brought_on, fewer, looked_at}
@@ -33,18 +36,20 @@ returns-in-Waiting c =
       within = c.with_body.ensures.within;
     }
 
-pub returns-in-Complete : goal.returns-in-Complete
-returns-in-Complete c =
-    let text = c.args.text.now in
-    let front = take c.requires.0 text in
-    let knows = subst (Knows front) c.in-Complete.is c.requires.1 in
-    record {
-      is = known_complete text c.requires.0 c.in-Complete.head knows.is knows.within.head;
-      within = request_longer (length front) (length text) c.in-Complete.head (fewer text c.requires.0) knows.within;
-    }
+-- what is decided of the beginning is decided of the text
+decided_longer : (text : List ℕ) (n : ℕ) (progress : Progress) → ((looked : ℕ) → progress ≡ so_far.Unended looked → ⊥)
+    → ((head : EndedHead) → progress ≡ so_far.Waiting head → ⊥) → Knows (take n text) progress → Knows text progress
+decided_longer text n (so_far.Unended looked) ended come knows = absurd (ended looked refl)
+decided_longer text n (so_far.Waiting head) ended come knows = absurd (come head refl)
+decided_longer text n (so_far.Complete head) ended come knows = record {
+  is = known_complete text n head knows.is knows.within.head;
+  within = request_longer (length (take n text)) (length text) head (fewer text n) knows.within;
+}
+decided_longer text n (so_far.Refused fault) ended come knows = record {
+  is = sym (brought_on text n (spec.refused fault) knows.is);
+  within = tt;
+}
 
-pub returns-in-Refused : goal.returns-in-Refused
-returns-in-Refused c =
-    let text = c.args.text.now in
-    let knows = subst (Knows (take c.requires.0 text)) c.in-Refused.is c.requires.1 in
-    record { is = sym (brought_on text c.requires.0 (spec.refused c.in-Refused.fault) knows.is); within = tt }
+pub returns-in_default : goal.returns-in_default
+returns-in_default c =
+    decided_longer c.args.text.now c.requires.0 c.args.self c.in_default.not-Unended c.in_default.not-Waiting c.requires.1

@@ -1,8 +1,9 @@
-use Rattle.std.proofs.Common.{◌≡◌, [], ◌∷◌, ◌++◌, ℕ, List, Option, length, Result, Ok, Err, OnOk, sym, subst}
-use Rattle.clock_device.specs.Streams.{HasWritten}
+use Rattle.std.proofs.Common.{◌≡◌, [], ◌∷◌, ◌++◌, ℕ, List, Option, length, Result, Ok, Err, OnOk, ap, ◌∙◌, sym, subst, append_assoc}
+use Rattle.clock_device.specs.Streams.{HasWritten, HasWrittenFront}
+use Rattle.clock_device.proofs.Streams.{front_beyond, front_written, written_twice}
 use Rattle.clock_journal.specs.Crash.{LeavesTexts}
 use Rattle.clock_journal.specs.Disks.{MayBeLeft}
-use Rattle.clock_journal.specs.Format.{record_of}
+use Rattle.clock_journal.specs.Format.{link, mark, record_of}
 use Rattle.clock_journal.specs.Kept.{JournalState, HasTexts, Keeps}
 use Rattle.clock_journal.proofs.Moments.{left_reads, all_is_front, keeps_more}
 use Rattle.clock_journal.proofs.journal.Journal.append.Goals as goal
@@ -11,29 +12,63 @@ ok_then : {U E : Type 0} (result : Result U E) (P Q : Type 0) → OnOk result P 
 ok_then (Ok done) P Q fact next = next fact
 ok_then (Err failed) P Q fact next = tt
 
-pub returns-in-Ok-clause-kept : goal.returns-in-Ok-clause-kept
-returns-in-Ok-clause-kept g c digest texts has =
-    ok_then c.sync.result (g.D.Durable.synced c.sync.new.self ≡ g.D.Durable.written c.append_record.new.disk)
-    (Keeps digest (texts ++ c.args.text.now ∷ []) (g.D.Durable.written c.sync.new.self) (g.D.Durable.synced c.sync.new.self) c.in-Ok.digest)
+record_is : (chain text front digest : List ℕ) → front ≡ mark (length text) ++ digest → digest ≡ link chain text → front ++ text ≡ record_of chain text
+record_is chain text front digest front_is linked =
+    ap (λ (bytes : List ℕ). bytes ++ text) (front_is ∙ ap (λ (bytes : List ℕ). mark (length text) ++ bytes) linked)
+    ∙ append_assoc (mark (length text)) (link chain text) text
+
+-- all of the record stands behind what stood before
+written : (old mid new : Option (List ℕ)) (chain text front digest : List ℕ) → front ≡ mark (length text) ++ digest → digest ≡ link chain text
+    → HasWritten old mid front → HasWritten mid new text → HasWritten old new (record_of chain text)
+written old mid new chain text front digest front_is linked one other =
+    subst (HasWritten old new) (record_is chain text front digest front_is linked) (written_twice old mid new front text one other)
+
+pub returns-clause-kept : goal.returns-clause-kept
+returns-clause-kept g c digest texts has =
+    let told = g.D.Durable.written in
+    let journal = c.self.inside in
+    ok_then c.sync.result (g.D.Durable.synced c.sync.new.self ≡ told c.append-2.new.self)
+    (Keeps digest (texts ++ c.args.text.now ∷ []) (told c.sync.new.self) (g.D.Durable.synced c.sync.new.self) c.link_of-digest.result)
     c.sync.ensures.ok
-    (λ now_synced. keeps_more digest texts c.args.text.now c.self.inside.chain c.in-Ok.digest (g.D.Durable.written c.self.inside.disk)
-    (g.D.Durable.synced c.self.inside.disk) (g.D.Durable.written c.append_record.new.disk) (g.D.Durable.written c.sync.new.self)
+    (λ now_synced. keeps_more digest texts c.args.text.now journal.chain c.link_of-digest.result (told journal.disk)
+    (g.D.Durable.synced journal.disk) (told c.append-2.new.self) (told c.sync.new.self)
     (g.D.Durable.synced c.sync.new.self) (subst (λ (journal : JournalState). HasTexts digest texts journal) (sym c.self.view_is) has)
-    c.requires.fits c.in-Ok.ensures.link c.in-Ok.ensures.written c.sync.ensures.written now_synced)
+    c.requires.fits c.link_of-digest.ensures
+    (written _ (told c.append.new.self) _ journal.chain c.args.text.now c.front_of.result c.link_of-digest.result c.front_of.ensures c.link_of-digest.ensures
+    c.in_ok-append.ensures.written c.in_ok-append-2.ensures.written)
+    c.sync.ensures.written now_synced)
 
-pub returns-in-Ok-clause-any_moment : goal.returns-in-Ok-clause-any_moment
-returns-in-Ok-clause-any_moment g c digest texts =
-    subst (λ (journal : JournalState). HasTexts digest texts journal → (left : List ℕ) → MayBeLeft journal.synced (g.D.Durable.written c.sync.new.self) left
+pub returns-clause-any_moment : goal.returns-clause-any_moment
+returns-clause-any_moment g c digest texts =
+    let told = g.D.Durable.written in
+    let journal = c.self.inside in
+    subst (λ (journal : JournalState). HasTexts digest texts journal → (left : List ℕ) → MayBeLeft journal.synced (told c.sync.new.self) left
     → LeavesTexts digest left (texts ++ c.args.text.now ∷ []) (length texts)) c.self.view_is
-    (left_reads digest texts c.args.text.now c.self.inside.chain (g.D.Durable.written c.self.inside.disk) (g.D.Durable.synced c.self.inside.disk)
-    (g.D.Durable.written c.sync.new.self) c.requires.fits
-    (all_is_front (g.D.Durable.written c.self.inside.disk) (g.D.Durable.written c.sync.new.self) (record_of c.self.inside.chain c.args.text.now)
-    (subst (λ (new : Option (List ℕ)). HasWritten (g.D.Durable.written c.self.inside.disk) new (record_of c.self.inside.chain c.args.text.now))
-    (sym c.sync.ensures.written) c.in-Ok.ensures.written)))
+    (left_reads digest texts c.args.text.now journal.chain (told journal.disk) (g.D.Durable.synced journal.disk)
+    (told c.sync.new.self) c.requires.fits
+    (all_is_front (told journal.disk) (told c.sync.new.self) (record_of journal.chain c.args.text.now)
+    (subst (λ (new : Option (List ℕ)). HasWritten (told journal.disk) new (record_of journal.chain c.args.text.now)) (sym c.sync.ensures.written)
+    (written _ (told c.append.new.self) _ journal.chain c.args.text.now c.front_of.result c.link_of-digest.result c.front_of.ensures c.link_of-digest.ensures
+    c.in_ok-append.ensures.written c.in_ok-append-2.ensures.written))))
 
-pub returns-in-Err-clause-any_moment : goal.returns-in-Err-clause-any_moment
-returns-in-Err-clause-any_moment g c digest texts =
-    subst (λ (journal : JournalState). HasTexts digest texts journal → (left : List ℕ) → MayBeLeft journal.synced (g.D.Durable.written c.append_record.new.disk) left
+pub returns-in_err-append-clause-any_moment : goal.returns-in_err-append-clause-any_moment
+returns-in_err-append-clause-any_moment g c digest texts =
+    let told = g.D.Durable.written in
+    let journal = c.self.inside in
+    subst (λ (journal : JournalState). HasTexts digest texts journal → (left : List ℕ) → MayBeLeft journal.synced (told c.append.new.self) left
     → LeavesTexts digest left (texts ++ c.args.text.now ∷ []) (length texts)) c.self.view_is
-    (left_reads digest texts c.args.text.now c.self.inside.chain (g.D.Durable.written c.self.inside.disk) (g.D.Durable.synced c.self.inside.disk)
-    (g.D.Durable.written c.append_record.new.disk) c.requires.fits c.in-Err.ensures.written)
+    (left_reads digest texts c.args.text.now journal.chain (told journal.disk) (g.D.Durable.synced journal.disk) (told c.append.new.self) c.requires.fits
+    (subst (HasWrittenFront (told journal.disk) (told c.append.new.self))
+    (record_is journal.chain c.args.text.now c.front_of.result c.link_of-digest.result c.front_of.ensures c.link_of-digest.ensures)
+    (front_written _ _ c.front_of.result c.args.text.now c.in_err-append.ensures.written)))
+
+pub returns-in_err-append-2-clause-any_moment : goal.returns-in_err-append-2-clause-any_moment
+returns-in_err-append-2-clause-any_moment g c digest texts =
+    let told = g.D.Durable.written in
+    let journal = c.self.inside in
+    subst (λ (journal : JournalState). HasTexts digest texts journal → (left : List ℕ) → MayBeLeft journal.synced (told c.append-2.new.self) left
+    → LeavesTexts digest left (texts ++ c.args.text.now ∷ []) (length texts)) c.self.view_is
+    (left_reads digest texts c.args.text.now journal.chain (told journal.disk) (g.D.Durable.synced journal.disk) (told c.append-2.new.self) c.requires.fits
+    (subst (HasWrittenFront (told journal.disk) (told c.append-2.new.self))
+    (record_is journal.chain c.args.text.now c.front_of.result c.link_of-digest.result c.front_of.ensures c.link_of-digest.ensures)
+    (front_beyond _ (told c.append.new.self) _ c.front_of.result c.args.text.now c.in_ok-append.ensures.written c.in_err-append-2.ensures.written)))

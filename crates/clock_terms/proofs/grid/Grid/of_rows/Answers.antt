@@ -16,8 +16,8 @@ totals_of-requires-clause-few c =
 
 pub totals_of-requires-clause-each : goal.totals_of-requires-clause-each
 totals_of-requires-clause-each c =
-    subst (λ list. All (λ row. length row ≡ c.len-products.result) list) (sym c.as_slice.ensures.value)
-    (subst (λ n. All (λ row. length row ≡ n) c.args.rows.items) (ap (λ s. length s.products) (sym c.setup.view_is) ∙ sym c.len-products.ensures)
+    subst (λ list. All (λ row. length row ≡ c.len.result) list) (sym c.as_slice.ensures.value)
+    (subst (λ n. All (λ row. length row ≡ n) c.args.rows.items) (ap (λ s. length s.products) (sym c.setup.view_is) ∙ sym c.len.ensures)
     (rows_each c.args.setup.now.products c.args.rows.items c.requires.rows))
 
 pub totals_of-requires-clause-small : goal.totals_of-requires-clause-small
@@ -28,7 +28,7 @@ totals_of-requires-clause-small c =
 
 pub invariant_of-result : goal.invariant_of-result
 invariant_of-result c =
-    let count = c.len-products.ensures ∙ ap (λ s. length s.products) c.setup.view_is in
+    let count = c.len.ensures ∙ ap (λ s. length s.products) c.setup.view_is in
     kept_of_rows c.args.setup.now.products c.args.rows.items c.requires.rows _ c.in_ok-totals.totals c.setup.invariant
     (ap (λ s. s.products) c.setup.view_is) (c.requires.bidders ∙ sym (ap (λ s. length s.bidders) c.setup.view_is))
     (c.in_ok-totals.ensures.each ∙ count)

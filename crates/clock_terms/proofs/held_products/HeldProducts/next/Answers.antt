@@ -1,16 +1,15 @@
-use Rattle.std.proofs.Common.{◌≡◌, ◌<◌, ◌≤◌, ◌+◌, ℕ, List, length, drop, get_or, refl, ap, sym, ◌∙◌, ⊎_elim, arith}
+use Rattle.std.proofs.Common.{◌≡◌, ◌<◌, ◌≤◌, ◌+◌, ℕ, List, length, drop, get_or, refl, ap, subst, sym, ◌∙◌, ⊎_elim, arith}
+use Rattle.std.specs.Option.{option_map, unwrap_or}
 use Rattle.std.proofs.lemmas.Bool.{cases_lt}
 use Rattle.std.proofs.lemmas.List.{get_or_default}
 use Rattle.std.specs.List.{AllWithin}
 use Rattle.clock_terms.specs.declared.held_list.HeldDemand.{HeldDemand}
+use Rattle.clock_terms.specs.declared.held_products.Held.{Held}
+use Rattle.clock_terms.specs.Limits.{most_supply}
 use Rattle.clock_terms.specs.HeldDemands.{demand_for, demands_of, next_of}
 use Rattle.clock_terms.specs.inside.Rows.{IsKeptWalk}
 use Rattle.clock_terms.proofs.HeldLaws.{shown, length-demands, found, rising, held_at, small_at, next_at, next_none, gap}
 use Rattle.clock_terms.proofs.held_products.HeldProducts.next.Goals as goal
-
--- as it stands in the goals
-abbrev no_one : HeldDemand
-no_one = record { product = 0; demand = 0 }
 
 -- what a walk gives next is the demand for its product
 is_demand : (count : ℕ) (held : List HeldDemand) (given : ℕ) (d : HeldDemand) → IsKeptWalk count held given → given < length held
@@ -32,6 +31,7 @@ above count held given d kept more =
 -- and is no greater than the count
 most : (count : ℕ) (held : List HeldDemand) (given : ℕ) → IsKeptWalk count held given → next_of count (drop given held) ≤ count
 most count held given kept =
+    let no_one : HeldDemand = record { product = 0; demand = 0 } in
     ⊎_elim
     (λ (goes_on : given < length held).
     omega (arith, next_at count held given no_one goes_on, (held_at 0 held count given no_one kept.0 goes_on).1))
@@ -53,16 +53,18 @@ between count held given d product e kept more low high =
     shown count held product e (omega (arith, high, most count held (given + 1) (kept.0, omega (arith, more))))
     ∙ gap count held (given + 1) product kept.0 smaller high
 
-pub returns-then-self-held-clause-passed : goal.returns-then-self-held-clause-passed
-returns-then-self-held-clause-passed c =
+pub returns-in_err-one-clause-passed : goal.returns-in_err-one-clause-passed
+returns-in_err-one-clause-passed c =
     let walk = c.self.inside in
-    let ended = next_none walk.count walk.held.now walk.given (omega (arith, c.if-self-held.true)) in
+    let ended = next_none walk.count walk.held.now walk.given c.in_err-one.ensures.lookup.3 in
     let long = length-demands walk.count walk.held.now in
     λ k d low high.
+    let below : k < length c.args.self.now.demands =
+    subst (λ given. k < unwrap_or (option_map (λ (held : Held). held.product) given) (length c.args.self.now.demands)) c.from_residual.ensures high in
     absurd (omega (
       arith,
       low,
-      high,
+      below,
       ended,
       long,
       ap (λ w. w.from) c.self.view_is,
@@ -74,7 +76,8 @@ returns-clause-within c =
     let walk = c.self.inside in
     omega (
       arith,
-      (held_at 0 walk.held.now walk.count walk.given no_one c.self.invariant.0 (omega (arith, c.self.invariant.1, c.if-self-held.false))).1,
+      (held_at 0 walk.held.now walk.count walk.given c.in_ok-one.one.now c.self.invariant.0 c.in_ok-one.ensures.lookup.3.0).1,
+      ap (λ (one : HeldDemand). one.product) c.in_ok-one.ensures.lookup.1,
       length-demands walk.count walk.held.now,
       ap (λ w. length w.demands) c.self.view_is,
     )
@@ -82,31 +85,41 @@ returns-clause-within c =
 pub returns-clause-demand : goal.returns-clause-demand
 returns-clause-demand c =
     let walk = c.self.inside in
-    let more : walk.given < length walk.held.now = omega (arith, c.self.invariant.1, c.if-self-held.false) in
-    let product = (get_or walk.held.now walk.given no_one).product in
-    is_demand walk.count walk.held.now walk.given no_one c.self.invariant more
-    ∙ sym (shown walk.count walk.held.now product 0 (held_at 0 walk.held.now walk.count walk.given no_one c.self.invariant.0 more).1)
+    let more : walk.given < length walk.held.now = c.in_ok-one.ensures.lookup.3.0 in
+    let product = c.in_ok-one.one.now.product in
+    let is = ap (λ (one : HeldDemand). one.product) c.in_ok-one.ensures.lookup.1 in
+    ap (λ (one : HeldDemand). one.demand) c.in_ok-one.ensures.lookup.1
+    ∙ is_demand walk.count walk.held.now walk.given c.in_ok-one.one.now c.self.invariant more
+    ∙ ap (λ wanted. demand_for walk.held.now wanted) (sym is)
+    ∙ sym (shown walk.count walk.held.now product 0 (omega (
+      arith,
+      is,
+      (held_at 0 walk.held.now walk.count walk.given c.in_ok-one.one.now c.self.invariant.0 more).1,
+    )))
     ∙ ap (λ w. get_or w.demands product 0) c.self.view_is
 
 pub returns-clause-held : goal.returns-clause-held
 returns-clause-held c =
     let walk = c.self.inside in
-    (held_at 0 walk.held.now walk.count walk.given no_one c.self.invariant.0 (omega (arith, c.self.invariant.1, c.if-self-held.false))).0
+    subst (λ (one : HeldDemand). 0 < one.demand) (sym c.in_ok-one.ensures.lookup.1)
+    (held_at 0 walk.held.now walk.count walk.given c.in_ok-one.one.now c.self.invariant.0 c.in_ok-one.ensures.lookup.3.0).0
 
 pub returns-clause-small : goal.returns-clause-small
 returns-clause-small c =
     let walk = c.self.inside in
-    small_at 0 walk.held.now walk.count walk.given no_one c.self.invariant.0 (omega (arith, c.self.invariant.1, c.if-self-held.false))
+    subst (λ (one : HeldDemand). one.demand ≤ most_supply) (sym c.in_ok-one.ensures.lookup.1)
+    (small_at 0 walk.held.now walk.count walk.given c.in_ok-one.one.now c.self.invariant.0 c.in_ok-one.ensures.lookup.3.0)
 
 pub returns-clause-given : goal.returns-clause-given
 returns-clause-given c =
     let walk = c.self.inside in
-    above walk.count walk.held.now walk.given no_one c.self.invariant (omega (arith, c.self.invariant.1, c.if-self-held.false))
+    subst (λ (one : HeldDemand). one.product < next_of walk.count (drop (walk.given + 1) walk.held.now)) (sym c.in_ok-one.ensures.lookup.1)
+    (above walk.count walk.held.now walk.given c.in_ok-one.one.now c.self.invariant c.in_ok-one.ensures.lookup.3.0)
 
 pub returns-clause-ahead : goal.returns-clause-ahead
 returns-clause-ahead c =
     let walk = c.self.inside in
-    let more : walk.given < length walk.held.now = omega (arith, c.self.invariant.1, c.if-self-held.false) in
     λ k d low high.
     ap (λ w. get_or w.demands k d) (sym c.self.view_is)
-    ∙ between walk.count walk.held.now walk.given no_one k d c.self.invariant more (omega (arith, low)) high
+    ∙ between walk.count walk.held.now walk.given c.in_ok-one.one.now k d c.self.invariant c.in_ok-one.ensures.lookup.3.0
+    (omega (arith, low, ap (λ (one : HeldDemand). one.product) c.in_ok-one.ensures.lookup.1)) high

@@ -1,6 +1,6 @@
 use Rattle.std.proofs.Common.{◌≡◌, ◌+◌, ◌≤◌, length, take}
 use Rattle.clock_terms.specs.Prices.{opening_prices}
-use Rattle.clock_terms.proofs.prices.opening_pairs.Given as goal
+use Rattle.clock_terms.proofs.prices.PricesOpeningPrices.opening.Given as goal
 
 -- the pairs of the products so far, and room for the others
 abbrev pub invariant-loop-product : goal.invariant-loop-product

@@ -1,12 +1,12 @@
-use Rattle.std.proofs.Common.{◌≡◌, ℕ, ◌+◌, ◌<◌, ◌≤◌, length}
+use Rattle.std.proofs.Common.{◌≡◌, ℕ, ◌-◌, ◌<◌, ◌≤◌, length}
 use Rattle.std.specs.Prelude.{slice_index}
-use Rattle.clock_terms.proofs.held_list.raise_starts.Given as goal
+use Rattle.clock_terms.proofs.held_list.take_out.Given as goal
 
 -- the places so far are moved, and those before and behind are as they were
 abbrev pub invariant-loop-group : goal.invariant-loop-group
 invariant-loop-group l = record {
   kept : length l.starts.items ≡ length l.initial.starts.items;
   below : (group : ℕ) → group < l.from → slice_index l.starts.items group ≡ slice_index l.initial.starts.items group;
-  moved : (group : ℕ) → l.from ≤ group → group < l.group → slice_index l.starts.items group ≡ slice_index l.initial.starts.items group + 1;
+  moved : (group : ℕ) → l.from ≤ group → group < l.group → slice_index l.starts.items group ≡ slice_index l.initial.starts.items group - 1;
   ahead : (group : ℕ) → l.group ≤ group → slice_index l.starts.items group ≡ slice_index l.initial.starts.items group;
 }
