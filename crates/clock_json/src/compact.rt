@@ -1,21 +1,12 @@
 //! Bids as most programs write them: without white space, and their keys in one order. Eight bytes are compared at
 //! once.
 ghost use Rattle.std.specs.Prelude.{◌≡◌, true, false, ◌+◌, ◌≤◌, ◌<◌, ◌^◌, ◌∷◌, ◌++◌, length, take, drop, codes, decimal, IsTrue, IfSome};
-ghost use Rattle.std.specs.Int.{w64, to_le_bytes};
 ghost use Rattle.json.specs.Token.{begin_object, end_object, number, string};
 ghost use Rattle.json.specs.Lex.{lex, between, token, comma, colon};
 ghost use Rattle.json.specs.Word.{ends_word};
 ghost use Rattle.clock_json.specs.inside.Digits.{IsNumberUpTo};
 
 use crate::digits::{digit_before, digits_up_to, uneven_digits_at};
-
-/// Eight bytes as one number.
-#[inline(always)]
-fn number_of(eight: [u8; 8]) -> u64
-    ensures { to_le_bytes w64 result ≡ eight }
-{
-    u64::from_le_bytes(eight)
-}
 
 /// Whether these eight bytes stand there.
 #[inline(always)]
@@ -26,7 +17,7 @@ fn has_eight(bytes: &[u8], at: usize, word: &[u8; 8]) -> bool
     let Ok(there) = <[u8; 8]>::try_from(&bytes[at..at + 8]) else {
         return false;
     };
-    number_of(there) == number_of(*word)
+    u64::from_le_bytes(there) == u64::from_le_bytes(*word)
 }
 
 /// Whether so many bytes stand from a place on.
