@@ -8,7 +8,10 @@ use Rattle.std.proofs.lemmas.List.{get_or_default, drop_all, drop_more}
 use Rattle.std.proofs.lemmas.List.Sums.{AllPass-from_list_all, sum_by-cons}
 use Rattle.std.proofs.lemmas.Nat.{mul-le}
 use Rattle.std.proofs.lemmas.Slice.Zip.{get_or-zip, length-zip}
+use Rattle.std.specs.Prelude.{option_and_then, codes}
 use Rattle.serde_json.specs.Data.{Data}
+use Rattle.serde_json.specs.Find.{get}
+use Rattle.clock_json.specs.Tree.{number_at, items_at, has_members, row_of, each}
 use Rattle.clock_terms.specs.declared.setup.Product.{Product}
 use Rattle.clock_terms.specs.declared.setup.Bidder.{Bidder}
 use Rattle.clock_setup.specs.declared.opening.OpeningFault.{OpeningFault}
@@ -160,6 +163,17 @@ opening_at value parts setup read held = rw (read, held) refl
 pub opening_shape : (value : Data) → parts_of value ≡ None → opening_of value ≡ Err Shape
 unfolding opening_of
 opening_shape value none = rw none refl
+
+-- its rows of demands
+abbrev pub rows_in : Data → Option (List (List ℕ))
+rows_in value = option_and_then (each row_of) (items_at (codes "demands") value)
+
+-- the parts of a document that is of the shape
+pub parts_read : (value setup : Data) (demands : List (List ℕ)) (increment : ℕ) → get (codes "setup") value ≡ Some setup → rows_in value ≡ Some demands
+    → number_at (codes "increment") value ≡ Some increment → has_members 3 value ≡ true
+    → parts_of value ≡ Some (record { setup = setup; demands = demands; increment = increment })
+unfolding parts_of
+parts_read value setup demands increment held rows number whole = rw (held, rows, number, whole) refl
 
 -- a document whose set-up is refused
 pub opening_setup : (value : Data) (parts : OpeningParts) (fault : OpeningFault) → parts_of value ≡ Some parts

@@ -4,15 +4,13 @@ ghost use Rattle.clock_terms.specs.Demands.{IsGrid};
 ghost use Rattle.clock_terms.specs.Eligibility.{activity};
 ghost use Rattle.clock_terms.specs.Faults.{IsFirstFault, IsRefusal, first_fault, in_turn};
 ghost use Rattle.clock_terms.specs.Limits.{IsProduct, IsRow, IsWithin, most_products, least_increment, most_increment};
-ghost use Rattle.clock_setup.specs.OpeningDocument.{document_opening, opening_of, opening_with, in_opening, has_counts as rows_fit, row_checks, demand_checks};
-ghost use Rattle.clock_setup.specs.SetupDocument as document;
+ghost use Rattle.clock_setup.specs.OpeningDocument.{document_opening, opening_of, opening_with, has_counts as rows_fit, row_checks, demand_checks};
 
 use crate::document::setup_of;
 use crate::fault::SetupFault;
 use crate::opening_scan::FoundOpening;
-use crate::opening_tree::opening_entries;
 use clock_device::NoMemory;
-use clock_json::tree::read_value;
+use clock_json::tree::{RowReader, each_at, has_members, number_at, read_value};
 use clock_json::{FlatRows, push, scanned_text, with_room};
 use clock_money::{LEAST_INCREMENT, MOST_INCREMENT};
 use clock_terms::{Bidder, Grid, Product, Row, Setup, is_within};
@@ -149,19 +147,6 @@ fn grid_of_rows(alloc: Global, setup: &Setup, demands: &FlatRows) -> Result<Grid
     Ok(Grid::of_rows(alloc, setup, rows)?)
 }
 
-/// The set-up under a document's key, its faults as those of the document.
-fn setup_of_opening(alloc: Global, value: &Value) -> Result<Setup, OpeningFault>
-    ensures ok { IfOk result (λ setup. document.setup_of (view value.now) ≡ Ok setup) }
-    ensures err { IfErr result (IsRefusal OpeningFault.NoMemory (in_opening (document.setup_of (view value.now)))) }
-    ensures held { IfErr result (λ fault. fault ≢ OpeningFault.Setup SetupFault.NoMemory) }
-{
-    match setup_of(alloc, value) {
-        Ok(setup) => Ok(setup),
-        Err(SetupFault::NoMemory) => Err(OpeningFault::NoMemory),
-        Err(fault) => Err(OpeningFault::Setup(fault)),
-    }
-}
-
 /// The opening of a set-up, or the first fault of what is looked at behind it.
 fn compared(
     alloc: Global,
@@ -191,7 +176,7 @@ fn compared(
 }
 
 /// The opening that a value of JSON means, or its first fault.
-#[tactic(auto, using(crate::proofs::OpeningLaws::opening_shape))]
+#[tactic(auto, using(crate::proofs::OpeningLaws::opening_shape), unfolding(crate::specs::OpeningShape::parts_of))]
 fn opening_in(alloc: Global, value: &Value) -> Result<Opening, OpeningFault>
     ensures ok { IfOk result (λ opening. opening_of (view value.now) ≡ Ok opening) }
     ensures grid { IfOk result
@@ -200,9 +185,21 @@ fn opening_in(alloc: Global, value: &Value) -> Result<Opening, OpeningFault>
     ensures err { IfErr result (IsRefusal OpeningFault.NoMemory (opening_of (view value.now))) }
     ensures held { IfErr result (λ fault. fault ≢ OpeningFault.Setup SetupFault.NoMemory) }
 {
-    let entries = opening_entries(alloc, value)?.ok_or(OpeningFault::Shape)?;
-    let setup = setup_of_opening(alloc, entries.setup)?;
-    compared(alloc, setup, entries.demands, entries.increment)
+    let (Some(setup), Some(increment)) = (value.get("setup"), number_at(value, "increment")) else {
+        return Err(OpeningFault::Shape);
+    };
+    if !has_members(value, 3) {
+        return Err(OpeningFault::Shape);
+    }
+    let rows = each_at(alloc, value, "demands", &RowReader)?.ok_or(OpeningFault::Shape)?;
+    let demands = FlatRows::from_lists(alloc, rows.as_slice());
+    drop(rows);
+    let demands = demands?;
+    match setup_of(alloc, setup) {
+        Ok(setup) => compared(alloc, setup, demands, increment),
+        Err(SetupFault::NoMemory) => Err(OpeningFault::NoMemory),
+        Err(fault) => Err(OpeningFault::Setup(fault)),
+    }
 }
 
 /// The opening that the bytes of a document mean, or the document's first fault.
@@ -218,8 +215,8 @@ pub fn read_opening(alloc: Global, bytes: &[u8]) -> Result<Opening, OpeningFault
     ensures err { IfErr result (IsRefusal OpeningFault.NoMemory (document_opening bytes.now)) }
     ensures held { IfErr result (λ fault. fault ≢ OpeningFault.Setup SetupFault.NoMemory) }
 {
-    if let Some(found) = scanned_text::<FoundOpening>(alloc, bytes)? {
-        return compared(alloc, found.held.setup, found.demands, found.increment);
+    if let Some((held, demands, increment)) = scanned_text::<FoundOpening>(alloc, bytes)? {
+        return compared(alloc, held.setup, demands, increment);
     }
     let value = read_value(alloc, bytes)?.ok_or(OpeningFault::NotJson)?;
     opening_in(alloc, &value)

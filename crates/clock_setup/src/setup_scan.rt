@@ -25,18 +25,6 @@ struct FoundProduct<'v> {
     units: Option<u64>,
 }
 
-/// The first version of documents in which a product may have such a granule or none, and the granule that it means.
-fn version_with(granule: Option<u64>) -> (u64, u64)
-    ensures found { granule ≡ added result.0 result.1 }
-    ensures version { IsWithin 1 latest_version result.0 }
-    ensures first_version { result.0 ≡ 1 → result.1 ≡ first_granule }
-{
-    match granule {
-        None => (1, FIRST_GRANULE),
-        Some(granule) => (2, granule),
-    }
-}
-
 impl<'v> ScannedMembers<'v> for FoundProduct<'v> {
     type Whole = VersionedProduct<'v>;
 
@@ -73,7 +61,10 @@ impl<'v> ScannedMembers<'v> for FoundProduct<'v> {
     }
 
     fn whole(self) -> Option<VersionedProduct<'v>> {
-        let (version, granule) = version_with(self.granule);
+        let (version, granule) = match self.granule {
+            None => (1, FIRST_GRANULE),
+            Some(granule) => (2, granule),
+        };
         let entry = ProductEntry {
             name: self.name?,
             units: self.units?,
@@ -86,14 +77,6 @@ impl<'v> ScannedMembers<'v> for FoundProduct<'v> {
     }
 }
 
-/// The version that a list of products and one more have their keys from, where it is the same. It is 0 for no
-/// products.
-fn common_version(so_far: u64, next: u64) -> Option<u64>
-    ensures { IfSome result (λ version. (version ≡ next) × ((so_far ≡ 0) ⊎ (so_far ≡ next))) }
-{
-    (so_far == 0 || so_far == next).then_some(next)
-}
-
 /// Products whose keys are those of one version.
 fn products<'v>(alloc: Global, scan: &mut Scan<'v>) -> Result<VersionedProducts<'v>, ScanStop>
     ensures value { IfOk result (λ list. Reads 2 scan.old (products_data list.version list.entries) scan.new) }
@@ -104,7 +87,10 @@ fn products<'v>(alloc: Global, scan: &mut Scan<'v>) -> Result<VersionedProducts<
     let mut entries = Items::new(alloc);
     'items: while !scan.closes_array() {
         let next = FoundProduct::part(alloc, scan)?;
-        version = common_version(version, next.version).ok_or(ScanStop::Unusual)?;
+        if version != 0 && version != next.version {
+            return Err(ScanStop::Unusual);
+        }
+        version = next.version;
         entries.push(next.entry)?;
     }
     Ok(VersionedProducts { version, entries })
@@ -164,24 +150,6 @@ pub(crate) struct FoundSetup<'v> {
     version: Option<u64>,
 }
 
-/// The limit of a set-up of a version, where its products are of this version, and a document of it may have such a
-/// member or none.
-fn limit_of(version: u64, of_products: u64, limit: Option<u64>) -> Option<u64>
-    ensures same { IfSome result (λ _. of_products ≡ version) }
-    ensures found { IfSome result (λ known. limit ≡ added version known) }
-    ensures version { IfSome result (λ _. IsWithin 1 latest_version version) }
-    ensures first_version { IfSome result (λ known. version ≡ 1 → known ≡ first_limit) }
-{
-    if of_products != version {
-        return None;
-    }
-    match (version, limit) {
-        (1, None) => Some(FIRST_LIMIT),
-        (2, Some(limit)) => Some(limit),
-        _ => None,
-    }
-}
-
 impl<'v> ScannedMembers<'v> for FoundSetup<'v> {
     type Whole = ScannedSetup<'v>;
 
@@ -216,10 +184,18 @@ impl<'v> ScannedMembers<'v> for FoundSetup<'v> {
 
     fn whole(self) -> Option<ScannedSetup<'v>> {
         let version = self.version?;
+        let limit = match (version, self.limit) {
+            (1, None) => FIRST_LIMIT,
+            (2, Some(limit)) => limit,
+            _ => return None,
+        };
         let products = self.products?;
+        if products.version != version {
+            return None;
+        }
         let entries = SetupEntries {
             version,
-            limit: limit_of(version, products.version, self.limit)?,
+            limit,
             requirement: self.requirement?,
             operator: self.operator?,
             products: products.entries,
