@@ -141,8 +141,28 @@ row_passed products number bidder row h within =
 
 -- ---- the whole document
 
+not_same : (a b : ℕ) → (a ≡ b → ⊥) → (a == b) ≡ false
+not_same a b h = grind (arith, nat_tests)
+
+same_test : (a b : ℕ) → a ≡ b → (a == b) ≡ true
+same_test a b h = grind (arith, nat_tests)
+
 same_of_test : (a b : ℕ) → (a == b) ≡ true → a ≡ b
 same_of_test a b h = grind (arith, nat_tests)
+
+module _ (setup : SetupFields) (demands : List (List ℕ)) {bidders : List Bidder} (count : ℕ) (same_bidders : bidders ≡ setup.bidders) where
+  -- another count of rows than of bidders
+  pub other_count : count ≡ length demands → (count ≡ length bidders → ⊥) → has_counts setup demands ≡ false
+  other_count counted other =
+      let differs : (length demands == length setup.bidders) ≡ false = not_same _ _ (λ e. other (counted ∙ e ∙ sym (ap length same_bidders))) in
+      rw differs refl
+
+  -- as many rows as bidders
+  pub row_lengths : {products : List Product} → count ≡ length demands → count ≡ length bidders → products ≡ setup.products
+      → has_counts setup demands ≡ list_all (λ row. length row == length products) demands
+  row_lengths counted as_many same_products =
+      let same : (length demands == length setup.bidders) ≡ true = same_test _ _ (sym counted ∙ as_many ∙ ap length same_bidders) in
+      rw same (ap (λ (list : List Product). list_all (λ row. length row == length list) demands) (sym same_products))
 
 -- rows in the right counts are a grid
 pub grid_of_counts : (setup : SetupFields) (demands : List (List ℕ)) → has_counts setup demands ≡ true

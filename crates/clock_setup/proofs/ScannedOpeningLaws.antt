@@ -5,7 +5,7 @@ use Rattle.std.specs.Str.{IsUtf8}
 use Rattle.serde_json.specs.Data.{Data}
 use Rattle.serde_json.specs.Read.{read}
 use Rattle.clock_json.specs.Reading.{whole, numbers, items_of}
-use Rattle.clock_setup.specs.declared.held_setup.HeldSetup.{HeldSetup}
+use Rattle.clock_setup.specs.declared.setup_scan.HeldSetup.{HeldSetup}
 use Rattle.clock_setup.specs.SetupData.{setup_data}
 use Rattle.clock_json.specs.Tree.{number_from, each, row_of}
 use Rattle.clock_setup.specs.OpeningShape.{parts_of}

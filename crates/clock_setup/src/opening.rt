@@ -4,7 +4,7 @@ ghost use Rattle.clock_terms.specs.Demands.{IsGrid};
 ghost use Rattle.clock_terms.specs.Eligibility.{activity};
 ghost use Rattle.clock_terms.specs.Faults.{IsFirstFault, IsRefusal, first_fault, in_turn};
 ghost use Rattle.clock_terms.specs.Limits.{IsProduct, IsRow, IsWithin, most_products, least_increment, most_increment};
-ghost use Rattle.clock_setup.specs.OpeningDocument.{document_opening, opening_of, opening_with, has_counts as rows_fit, row_checks, demand_checks};
+ghost use Rattle.clock_setup.specs.OpeningDocument.{document_opening, opening_of, opening_with, row_checks, demand_checks};
 
 use crate::document::setup_of;
 use crate::fault::SetupFault;
@@ -66,14 +66,6 @@ impl From<NoMemory> for OpeningFault {
     fn from(_refused: NoMemory) -> OpeningFault {
         OpeningFault::NoMemory
     }
-}
-
-/// Whether there is a row for each bidder, and in each row a number for each product.
-fn has_counts(setup: &Setup, demands: &FlatRows) -> bool
-    ensures { result ≡ rows_fit setup.now demands.now }
-{
-    demands.count() == setup.bidders.as_slice().len()
-        && demands.has_lengths(setup.products.as_slice().len())
 }
 
 /// The bidding units that a row of demands takes, or the least product of which a bidder demands more than its cap.
@@ -161,7 +153,10 @@ fn compared(
     ensures err { IfErr result (IsRefusal OpeningFault.NoMemory (opening_with setup demands increment)) }
     ensures held { IfErr result (λ fault. fault ≢ OpeningFault.Setup SetupFault.NoMemory) }
 {
-    if !has_counts(&setup, &demands) {
+    // There is a row for each bidder, and in each row a number for each product.
+    if demands.count() != setup.bidders.as_slice().len()
+        || !demands.has_lengths(setup.products.as_slice().len())
+    {
         return Err(OpeningFault::Shape);
     }
     let grid = grid_of_rows(alloc, &setup, &demands)?;

@@ -1,7 +1,7 @@
 //! An opening document read without a tree, where no text has an escape and each number is written in digits alone.
 ghost use Rattle.clock_setup.specs.inside.OpeningData.{scanned_data, found_opening};
 
-use crate::held_setup::HeldSetup;
+use crate::setup_scan::HeldSetup;
 use clock_json::{FlatRows, PartReader, Scan, ScanStop, ScannedMembers, is_key};
 use std::alloc::Global;
 

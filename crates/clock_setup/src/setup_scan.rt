@@ -1,17 +1,19 @@
 //! A set-up read without a tree, where no text has an escape and each number is written in digits alone.
-ghost use Rattle.std.specs.Prelude.{◌≡◌, ◌⊎◌, ◌<◌, length, IfSome, IfOk, OnOk};
+ghost use Rattle.std.specs.Prelude.{◌≡◌, ◌<◌, length, Ok, IfOk, OnOk};
 ghost use Rattle.clock_json.specs.Reading.{Reads};
-ghost use Rattle.clock_terms.specs.Limits.{IsWithin, latest_version, first_granule, first_limit};
-ghost use Rattle.clock_setup.specs.SetupData.{added, product_data, products_data, bidder_data, setup_data};
+ghost use Rattle.clock_setup.specs.SetupData.{product_data, products_data, bidder_data, setup_data};
+ghost use Rattle.clock_setup.specs.SetupDocument.{setup_of};
 ghost use Rattle.clock_setup.specs.inside.FoundEntries.{found_product, found_bidder};
 ghost use Rattle.clock_setup.specs.inside.FoundSetup.{found_setup};
 
+use crate::document::within_limits;
 use crate::entries::{
     BidderEntry, ProductEntry, ScannedSetup, SetupEntries, VersionedProduct, VersionedProducts,
 };
+use crate::fault::SetupFault;
 use clock_device::Items;
 use clock_json::{PartReader, Scan, ScanStop, ScannedMembers, is_key, scanned_parts};
-use clock_terms::{FIRST_GRANULE, FIRST_LIMIT};
+use clock_terms::{FIRST_GRANULE, FIRST_LIMIT, Setup};
 use std::alloc::Global;
 
 /// What was found of a product.
@@ -202,5 +204,32 @@ impl<'v> ScannedMembers<'v> for FoundSetup<'v> {
             bidders: self.bidders?,
         };
         Some(ScannedSetup { entries })
+    }
+}
+
+/// A set-up that was read without a tree and judged.
+#[derive(Drop)]
+pub struct HeldSetup {
+    /// It is within its limits.
+    pub setup: Setup,
+    ghost accepted: { setup_of (setup_data setup) ≡ Ok setup },
+}
+
+/// A set-up is read where it is within its limits, none of its texts has an escape, and each of its numbers is written
+/// in digits alone. Anything else is `Unusual`: then a tree of values tells what it means.
+impl<'v> PartReader<'v> for HeldSetup {
+    type Part = HeldSetup;
+
+    ghost levels = { 3 };
+
+    ghost shown = { λ held. setup_data held.setup };
+
+    fn part(alloc: Global, scan: &mut Scan<'v>) -> Result<HeldSetup, ScanStop> {
+        let scanned = FoundSetup::part(alloc, scan)?;
+        match within_limits(alloc, &scanned.entries) {
+            Ok(setup) => Ok(HeldSetup { setup }),
+            Err(SetupFault::NoMemory) => Err(ScanStop::NoMemory),
+            Err(_) => Err(ScanStop::Unusual),
+        }
     }
 }
