@@ -1,7 +1,8 @@
 //! The limits of a sincere bidder, which are mostly none.
-ghost use Rattle.std.specs.Prelude.{◌≡◌, ◌<◌, ◌≤◌, [], ◌++◌, ◌∷◌, length, replicate, slice_index, IfOk, OnOk};
+ghost use Rattle.std.specs.Prelude.{◌≡◌, ℕ, ◌<◌, ◌≤◌, List, [], ◌++◌, ◌∷◌, length, replicate, slice_index, IfOk, OnOk};
 ghost use Rattle.clock_terms.specs.Demands.{row_of};
 ghost use Rattle.clock_replays.specs.EndedRows.{rows_from};
+ghost use Rattle.clock_replays.specs.KeptLimits.{limits_of};
 ghost use Rattle.clock_replays.specs.inside.EndedRows.{AreEnds};
 ghost use Rattle.clock_replays.specs.inside.KeptLimits.{AreKept, IsPlaceOf, kept_limits};
 ghost use Rattle.clock_json.specs.Reading.{rows, Reads};
@@ -131,11 +132,6 @@ pub struct LimitLists {
 }
 
 impl Model for LimitLists {
-    ghost use Rattle.std.specs.Prelude.{List, ℕ};
-    ghost use Rattle.clock_replays.specs.EndedRows.{rows_from};
-    ghost use Rattle.clock_replays.specs.KeptLimits.{limits_of};
-    ghost use Rattle.clock_replays.specs.inside.KeptLimits.{AreKept};
-
     ghost Value = { List (List ℕ) };
 
     ghost view = { λ a. limits_of a.rows.count a.rows.products.items (rows_from 0 a.rows.ends.items a.rows.prices.items) };
