@@ -93,29 +93,6 @@ fn units_within(number: u64, products: &[Product], row: &[u64]) -> Result<u64, O
     Ok(units)
 }
 
-/// A bidder's row of demands, or the first fault that it has.
-fn row_within(
-    alloc: Global,
-    number: u64,
-    setup: &Setup,
-    bidder: &Bidder,
-    demands: &[u64],
-) -> Result<Row, OpeningFault>
-    requires { length demands.now ≡ length setup.now.products }
-    ensures same { IfOk result (λ row. row ≡ demands.now) }
-    ensures row { IfOk result (IsRow setup.now.products) }
-    ensures ok { OnOk result (first_fault (row_checks setup.now.products number (bidder.now, demands.now)) ≡ None) }
-    ensures err { IfErr result (IsFirstFault OpeningFault.NoMemory
-        (first_fault (row_checks setup.now.products number (bidder.now, demands.now)))) }
-    ensures held { IfErr result (λ fault. fault ≢ OpeningFault.Setup SetupFault.NoMemory) }
-{
-    let units = units_within(number, setup.products.as_slice(), demands)?;
-    if units > bidder.eligibility {
-        return Err(OpeningFault::Activity(number));
-    }
-    Ok(Row::of(alloc, setup, demands)?)
-}
-
 /// The grid of the bidders' rows of demands, or the first fault that one has.
 fn grid_of_rows(alloc: Global, setup: &Setup, demands: &FlatRows) -> Result<Grid, OpeningFault>
     requires { IsGrid (length setup.now.bidders) (length setup.now.products) demands.now }
@@ -132,7 +109,12 @@ fn grid_of_rows(alloc: Global, setup: &Setup, demands: &FlatRows) -> Result<Grid
     let mut rows = with_room(alloc, bidders.len())?;
     for (number, bidder) in bidders.iter().enumerate() {
         demands.read_row(number, &mut numbers)?;
-        let row = row_within(alloc, number as u64, setup, bidder, numbers.as_slice())?;
+        let asked = numbers.as_slice();
+        let units = units_within(number as u64, products, asked)?;
+        if units > bidder.eligibility {
+            return Err(OpeningFault::Activity(number as u64));
+        }
+        let row = Row::of(alloc, setup, asked)?;
         push(&mut rows, row)?;
     }
     drop(numbers);
