@@ -218,9 +218,7 @@ impl<'a> Scan<'a> {
             return Err(ScanStop::Unusual);
         }
         let (bytes, at) = quoted(self.bytes, at)?;
-        let Ok(text) = str::from_utf8(bytes) else {
-            return Err(ScanStop::Unusual);
-        };
+        let text = str::from_utf8(bytes).or(Err(ScanStop::Unusual))?;
         let next = after_space(self.bytes, at);
         if !ends_text(byte_at(self.bytes, next)) {
             return Err(ScanStop::Unusual);
