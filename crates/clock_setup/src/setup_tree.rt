@@ -26,11 +26,8 @@ fn has_keys(value: &Value, version: u64, in_first: usize) -> bool
     requires { in_first ≤ 5 }
     ensures { result ≡ members.has_members (shape.key_count version in_first) (view value.now) }
 {
-    if version == 1 {
-        has_members(value, in_first)
-    } else {
-        has_members(value, in_first + 1)
-    }
+    let count = if version == 1 { in_first } else { in_first + 1 };
+    has_members(value, count)
 }
 
 /// Products are read with the keys of a version.

@@ -1,4 +1,4 @@
-use Rattle.std.proofs.Common.{◌≡◌, Ok, None, sym, ap, ◌∙◌, subst}
+use Rattle.std.proofs.Common.{◌≡◌, Ok, sym, ap, ◌∙◌, subst}
 use Rattle.clock_terms.specs.Faults.{unless}
 use Rattle.clock_terms.specs.Limits.{SetupFields}
 use Rattle.clock_setup.specs.SetupData.{setup_data}
