@@ -3,7 +3,6 @@ ghost use Rattle.std.specs.Prelude.{◌≡◌, ℕ, ◌<◌, ◌≤◌, List, []
 ghost use Rattle.clock_terms.specs.Demands.{row_of};
 ghost use Rattle.clock_replays.specs.EndedRows.{rows_from};
 ghost use Rattle.clock_replays.specs.KeptLimits.{limits_of};
-ghost use Rattle.clock_replays.specs.inside.EndedRows.{AreEnds};
 ghost use Rattle.clock_replays.specs.inside.KeptLimits.{AreKept, IsPlaceOf, kept_limits};
 ghost use Rattle.clock_json.specs.Reading.{rows, Reads};
 
@@ -106,21 +105,6 @@ impl LimitRows {
     }
 }
 
-/// The row of a place, which begins where the one before it ends.
-fn row_at<'a>(ends: &[u32], numbers: &'a [u64], place: usize) -> &'a [u64]
-    requires place { place < length ends.now }
-    requires ends { AreEnds 0 ends.now (length numbers.now) }
-    ensures { result.now ≡ row_of (rows_from 0 ends.now numbers.now) place }
-{
-    let start = if place == 0 {
-        0
-    } else {
-        ends[place - 1] as usize
-    };
-    let end = ends[place] as usize;
-    &numbers[start..end]
-}
-
 /// For each product a list of prices that never rises: the one at place k, from 0, is the price in whole dollars up to
 /// which block k is wanted.
 ///
@@ -174,7 +158,14 @@ impl LimitLists {
         if place == products.len() || products[place] as usize != product {
             return &[];
         }
-        row_at(rows.ends.as_slice(), rows.prices.as_slice(), place)
+        // A row begins where the one before it ends.
+        let ends = rows.ends.as_slice();
+        let start = if place == 0 {
+            0
+        } else {
+            ends[place - 1] as usize
+        };
+        &rows.prices.as_slice()[start..ends[place] as usize]
     }
 }
 
