@@ -1,4 +1,4 @@
-ghost use Rattle.std.specs.Prelude.{◌≡◌, ◌≢◌, ◌&&◌, true, Some, length, zip, nat_le};
+ghost use Rattle.std.specs.Prelude.{◌≡◌, ◌≢◌, ◌&&◌, true, Some, length, nat_le};
 ghost use Rattle.std.specs.List.{list_all};
 ghost use Rattle.clock_terms.specs.Faults.{first_fault};
 ghost use Rattle.clock_terms.specs.Limits.{IsSetup};

@@ -43,18 +43,18 @@ impl LimitRows {
         }
     }
 
-    /// Equal ones, in memory that just holds them.
-    fn copy(&self, alloc: Global) -> Result<LimitRows, NoMemory>
+    /// The lists of these limits, in memory that just holds them.
+    fn lists(&self, alloc: Global) -> Result<LimitLists, NoMemory>
         requires { AreKept self.now }
-        ensures same { IfOk result (λ copy. kept_limits copy ≡ kept_limits self.now) }
-        ensures kept { IfOk result AreKept }
+        ensures { IfOk result (λ lists. lists ≡ kept_limits self.now) }
     {
-        Ok(LimitRows {
+        let rows = LimitRows {
             count: self.count,
             products: Vec::from_slice(alloc, self.products.as_slice())?,
             ends: Vec::from_slice(alloc, self.ends.as_slice())?,
             prices: Vec::from_slice(alloc, self.prices.as_slice())?,
-        })
+        };
+        Ok(LimitLists { rows })
     }
 
     /// Adds that the next products, so many, have no limits.
@@ -132,9 +132,7 @@ impl LimitLists {
         for list in lists {
             rows.push(list.as_slice())?;
         }
-        Ok(LimitLists {
-            rows: rows.copy(alloc)?,
-        })
+        rows.lists(alloc)
     }
 
     /// How many lists there are.
@@ -184,7 +182,5 @@ pub(crate) fn limit_lists(alloc: Global, scan: &mut Scan<'_>) -> Result<LimitLis
         let empty = scan.empty_arrays();
         limits.push_empty(empty)?;
     }
-    Ok(LimitLists {
-        rows: limits.copy(alloc)?,
-    })
+    Ok(limits.lists(alloc)?)
 }
