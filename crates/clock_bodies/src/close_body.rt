@@ -6,7 +6,7 @@ use crate::body::{Body, read_body};
 use crate::body_fault::BodyFault;
 use crate::close_scan::{CloseReader, TieReader};
 use clock_device::{Items, NoMemory};
-use clock_json::tree::{PlainReader, each_at, has_members, items_at, number_at, numbers_of};
+use clock_json::tree::{NumberReader, PlainReader, each_at, has_members, number_at};
 use clock_order::Tie;
 use clock_terms::Increments;
 use serde_json::Value;
@@ -50,10 +50,8 @@ pub fn increments_of(alloc: Global, value: &Value) -> Result<Option<Increments>,
     if let Some(increment) = number_at(value, "increment") {
         return Ok(Some(Increments::Single(increment)));
     }
-    let Some(items) = items_at(value, "increments") else {
-        return Ok(None);
-    };
-    Ok(numbers_of(alloc, items)?.map(Increments::PerProduct))
+    let listed = each_at(alloc, value, "increments", &NumberReader)?;
+    Ok(listed.map(Increments::PerProduct))
 }
 
 #[tactic(auto, unfolding(crate::specs::CloseBodies::close_of))]

@@ -117,7 +117,7 @@ pub fn each_at<'v, R: ValueReader<'v>>(
 
 /// A number is read from a whole number from 0 to 2^64 - 1.
 #[derive(Drop)]
-struct NumberReader;
+pub struct NumberReader;
 
 impl<'v> PlainReader<'v> for NumberReader {
     type Part = u64;
