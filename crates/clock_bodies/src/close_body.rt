@@ -6,7 +6,7 @@ use crate::body::{Body, read_body};
 use crate::body_fault::BodyFault;
 use crate::close_scan::{CloseReader, TieReader};
 use clock_device::{Items, NoMemory};
-use clock_json::tree::{ValueReader, each_at, has_members, items_at, number_at, numbers_of};
+use clock_json::tree::{NumberReader, PlainReader, each_at, has_members, number_at};
 use clock_order::Tie;
 use clock_terms::Increments;
 use serde_json::Value;
@@ -24,28 +24,22 @@ pub struct CloseBody {
     pub ties: Items<Tie>,
 }
 
-/// The tie number that a JSON value means: a list of a bidder, a product and a number.
-fn tie_of(value: &Value) -> Option<Tie>
-    ensures { result ≡ bodies.tie_of (view value.now) }
-{
-    let items = value.as_array()?.as_slice();
-    if items.len() != 3 {
-        return None;
-    }
-    Some(Tie {
-        bidder: items[0].as_u64()?,
-        product: items[1].as_u64()?,
-        number: items[2].as_u64()?,
-    })
-}
-
-impl<'v> ValueReader<'v> for TieReader {
+/// A tie number is a list of a bidder, a product and a number.
+impl<'v> PlainReader<'v> for TieReader {
     type Part = Tie;
 
     ghost meaning = { λ _. bodies.tie_of };
 
-    fn part_of(&self, _alloc: Global, value: &'v Value) -> Result<Option<Tie>, NoMemory> {
-        Ok(tie_of(value))
+    fn plain_part(&self, value: &'v Value) -> Option<Tie> {
+        let items = value.as_array()?.as_slice();
+        if items.len() != 3 {
+            return None;
+        }
+        Some(Tie {
+            bidder: items[0].as_u64()?,
+            product: items[1].as_u64()?,
+            number: items[2].as_u64()?,
+        })
     }
 }
 
@@ -56,10 +50,8 @@ pub fn increments_of(alloc: Global, value: &Value) -> Result<Option<Increments>,
     if let Some(increment) = number_at(value, "increment") {
         return Ok(Some(Increments::Single(increment)));
     }
-    let Some(items) = items_at(value, "increments") else {
-        return Ok(None);
-    };
-    Ok(numbers_of(alloc, items)?.map(Increments::PerProduct))
+    let listed = each_at(alloc, value, "increments", &NumberReader)?;
+    Ok(listed.map(Increments::PerProduct))
 }
 
 #[tactic(auto, unfolding(crate::specs::CloseBodies::close_of))]

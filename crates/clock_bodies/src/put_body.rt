@@ -6,7 +6,7 @@ use crate::body_fault::BodyFault;
 use crate::put_scan::{BidReader, FoundPut};
 use clock_bids::Bid;
 use clock_device::{Items, NoMemory};
-use clock_json::tree::{ValueReader, each_at, has_members, number_at};
+use clock_json::tree::{PlainReader, each_at, has_members, number_at};
 use serde_json::Value;
 use std::alloc::Global;
 
@@ -21,24 +21,18 @@ pub struct PutBody {
 
 /// A bid is an object of price, product and quantity, whole numbers of at most 64 bits.
 #[tactic(auto, unfolding(crate::specs::Bodies::bid_of))]
-impl<'v> ValueReader<'v> for BidReader {
+impl<'v> PlainReader<'v> for BidReader {
     type Part = Bid;
 
     ghost meaning = { λ _. bodies.bid_of };
 
-    fn part_of(&self, _alloc: Global, value: &'v Value) -> Result<Option<Bid>, NoMemory> {
-        let (Some(price), Some(product), Some(quantity)) = (
-            number_at(value, "price"),
-            number_at(value, "product"),
-            number_at(value, "quantity"),
-        ) else {
-            return Ok(None);
+    fn plain_part(&self, value: &'v Value) -> Option<Bid> {
+        let bid = Bid {
+            price: number_at(value, "price")?,
+            product: number_at(value, "product")?,
+            quantity: number_at(value, "quantity")?,
         };
-        Ok(has_members(value, 3).then_some(Bid {
-            product,
-            quantity,
-            price,
-        }))
+        has_members(value, 3).then_some(bid)
     }
 }
 

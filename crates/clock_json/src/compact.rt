@@ -1,21 +1,11 @@
 //! Bids as most programs write them: without white space, and their keys in one order. Eight bytes are compared at
 //! once.
-ghost use Rattle.std.specs.Prelude.{◌≡◌, true, false, ◌+◌, ◌≤◌, ◌<◌, ◌^◌, ◌∷◌, ◌++◌, length, take, drop, codes, decimal, IsTrue, IfSome};
-ghost use Rattle.std.specs.Int.{w64, to_le_bytes};
+ghost use Rattle.std.specs.Prelude.{◌≡◌, false, ◌+◌, ◌≤◌, ◌<◌, ◌^◌, ◌∷◌, ◌++◌, length, take, drop, codes, decimal, IsTrue, IfSome};
 ghost use Rattle.json.specs.Token.{begin_object, end_object, number, string};
 ghost use Rattle.json.specs.Lex.{lex, between, token, comma, colon};
-ghost use Rattle.json.specs.Word.{ends_word};
 ghost use Rattle.clock_json.specs.inside.Digits.{IsNumberUpTo};
 
 use crate::digits::{digit_before, digits_up_to, uneven_digits_at};
-
-/// Eight bytes as one number.
-#[inline(always)]
-fn number_of(eight: [u8; 8]) -> u64
-    ensures { to_le_bytes w64 result ≡ eight }
-{
-    u64::from_le_bytes(eight)
-}
 
 /// Whether these eight bytes stand there.
 #[inline(always)]
@@ -26,7 +16,7 @@ fn has_eight(bytes: &[u8], at: usize, word: &[u8; 8]) -> bool
     let Ok(there) = <[u8; 8]>::try_from(&bytes[at..at + 8]) else {
         return false;
     };
-    number_of(there) == number_of(*word)
+    u64::from_le_bytes(there) == u64::from_le_bytes(*word)
 }
 
 /// Whether so many bytes stand from a place on.
@@ -46,17 +36,6 @@ fn has_both(bytes: &[u8], at: usize, first: &[u8; 8], part: usize, second: &[u8;
         ≡ take part (first.now ++ drop (at + 8) bytes.now) ++ (second.now ++ drop (at + part + 8) bytes.now) }
 {
     has_eight(bytes, at, first) && has_eight(bytes, at + part, second)
-}
-
-/// Whether a bid ends there, with a comma behind it.
-#[inline(always)]
-fn ends_bid(bytes: &[u8], at: usize) -> bool
-    requires { at + 2 ≤ length bytes.now }
-    ensures ends { IsTrue result → ends_word (drop at bytes.now) ≡ true }
-    ensures value { IsTrue result
-        → lex between (drop at bytes.now) ≡ token end_object ∷ comma ∷ lex between (drop (at + 2) bytes.now) }
-{
-    (bytes[at] == b'}') & (bytes[at + 1] == b',')
 }
 
 /// The quantity of a bid that stands there: mostly a single digit, with the bid's end behind it.
@@ -111,7 +90,8 @@ pub(crate) fn compact_bid_at(bytes: &[u8], start: usize) -> Option<(CompactBid, 
         return None;
     }
     let (quantity, behind_quantity) = quantity_at(bytes, behind_product + 12)?;
-    if !ends_bid(bytes, behind_quantity) {
+    let ends = (bytes[behind_quantity] == b'}') & (bytes[behind_quantity + 1] == b',');
+    if !ends {
         return None;
     }
     let bid = CompactBid {

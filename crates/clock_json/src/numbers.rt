@@ -1,5 +1,5 @@
 //! A list of numbers of which most are small.
-ghost use Rattle.std.specs.Prelude.{◌≡◌, ◌+◌, ◌-◌, ◌≤◌, ◌<◌, ◌^◌, ◌++◌, [], All, length, take, drop, IsTrue, OnOk};
+ghost use Rattle.std.specs.Prelude.{◌≡◌, ℕ, ◌+◌, ◌-◌, ◌≤◌, ◌<◌, ◌^◌, List, ◌++◌, [], All, length, take, drop, IsTrue, OnOk};
 
 use clock_device::NoMemory;
 use std::alloc::Global;
@@ -17,8 +17,6 @@ pub(crate) struct Numbers {
 }
 
 impl Model for Numbers {
-    ghost use Rattle.std.specs.Prelude.{List, ℕ, ◌++◌};
-
     ghost Value = { List ℕ };
 
     ghost view = { λ n. n.short.items ++ n.long.items };
@@ -47,7 +45,10 @@ impl Numbers {
         ensures { OnOk result (self.new ≡ self.old ++ piece.now) }
     {
         if self.long.is_empty() && are_short(piece) {
-            return push_short(&mut self.short, piece);
+            let start = self.short.len();
+            self.short.resize(start + piece.len(), 0)?;
+            write_short(&mut self.short[start..], piece);
+            return Ok(());
         }
         self.long.extend_from_slice(piece)?;
         Ok(())
@@ -99,17 +100,6 @@ fn write_long(places: &mut [u64], numbers: &[u16])
     for (place, number) in numbers.iter().enumerate() {
         places[place] = *number as u64;
     }
-}
-
-/// Adds numbers at the end, in two bytes each.
-fn push_short(list: &mut Vec<u16>, numbers: &[u64]) -> Result<(), NoMemory>
-    requires { All (λ number. number < 2 ^ 16) numbers.now }
-    ensures { OnOk result (list.new.items ≡ list.old.items ++ numbers.now) }
-{
-    let start = list.len();
-    list.resize(start + numbers.len(), 0)?;
-    write_short(&mut list[start..], numbers);
-    Ok(())
 }
 
 /// Adds numbers at the end, in eight bytes each.

@@ -1,6 +1,7 @@
 //! Rows of numbers, all in one list.
-ghost use Rattle.std.specs.Prelude.{◌≡◌, ◌==◌, ◌<◌, ◌≤◌, ◌+◌, [], length, take, slice_index, slice_index_or, IfOk, OnOk};
+ghost use Rattle.std.specs.Prelude.{◌≡◌, ◌==◌, ℕ, ◌<◌, ◌≤◌, ◌+◌, List, [], length, take, slice_index, slice_index_or, IfOk, OnOk};
 ghost use Rattle.std.specs.List.{list_all};
+ghost use Rattle.clock_json.specs.Rows.{cut};
 ghost use Rattle.clock_json.specs.inside.Rows.{numbers_in};
 
 use crate::numbers::Numbers;
@@ -17,10 +18,6 @@ pub struct FlatRows {
 }
 
 impl Model for FlatRows {
-    ghost use Rattle.std.specs.Prelude.{◌≡◌, List, ℕ, length};
-    ghost use Rattle.clock_json.specs.Rows.{cut};
-    ghost use Rattle.clock_json.specs.inside.Rows.{numbers_in};
-
     ghost Value = { List (List ℕ) };
 
     ghost view = { λ a. cut a.lengths.items a.numbers };

@@ -1,7 +1,7 @@
 //! A text read mark by mark.
-ghost use Rattle.std.specs.Prelude.{◌≡◌, ◌∷◌, ◌++◌, [], ℕ, List, ◌<◌, length, map, replicate, IsTrue, IfSome, IfNone, IfOk, OnOk};
+ghost use Rattle.std.specs.Prelude.{◌≡◌, ◌∷◌, ◌++◌, [], ℕ, List, ◌<◌, drop, length, map, replicate, IsTrue, IfSome, IfNone, IfOk, OnOk};
 ghost use Rattle.std.specs.Bool.{MatchBool};
-ghost use Rattle.json.specs.Token.{Token, begin_array, begin_object, end_array, end_object, key as key_token};
+ghost use Rattle.json.specs.Token.{Token, begin_array, begin_object, end_array, end_object, key as key_token, tokens_code};
 ghost use Rattle.json.specs.Lex.{after_value, fresh, may_begin, may_close, tokens};
 ghost use Rattle.serde_json.specs.Data.{null, string};
 ghost use Rattle.clock_json.specs.Compact.{compact_bid};
@@ -26,10 +26,6 @@ pub struct Scan<'a> {
 }
 
 impl<'a> Model for Scan<'a> {
-    ghost use Rattle.std.specs.Prelude.{List, drop};
-    ghost use Rattle.json.specs.Token.{Token, tokens_code};
-    ghost use Rattle.clock_json.specs.Left.{left};
-
     ghost Value = { List Token };
 
     ghost coded = { tokens_code };
@@ -222,9 +218,7 @@ impl<'a> Scan<'a> {
             return Err(ScanStop::Unusual);
         }
         let (bytes, at) = quoted(self.bytes, at)?;
-        let Ok(text) = str::from_utf8(bytes) else {
-            return Err(ScanStop::Unusual);
-        };
+        let text = str::from_utf8(bytes).or(Err(ScanStop::Unusual))?;
         let next = after_space(self.bytes, at);
         if !ends_text(byte_at(self.bytes, next)) {
             return Err(ScanStop::Unusual);

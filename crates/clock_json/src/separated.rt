@@ -1,6 +1,6 @@
 //! Items of a list that stand one behind the other with nothing between them but a comma: numbers, and empty lists.
-ghost use Rattle.std.specs.Prelude.{◌≡◌, ◌+◌, ◌≤◌, ◌<◌, ◌^◌, ◌∷◌, ◌++◌, [], ℕ, List, length, drop, map, replicate, decimal, IsTrue, IfSome, IfOk};
-ghost use Rattle.json.specs.Token.{begin_array, end_array, number};
+ghost use Rattle.std.specs.Prelude.{◌≡◌, ◌+◌, ◌≤◌, ◌<◌, ◌^◌, ◌∷◌, ◌++◌, [], ℕ, List, length, drop, map, replicate, decimal, IfSome, IfOk};
+ghost use Rattle.json.specs.Token.{number};
 ghost use Rattle.json.specs.Lex.{lex, between, token, comma};
 ghost use Rattle.clock_json.specs.Left.{left};
 ghost use Rattle.clock_json.specs.Reading.{whole, numbers, ReadsAll};
@@ -49,17 +49,6 @@ pub(crate) fn numbers_at(bytes: &[u8], start: usize, list: &mut Vec<u64>) -> Res
     Ok(at)
 }
 
-/// Whether an empty list stands there with a comma right behind it.
-#[inline(always)]
-fn has_empty(bytes: &[u8], at: usize) -> bool
-    ensures room { IsTrue result → at + 3 ≤ length bytes.now }
-    ensures value { IsTrue result → lex between (drop at bytes.now)
-        ≡ token begin_array ∷ token end_array ∷ comma ∷ lex between (drop (at + 3) bytes.now) }
-{
-    has_room(bytes, at, 3)
-        && (bytes[at] == b'[') & (bytes[at + 1] == b']') & (bytes[at + 2] == b',')
-}
-
 /// How many empty lists stand there with a comma right behind each, and where the last comma ends.
 #[inline(always)]
 pub(crate) fn after_empties(bytes: &[u8], start: usize) -> (usize, usize)
@@ -68,7 +57,9 @@ pub(crate) fn after_empties(bytes: &[u8], start: usize) -> (usize, usize)
 {
     let mut at = start;
     let mut count = 0usize;
-    'lists: while has_empty(bytes, at) {
+    'lists: while has_room(bytes, at, 3)
+        && (bytes[at] == b'[') & (bytes[at + 1] == b']') & (bytes[at + 2] == b',')
+    {
         at += 3;
         count += 1;
     }

@@ -58,6 +58,29 @@ pub trait ValueReader<'v> {
         ensures { IfOk result (λ part. part ≡ meaning self.now (view value.now)) };
 }
 
+/// How a value is read as a part of a document, where that needs no memory.
+pub trait PlainReader<'v> {
+    /// What is read.
+    type Part: Drop;
+
+    /// What a value means.
+    ghost meaning: { Self → Data → Option Self.Part };
+
+    /// What the value means, or none where it is of another shape.
+    fn plain_part(&self, value: &'v Value) -> Option<Self::Part>
+        ensures { result ≡ meaning self.now (view value.now) };
+}
+
+impl<'v, R: PlainReader<'v>> ValueReader<'v> for R {
+    type Part = R::Part;
+
+    ghost meaning = { R.meaning };
+
+    fn part_of(&self, _alloc: Global, value: &'v Value) -> Result<Option<R::Part>, NoMemory> {
+        Ok(self.plain_part(value))
+    }
+}
+
 /// What the items of a list mean, in order, or none where one is of another shape.
 pub fn each_of<'v, R: ValueReader<'v>>(
     alloc: Global,
@@ -94,15 +117,15 @@ pub fn each_at<'v, R: ValueReader<'v>>(
 
 /// A number is read from a whole number from 0 to 2^64 - 1.
 #[derive(Drop)]
-struct NumberReader;
+pub struct NumberReader;
 
-impl<'v> ValueReader<'v> for NumberReader {
+impl<'v> PlainReader<'v> for NumberReader {
     type Part = u64;
 
     ghost meaning = { λ _. members.number_from };
 
-    fn part_of(&self, _alloc: Global, value: &'v Value) -> Result<Option<u64>, NoMemory> {
-        Ok(value.as_u64())
+    fn plain_part(&self, value: &'v Value) -> Option<u64> {
+        value.as_u64()
     }
 }
 

@@ -4,21 +4,39 @@ use Rattle.std.proofs.Common.{get_or, drop, zip, None, Some, refl, sym, ap, subs
 use Rattle.std.specs.Prelude.{EachIndex}
 use Rattle.std.specs.List.{IsAllAdjacentAnswer, list_all}
 use Rattle.std.proofs.lemmas.Bool.{and_parts, le-leb, leb-true, eqb-true}
+use Rattle.std.proofs.lemmas.Bool.Decides.{nat_tests}
 use Rattle.std.proofs.lemmas.List.{get_or_default}
 use Rattle.std.proofs.lemmas.List.Elements.{All-nil, All-cons}
 use Rattle.std.proofs.lemmas.List.Kept.{AllPairs-cons}
 use Rattle.std.proofs.lemmas.List.Sums.{AllPass-from_list_all, list_all-from_AllPass}
 use Rattle.std.proofs.lemmas.Slice.Zip.{get_or-zip, length-zip}
 use Rattle.clock_terms.specs.declared.setup.Product.{Product}
+use Rattle.clock_terms.specs.declared.setup.Bidder.{Bidder}
 use Rattle.clock_terms.specs.Demands.{row_of}
 use Rattle.clock_terms.specs.Faults.{first_fault, in_turn}
-use Rattle.clock_terms.specs.Limits.{IsSetup, cap_of}
+use Rattle.clock_terms.specs.Limits.{SetupFields, IsSetup, cap_of}
 use Rattle.clock_terms.proofs.FaultLaws.{both_pass, turn_passed, turn_failed, turn_none}
 use Rattle.clock_replays.specs.declared.replay.Script.{Script}
 use Rattle.clock_replays.specs.declared.replay.Script.TheVariants.{Literal, Sincere}
+use Rattle.clock_replays.specs.declared.replay.Closing.{Closing}
 use Rattle.clock_replays.specs.declared.fault.ScriptFault.TheVariants.{Shape, Scripts, Limits}
 use Rattle.clock_replays.specs.Replays.{NeverRises, IsScript, ReplayFields, IsReplay, is_of_version}
 use Rattle.clock_replays.specs.ReplayChecks.{never_rises, are_of_version, has_lists, limit_checks, script_checks, replay_checks}
+
+same_count : (a b : ℕ) → a ≡ b → (a == b) ≡ true
+same_count a b h = grind (arith, nat_tests)
+
+-- where the closings and the counts are good, the scripts decide
+pub scripts_decide : (setup : SetupFields) (scripts : List Script) (closings : List Closing) {products : List Product} {bidders : List Bidder}
+    → products ≡ setup.products → bidders ≡ setup.bidders → are_of_version setup.version closings ≡ true → length scripts ≡ length bidders
+    → list_all (has_lists (length products)) scripts ≡ true
+    → first_fault (in_turn (script_checks products) 0 scripts) ≡ first_fault (replay_checks (record { setup = setup; scripts = scripts; closings = closings }))
+unfolding replay_checks
+scripts_decide setup scripts closings {products} {bidders} same_products same_bidders of_version counted lists =
+    let count = same_count _ _ (counted ∙ ap length same_bidders) in
+    let each : list_all (has_lists (length setup.products)) scripts ≡ true =
+    subst (λ (list : List Product). list_all (has_lists (length list)) scripts ≡ true) same_products lists in
+    ap (λ (list : List Product). first_fault (in_turn (script_checks list) 0 scripts)) same_products ∙ rw (of_version, count, each) refl
 
 -- ---- prices that never rise
 

@@ -6,7 +6,7 @@ use Rattle.serde_json.specs.Read.{read}
 use Rattle.clock_json.specs.Reading.{whole, numbers}
 use Rattle.clock_terms.specs.Faults.{first_fault, unless}
 use Rattle.clock_setup.specs.SetupData.{setup_data}
-use Rattle.clock_setup.specs.declared.held_setup.HeldSetup.{HeldSetup}
+use Rattle.clock_setup.specs.declared.setup_scan.HeldSetup.{HeldSetup}
 use Rattle.clock_json.specs.Tree.{number_from, row_of}
 use Rattle.clock_json.proofs.JsonLaws.{json_value}
 use Rattle.clock_terms.specs.declared.increments.Increments.{Increments}

@@ -1,6 +1,6 @@
-ghost use Rattle.std.specs.Prelude.{◌≡◌, ◌≢◌, ◌&&◌, true, Some, length, zip, nat_le};
+ghost use Rattle.std.specs.Prelude.{◌≡◌, ◌≢◌, ◌&&◌, true, Some, length, nat_le};
 ghost use Rattle.std.specs.List.{list_all};
-ghost use Rattle.clock_terms.specs.Faults.{first_fault, in_turn};
+ghost use Rattle.clock_terms.specs.Faults.{first_fault};
 ghost use Rattle.clock_terms.specs.Limits.{IsSetup};
 ghost use Rattle.clock_replays.specs.ReplayChecks as rules;
 
@@ -18,35 +18,21 @@ fn are_of_version(version: u64, closings: &[Closing]) -> bool
         .all(|closing| is_of_version(version, &closing.increments))
 }
 
-/// Whether a sincere script has a list of limits for each of so many products.
-fn has_lists(count: usize, script: &Script) -> bool
-    ensures { result ≡ rules.has_lists count script.now }
-{
-    match script {
-        Script::Literal(_) => true,
-        Script::Sincere(limits) => limits.count() == count,
-    }
-}
-
 /// Whether each sincere script has a list of limits for each of so many products.
 fn have_lists(count: usize, scripts: &[Script]) -> bool
     ensures { result ≡ list_all (rules.has_lists count) scripts.now }
 {
-    scripts.iter().all(|script| has_lists(count, script))
-}
-
-/// Whether no price is above an earlier one.
-fn never_rises(prices: &[u64]) -> bool
-    ensures { result ≡ rules.never_rises prices.now }
-{
-    prices.is_sorted_by(|earlier, later| later <= earlier)
+    scripts.iter().all(|script| match script {
+        Script::Literal(_) => true,
+        Script::Sincere(limits) => limits.count() == count,
+    })
 }
 
 /// Whether limits never rise and are at most as many as a product's cap.
 fn are_limits(product: &Product, limits: &[u64]) -> bool
     ensures { result ≡ (nat_le (length limits.now) product.now.cap && rules.never_rises limits.now) }
 {
-    limits.len() as u64 <= product.cap && never_rises(limits)
+    limits.len() as u64 <= product.cap && limits.is_sorted_by(|earlier, later| later <= earlier)
 }
 
 /// The first fault of a bidder's script: the least product for which its limits are none.
@@ -63,20 +49,6 @@ fn script_fault(bidder: u64, products: &[Product], script: &Script) -> Option<Sc
     for product in 0..limits.count() {
         if !are_limits(&products[product], limits.list(product, &mut from)) {
             return Some(ScriptFault::Limits(bidder, product as u64));
-        }
-    }
-    None
-}
-
-/// The first fault of the scripts, by rising bidder.
-fn scripts_fault(products: &[Product], scripts: &[Script]) -> Option<ScriptFault>
-    requires { list_all (rules.has_lists (length products.now)) scripts.now ≡ true }
-    ensures fault { result ≡ first_fault (in_turn (rules.script_checks products.now) 0 scripts.now) }
-    ensures held { result ≢ Some (ScriptFault.Setup SetupFault.NoMemory) }
-{
-    for (bidder, script) in scripts.iter().enumerate() {
-        if let Some(fault) = script_fault(bidder as u64, products, script) {
-            return Some(fault);
         }
     }
     None
@@ -105,5 +77,10 @@ pub(crate) fn replay_fault(
     if !have_lists(products.len(), scripts) {
         return Some(ScriptFault::Shape);
     }
-    scripts_fault(products, scripts)
+    for (bidder, script) in scripts.iter().enumerate() {
+        if let Some(fault) = script_fault(bidder as u64, products, script) {
+            return Some(fault);
+        }
+    }
+    None
 }

@@ -1,8 +1,8 @@
 //! The limits of a sincere bidder, which are mostly none.
-ghost use Rattle.std.specs.Prelude.{◌≡◌, ◌<◌, ◌≤◌, [], ◌++◌, ◌∷◌, length, replicate, slice_index, IfOk, OnOk};
+ghost use Rattle.std.specs.Prelude.{◌≡◌, ℕ, ◌<◌, ◌≤◌, List, [], ◌++◌, ◌∷◌, length, replicate, slice_index, IfOk, OnOk};
 ghost use Rattle.clock_terms.specs.Demands.{row_of};
 ghost use Rattle.clock_replays.specs.EndedRows.{rows_from};
-ghost use Rattle.clock_replays.specs.inside.EndedRows.{AreEnds};
+ghost use Rattle.clock_replays.specs.KeptLimits.{limits_of};
 ghost use Rattle.clock_replays.specs.inside.KeptLimits.{AreKept, IsPlaceOf, kept_limits};
 ghost use Rattle.clock_json.specs.Reading.{rows, Reads};
 
@@ -43,18 +43,18 @@ impl LimitRows {
         }
     }
 
-    /// Equal ones, in memory that just holds them.
-    fn copy(&self, alloc: Global) -> Result<LimitRows, NoMemory>
+    /// The lists of these limits, in memory that just holds them.
+    fn lists(&self, alloc: Global) -> Result<LimitLists, NoMemory>
         requires { AreKept self.now }
-        ensures same { IfOk result (λ copy. kept_limits copy ≡ kept_limits self.now) }
-        ensures kept { IfOk result AreKept }
+        ensures { IfOk result (λ lists. lists ≡ kept_limits self.now) }
     {
-        Ok(LimitRows {
+        let rows = LimitRows {
             count: self.count,
             products: Vec::from_slice(alloc, self.products.as_slice())?,
             ends: Vec::from_slice(alloc, self.ends.as_slice())?,
             prices: Vec::from_slice(alloc, self.prices.as_slice())?,
-        })
+        };
+        Ok(LimitLists { rows })
     }
 
     /// Adds that the next products, so many, have no limits.
@@ -105,21 +105,6 @@ impl LimitRows {
     }
 }
 
-/// The row of a place, which begins where the one before it ends.
-fn row_at<'a>(ends: &[u32], numbers: &'a [u64], place: usize) -> &'a [u64]
-    requires place { place < length ends.now }
-    requires ends { AreEnds 0 ends.now (length numbers.now) }
-    ensures { result.now ≡ row_of (rows_from 0 ends.now numbers.now) place }
-{
-    let start = if place == 0 {
-        0
-    } else {
-        ends[place - 1] as usize
-    };
-    let end = ends[place] as usize;
-    &numbers[start..end]
-}
-
 /// For each product a list of prices that never rises: the one at place k, from 0, is the price in whole dollars up to
 /// which block k is wanted.
 ///
@@ -131,11 +116,6 @@ pub struct LimitLists {
 }
 
 impl Model for LimitLists {
-    ghost use Rattle.std.specs.Prelude.{List, ℕ};
-    ghost use Rattle.clock_replays.specs.EndedRows.{rows_from};
-    ghost use Rattle.clock_replays.specs.KeptLimits.{limits_of};
-    ghost use Rattle.clock_replays.specs.inside.KeptLimits.{AreKept};
-
     ghost Value = { List (List ℕ) };
 
     ghost view = { λ a. limits_of a.rows.count a.rows.products.items (rows_from 0 a.rows.ends.items a.rows.prices.items) };
@@ -152,9 +132,7 @@ impl LimitLists {
         for list in lists {
             rows.push(list.as_slice())?;
         }
-        Ok(LimitLists {
-            rows: rows.copy(alloc)?,
-        })
+        rows.lists(alloc)
     }
 
     /// How many lists there are.
@@ -178,7 +156,14 @@ impl LimitLists {
         if place == products.len() || products[place] as usize != product {
             return &[];
         }
-        row_at(rows.ends.as_slice(), rows.prices.as_slice(), place)
+        // A row begins where the one before it ends.
+        let ends = rows.ends.as_slice();
+        let start = if place == 0 {
+            0
+        } else {
+            ends[place - 1] as usize
+        };
+        &rows.prices.as_slice()[start..ends[place] as usize]
     }
 }
 
@@ -197,7 +182,5 @@ pub(crate) fn limit_lists(alloc: Global, scan: &mut Scan<'_>) -> Result<LimitLis
         let empty = scan.empty_arrays();
         limits.push_empty(empty)?;
     }
-    Ok(LimitLists {
-        rows: limits.copy(alloc)?,
-    })
+    Ok(limits.lists(alloc)?)
 }

@@ -8,7 +8,10 @@ use Rattle.std.proofs.lemmas.List.{get_or_default, drop_all, drop_more}
 use Rattle.std.proofs.lemmas.List.Sums.{AllPass-from_list_all, sum_by-cons}
 use Rattle.std.proofs.lemmas.Nat.{mul-le}
 use Rattle.std.proofs.lemmas.Slice.Zip.{get_or-zip, length-zip}
+use Rattle.std.specs.Prelude.{option_and_then, codes}
 use Rattle.serde_json.specs.Data.{Data}
+use Rattle.serde_json.specs.Find.{get}
+use Rattle.clock_json.specs.Tree.{number_at, items_at, has_members, row_of, each}
 use Rattle.clock_terms.specs.declared.setup.Product.{Product}
 use Rattle.clock_terms.specs.declared.setup.Bidder.{Bidder}
 use Rattle.clock_setup.specs.declared.opening.OpeningFault.{OpeningFault}
@@ -138,8 +141,28 @@ row_passed products number bidder row h within =
 
 -- ---- the whole document
 
+not_same : (a b : ℕ) → (a ≡ b → ⊥) → (a == b) ≡ false
+not_same a b h = grind (arith, nat_tests)
+
+same_test : (a b : ℕ) → a ≡ b → (a == b) ≡ true
+same_test a b h = grind (arith, nat_tests)
+
 same_of_test : (a b : ℕ) → (a == b) ≡ true → a ≡ b
 same_of_test a b h = grind (arith, nat_tests)
+
+module _ (setup : SetupFields) (demands : List (List ℕ)) {bidders : List Bidder} (count : ℕ) (same_bidders : bidders ≡ setup.bidders) where
+  -- another count of rows than of bidders
+  pub other_count : count ≡ length demands → (count ≡ length bidders → ⊥) → has_counts setup demands ≡ false
+  other_count counted other =
+      let differs : (length demands == length setup.bidders) ≡ false = not_same _ _ (λ e. other (counted ∙ e ∙ sym (ap length same_bidders))) in
+      rw differs refl
+
+  -- as many rows as bidders
+  pub row_lengths : {products : List Product} → count ≡ length demands → count ≡ length bidders → products ≡ setup.products
+      → has_counts setup demands ≡ list_all (λ row. length row == length products) demands
+  row_lengths counted as_many same_products =
+      let same : (length demands == length setup.bidders) ≡ true = same_test _ _ (sym counted ∙ as_many ∙ ap length same_bidders) in
+      rw same (ap (λ (list : List Product). list_all (λ row. length row == length list) demands) (sym same_products))
 
 -- rows in the right counts are a grid
 pub grid_of_counts : (setup : SetupFields) (demands : List (List ℕ)) → has_counts setup demands ≡ true
@@ -160,6 +183,17 @@ opening_at value parts setup read held = rw (read, held) refl
 pub opening_shape : (value : Data) → parts_of value ≡ None → opening_of value ≡ Err Shape
 unfolding opening_of
 opening_shape value none = rw none refl
+
+-- its rows of demands
+abbrev pub rows_in : Data → Option (List (List ℕ))
+rows_in value = option_and_then (each row_of) (items_at (codes "demands") value)
+
+-- the parts of a document that is of the shape
+pub parts_read : (value setup : Data) (demands : List (List ℕ)) (increment : ℕ) → get (codes "setup") value ≡ Some setup → rows_in value ≡ Some demands
+    → number_at (codes "increment") value ≡ Some increment → has_members 3 value ≡ true
+    → parts_of value ≡ Some (record { setup = setup; demands = demands; increment = increment })
+unfolding parts_of
+parts_read value setup demands increment held rows number whole = rw (held, rows, number, whole) refl
 
 -- a document whose set-up is refused
 pub opening_setup : (value : Data) (parts : OpeningParts) (fault : OpeningFault) → parts_of value ≡ Some parts

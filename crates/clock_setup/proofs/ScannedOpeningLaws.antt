@@ -5,7 +5,7 @@ use Rattle.std.specs.Str.{IsUtf8}
 use Rattle.serde_json.specs.Data.{Data}
 use Rattle.serde_json.specs.Read.{read}
 use Rattle.clock_json.specs.Reading.{whole, numbers, items_of}
-use Rattle.clock_setup.specs.declared.opening_scan.ScannedOpening.{ScannedOpening}
+use Rattle.clock_setup.specs.declared.setup_scan.HeldSetup.{HeldSetup}
 use Rattle.clock_setup.specs.SetupData.{setup_data}
 use Rattle.clock_json.specs.Tree.{number_from, each, row_of}
 use Rattle.clock_setup.specs.OpeningShape.{parts_of}
@@ -32,9 +32,9 @@ unfolding parts_of
 parts_are setup demands increment = rw (rows_are demands) refl
 
 -- a document that is the value of an opening is judged by what is looked at behind its set-up
-pub opening_read : (bytes : List ℕ) (found : ScannedOpening) → IsUtf8 bytes → read bytes ≡ Some (scanned_data found)
-    → document_opening bytes ≡ opening_with found.held.setup found.demands found.increment
+pub opening_read : (bytes : List ℕ) (found : HeldSetup × List (List ℕ) × ℕ) → IsUtf8 bytes → read bytes ≡ Some (scanned_data found)
+    → document_opening bytes ≡ opening_with found.0.setup found.1 found.2
 unfolding document_opening
 opening_read bytes found text is =
     rw (json_value bytes (scanned_data found) text is)
-    (opening_at (scanned_data found) _ found.held.setup (parts_are (setup_data found.held.setup) found.demands found.increment) found.held.accepted)
+    (opening_at (scanned_data found) _ found.0.setup (parts_are (setup_data found.0.setup) found.1 found.2) found.0.accepted)

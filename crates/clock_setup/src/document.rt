@@ -5,11 +5,11 @@ ghost use Rattle.clock_terms.specs.Limits.{SetupFields, IsOfFirstVersion, IsSetu
 ghost use Rattle.clock_json.specs.Tree.{number_at};
 ghost use Rattle.clock_setup.specs.SetupShape.{fields_of};
 ghost use Rattle.clock_setup.specs.SetupDocument as document;
-ghost use Rattle.clock_setup.specs.inside.SetupDocument.{distinct_checks, head_checks};
+ghost use Rattle.clock_setup.specs.inside.SetupDocument.{distinct_checks};
 
 use crate::entries::SetupEntries;
 use crate::fault::{Place, SetupFault};
-use crate::setup_checks::{each_within, has_distinct_names, has_distinct_tokens, is_token};
+use crate::setup_checks::{check, each_within, has_distinct_names, has_distinct_tokens, is_token};
 use crate::setup_scan::FoundSetup;
 use crate::setup_tree::entries_of;
 use clock_device::Text;
@@ -21,23 +21,6 @@ use clock_terms::{
 };
 use serde_json::Value;
 use std::alloc::Global;
-
-/// The first fault of the parts that stand before the products.
-#[tactic(auto, unfolding(crate::specs::inside::SetupDocument::head_checks))]
-fn head_fault(entries: &SetupEntries) -> Option<SetupFault>
-    ensures { result ≡ first_fault (head_checks entries.now) }
-{
-    if !is_within(LEAST_REQUIREMENT, MOST_REQUIREMENT, entries.requirement) {
-        return Some(SetupFault::Range(Place::Requirement));
-    }
-    if !is_within(LEAST_LIMIT, MOST_LIMIT, entries.limit) {
-        return Some(SetupFault::Range(Place::Limit));
-    }
-    if !is_token(entries.operator) {
-        return Some(SetupFault::Range(Place::Operator));
-    }
-    None
-}
 
 /// The operator's token, where no name, and then no token, stands twice.
 #[tactic(auto, unfolding(crate::specs::inside::SetupDocument::distinct_checks))]
@@ -65,9 +48,15 @@ pub(crate) fn within_limits(alloc: Global, entries: &SetupEntries) -> Result<Set
     ensures ok { IfOk result (λ _. first_fault (document.setup_checks entries.now) ≡ None) }
     ensures err { IfErr result (IsFirstFault SetupFault.NoMemory (first_fault (document.setup_checks entries.now))) }
 {
-    if let Some(fault) = head_fault(entries) {
-        return Err(fault);
-    }
+    check(
+        is_within(LEAST_REQUIREMENT, MOST_REQUIREMENT, entries.requirement),
+        Place::Requirement,
+    )?;
+    check(
+        is_within(LEAST_LIMIT, MOST_LIMIT, entries.limit),
+        Place::Limit,
+    )?;
+    check(is_token(entries.operator), Place::Operator)?;
     let products = entries.products.as_slice();
     let products = each_within(alloc, Place::Products, MOST_PRODUCTS, products)?;
     let bidders = entries.bidders.as_slice();

@@ -1,6 +1,8 @@
 //! A set-up document of the right shape, with no limit tested yet.
 ghost use Rattle.std.specs.Prelude.{◌≡◌, All};
-ghost use Rattle.clock_terms.specs.Limits.{IsWithin, IsOfFirstVersion, first_granule, latest_version};
+ghost use Rattle.clock_terms.specs.declared.setup.Product.{Product};
+ghost use Rattle.clock_terms.specs.declared.setup.Bidder.{Bidder};
+ghost use Rattle.clock_terms.specs.Limits.{IsWithin, IsOfFirstVersion, SetupFields, first_granule, latest_version};
 
 use clock_device::Items;
 use std::marker::Model;
@@ -17,8 +19,6 @@ pub(crate) struct ProductEntry<'v> {
 }
 
 impl<'v> Model for ProductEntry<'v> {
-    ghost use Rattle.clock_terms.specs.declared.setup.Product.{Product};
-
     ghost Value = { Product };
 
     ghost view = { λ e. record {
@@ -57,8 +57,6 @@ pub(crate) struct BidderEntry<'v> {
 }
 
 impl<'v> Model for BidderEntry<'v> {
-    ghost use Rattle.clock_terms.specs.declared.setup.Bidder.{Bidder};
-
     ghost Value = { Bidder };
 
     ghost view = { λ e. record { name = e.name.now; token = e.token.now; eligibility = e.eligibility } };
@@ -76,8 +74,6 @@ pub(crate) struct SetupEntries<'v> {
 }
 
 impl<'v> Model for SetupEntries<'v> {
-    ghost use Rattle.clock_terms.specs.Limits.{SetupFields};
-
     ghost Value = { SetupFields };
 
     ghost view = { λ e. record {

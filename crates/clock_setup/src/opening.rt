@@ -1,18 +1,16 @@
-ghost use Rattle.std.specs.Prelude.{◌≡◌, ◌≢◌, ◌≤◌, None, Some, Ok, length, zip, All, IfOk, IfErr, OnOk};
+ghost use Rattle.std.specs.Prelude.{◌≡◌, ◌≢◌, ◌≤◌, None, Some, Ok, length, zip, All, IfOk, IfErr};
 ghost use Rattle.serde_json.specs.View.{view};
 ghost use Rattle.clock_terms.specs.Demands.{IsGrid};
 ghost use Rattle.clock_terms.specs.Eligibility.{activity};
 ghost use Rattle.clock_terms.specs.Faults.{IsFirstFault, IsRefusal, first_fault, in_turn};
 ghost use Rattle.clock_terms.specs.Limits.{IsProduct, IsRow, IsWithin, most_products, least_increment, most_increment};
-ghost use Rattle.clock_setup.specs.OpeningDocument.{document_opening, opening_of, opening_with, in_opening, has_counts as rows_fit, row_checks, demand_checks};
-ghost use Rattle.clock_setup.specs.SetupDocument as document;
+ghost use Rattle.clock_setup.specs.OpeningDocument.{document_opening, opening_of, opening_with, row_checks, demand_checks};
 
 use crate::document::setup_of;
 use crate::fault::SetupFault;
 use crate::opening_scan::FoundOpening;
-use crate::opening_tree::opening_entries;
 use clock_device::NoMemory;
-use clock_json::tree::read_value;
+use clock_json::tree::{RowReader, each_at, has_members, number_at, read_value};
 use clock_json::{FlatRows, push, scanned_text, with_room};
 use clock_money::{LEAST_INCREMENT, MOST_INCREMENT};
 use clock_terms::{Bidder, Grid, Product, Row, Setup, is_within};
@@ -70,14 +68,6 @@ impl From<NoMemory> for OpeningFault {
     }
 }
 
-/// Whether there is a row for each bidder, and in each row a number for each product.
-fn has_counts(setup: &Setup, demands: &FlatRows) -> bool
-    ensures { result ≡ rows_fit setup.now demands.now }
-{
-    demands.count() == setup.bidders.as_slice().len()
-        && demands.has_lengths(setup.products.as_slice().len())
-}
-
 /// The bidding units that a row of demands takes, or the least product of which a bidder demands more than its cap.
 /// Each demand is looked at once, those that are 0 as well, since a branch for them is mostly guessed wrong where many
 /// are held.
@@ -103,29 +93,6 @@ fn units_within(number: u64, products: &[Product], row: &[u64]) -> Result<u64, O
     Ok(units)
 }
 
-/// A bidder's row of demands, or the first fault that it has.
-fn row_within(
-    alloc: Global,
-    number: u64,
-    setup: &Setup,
-    bidder: &Bidder,
-    demands: &[u64],
-) -> Result<Row, OpeningFault>
-    requires { length demands.now ≡ length setup.now.products }
-    ensures same { IfOk result (λ row. row ≡ demands.now) }
-    ensures row { IfOk result (IsRow setup.now.products) }
-    ensures ok { OnOk result (first_fault (row_checks setup.now.products number (bidder.now, demands.now)) ≡ None) }
-    ensures err { IfErr result (IsFirstFault OpeningFault.NoMemory
-        (first_fault (row_checks setup.now.products number (bidder.now, demands.now)))) }
-    ensures held { IfErr result (λ fault. fault ≢ OpeningFault.Setup SetupFault.NoMemory) }
-{
-    let units = units_within(number, setup.products.as_slice(), demands)?;
-    if units > bidder.eligibility {
-        return Err(OpeningFault::Activity(number));
-    }
-    Ok(Row::of(alloc, setup, demands)?)
-}
-
 /// The grid of the bidders' rows of demands, or the first fault that one has.
 fn grid_of_rows(alloc: Global, setup: &Setup, demands: &FlatRows) -> Result<Grid, OpeningFault>
     requires { IsGrid (length setup.now.bidders) (length setup.now.products) demands.now }
@@ -142,24 +109,16 @@ fn grid_of_rows(alloc: Global, setup: &Setup, demands: &FlatRows) -> Result<Grid
     let mut rows = with_room(alloc, bidders.len())?;
     for (number, bidder) in bidders.iter().enumerate() {
         demands.read_row(number, &mut numbers)?;
-        let row = row_within(alloc, number as u64, setup, bidder, numbers.as_slice())?;
+        let asked = numbers.as_slice();
+        let units = units_within(number as u64, products, asked)?;
+        if units > bidder.eligibility {
+            return Err(OpeningFault::Activity(number as u64));
+        }
+        let row = Row::of(alloc, setup, asked)?;
         push(&mut rows, row)?;
     }
     drop(numbers);
     Ok(Grid::of_rows(alloc, setup, rows)?)
-}
-
-/// The set-up under a document's key, its faults as those of the document.
-fn setup_of_opening(alloc: Global, value: &Value) -> Result<Setup, OpeningFault>
-    ensures ok { IfOk result (λ setup. document.setup_of (view value.now) ≡ Ok setup) }
-    ensures err { IfErr result (IsRefusal OpeningFault.NoMemory (in_opening (document.setup_of (view value.now)))) }
-    ensures held { IfErr result (λ fault. fault ≢ OpeningFault.Setup SetupFault.NoMemory) }
-{
-    match setup_of(alloc, value) {
-        Ok(setup) => Ok(setup),
-        Err(SetupFault::NoMemory) => Err(OpeningFault::NoMemory),
-        Err(fault) => Err(OpeningFault::Setup(fault)),
-    }
 }
 
 /// The opening of a set-up, or the first fault of what is looked at behind it.
@@ -176,7 +135,10 @@ fn compared(
     ensures err { IfErr result (IsRefusal OpeningFault.NoMemory (opening_with setup demands increment)) }
     ensures held { IfErr result (λ fault. fault ≢ OpeningFault.Setup SetupFault.NoMemory) }
 {
-    if !has_counts(&setup, &demands) {
+    // There is a row for each bidder, and in each row a number for each product.
+    if demands.count() != setup.bidders.as_slice().len()
+        || !demands.has_lengths(setup.products.as_slice().len())
+    {
         return Err(OpeningFault::Shape);
     }
     let grid = grid_of_rows(alloc, &setup, &demands)?;
@@ -191,7 +153,7 @@ fn compared(
 }
 
 /// The opening that a value of JSON means, or its first fault.
-#[tactic(auto, using(crate::proofs::OpeningLaws::opening_shape))]
+#[tactic(auto, using(crate::proofs::OpeningLaws::opening_shape), unfolding(crate::specs::OpeningShape::parts_of))]
 fn opening_in(alloc: Global, value: &Value) -> Result<Opening, OpeningFault>
     ensures ok { IfOk result (λ opening. opening_of (view value.now) ≡ Ok opening) }
     ensures grid { IfOk result
@@ -200,9 +162,21 @@ fn opening_in(alloc: Global, value: &Value) -> Result<Opening, OpeningFault>
     ensures err { IfErr result (IsRefusal OpeningFault.NoMemory (opening_of (view value.now))) }
     ensures held { IfErr result (λ fault. fault ≢ OpeningFault.Setup SetupFault.NoMemory) }
 {
-    let entries = opening_entries(alloc, value)?.ok_or(OpeningFault::Shape)?;
-    let setup = setup_of_opening(alloc, entries.setup)?;
-    compared(alloc, setup, entries.demands, entries.increment)
+    let (Some(setup), Some(increment)) = (value.get("setup"), number_at(value, "increment")) else {
+        return Err(OpeningFault::Shape);
+    };
+    if !has_members(value, 3) {
+        return Err(OpeningFault::Shape);
+    }
+    let rows = each_at(alloc, value, "demands", &RowReader)?.ok_or(OpeningFault::Shape)?;
+    let demands = FlatRows::from_lists(alloc, rows.as_slice());
+    drop(rows);
+    let demands = demands?;
+    match setup_of(alloc, setup) {
+        Ok(setup) => compared(alloc, setup, demands, increment),
+        Err(SetupFault::NoMemory) => Err(OpeningFault::NoMemory),
+        Err(fault) => Err(OpeningFault::Setup(fault)),
+    }
 }
 
 /// The opening that the bytes of a document mean, or the document's first fault.
@@ -218,8 +192,8 @@ pub fn read_opening(alloc: Global, bytes: &[u8]) -> Result<Opening, OpeningFault
     ensures err { IfErr result (IsRefusal OpeningFault.NoMemory (document_opening bytes.now)) }
     ensures held { IfErr result (λ fault. fault ≢ OpeningFault.Setup SetupFault.NoMemory) }
 {
-    if let Some(found) = scanned_text::<FoundOpening>(alloc, bytes)? {
-        return compared(alloc, found.held.setup, found.demands, found.increment);
+    if let Some((held, demands, increment)) = scanned_text::<FoundOpening>(alloc, bytes)? {
+        return compared(alloc, held.setup, demands, increment);
     }
     let value = read_value(alloc, bytes)?.ok_or(OpeningFault::NotJson)?;
     opening_in(alloc, &value)

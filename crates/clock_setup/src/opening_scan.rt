@@ -1,7 +1,7 @@
 //! An opening document read without a tree, where no text has an escape and each number is written in digits alone.
 ghost use Rattle.clock_setup.specs.inside.OpeningData.{scanned_data, found_opening};
 
-use crate::held_setup::HeldSetup;
+use crate::setup_scan::HeldSetup;
 use clock_json::{FlatRows, PartReader, Scan, ScanStop, ScannedMembers, is_key};
 use std::alloc::Global;
 
@@ -13,16 +13,8 @@ pub(crate) struct FoundOpening {
     increment: Option<u64>,
 }
 
-/// The parts of an opening document, with no count compared.
-#[derive(Drop)]
-pub(crate) struct ScannedOpening {
-    pub held: HeldSetup,
-    pub demands: FlatRows,
-    pub increment: u64,
-}
-
 impl<'v> ScannedMembers<'v> for FoundOpening {
-    type Whole = ScannedOpening;
+    type Whole = (HeldSetup, FlatRows, u64);
 
     ghost levels = { 3 };
 
@@ -47,11 +39,7 @@ impl<'v> ScannedMembers<'v> for FoundOpening {
         Ok(())
     }
 
-    fn whole(self) -> Option<ScannedOpening> {
-        Some(ScannedOpening {
-            held: self.held?,
-            demands: self.demands?,
-            increment: self.increment?,
-        })
+    fn whole(self) -> Option<(HeldSetup, FlatRows, u64)> {
+        Some((self.held?, self.demands?, self.increment?))
     }
 }

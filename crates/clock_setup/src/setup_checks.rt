@@ -1,4 +1,4 @@
-ghost use Rattle.std.specs.Prelude.{◌≡◌, ◌∷◌, ℕ, List, Bool, map, None, IfOk, IfErr};
+ghost use Rattle.std.specs.Prelude.{◌≡◌, ◌∷◌, ℕ, List, Bool, true, false, map, None, IfOk, IfErr, OnOk};
 ghost use Rattle.std.specs.List.{list_all};
 ghost use Rattle.clock_terms.specs.Limits as limits;
 ghost use Rattle.clock_terms.specs.Faults.{IsFirstFault, first_fault};
@@ -24,18 +24,11 @@ fn is_letter_or_digit(byte: u8) -> bool
     matches!(byte, b'0'..=b'9' | b'A'..=b'Z' | b'a'..=b'z')
 }
 
-/// A letter, a digit, a dash or an underscore.
-fn is_name_character(byte: u8) -> bool
-    ensures { result ≡ limits.is_name_character byte }
-{
-    is_letter_or_digit(byte) || byte == b'-' || byte == b'_'
-}
-
 /// Letters, digits, dashes and underscores alone.
 fn has_name_characters(text: &[u8]) -> bool
     ensures { result ≡ list_all limits.is_name_character text.now }
 {
-    text.iter().all(|byte| is_name_character(*byte))
+    text.iter().all(|byte| is_letter_or_digit(*byte) || *byte == b'-' || *byte == b'_')
 }
 
 /// Letters and digits alone.
@@ -58,6 +51,14 @@ pub(crate) fn is_token(token: &str) -> bool
 {
     is_within(SHORTEST_TOKEN, LONGEST_TOKEN, token.len() as u64)
         && has_letters_and_digits(token.as_bytes())
+}
+
+/// The fault of a place, where the value there does not pass.
+pub(crate) fn check(passes: bool, place: Place) -> Result<(), SetupFault>
+    ensures ok { OnOk result (passes ≡ true) }
+    ensures err { IfErr result (λ fault. (passes ≡ false) × (fault ≡ SetupFault.Range place)) }
+{
+    passes.then_some(()).ok_or(SetupFault::Range(place))
 }
 
 /// An entry of a document, which has limits of its own.
@@ -100,22 +101,12 @@ impl<'v> LimitedEntry for ProductEntry<'v> {
     }
 
     fn within(&self, alloc: Global, i: u64) -> Result<Product, SetupFault> {
-        if !is_name(self.name) {
-            return Err(SetupFault::Range(Place::Name(i)));
-        }
-        if !is_within(1, MOST_UNITS, self.units) {
-            return Err(SetupFault::Range(Place::Units(i)));
-        }
-        if !is_within(1, MOST_SUPPLY, self.supply) {
-            return Err(SetupFault::Range(Place::Supply(i)));
-        }
-        if !is_within(1, self.supply, self.cap) {
-            return Err(SetupFault::Range(Place::Cap(i)));
-        }
+        check(is_name(self.name), Place::Name(i))?;
+        check(is_within(1, MOST_UNITS, self.units), Place::Units(i))?;
+        check(is_within(1, MOST_SUPPLY, self.supply), Place::Supply(i))?;
+        check(is_within(1, self.supply, self.cap), Place::Cap(i))?;
         let opening = Price::new(self.opening).ok_or(SetupFault::Range(Place::Opening(i)))?;
-        if !is_within(1, MOST_GRANULE, self.granule) {
-            return Err(SetupFault::Range(Place::Granule(i)));
-        }
+        check(is_within(1, MOST_GRANULE, self.granule), Place::Granule(i))?;
         Ok(Product {
             name: Text::from_slice(alloc, self.name.as_bytes())?,
             units: self.units,
@@ -142,15 +133,9 @@ impl<'v> LimitedEntry for BidderEntry<'v> {
     }
 
     fn within(&self, alloc: Global, i: u64) -> Result<Bidder, SetupFault> {
-        if !is_name(self.name) {
-            return Err(SetupFault::Range(Place::BidderName(i)));
-        }
-        if !is_token(self.token) {
-            return Err(SetupFault::Range(Place::Token(i)));
-        }
-        if self.eligibility > MOST_ELIGIBILITY {
-            return Err(SetupFault::Range(Place::Eligibility(i)));
-        }
+        check(is_name(self.name), Place::BidderName(i))?;
+        check(is_token(self.token), Place::Token(i))?;
+        check(self.eligibility <= MOST_ELIGIBILITY, Place::Eligibility(i))?;
         Ok(Bidder {
             name: Text::from_slice(alloc, self.name.as_bytes())?,
             token: Text::from_slice(alloc, self.token.as_bytes())?,
@@ -173,9 +158,7 @@ pub(crate) fn each_within<E: LimitedEntry>(
     ensures err { IfErr result (IsFirstFault SetupFault.NoMemory
         (first_fault (counted_checks (SetupFault.Range place) most E.checks entries.now))) }
 {
-    if !is_within(1, most, entries.len() as u64) {
-        return Err(SetupFault::Range(place));
-    }
+    check(is_within(1, most, entries.len() as u64), place)?;
     let mut wholes = Items::with_capacity(alloc, entries.len())?;
     for (i, entry) in entries.iter().enumerate() {
         let whole = entry.within(alloc, i as u64)?;

@@ -1,17 +1,19 @@
 //! A set-up read without a tree, where no text has an escape and each number is written in digits alone.
-ghost use Rattle.std.specs.Prelude.{◌≡◌, ◌⊎◌, ◌<◌, length, IfSome, IfOk, OnOk};
+ghost use Rattle.std.specs.Prelude.{◌≡◌, ◌<◌, length, Ok, IfOk, OnOk};
 ghost use Rattle.clock_json.specs.Reading.{Reads};
-ghost use Rattle.clock_terms.specs.Limits.{IsWithin, latest_version, first_granule, first_limit};
-ghost use Rattle.clock_setup.specs.SetupData.{added, product_data, products_data, bidder_data, setup_data};
+ghost use Rattle.clock_setup.specs.SetupData.{product_data, products_data, bidder_data, setup_data};
+ghost use Rattle.clock_setup.specs.SetupDocument.{setup_of};
 ghost use Rattle.clock_setup.specs.inside.FoundEntries.{found_product, found_bidder};
 ghost use Rattle.clock_setup.specs.inside.FoundSetup.{found_setup};
 
+use crate::document::within_limits;
 use crate::entries::{
     BidderEntry, ProductEntry, ScannedSetup, SetupEntries, VersionedProduct, VersionedProducts,
 };
+use crate::fault::SetupFault;
 use clock_device::Items;
 use clock_json::{PartReader, Scan, ScanStop, ScannedMembers, is_key, scanned_parts};
-use clock_terms::{FIRST_GRANULE, FIRST_LIMIT};
+use clock_terms::{FIRST_GRANULE, FIRST_LIMIT, Setup};
 use std::alloc::Global;
 
 /// What was found of a product.
@@ -23,18 +25,6 @@ struct FoundProduct<'v> {
     opening: Option<u64>,
     supply: Option<u64>,
     units: Option<u64>,
-}
-
-/// The first version of documents in which a product may have such a granule or none, and the granule that it means.
-fn version_with(granule: Option<u64>) -> (u64, u64)
-    ensures found { granule ≡ added result.0 result.1 }
-    ensures version { IsWithin 1 latest_version result.0 }
-    ensures first_version { result.0 ≡ 1 → result.1 ≡ first_granule }
-{
-    match granule {
-        None => (1, FIRST_GRANULE),
-        Some(granule) => (2, granule),
-    }
 }
 
 impl<'v> ScannedMembers<'v> for FoundProduct<'v> {
@@ -73,7 +63,10 @@ impl<'v> ScannedMembers<'v> for FoundProduct<'v> {
     }
 
     fn whole(self) -> Option<VersionedProduct<'v>> {
-        let (version, granule) = version_with(self.granule);
+        let (version, granule) = match self.granule {
+            None => (1, FIRST_GRANULE),
+            Some(granule) => (2, granule),
+        };
         let entry = ProductEntry {
             name: self.name?,
             units: self.units?,
@@ -86,14 +79,6 @@ impl<'v> ScannedMembers<'v> for FoundProduct<'v> {
     }
 }
 
-/// The version that a list of products and one more have their keys from, where it is the same. It is 0 for no
-/// products.
-fn common_version(so_far: u64, next: u64) -> Option<u64>
-    ensures { IfSome result (λ version. (version ≡ next) × ((so_far ≡ 0) ⊎ (so_far ≡ next))) }
-{
-    (so_far == 0 || so_far == next).then_some(next)
-}
-
 /// Products whose keys are those of one version.
 fn products<'v>(alloc: Global, scan: &mut Scan<'v>) -> Result<VersionedProducts<'v>, ScanStop>
     ensures value { IfOk result (λ list. Reads 2 scan.old (products_data list.version list.entries) scan.new) }
@@ -104,7 +89,10 @@ fn products<'v>(alloc: Global, scan: &mut Scan<'v>) -> Result<VersionedProducts<
     let mut entries = Items::new(alloc);
     'items: while !scan.closes_array() {
         let next = FoundProduct::part(alloc, scan)?;
-        version = common_version(version, next.version).ok_or(ScanStop::Unusual)?;
+        if version != 0 && version != next.version {
+            return Err(ScanStop::Unusual);
+        }
+        version = next.version;
         entries.push(next.entry)?;
     }
     Ok(VersionedProducts { version, entries })
@@ -164,24 +152,6 @@ pub(crate) struct FoundSetup<'v> {
     version: Option<u64>,
 }
 
-/// The limit of a set-up of a version, where its products are of this version, and a document of it may have such a
-/// member or none.
-fn limit_of(version: u64, of_products: u64, limit: Option<u64>) -> Option<u64>
-    ensures same { IfSome result (λ _. of_products ≡ version) }
-    ensures found { IfSome result (λ known. limit ≡ added version known) }
-    ensures version { IfSome result (λ _. IsWithin 1 latest_version version) }
-    ensures first_version { IfSome result (λ known. version ≡ 1 → known ≡ first_limit) }
-{
-    if of_products != version {
-        return None;
-    }
-    match (version, limit) {
-        (1, None) => Some(FIRST_LIMIT),
-        (2, Some(limit)) => Some(limit),
-        _ => None,
-    }
-}
-
 impl<'v> ScannedMembers<'v> for FoundSetup<'v> {
     type Whole = ScannedSetup<'v>;
 
@@ -216,15 +186,50 @@ impl<'v> ScannedMembers<'v> for FoundSetup<'v> {
 
     fn whole(self) -> Option<ScannedSetup<'v>> {
         let version = self.version?;
+        let limit = match (version, self.limit) {
+            (1, None) => FIRST_LIMIT,
+            (2, Some(limit)) => limit,
+            _ => return None,
+        };
         let products = self.products?;
+        if products.version != version {
+            return None;
+        }
         let entries = SetupEntries {
             version,
-            limit: limit_of(version, products.version, self.limit)?,
+            limit,
             requirement: self.requirement?,
             operator: self.operator?,
             products: products.entries,
             bidders: self.bidders?,
         };
         Some(ScannedSetup { entries })
+    }
+}
+
+/// A set-up that was read without a tree and judged.
+#[derive(Drop)]
+pub struct HeldSetup {
+    /// It is within its limits.
+    pub setup: Setup,
+    ghost accepted: { setup_of (setup_data setup) ≡ Ok setup },
+}
+
+/// A set-up is read where it is within its limits, none of its texts has an escape, and each of its numbers is written
+/// in digits alone. Anything else is `Unusual`: then a tree of values tells what it means.
+impl<'v> PartReader<'v> for HeldSetup {
+    type Part = HeldSetup;
+
+    ghost levels = { 3 };
+
+    ghost shown = { λ held. setup_data held.setup };
+
+    fn part(alloc: Global, scan: &mut Scan<'v>) -> Result<HeldSetup, ScanStop> {
+        let scanned = FoundSetup::part(alloc, scan)?;
+        match within_limits(alloc, &scanned.entries) {
+            Ok(setup) => Ok(HeldSetup { setup }),
+            Err(SetupFault::NoMemory) => Err(ScanStop::NoMemory),
+            Err(_) => Err(ScanStop::Unusual),
+        }
     }
 }

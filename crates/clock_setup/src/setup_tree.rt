@@ -5,7 +5,7 @@ ghost use Rattle.clock_setup.specs.SetupShape as shape;
 
 use crate::entries::{BidderEntry, ProductEntry, SetupEntries};
 use clock_device::NoMemory;
-use clock_json::tree::{ValueReader, each_at, has_members, number_at, text_at};
+use clock_json::tree::{PlainReader, each_at, has_members, number_at, text_at};
 use clock_terms::{FIRST_GRANULE, FIRST_LIMIT};
 use serde_json::Value;
 use std::alloc::Global;
@@ -26,11 +26,8 @@ fn has_keys(value: &Value, version: u64, in_first: usize) -> bool
     requires { in_first ≤ 5 }
     ensures { result ≡ members.has_members (shape.key_count version in_first) (view value.now) }
 {
-    if version == 1 {
-        has_members(value, in_first)
-    } else {
-        has_members(value, in_first + 1)
-    }
+    let count = if version == 1 { in_first } else { in_first + 1 };
+    has_members(value, count)
 }
 
 /// Products are read with the keys of a version.
@@ -40,37 +37,21 @@ struct ProductReader {
 }
 
 #[tactic(auto, unfolding(crate::specs::SetupShape::product_of))]
-impl<'v> ValueReader<'v> for ProductReader {
+impl<'v> PlainReader<'v> for ProductReader {
     type Part = ProductEntry<'v>;
 
     ghost meaning = { λ reader. shape.product_of reader.version };
 
-    fn part_of(
-        &self,
-        _alloc: Global,
-        value: &'v Value,
-    ) -> Result<Option<ProductEntry<'v>>, NoMemory> {
-        let (Some(name), Some(units), Some(supply), Some(cap), Some(opening), Some(granule)) = (
-            text_at(value, "name"),
-            number_at(value, "units"),
-            number_at(value, "supply"),
-            number_at(value, "cap"),
-            number_at(value, "opening"),
-            added_number(value, self.version, FIRST_GRANULE, "granule"),
-        ) else {
-            return Ok(None);
+    fn plain_part(&self, value: &'v Value) -> Option<ProductEntry<'v>> {
+        let product = ProductEntry {
+            name: text_at(value, "name")?,
+            units: number_at(value, "units")?,
+            supply: number_at(value, "supply")?,
+            cap: number_at(value, "cap")?,
+            opening: number_at(value, "opening")?,
+            granule: added_number(value, self.version, FIRST_GRANULE, "granule")?,
         };
-        if !has_keys(value, self.version, 5) {
-            return Ok(None);
-        }
-        Ok(Some(ProductEntry {
-            name,
-            units,
-            supply,
-            cap,
-            opening,
-            granule,
-        }))
+        has_keys(value, self.version, 5).then_some(product)
     }
 }
 
@@ -79,31 +60,18 @@ impl<'v> ValueReader<'v> for ProductReader {
 struct BidderReader;
 
 #[tactic(auto, unfolding(crate::specs::SetupShape::bidder_of))]
-impl<'v> ValueReader<'v> for BidderReader {
+impl<'v> PlainReader<'v> for BidderReader {
     type Part = BidderEntry<'v>;
 
     ghost meaning = { λ _. shape.bidder_of };
 
-    fn part_of(
-        &self,
-        _alloc: Global,
-        value: &'v Value,
-    ) -> Result<Option<BidderEntry<'v>>, NoMemory> {
-        let (Some(name), Some(token), Some(eligibility)) = (
-            text_at(value, "name"),
-            text_at(value, "token"),
-            number_at(value, "eligibility"),
-        ) else {
-            return Ok(None);
+    fn plain_part(&self, value: &'v Value) -> Option<BidderEntry<'v>> {
+        let bidder = BidderEntry {
+            name: text_at(value, "name")?,
+            token: text_at(value, "token")?,
+            eligibility: number_at(value, "eligibility")?,
         };
-        if !has_members(value, 3) {
-            return Ok(None);
-        }
-        Ok(Some(BidderEntry {
-            name,
-            token,
-            eligibility,
-        }))
+        has_members(value, 3).then_some(bidder)
     }
 }
 

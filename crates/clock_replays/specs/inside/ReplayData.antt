@@ -3,7 +3,7 @@ use Rattle.std.specs.Prelude.{List, [], ◌∷◌, map, Option, Some, option_map
 use Rattle.serde_json.specs.Data.{Data, object, array}
 use Rattle.clock_json.specs.Reading.{items_of, Fields, members_of}
 use Rattle.clock_setup.specs.SetupData.{setup_data}
-use Rattle.clock_setup.specs.declared.held_setup.HeldSetup.{HeldSetup}
+use Rattle.clock_setup.specs.declared.setup_scan.HeldSetup.{HeldSetup}
 use Rattle.clock_replays.specs.declared.replay.Script.{Script}
 use Rattle.clock_replays.specs.declared.replay.Closing.{Closing}
 use Rattle.clock_replays.specs.declared.replay_scan.FoundReplay.{FoundReplay}

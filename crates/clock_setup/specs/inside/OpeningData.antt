@@ -5,8 +5,8 @@
 use Rattle.std.specs.Prelude.{ℕ, List, [], ◌∷◌, Option, Some, option_map, codes}
 use Rattle.serde_json.specs.Data.{Data, object}
 use Rattle.clock_json.specs.Reading.{whole, rows, Fields, members_of}
+use Rattle.clock_setup.specs.declared.setup_scan.HeldSetup.{HeldSetup}
 use Rattle.clock_setup.specs.declared.opening_scan.FoundOpening.{FoundOpening}
-use Rattle.clock_setup.specs.declared.opening_scan.ScannedOpening.{ScannedOpening}
 use Rattle.clock_setup.specs.SetupData.{setup_data}
 
 abbrev pub opening_fields : Option Data → Option ℕ → Option Data → Fields
@@ -25,5 +25,5 @@ found_opening found =
     opening_fields (option_map rows found.demands) found.increment (option_map (λ held. setup_data held.setup) found.held)
 
 -- what was read of an opening document, as a value
-abbrev pub scanned_data : ScannedOpening → Data
-scanned_data found = opening_data (setup_data found.held.setup) found.demands found.increment
+abbrev pub scanned_data : HeldSetup × List (List ℕ) × ℕ → Data
+scanned_data found = opening_data (setup_data found.0.setup) found.1 found.2

@@ -1,9 +1,10 @@
 use Rattle.std.proofs.Common.{◌+◌, [], drop, refl, sym, subst, arith}
+use Rattle.std.proofs.lemmas.Bool.{and_parts, eqb-true}
 use Rattle.json.specs.Lex.{lex, between}
 use Rattle.clock_json.specs.Left.{left}
 use Rattle.clock_json.specs.Reading.{numbers, ReadsAll}
 use Rattle.clock_json.specs.declared.expected.Expected.TheVariants.{AfterComma}
-use Rattle.clock_json.proofs.CompactLaws.{empty_reads, replicate_push}
+use Rattle.clock_json.proofs.CompactLaws.{empty_at, empty_reads, replicate_push}
 use Rattle.clock_json.proofs.Steps.{all_next}
 use Rattle.clock_json.proofs.separated.after_empties.Goals as goal
 
@@ -16,9 +17,12 @@ lists-preserved c =
     let l = c.lists in
     let bytes = c.args.bytes.now in
     let old = left AfterComma (drop c.args.start bytes) in
-    let new = left AfterComma (drop (l.at + 3) bytes) in (
+    let new = left AfterComma (drop (l.at + 3) bytes) in
+    let two = and_parts _ _ c.if-bytes-at.true in
+    let one = and_parts _ _ two.0 in
+    let empty = empty_at bytes l.at (c.has_room.ensures c.lists-test.true) (eqb-true _ 91 one.0) (eqb-true _ 93 one.1) (eqb-true _ 44 two.1) in (
       subst (λ values. ReadsAll 1 old values new) (sym (replicate_push l.count (numbers [])))
           (all_next 1 old (left AfterComma (drop l.at bytes)) new _ (numbers []) l.invariant.0
-          (empty_reads (lex between (drop l.at bytes)) (lex between (drop (l.at + 3) bytes)) (c.has_empty.ensures.value c.lists-test.true))),
+          (empty_reads (lex between (drop l.at bytes)) (lex between (drop (l.at + 3) bytes)) empty)),
       omega (arith, l.invariant.1),
     )

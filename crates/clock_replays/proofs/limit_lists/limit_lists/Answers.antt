@@ -60,6 +60,6 @@ pub returns-clause-value : goal.returns-clause-value
 returns-clause-value c =
     let l = c.items in
     let closed : l.scan ≡ Token.end_array ∷ c.closes_array.new.self = grind arith in
-    subst (λ lists. Reads 2 c.args.scan.now (rows lists) c.closes_array.new.self) (sym c.in_ok-copy.ensures.same)
+    subst (λ lists. Reads 2 c.args.scan.now (rows lists) c.closes_array.new.self) (sym c.in_ok-lists.ensures)
     (items_end 1 c.args.scan.now c.opens_array.new.self l.scan c.closes_array.new.self (map numbers (kept_limits l.limits))
     c.in_ok-opens_array.ensures l.invariant.read closed)

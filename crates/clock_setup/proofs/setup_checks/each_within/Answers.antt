@@ -6,14 +6,17 @@ use Rattle.clock_terms.proofs.FaultLaws.{turn_passed, turn_failed, turn_none}
 use Rattle.clock_setup.proofs.LimitLaws.{counted, uncounted}
 use Rattle.clock_setup.proofs.setup_checks.each_within.Goals as goal
 
-pub returns-then-not-is_within-clause-err : goal.returns-then-not-is_within-clause-err
-returns-then-not-is_within-clause-err g c = λ known. uncounted (Range c.args.place) c.args.most g.E.LimitedEntry.checks c.args.entries.now (sym c.is_within.ensures ∙ c.if-not-is_within.true)
+pub returns-in_err-check-clause-err : goal.returns-in_err-check-clause-err
+returns-in_err-check-clause-err g c =
+    let p = err_from_is_err_and c.from_residual.result c.from_residual.ensures.1 in
+    let told = c.in_err-check.ensures.err in
+    rw (p.1, p.2, told.1) (λ known. uncounted (Range c.args.place) c.args.most g.E.LimitedEntry.checks c.args.entries.now (sym c.is_within.ensures ∙ told.0))
 
 pub returns-in_err-whole-clause-err : goal.returns-in_err-whole-clause-err
 returns-in_err-whole-clause-err g c =
     let p = err_from_is_err_and c.from_residual-in_err-whole.result c.from_residual-in_err-whole.ensures.1 in
     rw (p.1, p.2)
-    (λ known. counted (Range c.args.place) c.args.most g.E.LimitedEntry.checks c.args.entries.now (Some _) (sym c.is_within.ensures ∙ c.if-not-is_within.false)
+    (λ known. counted (Range c.args.place) c.args.most g.E.LimitedEntry.checks c.args.entries.now (Some _) (sym c.is_within.ensures ∙ c.in_ok-check.ensures.ok)
     (sym c.loop-i.invariant.rest
     ∙ turn_failed g.E.LimitedEntry.checks c.args.entries.now c.loop-i.i _ _ c.loop-i-test.true c.index-entries-i.is (c.in_err-whole.ensures.err known)))
 
@@ -27,5 +30,5 @@ loop-i-preserved g c = record {
 
 pub returns-clause-ok : goal.returns-clause-ok
 returns-clause-ok g c =
-    counted (Range c.args.place) c.args.most g.E.LimitedEntry.checks c.args.entries.now None (sym c.is_within.ensures ∙ c.if-not-is_within.false)
+    counted (Range c.args.place) c.args.most g.E.LimitedEntry.checks c.args.entries.now None (sym c.is_within.ensures ∙ c.in_ok-check.ensures.ok)
     (sym c.loop-i.invariant.rest ∙ turn_none g.E.LimitedEntry.checks c.args.entries.now c.loop-i.i c.loop-i-test.false)

@@ -1,4 +1,4 @@
-use Rattle.std.proofs.Common.{◌≡◌, ◌∷◌, ◌⊎◌, length, map, All, sym, ap, ◌∙◌, subst, arith}
+use Rattle.std.proofs.Common.{◌≡◌, ◌∷◌, ◌⊎◌, inl, inr, length, map, All, sym, ap, subst, arith}
 use Rattle.std.proofs.lemmas.List.Elements.{All-nil, All-push}
 use Rattle.clock_json.specs.Reading.{Token, Reads}
 use Rattle.clock_json.specs.inside.Reading.{HasItems}
@@ -8,6 +8,7 @@ use Rattle.clock_terms.specs.Limits.{first_granule}
 use Rattle.clock_setup.specs.SetupData.{product_data}
 use Rattle.clock_setup.proofs.ScanLaws.{of_common_version, of_first_version}
 use Rattle.clock_setup.proofs.setup_scan.products.Goals as goal
+use Rattle.clock_setup.proofs.setup_scan.products.Goals.{else-version-ne0-via-then-version-ne0+else-version-next, else-version-ne0-via-else-version-ne0}
 
 pub items-init : goal.items-init
 items-init c =
@@ -25,25 +26,25 @@ items-preserved c =
     let start = c.opens_array.new.self in
     let after = c.part.new.scan in
     let next = c.in_ok-next.next in
-    let known = next.version in
-    let version = c.in_ok-version.version in
-    let told = rw c.in_ok-version.ensures.ok_part at c.common_version.ensures in
+    let version = next.version in
     let entry = next.entry in
-    let is : version ≡ known = told.0 in
-    let agrees : (l.version ≡ 0) ⊎ (l.version ≡ version) = subst (λ v. (l.version ≡ 0) ⊎ (l.version ≡ v)) (sym is) told.1 in
+    let agrees : (l.version ≡ 0) ⊎ (l.version ≡ version) =
+    elim c.else-version-ne0.branch [
+      | else-version-ne0-via-then-version-ne0+else-version-next w ↦ inr w.if-version-next.false
+      | else-version-ne0-via-else-version-ne0 w ↦ inl w.if-version-ne0.false
+    ] in
     let P = λ (product : Product). product.granule ≡ first_granule in
     let same : c.closes_array.new.self ≡ l.scan = grind arith in
-    let reads : Reads 1 l.scan (product_data version entry) after =
-    subst (λ v. Reads 1 l.scan (product_data v entry) after) (sym is) (subst (λ ts. Reads 1 ts (product_data known entry) after) same c.in_ok-next.ensures.value)
+    let reads : Reads 1 l.scan (product_data version entry) after = subst (λ ts. Reads 1 ts (product_data version entry) after) same c.in_ok-next.ensures.value
     in
     let kept = of_common_version l.version version l.entries l.invariant.2 agrees in (
       subst (λ list. HasItems 1 start (map (product_data version) list) after) (sym c.in_ok-push.ensures.ok)
           (items_push_next 1 (product_data version) start l.scan after l.entries entry
           (subst (λ values. HasItems 1 start values l.scan) kept l.invariant.0) reads),
       omega (arith, l.invariant.1, c.in_ok-next.ensures.shorter, ap length same),
-      λ zero. absurd (omega (arith, zero, is, next.known.0)),
+      λ zero. absurd (omega (arith, zero, next.known.0)),
       λ one. subst (All P) (sym c.in_ok-push.ensures.ok) (All-push P l.entries entry
-          (of_first_version l.version version l.entries l.invariant.2 l.invariant.3 agrees one) (next.first_version (sym is ∙ one))),
+          (of_first_version l.version version l.entries l.invariant.2 l.invariant.3 agrees one) (next.first_version one)),
     )
 
 pub returns-clause-value : goal.returns-clause-value

@@ -2,7 +2,7 @@ use Rattle.std.proofs.Common.{length, sym, ap, ◌∙◌}
 use Rattle.std.specs.Prelude.{option_and_then}
 use Rattle.clock_bodies.specs.CloseBodies.{tie_from}
 use Rattle.clock_bodies.proofs.TieLaws.{no_tie}
-use Rattle.clock_bodies.proofs.close_body.tie_of.Goals as goal
+use Rattle.clock_bodies.proofs.close_body.TieReaderPlainReader.plain_part.Goals as goal
 
 pub returns-then-items-ne3 : goal.returns-then-items-ne3
 returns-then-items-ne3 c =

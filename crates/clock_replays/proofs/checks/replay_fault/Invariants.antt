@@ -1,7 +1,7 @@
 use Rattle.std.proofs.Common.{◌≡◌, drop}
 use Rattle.clock_terms.specs.Faults.{first_fault, in_turn}
 use Rattle.clock_replays.specs.ReplayChecks.{script_checks}
-use Rattle.clock_replays.proofs.checks.scripts_fault.Given as goal
+use Rattle.clock_replays.proofs.checks.replay_fault.Given as goal
 
 -- the scripts that are left decide the first fault
 abbrev pub invariant-loop-bidder : goal.invariant-loop-bidder

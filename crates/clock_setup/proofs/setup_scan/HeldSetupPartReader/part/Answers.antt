@@ -1,10 +1,10 @@
-use Rattle.std.proofs.Common.{◌≡◌, Ok, None, sym, ap, ◌∙◌, subst}
+use Rattle.std.proofs.Common.{◌≡◌, Ok, sym, ap, ◌∙◌, subst}
 use Rattle.clock_terms.specs.Faults.{unless}
 use Rattle.clock_terms.specs.Limits.{SetupFields}
 use Rattle.clock_setup.specs.SetupData.{setup_data}
 use Rattle.clock_setup.specs.SetupDocument.{setup_of}
 use Rattle.clock_setup.proofs.ScanLaws.{setup_judged}
-use Rattle.clock_setup.proofs.held_setup.HeldSetupPartReader.part.Goals as goal
+use Rattle.clock_setup.proofs.setup_scan.HeldSetupPartReader.part.Goals as goal
 
 pub invariant_of-result : goal.invariant_of-result
 invariant_of-result c =
