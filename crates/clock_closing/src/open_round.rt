@@ -2,7 +2,7 @@ ghost use Rattle.std.specs.Prelude.{◌≡◌, ◌≢◌, ◌<◌, None, length,
 ghost use Rattle.clock_terms.specs.Faults.{IsRefusal};
 ghost use Rattle.clock_bids.specs.Holding.{holding_of};
 ghost use Rattle.clock_order.specs.declared.ties.TieFault.TheVariants as tie_faults;
-ghost use Rattle.clock_closing.specs.OpenRound.{IsOpenRound, open_at, holding_at};
+ghost use Rattle.clock_closing.specs.OpenRound.{OpenRoundFields, IsOpenRound, open_at, holding_at};
 ghost use Rattle.clock_closing.specs.Closing.{closing_now};
 ghost use Rattle.clock_closing.specs.Prepared.{Answers};
 ghost use Rattle.clock_closing.specs.inside.Postings.{IsAsked};
@@ -35,8 +35,6 @@ pub struct OpenRound<'a> {
 }
 
 impl<'a> Model for OpenRound<'a> {
-    ghost use Rattle.clock_closing.specs.OpenRound.{OpenRoundFields, IsOpenRound, open_at};
-
     ghost Value = { OpenRoundFields };
 
     ghost view = { λ r. record { setup = r.setup.now; before = open_at r.round r.prices.now r.holdings r.sheets.now } };
