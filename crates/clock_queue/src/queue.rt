@@ -58,18 +58,6 @@ impl<'a> Queue<'a> {
         let place = self.admitted;
         self.admitted += 1;
         self.test(changes, place)?;
-        self.run(changes)?;
-        Ok(())
-    }
-
-    /// Tests the first of the ready requests, until none is ready.
-    fn run(&mut self, changes: &[Change]) -> Result<(), NoMemory>
-        requires queue { IsQueue changes.now self.old }
-        requires counts { StaysWithinTests changes.now self.old }
-        ensures goes_on { OnOk result (GoesOn changes.now self.old self.new) }
-        ensures none { OnOk result (self.new.ready ≡ []) }
-        ensures admitted { OnOk result (self.new.admitted ≡ self.old.admitted) }
-    {
         while let Some(place) = self.ready.pop() {
             self.test(changes, place)?;
         }
