@@ -7,7 +7,7 @@ use Rattle.clock_closing.specs.OpenRound.{OpenRoundFields, holding_at}
 use Rattle.clock_closing.specs.Closing.{requests_by}
 use Rattle.clock_closing.proofs.Joined.{flat_map-range_more}
 use Rattle.clock_closing.proofs.OpenRounds.{own_places}
-use Rattle.clock_closing.proofs.open_round.OpenRound.changes.Goals as goal
+use Rattle.clock_closing.proofs.open_round.OpenRound.requests.Goals as goal
 
 pub loop-bidder-preserved : goal.loop-bidder-preserved
 loop-bidder-preserved c =
@@ -20,12 +20,9 @@ loop-bidder-preserved c =
     ∙ ap (λ (xs : List Change). xs ++ requests_by c.args.self.now.before c.loop-bidder.bidder) c.loop-bidder.invariant
     ∙ sym (flat_map-range_more (requests_by c.args.self.now.before) c.loop-bidder.bidder)
 
-pub returns-clause-all : goal.returns-clause-all
-returns-clause-all c =
+pub ordered-requires : goal.ordered-requires
+ordered-requires c =
     let done : c.loop-bidder.bidder ≡ c.bidders-bidder-end.result = omega arith in
-    c.loop-bidder.invariant
-    ∙ ap (λ (n : ℕ). flat_map (requests_by c.args.self.now.before) (range_with_len 0 n)) (done ∙ c.bidders-bidder-end.ensures.held)
-
-pub returns-clause-apart : goal.returns-clause-apart
-returns-clause-apart c =
-    rw (returns-clause-all c, ← c.self.view_is) (own_places _ _ c.self.invariant.sound (rw (← c.self.view_is) at c.requires))
+    let all = c.loop-bidder.invariant
+    ∙ ap (λ (n : ℕ). flat_map (requests_by c.args.self.now.before) (range_with_len 0 n)) (done ∙ c.bidders-bidder-end.ensures.held) in
+    rw (all, ← c.self.view_is) (own_places _ _ c.self.invariant.sound (rw (← c.self.view_is) at c.requires))
