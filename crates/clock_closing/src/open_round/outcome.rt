@@ -38,7 +38,9 @@ impl OpenRound<'_> {
         ensures { ComesTo (posted_now self.now asked.now.increments asked.now.ties) result }
     {
         if self.round == 1 {
-            return self.first_results(alloc, &asked.increments);
+            let grid = self.asked_grid(alloc)?;
+            let posting = post_first(alloc, self.setup, &grid, &asked.increments);
+            return self.with_slips(alloc, posting, grid);
         }
         let requests = self.requests(alloc, &asked.ties)?;
         let settled = self.settled(alloc, processor, &requests, old)?;
@@ -53,17 +55,6 @@ impl OpenRound<'_> {
         );
         drop(requests);
         self.with_slips(alloc, posting, settled.into_grid())
-    }
-
-    /// What the first round comes to.
-    fn first_results(&self, alloc: Global, increments: &Increments) -> Result<Results, CloseFault>
-        requires first { self.now.before.standing.round ≡ 1 }
-        requires increments { AreIncrements (length self.now.setup.products) increments.now }
-        ensures { ComesTo (first_posted self.now increments.now) result }
-    {
-        let grid = self.asked_grid(alloc)?;
-        let posting = post_first(alloc, self.setup, &grid, increments);
-        self.with_slips(alloc, posting, grid)
     }
 
     /// The demands that the sheets in force ask for. No sheet is the same as an empty one.
