@@ -110,19 +110,8 @@ impl<'a> Queue<'a> {
         let left = self.left.as_slice()[place];
         self.board.apply(&changes[place], room);
         self.left.set(place, left - room);
-        self.wake(woken_line(&changes[place]))?;
-        Ok(())
-    }
-
-    /// Makes all requests ready that wait in a line.
-    fn wake(&mut self, line: usize) -> Result<(), NoMemory>
-        requires { line < length self.old.lines }
-        ensures woken { OnOk result (IsPermutation (self.old.ready ++ slice_index_or self.old.lines line []) self.new.ready) }
-        ensures rest { OnOk result
-            (self.new ≡ record self.old { ready = self.new.ready; lines = slice_set self.old.lines line [] }) }
-    {
-        let woken = self.lines.at(line);
-        self.ready.extend(woken)?;
+        let line = woken_line(&changes[place]);
+        self.ready.extend(self.lines.at(line))?;
         self.lines.clear(line);
         Ok(())
     }
