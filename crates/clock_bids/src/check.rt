@@ -20,10 +20,10 @@ const MOST_BIDS: usize = 8192;
 
 /// Judges a sheet of bids: the sheet with these bids, or its first fault.
 ///
-/// [`BidFault::TooMany`] comes first, then the faults of the bids in their order, each bid's first one in the order of
-/// [`BidFault`], and [`BidFault::OverActivity`] last. The prices are those of the round, a pair for each product; `own`
-/// has a demand for each product, at most its cap. In round 1 a sheet may ask for activity up to the eligibility, and
-/// from round 2 on up to the set-up's percentage of it, rounded down.
+/// [`BidFault::TooMany`] comes first, whatever memory there is, then the faults of the bids in their order, each bid's
+/// first one in the order of [`BidFault`], and [`BidFault::OverActivity`] last. The prices are those of the round, a
+/// pair for each product; `own` has a demand for each product, at most its cap. In round 1 a sheet may ask for activity
+/// up to the eligibility, and from round 2 on up to the set-up's percentage of it, rounded down.
 ///
 /// A sheet is judged in one pass over its bids, however many products they are for. The rules are those of the FCC's
 /// procedures for Auction 105 on simple bids; that several bids for a product form a chain is our own rule.

@@ -1,4 +1,4 @@
-ghost use Rattle.std.specs.Prelude.{◌≡◌, ◌<◌, ◌≤◌, ℕ, length, map, max, slice_index, if◌then◌else◌, All, IfOk};
+ghost use Rattle.std.specs.Prelude.{◌≡◌, ◌<◌, ℕ, length, map, max, slice_index, if◌then◌else◌, All, IfOk};
 ghost use Rattle.clock_terms.specs.Prices.{prices_at};
 ghost use Rattle.clock_posting.specs.PostedPrice as rules;
 ghost use Rattle.clock_posting.specs.inside.Parts.{applied_prices};

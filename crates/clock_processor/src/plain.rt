@@ -1,4 +1,4 @@
-ghost use Rattle.std.specs.Prelude.{◌≡◌, ◌<◌, ◌≤◌, ◌-◌, length, IfSome, IfNone, OnSome, All, Some, None, ℕ, slice_index, slice_index_or, slice_set};
+ghost use Rattle.std.specs.Prelude.{◌≡◌, ◌<◌, ◌≤◌, ◌-◌, length, OnSome, All, ℕ, slice_index, slice_index_or, slice_set};
 ghost use Rattle.clock_processor.specs.Board.{IsBoard, one_more};
 ghost use Rattle.clock_processor.specs.Room.{with_change};
 ghost use Rattle.clock_processor.specs.Settling as settling;

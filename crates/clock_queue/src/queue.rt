@@ -111,7 +111,8 @@ impl<'a> Queue<'a> {
         self.board.apply(&changes[place], room);
         self.left.set(place, left - room);
         let line = woken_line(&changes[place]);
-        self.ready.extend(self.lines.at(line))?;
+        let woken = self.lines.at(line);
+        self.ready.extend(woken)?;
         self.lines.clear(line);
         Ok(())
     }

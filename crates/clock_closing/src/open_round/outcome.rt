@@ -9,7 +9,7 @@ ghost use Rattle.clock_processor.specs.Board.{IsWithinEligibility};
 ghost use Rattle.clock_closing.specs.OpenRound.{holding_at};
 ghost use Rattle.clock_closing.specs.inside.OpenRound.{eligibilities_of};
 ghost use Rattle.clock_closing.specs.Closing as rules;
-ghost use Rattle.clock_closing.specs.inside.Postings.{AreRequests, ComesTo, IsRoundOf, first_posted, posted_now};
+ghost use Rattle.clock_closing.specs.inside.Postings.{AreRequests, ComesTo, IsRoundOf, posted_now};
 ghost use Rattle.clock_closing.specs.Results.{demands_of};
 
 use crate::closed_round::{ClosedRound, Results, Slip, Slips};

@@ -54,8 +54,8 @@ line_in c =
     subst (λ (line : ℕ). line < length c.args.self.now.lines) (sym (c.woken_line-line.ensures ∙ ap woken_line read))
     (woken_in c.args.changes.now c.args.self.now c.args.place c.requires.queue c.requires.is_board some)
 
-pub at-requires : goal.at-requires
-at-requires c = line_in (goal.at.at-requires c).After-woken_line-line
+pub at-woken-requires : goal.at-woken-requires
+at-woken-requires c = line_in (goal.at.at-woken-requires c).After-woken_line-line
 
 pub clear-requires : goal.clear-requires
 clear-requires c = line_in (goal.at.clear-requires c).After-woken_line-line
@@ -69,9 +69,9 @@ returns c =
     let new : Queue = record old { board = c.apply.new.self; left = c.set.new.self; ready = c.extend.new.self; lines = c.clear.new.self } in
     let applied : IsApplied c.args.changes.now c.args.place c.args.self.now new =
     joined c.args.changes.now c.args.place c.args.room c.args.self.now new c.index-changes-place.result
-    c.index-changes-place-2.result c.as_slice.result.now c.woken_line-line.result c.at.result.now
+    c.index-changes-place-2.result c.as_slice.result.now c.woken_line-line.result c.at-woken.result.now
     lt c.requires.room c.index-changes-place.is c.index-changes-place-2.is c.apply.ensures.applied c.as_slice.ensures c.set.ensures refl
-    c.woken_line-line.ensures c.clear.ensures c.at.ensures c.in_ok-extend.ensures in
+    c.woken_line-line.ensures c.clear.ensures c.at-woken.ensures c.in_ok-extend.ensures in
     let holds : HoldsAfter c.args.changes.now c.args.place c.args.self.now new =
     holds_after c.args.changes.now c.args.place c.args.self.now new c.requires.queue c.requires.is_board some applied in
     record {
