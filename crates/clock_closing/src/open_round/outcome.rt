@@ -16,7 +16,7 @@ use crate::closed_round::{ClosedRound, Results, Slip, Slips};
 use crate::fault::CloseFault;
 use crate::open_round::OpenRound;
 use crate::prepared::ClosingInputs;
-use clock_bids::{Changes, asked_demands, bids_of, with_changes_of};
+use clock_bids::{Changes, Own, asked_demands, bids_of, with_changes_of};
 use clock_device::NoMemory;
 use clock_order::{Ties, ordered};
 use clock_posting::{PostFault, Posting, post, post_first};
@@ -77,12 +77,17 @@ impl OpenRound<'_> {
     {
         let mut changes = Changes::new(alloc);
         for bidder in 0..self.bidders() {
+            let own = Own {
+                round: self.round,
+                eligibility: self.holdings.eligibility(bidder),
+                demands: self.holdings.demands(bidder),
+            };
             changes = with_changes_of(
                 alloc,
                 changes,
                 self.setup,
                 self.prices,
-                self.own(bidder),
+                own,
                 bidder,
                 self.sheet(bidder),
             )?;

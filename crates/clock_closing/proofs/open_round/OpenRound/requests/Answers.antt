@@ -2,7 +2,6 @@ use Rattle.std.proofs.Common.{◌≡◌, ℕ, List, ◌++◌, ap, sym, ◌∙◌
 use Rattle.std.specs.Prelude.{flat_map}
 use Rattle.std.specs.List.{range_with_len}
 use Rattle.clock_terms.specs.declared.change.Change.{Change}
-use Rattle.clock_closing.specs.Holdings.{Holding}
 use Rattle.clock_closing.specs.OpenRound.{OpenRoundFields, holding_at}
 use Rattle.clock_closing.specs.Closing.{requests_by}
 use Rattle.clock_closing.proofs.Joined.{flat_map-range_more}
@@ -13,8 +12,8 @@ pub loop-bidder-preserved : goal.loop-bidder-preserved
 loop-bidder-preserved c =
     let prices : c.self.inside.prices.now ≡ c.args.self.now.before.standing.prices =
     ap (λ (round : OpenRoundFields). round.before.standing.prices) c.self.view_is in
-    let demands : c.own.result.demands.now ≡ (holding_at c.args.self.now.before.holdings c.loop-bidder.bidder).demands =
-    ap (λ (held : Holding). held.demands) c.own.ensures.held in
+    let demands : c.demands.result.now ≡ (holding_at c.args.self.now.before.holdings c.loop-bidder.bidder).demands =
+    c.demands.ensures ∙ ap (λ (round : OpenRoundFields). (holding_at round.before.holdings c.loop-bidder.bidder).demands) c.self.view_is in
     let added = rw (prices, demands, c.sheet.ensures) at c.in_ok-changes.ensures.exact in
     added
     ∙ ap (λ (xs : List Change). xs ++ requests_by c.args.self.now.before c.loop-bidder.bidder) c.loop-bidder.invariant
