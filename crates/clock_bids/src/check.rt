@@ -228,10 +228,7 @@ fn last_bid(bids: &[Bid], places: &[u16], product: u64) -> Option<Bid>
     ensures { result ≡ slice_index_or (map (bid_at bids.now) places.now) product None }
 {
     let place = *places.get(product as usize)?;
-    match place {
-        0 => None,
-        _ => bids.get(place as usize - 1).copied(),
-    }
+    bids.get((place as usize).checked_sub(1)?).copied()
 }
 
 /// The fault of the bid at a place of the sheet, by the last bid before it for the same product. Most sheets stand by
