@@ -1,5 +1,4 @@
-ghost use Rattle.std.specs.Prelude.{◌≡◌, ◌+◌, ◌<◌, ◌≤◌, [], ◌++◌, length, map, slice_index_or, slice_set, IfOk, OnOk, All};
-ghost use Rattle.std.specs.List.Sorted.{IsPermutation};
+ghost use Rattle.std.specs.Prelude.{◌≡◌, ◌+◌, ◌<◌, ◌≤◌, [], length, map, IfOk, OnOk, All};
 ghost use Rattle.clock_processor.specs.Board.{IsBoard};
 ghost use Rattle.clock_processor.specs.Requests.{CanSettle};
 ghost use Rattle.clock_queue.specs.inside.Queue.{GoesOn, IsQueue, SameTerms, StaysWithinTests, after_test, progress, progress_with, room_in, with_first, work};
