@@ -181,10 +181,8 @@ fn judge_rising(
         taken = taken_with(taken, units, None, bid.quantity);
         least = bid.product + 1;
     }
-    Ok(Judged {
-        count: bids.len(),
-        taken,
-    })
+    let count = bids.len();
+    Ok(Judged { count, taken })
 }
 
 /// The bidding units that demands take once a quantity stands in the place of the last bid's.
