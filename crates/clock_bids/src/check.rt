@@ -1,9 +1,8 @@
-ghost use Rattle.std.specs.Prelude.{◌≡◌, ◌<◌, ◌≤◌, ◌+◌, ◌*◌, Some, None, length, map, take, slice_index_or, All, OnOk, IfOk, IfErr};
+ghost use Rattle.std.specs.Prelude.{◌≡◌, ◌<◌, ◌≤◌, ◌+◌, ◌*◌, Some, None, length, map, take, slice_index_or, All, Err, OnOk, IfOk, IfErr};
 ghost use Rattle.std.specs.List.Sorted.{IsNonDecreasingBy};
-ghost use Rattle.clock_terms.specs.Limits.{IsRow, most_supply, most_units, public_setup, is_within};
+ghost use Rattle.clock_terms.specs.Limits.{IsRow, most_supply, most_units, public_setup};
 ghost use Rattle.clock_terms.specs.Faults.{first_fault, IsFirstFault};
 ghost use Rattle.clock_terms.specs.Eligibility as eligibilities;
-ghost use Rattle.clock_bids.specs.Holding as rules;
 ghost use Rattle.clock_bids.specs.Holding.{holding_of};
 ghost use Rattle.clock_bids.specs.inside.Parts.{checks_of_bids};
 ghost use Rattle.clock_bids.specs.Sheet.{IsGoodSheet, asked_demands, most_bids, sheet_fault};
@@ -21,10 +20,10 @@ const MOST_BIDS: usize = 8192;
 
 /// Judges a sheet of bids: the sheet with these bids, or its first fault.
 ///
-/// [`BidFault::TooMany`] comes first, then the faults of the bids in their order, each bid's first one in the order of
-/// [`BidFault`], and [`BidFault::OverActivity`] last. The prices are those of the round, a pair for each product; `own`
-/// has a demand for each product, at most its cap. In round 1 a sheet may ask for activity up to the eligibility, and
-/// from round 2 on up to the set-up's percentage of it, rounded down.
+/// [`BidFault::TooMany`] comes first, whatever memory there is, then the faults of the bids in their order, each bid's
+/// first one in the order of [`BidFault`], and [`BidFault::OverActivity`] last. The prices are those of the round, a
+/// pair for each product; `own` has a demand for each product, at most its cap. In round 1 a sheet may ask for activity
+/// up to the eligibility, and from round 2 on up to the set-up's percentage of it, rounded down.
 ///
 /// A sheet is judged in one pass over its bids, however many products they are for. The rules are those of the FCC's
 /// procedures for Auction 105 on simple bids; that several bids for a product form a chain is our own rule.
@@ -42,8 +41,11 @@ pub fn check_sheet(
         (IsGoodSheet (public_setup setup.now) own.entry.round prices.now (holding_of own.entry) bids.now) }
     ensures fault { IfErr result (IsFirstFault BidFault.NoMemory
         (sheet_fault (public_setup setup.now) own.entry.round prices.now (holding_of own.entry) bids.now)) }
+    ensures many { most_bids < length bids.now → result ≡ Err BidFault.TooMany }
 {
-    take_sheet(alloc, setup, prices, own, Items::from_slice(alloc, bids)?)
+    judge_sheet(alloc, setup, prices, own, bids)?;
+    let bids = Items::from_slice(alloc, bids)?;
+    Ok(Sheet { bids })
 }
 
 /// Judges a sheet as [`check_sheet`] does, and takes its bids over: none is copied.
@@ -61,33 +63,41 @@ pub fn take_sheet(
         (IsGoodSheet (public_setup setup.now) own.entry.round prices.now (holding_of own.entry) bids) }
     ensures fault { IfErr result (IsFirstFault BidFault.NoMemory
         (sheet_fault (public_setup setup.now) own.entry.round prices.now (holding_of own.entry) bids)) }
+    ensures many { most_bids < length bids → result ≡ Err BidFault.TooMany }
+{
+    judge_sheet(alloc, setup, prices, own, bids.as_slice())?;
+    Ok(Sheet { bids })
+}
+
+/// Judges a sheet as [`check_sheet`] does, and keeps none of it. The limit on activity is that of the FCC's procedures
+/// for Auction 105; processing keeps a bidder's activity within its eligibility all the same.
+fn judge_sheet(
+    alloc: Global,
+    setup: &Setup,
+    prices: &Prices,
+    own: Own,
+    bids: &[Bid],
+) -> Result<(), BidFault>
+    requires prices { length prices.now ≡ length setup.now.products }
+    requires demands { IsRow setup.now.products own.demands.now }
+    ensures good { OnOk result
+        (IsGoodSheet (public_setup setup.now) own.entry.round prices.now (holding_of own.entry) bids.now) }
+    ensures fault { IfErr result (IsFirstFault BidFault.NoMemory
+        (sheet_fault (public_setup setup.now) own.entry.round prices.now (holding_of own.entry) bids.now)) }
+    ensures many { most_bids < length bids.now → result ≡ Err BidFault.TooMany }
 {
     if bids.len() > MOST_BIDS {
         return Err(BidFault::TooMany);
     }
-    let taken = judge(
-        alloc,
-        setup,
-        prices.as_slice(),
-        own.demands,
-        bids.as_slice(),
-    )?;
-    if taken as u128 > activity_limit(setup, own.round, own.eligibility) {
+    let taken = judge(alloc, setup, prices.as_slice(), own.demands, bids)?;
+    let limit = match own.round {
+        1 => own.eligibility as u128,
+        _ => own.eligibility as u128 * setup.limit as u128 / 100,
+    };
+    if taken as u128 > limit {
         return Err(BidFault::OverActivity);
     }
-    Ok(Sheet { bids })
-}
-
-/// The most activity that a sheet may ask for, in bidding units: in round 1 the eligibility, and from
-/// round 2 on the set-up's percentage of it, rounded down. The FCC's procedures for Auction 105 have
-/// such a limit; processing keeps a bidder's activity within its eligibility all the same.
-fn activity_limit(setup: &Setup, round: u64, eligibility: u64) -> u128
-    ensures { result ≡ rules.activity_limit (public_setup setup.now) round eligibility }
-{
-    match round {
-        1 => eligibility as u128,
-        _ => eligibility as u128 * setup.limit as u128 / 100,
-    }
+    Ok(())
 }
 
 /// Judges each bid by the last one before it for the same product; the first bids, whose products rise, have none. The
@@ -216,10 +226,7 @@ fn last_bid(bids: &[Bid], places: &[u16], product: u64) -> Option<Bid>
     ensures { result ≡ slice_index_or (map (bid_at bids.now) places.now) product None }
 {
     let place = *places.get(product as usize)?;
-    match place {
-        0 => None,
-        _ => bids.get(place as usize - 1).copied(),
-    }
+    bids.get((place as usize).checked_sub(1)?).copied()
 }
 
 /// The fault of the bid at a place of the sheet, by the last bid before it for the same product. Most sheets stand by
@@ -242,7 +249,7 @@ fn bid_fault(
     }
     let product = bid.product as usize;
     let pair = prices[product];
-    if !is_in_prices(&pair, bid.price) {
+    if bid.price < pair.start.get() || pair.clock.get() < bid.price {
         return Some(BidFault::PriceRange(place));
     }
     if bid.quantity > products[product].cap {
@@ -252,23 +259,14 @@ fn bid_fault(
     step_fault(last, held, pair.clock.get(), place, bid)
 }
 
-/// Whether a price is from the start price to the clock price.
-fn is_in_prices(pair: &PricePair, price: u64) -> bool
-    ensures { result ≡ is_within pair.now.start pair.now.clock price }
-{
-    pair.start.get() <= price && price <= pair.clock.get()
-}
-
 /// The fault of a bid's step from the last bid before it for the same product, or where there is
 /// none from the demand held.
 fn step_fault(last: Option<Bid>, held: u64, clock: u64, place: u64, bid: &Bid) -> Option<BidFault>
     ensures { result ≡ first_fault (step_checks last held clock place bid.now) }
 {
     let Some(last) = last else {
-        if bid.quantity == held && bid.price != clock {
-            return Some(BidFault::KeepPrice(place));
-        }
-        return None;
+        let kept_below = bid.quantity == held && bid.price != clock;
+        return kept_below.then_some(BidFault::KeepPrice(place));
     };
     if last.price >= bid.price {
         return Some(BidFault::PriceOrder(place));
@@ -278,8 +276,5 @@ fn step_fault(last: Option<Bid>, held: u64, clock: u64, place: u64, bid: &Bid) -
     } else {
         bid.quantity < last.quantity
     };
-    if !goes_on {
-        return Some(BidFault::MixedDirection(place));
-    }
-    None
+    (!goes_on).then_some(BidFault::MixedDirection(place))
 }

@@ -1,4 +1,6 @@
 ghost use Rattle.std.specs.Prelude.{◌≡◌};
+ghost use Rattle.clock_closing.specs.declared.fault.CloseFault.TheVariants as close_faults;
+ghost use Rattle.clock_closing.specs.ToldFaults.{told_of_post, told_of_tie};
 
 use clock_device::NoMemory;
 use clock_order::TieFault;
@@ -33,8 +35,6 @@ pub enum CloseFault {
 }
 
 impl From<NoMemory> for CloseFault {
-    ghost use Rattle.clock_closing.specs.declared.fault.CloseFault.TheVariants as close_faults;
-
     ghost from_gives = { λ _ told. told ≡ close_faults.NoMemory };
 
     fn from(_none: NoMemory) -> CloseFault {
@@ -43,8 +43,6 @@ impl From<NoMemory> for CloseFault {
 }
 
 impl From<TieFault> for CloseFault {
-    ghost use Rattle.clock_closing.specs.ToldFaults.{told_of_tie};
-
     ghost from_gives = { λ fault told. told ≡ told_of_tie fault };
 
     fn from(fault: TieFault) -> CloseFault {
@@ -56,8 +54,6 @@ impl From<TieFault> for CloseFault {
 }
 
 impl From<PostFault> for CloseFault {
-    ghost use Rattle.clock_closing.specs.ToldFaults.{told_of_post};
-
     ghost from_gives = { λ fault told. told ≡ told_of_post fault };
 
     fn from(fault: PostFault) -> CloseFault {

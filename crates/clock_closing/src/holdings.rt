@@ -1,5 +1,5 @@
-ghost use Rattle.std.specs.Prelude.{◌≡◌, ◌<◌, length, map, option_copied, IfOk};
-ghost use Rattle.clock_closing.specs.Holdings.{holdings_before};
+ghost use Rattle.std.specs.Prelude.{◌≡◌, ◌<◌, List, length, map, option_copied, IfOk};
+ghost use Rattle.clock_closing.specs.Holdings.{Holding, holdings_before};
 ghost use Rattle.clock_closing.specs.OpenRound.{holding_at};
 
 use crate::closed_round::Slips;
@@ -18,9 +18,6 @@ pub struct Holdings<'a> {
 }
 
 impl<'a> Model for Holdings<'a> {
-    ghost use Rattle.std.specs.Prelude.{◌≡◌, List, length, map, option_copied};
-    ghost use Rattle.clock_closing.specs.Holdings.{Holding, holdings_before};
-
     ghost Value = { List Holding };
 
     ghost view = { λ h. holdings_before h.setup.now.products h.setup.now.bidders (option_copied h.last) };

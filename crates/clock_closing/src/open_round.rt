@@ -1,8 +1,7 @@
 ghost use Rattle.std.specs.Prelude.{◌≡◌, ◌≢◌, ◌<◌, None, length, slice_index_or, option_copied, IfOk, IfErr};
 ghost use Rattle.clock_terms.specs.Faults.{IsRefusal};
-ghost use Rattle.clock_bids.specs.Holding.{holding_of};
 ghost use Rattle.clock_order.specs.declared.ties.TieFault.TheVariants as tie_faults;
-ghost use Rattle.clock_closing.specs.OpenRound.{IsOpenRound, open_at, holding_at};
+ghost use Rattle.clock_closing.specs.OpenRound.{OpenRoundFields, IsOpenRound, open_at};
 ghost use Rattle.clock_closing.specs.Closing.{closing_now};
 ghost use Rattle.clock_closing.specs.Prepared.{Answers};
 ghost use Rattle.clock_closing.specs.inside.Postings.{IsAsked};
@@ -12,7 +11,7 @@ mod outcome;
 use crate::fault::CloseFault;
 use crate::holdings::Holdings;
 use crate::prepared::{ClosingInputs, Prepared};
-use clock_bids::{Own, Sheet};
+use clock_bids::Sheet;
 use clock_device::NoMemory;
 use clock_order::{Tie, Ties};
 use clock_processor::Processor;
@@ -35,8 +34,6 @@ pub struct OpenRound<'a> {
 }
 
 impl<'a> Model for OpenRound<'a> {
-    ghost use Rattle.clock_closing.specs.OpenRound.{OpenRoundFields, IsOpenRound, open_at};
-
     ghost Value = { OpenRoundFields };
 
     ghost view = { λ r. record { setup = r.setup.now; before = open_at r.round r.prices.now r.holdings r.sheets.now } };
@@ -117,19 +114,6 @@ impl<'a> OpenRound<'a> {
             increments: copy,
             ties,
         })
-    }
-
-    /// What a bidder holds.
-    fn own(&self, bidder: u32) -> Own<'_>
-        requires { bidder < length self.now.setup.bidders }
-        ensures round { result.round ≡ self.now.before.standing.round }
-        ensures held { holding_of result ≡ holding_at self.now.before.holdings bidder }
-    {
-        Own {
-            round: self.round,
-            eligibility: self.holdings.eligibility(bidder),
-            demands: self.holdings.demands(bidder),
-        }
     }
 
     /// A bidder's sheet in force, if any.

@@ -1,4 +1,5 @@
 ghost use Rattle.std.specs.Prelude.{◌≡◌};
+ghost use Rattle.clock_closing.specs.Prepared.{PreparedClosing};
 ghost use Rattle.clock_closing.specs.Results.{AreConsistent};
 
 use crate::closed_round::Results;
@@ -25,9 +26,6 @@ pub struct Prepared {
 }
 
 impl Model for Prepared {
-    ghost use Rattle.clock_closing.specs.Results.{AreConsistent};
-    ghost use Rattle.clock_closing.specs.Prepared.{PreparedClosing};
-
     ghost Value = { PreparedClosing };
 
     ghost view = { λ p. record { round = p.round; increments = p.asked.increments; ties = p.asked.ties; closed = p.results.closed } };

@@ -1,3 +1,7 @@
+ghost use Rattle.std.specs.Prelude.{◌≡◌};
+ghost use Rattle.clock_house.specs.declared.fault.PutFault.TheVariants as put_faults;
+ghost use Rattle.clock_house.specs.ToldFaults.{told_of_bid};
+
 use clock_bids::BidFault;
 use clock_device::NoMemory;
 use thiserror::Error;
@@ -25,9 +29,6 @@ pub enum PutFault {
 }
 
 impl From<NoMemory> for PutFault {
-    ghost use Rattle.std.specs.Prelude.{◌≡◌};
-    ghost use Rattle.clock_house.specs.declared.fault.PutFault.TheVariants as put_faults;
-
     ghost from_gives = { λ _ told. told ≡ put_faults.NoMemory };
 
     fn from(_none: NoMemory) -> PutFault {
@@ -36,9 +37,6 @@ impl From<NoMemory> for PutFault {
 }
 
 impl From<BidFault> for PutFault {
-    ghost use Rattle.std.specs.Prelude.{◌≡◌};
-    ghost use Rattle.clock_house.specs.ToldFaults.{told_of_bid};
-
     ghost from_gives = { λ fault told. told ≡ told_of_bid fault };
 
     fn from(fault: BidFault) -> PutFault {

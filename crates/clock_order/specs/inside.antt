@@ -1,6 +1,5 @@
 -- What only proofs and private functions use: no clause of a public call cites it.
 pub mod Keyed
-pub mod EqualPoints
 pub mod KeyLaws
 pub mod OrderKeyLaws
 pub mod TieTests

@@ -41,11 +41,16 @@ impl Ord for OrderKey {
 
     fn cmp(&self, other: &OrderKey) -> Ordering {
         let by_point = self.point.compare(&other.point);
-        match by_point {
-            Ordering::Less => Ordering::Less,
-            Ordering::Equal => self.compare_behind_point(other),
-            Ordering::Greater => Ordering::Greater,
+        if by_point != Ordering::Equal {
+            return by_point;
         }
+        self.tie
+            .cmp(&other.tie)
+            .then(self.bidder.cmp(&other.bidder))
+            .then(self.product.cmp(&other.product))
+            .then(self.place.cmp(&other.place))
+            .then(self.point.above.cmp(&other.point.above))
+            .then(self.point.span.cmp(&other.point.span))
     }
 }
 

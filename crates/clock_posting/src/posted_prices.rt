@@ -1,4 +1,4 @@
-ghost use Rattle.std.specs.Prelude.{◌≡◌, ◌<◌, ◌≤◌, ℕ, length, map, max, slice_index, if◌then◌else◌, All, IfOk};
+ghost use Rattle.std.specs.Prelude.{◌≡◌, ◌<◌, ℕ, length, map, max, slice_index, if◌then◌else◌, All, IfOk};
 ghost use Rattle.clock_terms.specs.Prices.{prices_at};
 ghost use Rattle.clock_posting.specs.PostedPrice as rules;
 ghost use Rattle.clock_posting.specs.inside.Parts.{applied_prices};
@@ -74,19 +74,11 @@ fn note(highest: &mut Items<Price>, prices: &[PricePair], change: &Change, left:
 {
     let product = change.product as usize;
     if change.kind == Kind::Reduction && left < change.amount {
-        let price = price_of(change, prices[product]);
+        let pair = prices[product];
+        prove!(pair.start.get() <= change.price && change.price <= pair.clock.get());
+        let price = Price::new(change.price).unwrap();
         if highest.as_slice()[product].get() < price.get() {
             highest.set(product, price);
         }
     }
-}
-
-/// The price of a change, which stands between two prices of its product.
-fn price_of(change: &Change, pair: PricePair) -> Price
-    requires from_start { pair.start ≤ change.now.price }
-    requires to_clock { change.now.price ≤ pair.clock }
-    ensures { result ≡ change.now.price }
-{
-    prove!(pair.start.get() <= change.price && change.price <= pair.clock.get());
-    Price::new(change.price).unwrap()
 }

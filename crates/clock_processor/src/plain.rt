@@ -1,4 +1,4 @@
-ghost use Rattle.std.specs.Prelude.{◌≡◌, ◌<◌, ◌≤◌, ◌-◌, length, IfSome, IfNone, OnSome, All, Some, None, ℕ, slice_index, slice_index_or, slice_set};
+ghost use Rattle.std.specs.Prelude.{◌≡◌, ◌<◌, ◌≤◌, ◌-◌, length, OnSome, All, ℕ, slice_index, slice_index_or, slice_set};
 ghost use Rattle.clock_processor.specs.Board.{IsBoard, one_more};
 ghost use Rattle.clock_processor.specs.Room.{with_change};
 ghost use Rattle.clock_processor.specs.Settling as settling;
@@ -25,7 +25,8 @@ impl Processor for Plain {
     }
 }
 
-/// Steps to the end.
+/// Applies the first admitted request with room, or admits one more where none has any, until all are admitted and none
+/// has room.
 fn rescan(board: &mut Board, changes: &[Change], left: &mut Amounts)
     requires { IsUnderWay board.old changes.now left.old 0 }
     ensures ended { (n : ℕ) × settling.Settles board.old.products board.old.eligibilities changes.now (progress_of board.old 0 left.old)
@@ -33,33 +34,12 @@ fn rescan(board: &mut Board, changes: &[Change], left: &mut Amounts)
     ensures terms { (board.new.products ≡ board.old.products) × (board.new.eligibilities ≡ board.old.eligibilities) }
 {
     let mut admitted: usize = 0;
-    while let Some(now) = advance(board, changes, left, admitted) {
-        admitted = now;
-    }
-}
-
-/// One step: the number of admitted requests after it, or None at the end.
-fn advance(
-    board: &mut Board,
-    changes: &[Change],
-    left: &mut Amounts,
-    admitted: usize,
-) -> Option<usize>
-    requires { IsUnderWay board.old changes.now left.old admitted }
-    ensures step { IfSome result (λ now. settling.next board.old.products board.old.eligibilities changes.now
-        (progress_of board.old admitted left.old) ≡ Some (progress_of board.new now left.new)) }
-    ensures under_way { IfSome result (λ now. IsUnderWay board.new changes.now left.new now) }
-    ensures end { IfNone result (settling.HasEnded board.old.products board.old.eligibilities changes.now (progress_of board.old admitted left.old)) }
-    ensures same { IfNone result (SameButTests board.old board.new × (left.new ≡ left.old)) }
-    ensures terms { (board.new.products ≡ board.old.products) × (board.new.eligibilities ≡ board.old.eligibilities) }
-{
-    match first_with_room(board, changes, left.as_slice(), admitted) {
-        Some(i) => {
-            apply_at(board, changes, left, i);
-            Some(admitted)
+    'rescan: loop {
+        match first_with_room(board, changes, left.as_slice(), admitted) {
+            Some(place) => apply_at(board, changes, left, place),
+            None if admitted < changes.len() => admitted += 1,
+            None => return,
         }
-        None if admitted < changes.len() => Some(admitted + 1),
-        None => None,
     }
 }
 

@@ -1,4 +1,5 @@
 ghost use Rattle.std.specs.Prelude.{◌≡◌, map, IfOk};
+ghost use Rattle.clock_processor.specs.Settlement.{SettledFields};
 
 use clock_device::NoMemory;
 use clock_terms::{Amounts, Change, Grid};
@@ -15,8 +16,6 @@ pub struct Settled {
 }
 
 impl Model for Settled {
-    ghost use Rattle.clock_processor.specs.Settlement.{SettledFields};
-
     ghost Value = { SettledFields };
 
     ghost view = { λ s. record { grid = s.grid; left = s.left; applied = s.applied; tests = s.tests } };

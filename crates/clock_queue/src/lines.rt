@@ -1,4 +1,4 @@
-ghost use Rattle.std.specs.Prelude.{◌≡◌, ◌<◌, [], ◌∷◌, ◌++◌, length, replicate, All, IfOk, OnOk, slice_index_or, slice_set};
+ghost use Rattle.std.specs.Prelude.{◌≡◌, ◌<◌, [], ◌∷◌, ◌++◌, ℕ, List, length, replicate, All, IfOk, OnOk, slice_index_or, slice_set};
 ghost use Rattle.clock_queue.specs.inside.Lines as lines;
 
 use clock_device::NoMemory;
@@ -17,12 +17,9 @@ pub(crate) struct WaitingLines {
 }
 
 impl Model for WaitingLines {
-    ghost use Rattle.std.specs.Prelude.{List, ℕ};
-    ghost use Rattle.clock_queue.specs.inside.Lines.{places_of};
-
     ghost Value = { List (List ℕ) };
 
-    ghost view = { λ a. places_of a.lists.items };
+    ghost view = { λ a. lines.places_of a.lists.items };
 }
 
 impl WaitingLines {

@@ -1,5 +1,4 @@
-ghost use Rattle.std.specs.Prelude.{◌≡◌, ◌+◌, ◌<◌, ◌≤◌, [], ◌++◌, length, map, slice_index_or, slice_set, IfOk, OnOk, All};
-ghost use Rattle.std.specs.List.Sorted.{IsPermutation};
+ghost use Rattle.std.specs.Prelude.{◌≡◌, ◌+◌, ◌<◌, ◌≤◌, [], length, map, IfOk, OnOk, All};
 ghost use Rattle.clock_processor.specs.Board.{IsBoard};
 ghost use Rattle.clock_processor.specs.Requests.{CanSettle};
 ghost use Rattle.clock_queue.specs.inside.Queue.{GoesOn, IsQueue, SameTerms, StaysWithinTests, after_test, progress, progress_with, room_in, with_first, work};
@@ -58,18 +57,6 @@ impl<'a> Queue<'a> {
         let place = self.admitted;
         self.admitted += 1;
         self.test(changes, place)?;
-        self.run(changes)?;
-        Ok(())
-    }
-
-    /// Tests the first of the ready requests, until none is ready.
-    fn run(&mut self, changes: &[Change]) -> Result<(), NoMemory>
-        requires queue { IsQueue changes.now self.old }
-        requires counts { StaysWithinTests changes.now self.old }
-        ensures goes_on { OnOk result (GoesOn changes.now self.old self.new) }
-        ensures none { OnOk result (self.new.ready ≡ []) }
-        ensures admitted { OnOk result (self.new.admitted ≡ self.old.admitted) }
-    {
         while let Some(place) = self.ready.pop() {
             self.test(changes, place)?;
         }
@@ -122,17 +109,7 @@ impl<'a> Queue<'a> {
         let left = self.left.as_slice()[place];
         self.board.apply(&changes[place], room);
         self.left.set(place, left - room);
-        self.wake(woken_line(&changes[place]))?;
-        Ok(())
-    }
-
-    /// Makes all requests ready that wait in a line.
-    fn wake(&mut self, line: usize) -> Result<(), NoMemory>
-        requires { line < length self.old.lines }
-        ensures woken { OnOk result (IsPermutation (self.old.ready ++ slice_index_or self.old.lines line []) self.new.ready) }
-        ensures rest { OnOk result
-            (self.new ≡ record self.old { ready = self.new.ready; lines = slice_set self.old.lines line [] }) }
-    {
+        let line = woken_line(&changes[place]);
         let woken = self.lines.at(line);
         self.ready.extend(woken)?;
         self.lines.clear(line);

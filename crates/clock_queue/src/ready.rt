@@ -1,5 +1,7 @@
-ghost use Rattle.std.specs.Prelude.{◌≡◌, ◌≤◌, [], ◌∷◌, ◌++◌, All, OnOk, IfSome, IfNone};
+ghost use Rattle.std.specs.Prelude.{◌≡◌, ◌≤◌, [], ◌∷◌, ◌++◌, ℕ, List, map, All, OnOk, IfSome, IfNone};
+ghost use Rattle.std.specs.BinaryHeap.{IsHeap, heap_items};
 ghost use Rattle.std.specs.List.Sorted.{IsPermutation};
+ghost use Rattle.std.specs.Ordering.{nat_cmp};
 
 use clock_device::NoMemory;
 use std::alloc::Global;
@@ -14,10 +16,6 @@ pub(crate) struct Ready {
 }
 
 impl Model for Ready {
-    ghost use Rattle.std.specs.Prelude.{List, ℕ, map};
-    ghost use Rattle.std.specs.Ordering.{nat_cmp};
-    ghost use Rattle.std.specs.BinaryHeap.{IsHeap, heap_items};
-
     ghost Value = { List ℕ };
 
     ghost view = { λ a. map (λ item. item.0) (heap_items a.heap) };

@@ -1,24 +1,22 @@
 //! What a round comes to: in the first round the sheets' quantities stand as demands, in a later one all bidders'
 //! requests are settled in their order. What is posted of the demands, and each bidder's slip, are its results.
 
-ghost use Rattle.std.specs.Prelude.{◌≡◌, ◌<◌, ◌≤◌, length, flat_map, AllPairs, IfOk};
+ghost use Rattle.std.specs.Prelude.{◌≡◌, ◌<◌, ◌≤◌, length, IfOk};
 ghost use Rattle.clock_terms.specs.Limits.{IsRow, public_setup};
 ghost use Rattle.clock_terms.specs.Eligibility as eligibilities;
 ghost use Rattle.clock_terms.specs.Increments.{AreIncrements};
-ghost use Rattle.clock_terms.specs.Requests.{AreApart};
-ghost use Rattle.clock_bids.specs.Sheet as sheets;
 ghost use Rattle.clock_processor.specs.Board.{IsWithinEligibility};
-ghost use Rattle.clock_closing.specs.OpenRound.{bids_at, bidder_numbers, holding_at};
+ghost use Rattle.clock_closing.specs.OpenRound.{holding_at};
 ghost use Rattle.clock_closing.specs.inside.OpenRound.{eligibilities_of};
 ghost use Rattle.clock_closing.specs.Closing as rules;
-ghost use Rattle.clock_closing.specs.inside.Postings.{AreRequests, ComesTo, IsRoundOf, first_posted, posted_now};
+ghost use Rattle.clock_closing.specs.inside.Postings.{AreRequests, ComesTo, IsRoundOf, posted_now};
 ghost use Rattle.clock_closing.specs.Results.{demands_of};
 
 use crate::closed_round::{ClosedRound, Results, Slip, Slips};
 use crate::fault::CloseFault;
 use crate::open_round::OpenRound;
 use crate::prepared::ClosingInputs;
-use clock_bids::{Changes, asked_demands, bids_of, with_changes_of};
+use clock_bids::{Changes, Own, asked_demands, bids_of, with_changes_of};
 use clock_device::NoMemory;
 use clock_order::{Ties, ordered};
 use clock_posting::{PostFault, Posting, post, post_first};
@@ -40,7 +38,9 @@ impl OpenRound<'_> {
         ensures { ComesTo (posted_now self.now asked.now.increments asked.now.ties) result }
     {
         if self.round == 1 {
-            return self.first_results(alloc, &asked.increments);
+            let grid = self.asked_grid(alloc)?;
+            let posting = post_first(alloc, self.setup, &grid, &asked.increments);
+            return self.with_slips(alloc, posting, grid);
         }
         let requests = self.requests(alloc, &asked.ties)?;
         let settled = self.settled(alloc, processor, &requests, old)?;
@@ -57,37 +57,16 @@ impl OpenRound<'_> {
         self.with_slips(alloc, posting, settled.into_grid())
     }
 
-    /// What the first round comes to.
-    fn first_results(&self, alloc: Global, increments: &Increments) -> Result<Results, CloseFault>
-        requires first { self.now.before.standing.round ≡ 1 }
-        requires increments { AreIncrements (length self.now.setup.products) increments.now }
-        ensures { ComesTo (first_posted self.now increments.now) result }
-    {
-        let grid = self.asked_grid(alloc)?;
-        let posting = post_first(alloc, self.setup, &grid, increments);
-        self.with_slips(alloc, posting, grid)
-    }
-
-    /// The demands that the sheets in force ask for.
+    /// The demands that the sheets in force ask for. No sheet is the same as an empty one.
     fn asked_grid(&self, alloc: Global) -> Result<Grid, NoMemory>
         ensures { IfOk result (λ grid. grid ≡ rules.asked_grid self.now.setup.products self.now.before) }
     {
         let mut rows = Vec::with_capacity(alloc, self.bidders() as usize)?;
         for bidder in 0..self.bidders() {
-            rows.push(self.asked_row(alloc, bidder)?)?;
+            let asked = asked_demands(alloc, self.setup, bids_of(self.sheet(bidder)))?;
+            rows.push(Row::of(alloc, self.setup, asked.as_slice())?)?;
         }
         Ok(Grid::of_rows(alloc, self.setup, rows)?)
-    }
-
-    /// The demands that a bidder's sheet in force asks for. No sheet is the same as an empty one.
-    fn asked_row(&self, alloc: Global, bidder: u32) -> Result<Row, NoMemory>
-        requires { bidder < length self.now.setup.bidders }
-        ensures asked { IfOk result (λ row. row ≡ sheets.asked_demands
-            (length self.now.setup.products) (bids_at self.now.before.sheets bidder)) }
-        ensures row { IfOk result (IsRow self.now.setup.products) }
-    {
-        let asked = asked_demands(alloc, self.setup, bids_of(self.sheet(bidder)))?;
-        Row::of(alloc, self.setup, asked.as_slice())
     }
 
     /// All bidders' requests in the order of processing.
@@ -96,30 +75,24 @@ impl OpenRound<'_> {
         ensures ordered { IfOk result (λ list. list ≡ rules.requests self.now.before ties.now) }
         ensures all { IfOk result (AreRequests self.now.before) }
     {
-        let changes = self.changes(alloc)?;
-        ordered(alloc, &changes, ties)
-    }
-
-    /// All bidders' requests, one bidder's after another's.
-    fn changes(&self, alloc: Global) -> Result<Changes, NoMemory>
-        requires { 2 ≤ self.now.before.standing.round }
-        ensures all { IfOk result (λ changes. changes ≡ flat_map
-            (rules.requests_by self.now.before) (bidder_numbers self.now.before)) }
-        ensures apart { IfOk result (AllPairs AreApart) }
-    {
         let mut changes = Changes::new(alloc);
         for bidder in 0..self.bidders() {
+            let own = Own {
+                round: self.round,
+                eligibility: self.holdings.eligibility(bidder),
+                demands: self.holdings.demands(bidder),
+            };
             changes = with_changes_of(
                 alloc,
                 changes,
                 self.setup,
                 self.prices,
-                self.own(bidder),
+                own,
                 bidder,
                 self.sheet(bidder),
             )?;
         }
-        Ok(changes)
+        ordered(alloc, &changes, ties)
     }
 
     /// The demands that the settling of these requests leaves, and what is left of each. They are settled in the memory

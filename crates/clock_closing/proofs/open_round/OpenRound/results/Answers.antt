@@ -1,11 +1,13 @@
 use Rattle.std.proofs.Common.{◌≡◌, ◌≢◌, ◌≤◌, ap, sym, ◌∙◌, arith}
 use Rattle.std.proofs.lemmas.List.Sorted.{All-permutation}
 use Rattle.clock_posting.specs.PostedPrice.{IsWithinPrices}
+use Rattle.clock_posting.specs.Posting.{opening_posted}
 use Rattle.clock_closing.specs.OpenRound.{OpenRoundFields, IsOpenRound}
-use Rattle.clock_closing.specs.Closing.{requests, later_result}
+use Rattle.clock_closing.specs.Closing.{requests, first_result, later_result}
 use Rattle.clock_closing.proofs.Posts.{posts_by}
-use Rattle.clock_closing.proofs.OpenRounds.{priced_requests}
+use Rattle.clock_closing.proofs.OpenRounds.{asked_within, priced_requests}
 use Rattle.clock_closing.proofs.RoundResults.{result-first, result-later}
+use Rattle.clock_closing.proofs.Steps.{is_open, within_grid}
 use Rattle.clock_closing.proofs.open_round.OpenRound.results.Goals as goal
 
 -- a round that is not the first is a later one
@@ -15,12 +17,28 @@ later_by inside is other = omega (arith, is.sound.priced.numbered, other)
 later_of : (inside now : OpenRoundFields) → inside ≡ now → IsOpenRound inside → inside.before.standing.round ≢ 1 → 2 ≤ now.before.standing.round
 later_of inside now same is other = rw (← same) (later_by inside is other)
 
+pub post_first-posting-requires-clause-grid : goal.post_first-posting-requires-clause-grid
+post_first-posting-requires-clause-grid g c =
+    rw (c.in_ok-grid.ensures, ← c.self.view_is) (within_grid _ c.self.invariant _ (asked_within _ _ c.self.invariant.sound c.if-self-eq1.true))
+
+pub with_slips-requires : goal.with_slips-requires
+with_slips-requires g c = rw (c.in_ok-grid.ensures, ← c.self.view_is) (asked_within _ _ c.self.invariant.sound c.if-self-eq1.true)
+
 pub returns-then-self-eq1 : goal.returns-then-self-eq1
 returns-then-self-eq1 g c =
-    let number : c.self.inside.round ≡ c.args.self.now.before.standing.round =
-    ap (λ (round : OpenRoundFields). round.before.standing.round) c.self.view_is in
-    rw (result-first c.args.self.now.setup.products c.args.self.now.before c.args.asked.now.ties (sym number ∙ c.if-self-eq1.true))
-    c.first_results.ensures
+    let now = c.args.self.now in
+    let increments = c.args.asked.now.increments in
+    let number : c.self.inside.round ≡ now.before.standing.round = ap (λ (round : OpenRoundFields). round.before.standing.round) c.self.view_is in
+    let first = sym number ∙ c.if-self-eq1.true in
+    let setup : c.self.inside.setup.now ≡ now.setup = ap (λ (round : OpenRoundFields). round.setup) c.self.view_is in
+    let opening = (is_open c.self.view_is c.self.invariant).opening first in
+    let posting = rw (c.in_ok-grid.ensures, setup) at c.post_first-posting.ensures.ok in
+    let refused = rw (c.in_ok-grid.ensures, setup) at c.post_first-posting.ensures.err in
+    let comes = rw c.in_ok-grid.ensures at c.with_slips.ensures in
+    rw (result-first now.setup.products now.before c.args.asked.now.ties first)
+    (comes increments (opening_posted now.setup.products)
+    (posts_by now increments (first_result now.setup.products now.before) c.post_first-posting.result (rw (first, opening) posting)
+    c.post_first-posting.ensures.laws refused))
 
 pub requests-requires : goal.requests-requires
 requests-requires g c = later_of _ _ c.self.view_is c.self.invariant c.if-self-eq1.false
@@ -51,6 +69,9 @@ returns g c =
     at c.post-posting.ensures.ok in
     let refused = rw (c.in_ok-settled.ensures.left, c.in_ok-settled.ensures.grid, c.in_ok-requests.ensures.ordered, setup, prices)
     at c.post-posting.ensures.err in
-    let comes = rw (c.into_grid.ensures, c.in_ok-settled.ensures.grid, c.in_ok-requests.ensures.ordered) at c.with_slips.ensures in
+    let comes = rw (c.into_grid.ensures, c.in_ok-settled.ensures.grid, c.in_ok-requests.ensures.ordered) at c.with_slips-2.ensures in
     rw (result-later now.setup.products now.before ties (later_of _ _ c.self.view_is c.self.invariant c.if-self-eq1.false))
     (comes increments result.posted (posts_by now increments result c.post-posting.result posting c.post-posting.ensures.laws refused))
+
+pub post-posting-requires-clause-grid : goal.post-posting-requires-clause-grid
+post-posting-requires-clause-grid g c = within_grid _ c.self.invariant _ (rw (← c.self.view_is) at c.in_ok-settled.ensures.within)

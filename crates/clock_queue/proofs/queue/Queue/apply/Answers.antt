@@ -9,6 +9,7 @@ use Rattle.clock_queue.specs.declared.queue.Queue.{Queue}
 use Rattle.clock_queue.specs.inside.Lines.{woken_line}
 use Rattle.clock_queue.specs.inside.Queue.{room_in}
 use Rattle.clock_queue.proofs.Applies.{IsApplied, HoldsAfter, holds_after, in_changes, may_apply_first, woken_in}
+use Rattle.clock_queue.proofs.queue.Queue.apply.Goals.{After-woken_line-line}
 use Rattle.clock_queue.proofs.queue.Queue.apply.Goals as goal
 
 -- what the calls say of the fields, as one application of the request at a place
@@ -43,30 +44,34 @@ apply-requires c =
     (sym (get_or_read c.args.changes.now c.args.place c.index-changes-place.result lt c.index-changes-place.is no_change))
     (may_apply_first c.args.changes.now c.args.self.now c.args.place c.requires.queue c.requires.is_board some))
 
-pub wake-requires : goal.wake-requires
-wake-requires c =
+-- the line of those that are woken
+line_in : (c : After-woken_line-line) → c.woken_line-line.result < length c.args.self.now.lines
+line_in c =
     let some : 0 < room_in c.args.changes.now c.args.self.now c.args.place = some_room _ _ c.requires.room c.requires.positive in
     let lt : c.args.place < length c.args.changes.now =
     in_changes c.args.changes.now c.args.self.now c.args.place c.requires.queue c.requires.is_board some in
     let read = get_or_read c.args.changes.now c.args.place c.index-changes-place-2.result lt c.index-changes-place-2.is no_change in
-    subst (λ (line : ℕ). line < length c.args.self.now.lines) (sym (c.woken_line.ensures ∙ ap woken_line read))
+    subst (λ (line : ℕ). line < length c.args.self.now.lines) (sym (c.woken_line-line.ensures ∙ ap woken_line read))
     (woken_in c.args.changes.now c.args.self.now c.args.place c.requires.queue c.requires.is_board some)
+
+pub at-woken-requires : goal.at-woken-requires
+at-woken-requires c = line_in (goal.at.at-woken-requires c).After-woken_line-line
+
+pub clear-requires : goal.clear-requires
+clear-requires c = line_in (goal.at.clear-requires c).After-woken_line-line
 
 pub returns : goal.returns
 returns c =
     let some : 0 < room_in c.args.changes.now c.args.self.now c.args.place = some_room _ _ c.requires.room c.requires.positive in
     let lt : c.args.place < length c.args.changes.now =
     in_changes c.args.changes.now c.args.self.now c.args.place c.requires.queue c.requires.is_board some in
-    let new : Queue = c.wake.new.self in
+    let old : Queue = c.args.self.now in
+    let new : Queue = record old { board = c.apply.new.self; left = c.set.new.self; ready = c.extend.new.self; lines = c.clear.new.self } in
     let applied : IsApplied c.args.changes.now c.args.place c.args.self.now new =
     joined c.args.changes.now c.args.place c.args.room c.args.self.now new c.index-changes-place.result
-    c.index-changes-place-2.result c.as_slice.result.now c.woken_line.result
-    (get_or c.args.self.now.lines c.woken_line.result [])
-    lt c.requires.room c.index-changes-place.is c.index-changes-place-2.is
-    (ap (λ (queue : Queue). queue.board) c.in_ok-wake.ensures.rest ∙ c.apply.ensures.applied) c.as_slice.ensures
-    (ap (λ (queue : Queue). queue.left) c.in_ok-wake.ensures.rest ∙ c.set.ensures)
-    (ap (λ (queue : Queue). queue.admitted) c.in_ok-wake.ensures.rest)
-    c.woken_line.ensures (ap (λ (queue : Queue). queue.lines) c.in_ok-wake.ensures.rest) refl c.in_ok-wake.ensures.woken in
+    c.index-changes-place-2.result c.as_slice.result.now c.woken_line-line.result c.at-woken.result.now
+    lt c.requires.room c.index-changes-place.is c.index-changes-place-2.is c.apply.ensures.applied c.as_slice.ensures c.set.ensures refl
+    c.woken_line-line.ensures c.clear.ensures c.at-woken.ensures c.in_ok-extend.ensures in
     let holds : HoldsAfter c.args.changes.now c.args.place c.args.self.now new =
     holds_after c.args.changes.now c.args.place c.args.self.now new c.requires.queue c.requires.is_board some applied in
     record {

@@ -2,30 +2,26 @@ use Rattle.std.proofs.Common.{◌≡◌, ℕ, List, ◌++◌, ap, sym, ◌∙◌
 use Rattle.std.specs.Prelude.{flat_map}
 use Rattle.std.specs.List.{range_with_len}
 use Rattle.clock_terms.specs.declared.change.Change.{Change}
-use Rattle.clock_closing.specs.Holdings.{Holding}
 use Rattle.clock_closing.specs.OpenRound.{OpenRoundFields, holding_at}
 use Rattle.clock_closing.specs.Closing.{requests_by}
 use Rattle.clock_closing.proofs.Joined.{flat_map-range_more}
 use Rattle.clock_closing.proofs.OpenRounds.{own_places}
-use Rattle.clock_closing.proofs.open_round.OpenRound.changes.Goals as goal
+use Rattle.clock_closing.proofs.open_round.OpenRound.requests.Goals as goal
 
 pub loop-bidder-preserved : goal.loop-bidder-preserved
 loop-bidder-preserved c =
     let prices : c.self.inside.prices.now ≡ c.args.self.now.before.standing.prices =
     ap (λ (round : OpenRoundFields). round.before.standing.prices) c.self.view_is in
-    let demands : c.own.result.demands.now ≡ (holding_at c.args.self.now.before.holdings c.loop-bidder.bidder).demands =
-    ap (λ (held : Holding). held.demands) c.own.ensures.held in
+    let demands : c.demands.result.now ≡ (holding_at c.args.self.now.before.holdings c.loop-bidder.bidder).demands =
+    c.demands.ensures ∙ ap (λ (round : OpenRoundFields). (holding_at round.before.holdings c.loop-bidder.bidder).demands) c.self.view_is in
     let added = rw (prices, demands, c.sheet.ensures) at c.in_ok-changes.ensures.exact in
     added
     ∙ ap (λ (xs : List Change). xs ++ requests_by c.args.self.now.before c.loop-bidder.bidder) c.loop-bidder.invariant
     ∙ sym (flat_map-range_more (requests_by c.args.self.now.before) c.loop-bidder.bidder)
 
-pub returns-clause-all : goal.returns-clause-all
-returns-clause-all c =
+pub ordered-requires : goal.ordered-requires
+ordered-requires c =
     let done : c.loop-bidder.bidder ≡ c.bidders-bidder-end.result = omega arith in
-    c.loop-bidder.invariant
-    ∙ ap (λ (n : ℕ). flat_map (requests_by c.args.self.now.before) (range_with_len 0 n)) (done ∙ c.bidders-bidder-end.ensures.held)
-
-pub returns-clause-apart : goal.returns-clause-apart
-returns-clause-apart c =
-    rw (returns-clause-all c, ← c.self.view_is) (own_places _ _ c.self.invariant.sound (rw (← c.self.view_is) at c.requires))
+    let all = c.loop-bidder.invariant
+    ∙ ap (λ (n : ℕ). flat_map (requests_by c.args.self.now.before) (range_with_len 0 n)) (done ∙ c.bidders-bidder-end.ensures.held) in
+    rw (all, ← c.self.view_is) (own_places _ _ c.self.invariant.sound (rw (← c.self.view_is) at c.requires))
