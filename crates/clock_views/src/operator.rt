@@ -93,27 +93,13 @@ pub fn push_results_page<P>(text: &mut Bounded<u8>, house: &House<P>)
         (range_with_len 0 (length house.now.setup.bidders))) ≤ text.old.room }
     ensures { Adds (compact_text (results_value house.now)) text.old.items text.new.items }
 {
-    push_label(text, b"{\"bidders\":");
-    push_results(text, house);
-    push_truth(text, b",\"ended\":", house.ended());
-    push_number(text, b",\"round\":", house.round());
-    push_label(text, b"}");
-}
-
-/// Adds the array of what each bidder holds.
-fn push_results<P>(text: &mut Bounded<u8>, house: &House<P>)
-    requires { most_text (list_of (result_in house.now) (range_with_len 0 (length house.now.setup.bidders)))
-        ≤ text.old.room }
-    ensures adds { Adds (compact_text (list_of (result_in house.now)
-        (range_with_len 0 (length house.now.setup.bidders)))) text.old.items text.new.items }
-    ensures room { text.old.room ≤ text.new.room + most_text (list_of (result_in house.now)
-        (range_with_len 0 (length house.now.setup.bidders))) }
-{
-    text.push(b'[');
+    push_label(text, b"{\"bidders\":[");
     for bidder in 0..bidder_count(house.setup()) {
         push_result(text, house, bidder);
     }
-    text.push(b']');
+    push_truth(text, b"],\"ended\":", house.ended());
+    push_number(text, b",\"round\":", house.round());
+    push_label(text, b"}");
 }
 
 /// Adds what a bidder holds, behind a comma where it is not the first bidder.
