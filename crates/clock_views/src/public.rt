@@ -75,14 +75,15 @@ pub fn push_status_page(text: &mut Bounded<u8>, setup: &Setup, round: u64, ended
 pub fn products_page(alloc: Global, setup: &Setup) -> Result<Text, NoMemory>
     ensures { IfOk result (IsPage (products_value (public_setup setup.now))) }
 {
-    let room = OFFER_ROOM + PRODUCT_ROOM * setup.products.len() as u128;
+    let products = setup.products.as_slice();
+    let room = OFFER_ROOM + PRODUCT_ROOM * products.len() as u128;
     let mut text = page_with_room(alloc, room)?;
     let limit = from_version_2(setup.version, setup.limit);
     push_label(&mut text, b"{");
     push_number_if(&mut text, b"\"limit\":", limit);
     push_comma_if(&mut text, limit.is_some());
     push_label(&mut text, b"\"products\":[");
-    for (i, product) in setup.products.iter().enumerate() {
+    for (i, product) in products.iter().enumerate() {
         push_product(&mut text, i > 0, setup.version, product);
     }
     push_number(&mut text, b"],\"requirement\":", setup.requirement);

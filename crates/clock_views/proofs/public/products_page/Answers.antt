@@ -20,7 +20,7 @@ returns c =
     let items : text ++ rest_text value (nat_lt 0 c.loop-i.i) (drop c.loop-i.i inside.products) ≡ opened ++ rest_text value false inside.products =
     subst (λ (setup : SetupFields). text ++ rest_text (product_value setup.version) (nat_lt 0 c.loop-i.i) (drop c.loop-i.i setup.products)
     ≡ opened ++ rest_text (product_value setup.version) false setup.products) (sym c.setup.view_is) c.loop-i.invariant.adds in
-    let done : length inside.products ≤ c.loop-i.i = omega (arith, c.loop-i-test.false, ap length c.deref-product-items.ensures) in
+    let done : length inside.products ≤ c.loop-i.i = omega (arith, c.loop-i-test.false, ap length c.as_slice-products.ensures) in
     let added : Adds (compact_text (products_value (public_setup c.args.setup.now))) c.in_ok-text.text.items c.push_label-3.new.text.items =
     rw (← c.setup.view_is)
     (together (products_in_pieces _)
