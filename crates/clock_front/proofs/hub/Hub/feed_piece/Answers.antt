@@ -23,7 +23,7 @@ returns-in-Some-clause-fed g c = rw (← c.self.view_is) (λ text is.
     let framed = c.in-Some.ensures.is text is in (
       c.in-Some.ensures.whole text is,
       record {
-        gone = c.remove-answered.ensures.gone;
+        gone = search rules;
         answered = c.answer_framed-reply.ensures.answered joined framed;
         private = c.answer_framed-reply.ensures.private joined framed;
         setup = c.answer_framed-reply.ensures.setup;
