@@ -3,8 +3,8 @@
 ghost use Rattle.std.specs.Prelude.{◌≡◌, ◌≤◌, ◌+◌, ℕ, Bool, length, IfOk};
 ghost use Rattle.serde_json.specs.Written.{compact_text};
 ghost use Rattle.clock_terms.specs.Limits.{IsProduct, PublicSetup, public_setup};
-ghost use Rattle.clock_views.specs.PublicPages.{status_value, status_bytes, line_value, sheet_value, products_value, product_value, from_version_2 as number_from_version_2};
-ghost use Rattle.clock_views.specs.inside.Rooms.{room_of_product, room_of_line};
+ghost use Rattle.clock_views.specs.PublicPages.{status_value, status_bytes, sheet_value, products_value, product_value, from_version_2 as number_from_version_2};
+ghost use Rattle.clock_views.specs.inside.Rooms.{room_of_product};
 ghost use Rattle.clock_views.specs.PageRooms.{room_of_status, room_of_sheet};
 ghost use Rattle.clock_views.specs.Rooms.{most_text};
 ghost use Rattle.clock_views.specs.Values.{IsPage, Adds};
@@ -142,26 +142,17 @@ pub fn push_sheet_page(text: &mut Bounded<u8>, setup: &Setup, sheet: &RoundSheet
     push_truth(text, b"{\"ended\":", sheet.ended);
     push_label(text, b",\"products\":[");
     for (i, line) in sheet.lines.iter().enumerate() {
-        push_line(text, i > 0, &setup.products[i], line);
+        let product = &setup.products[i];
+        push_comma_if(text, i > 0);
+        push_number(text, b"{\"clock\":", line.clock.get());
+        push_number_or_null(text, b",\"demand\":", line.demand);
+        push_name(text, b",\"name\":", product.name.as_slice());
+        push_number_or_null(text, b",\"next\":", line.next);
+        push_number(text, b",\"posted\":", line.posted.get());
+        push_number(text, b",\"start\":", line.start.get());
+        push_label(text, b"}");
     }
     push_number(text, b"],\"round\":", sheet.round);
-    push_label(text, b"}");
-}
-
-/// Adds the line of a product, behind a comma where it is not the first.
-fn push_line(text: &mut Bounded<u8>, later: bool, product: &Product, line: &Line)
-    requires limits { IsProduct product.now }
-    requires room { room_of_line ≤ text.old.room }
-    ensures adds { Adds (item_text later (line_value product.now line.now)) text.old.items text.new.items }
-    ensures room { text.old.room ≤ text.new.room + room_of_line }
-{
-    push_comma_if(text, later);
-    push_number(text, b"{\"clock\":", line.clock.get());
-    push_number_or_null(text, b",\"demand\":", line.demand);
-    push_name(text, b",\"name\":", product.name.as_slice());
-    push_number_or_null(text, b",\"next\":", line.next);
-    push_number(text, b",\"posted\":", line.posted.get());
-    push_number(text, b",\"start\":", line.start.get());
     push_label(text, b"}");
 }
 
