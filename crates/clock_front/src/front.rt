@@ -1,5 +1,5 @@
 ghost use Rattle.std.specs.Prelude.{◌≡◌, ◌⊎◌, ℕ, List, true, [], length, IfOk, IfErr, IsOk, OnOk, OnErr};
-ghost use Rattle.clock_house.specs.House.{IsFollowedBy, StandsStill};
+ghost use Rattle.clock_house.specs.House.{HouseFields, IsFollowedBy, StandsStill};
 ghost use Rattle.clock_http.specs.declared.code.Code.{Code as ReplyCode};
 ghost use Rattle.clock_front.specs.Askers.{asker as asker_with};
 ghost use Rattle.clock_front.specs.inside.Askers.{IsKnown};
@@ -11,6 +11,8 @@ ghost use Rattle.clock_front.specs.Private.{IsPrivateReply};
 ghost use Rattle.clock_front.specs.inside.Private.{IsToldAsker};
 ghost use Rattle.clock_front.specs.Requests.{request_of};
 ghost use Rattle.clock_http.specs.Shown.{IsFramed, Knows, shown_framing};
+ghost use Rattle.clock_front.specs.inside.HeldTokens.{IsTableOf};
+ghost use Rattle.clock_front.specs.inside.KeptPage.{IsProductsPage};
 ghost use Rattle.clock_front.specs.inside.ShownAsked.{shown_asked};
 
 mod asked;
@@ -52,10 +54,6 @@ pub struct Front<P> {
 }
 
 impl<P> Model for Front<P> {
-    ghost use Rattle.clock_house.specs.House.{HouseFields};
-    ghost use Rattle.clock_front.specs.inside.HeldTokens.{IsTableOf};
-    ghost use Rattle.clock_front.specs.inside.KeptPage.{IsProductsPage};
-
     ghost Value = { HouseFields };
 
     ghost view = { λ f. f.house };

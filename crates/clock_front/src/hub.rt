@@ -1,8 +1,9 @@
-ghost use Rattle.std.specs.Prelude.{◌≡◌, ◌++◌, ℕ, true, List, [], Some, IfNone, IfOk, IfErr, IfSome, OnErr, OnOk, IsSome};
+ghost use Rattle.std.specs.Prelude.{◌≡◌, ◌++◌, ℕ, true, List, [], Some, IfOk, IfErr, OnErr, OnOk, IsSome};
 ghost use Rattle.clock_front.specs.Fronts.{IsCutShort};
 ghost use Rattle.clock_http.specs.Framing.{needs_more};
+ghost use Rattle.clock_connections.specs.inside.Waiting.{AllNeedMore};
 ghost use Rattle.clock_connections.specs.Connections.{text_of, IsConnected, IsConnectFault};
-ghost use Rattle.clock_front.specs.Hubs.{IsFed, IsFeedFault, IsAnswered, IsFinishFault};
+ghost use Rattle.clock_front.specs.Hubs.{HubFields, IsFed, IsFeedFault, IsAnswered, IsFinishFault};
 ghost use Rattle.clock_front.specs.inside.Hubs.{hub_of};
 
 use crate::front::Front;
@@ -33,9 +34,6 @@ pub struct Hub<P> {
 }
 
 impl<P> Model for Hub<P> {
-    ghost use Rattle.clock_front.specs.Hubs.{HubFields};
-    ghost use Rattle.clock_connections.specs.inside.Waiting.{AllNeedMore};
-
     ghost Value = { HubFields };
 
     ghost view = { λ h. record { house = h.front; connections = h.connections } };
@@ -54,27 +52,6 @@ fn complete<P: Processor>(front: &mut Front<P>, connections: &mut Connections, c
 {
     let request = connections.remove(conn);
     front.answer_framed(request.framing())
-}
-
-/// Answers the request of a connection of which the head alone has come, with a piece that has its whole body: nothing
-/// of it is kept, and the connection is gone. None where more has come, or more is awaited.
-fn complete_with<P: Processor>(
-    front: &mut Front<P>,
-    connections: &mut Connections,
-    conn: Conn,
-    piece: &[u8],
-) -> Option<Reply>
-    requires { IsSome (text_of connections.old conn) }
-    ensures fed { (text : List ℕ) → text_of connections.old conn ≡ Some text
-        → IfSome result (λ reply. IsFed (hub_of front.old connections.old) (hub_of front.new connections.new) conn
-        (text ++ piece.now) (Fed.Reply reply)) }
-    ensures front { IfNone result (front.new ≡ front.old) }
-    ensures connections { IfNone result (connections.new ≡ connections.old) }
-{
-    let framing = connections.framing_with(conn, piece)?;
-    let reply = front.answer_framed(framing);
-    let _answered = connections.remove(conn);
-    Some(reply)
 }
 
 impl<P: Processor> Hub<P> {
@@ -113,7 +90,8 @@ impl<P: Processor> Hub<P> {
         Ok(Fed::Reply(complete(&mut self.front, &mut self.connections, conn)))
     }
 
-    /// The same of a piece that is not one byte. It stands apart, so that what a single byte costs stays small.
+    /// The same of a piece that is not one byte. It stands apart, so that what a single byte costs stays small. A piece
+    /// with the whole body of a request of which the head alone has come is answered as it stands, and not kept.
     #[inline(never)]
     fn feed_piece(&mut self, conn: Conn, piece: &[u8]) -> Result<Fed, NoMemory>
         requires { IsSome (text_of self.old.connections conn) }
@@ -121,10 +99,12 @@ impl<P: Processor> Hub<P> {
             → IfOk result (IsFed self.old self.new conn (text ++ piece.now)) }
         ensures still { OnErr result (self.new ≡ self.old) }
     {
-        match complete_with(&mut self.front, &mut self.connections, conn, piece) {
-            Some(reply) => Ok(Fed::Reply(reply)),
-            None => self.feed_on(conn, piece),
+        if let Some(framing) = self.connections.framing_with(conn, piece) {
+            let reply = self.front.answer_framed(framing);
+            let _answered = self.connections.remove(conn);
+            return Ok(Fed::Reply(reply));
         }
+        self.feed_on(conn, piece)
     }
 
     /// Takes a piece of a request: it needs more, or its reply is told, as [`Front::answer`] gives it. Where there is

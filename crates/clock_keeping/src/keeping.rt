@@ -53,10 +53,8 @@ pub fn answer_and_keep<P: Processor, D: Durable>(
     if text.len() > MOST_TEXT {
         return Err(Failed);
     }
-    match journal.append(text) {
-        Ok(()) => Ok(reply),
-        Err(failed) => Err(failed),
-    }
+    journal.append(text)?;
+    Ok(reply)
 }
 
 /// A law, which does nothing when it runs: a request by GET changes nothing, so it is not kept.

@@ -1,4 +1,5 @@
 ghost use Rattle.std.specs.Prelude.{◌≡◌, [], List, ℕ, MatchResult, drop, length};
+ghost use Rattle.clock_terms.specs.Limits.{SetupFields};
 ghost use Rattle.clock_front.specs.Fronts.{StandsForTexts};
 ghost use Rattle.clock_journal.specs.Crash.{LeavesTexts};
 ghost use Rattle.clock_journal.specs.Recovering.{IsRefusal, IsRefusedRightly, IsUntaken};
@@ -17,8 +18,6 @@ pub struct Auction<P> {
 }
 
 impl<P: Processor> Machine for Auction<P> {
-    ghost use Rattle.clock_terms.specs.Limits.{SetupFields};
-
     ghost Rules = { SetupFields };
 
     ghost rules = { λ auction. auction.front.setup };

@@ -1,7 +1,8 @@
 //! The report of an auction, of its rounds so far.
 
 ghost use Rattle.std.specs.Prelude.{◌≡◌, ◌<◌, ◌≤◌, Some, length, map, reverse, slice_get, All, IfOk};
-ghost use Rattle.clock_reports.specs.inside.Reports.{IsPricedLine};
+ghost use Rattle.clock_reports.specs.Reports.{ReportFields};
+ghost use Rattle.clock_reports.specs.inside.Reports.{IsPricedLine, IsReport};
 ghost use Rattle.clock_reports.specs.FinalReport as rules;
 
 use clock_device::{Items, NoMemory};
@@ -28,9 +29,6 @@ pub struct Report {
 }
 
 impl Model for Report {
-    ghost use Rattle.clock_reports.specs.Reports.{ReportFields};
-    ghost use Rattle.clock_reports.specs.inside.Reports.{IsReport};
-
     ghost Value = { ReportFields };
 
     ghost view = { λ r. record { setup = r.setup; sheets = r.sheets; grid = r.grid } };

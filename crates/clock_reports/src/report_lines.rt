@@ -1,9 +1,8 @@
 //! The texts of reports: of a replay, of an auction itself, and of an audit.
 
-ghost use Rattle.std.specs.Prelude.{◌≡◌, ◌≤◌, ◌++◌, ℕ, All, IfOk, OnOk, length, decimal, codes, zip, true};
+ghost use Rattle.std.specs.Prelude.{◌≡◌, ◌≤◌, ◌++◌, All, IfOk, OnOk, length, decimal, codes, zip, true};
 ghost use Rattle.std.specs.List.{flat_map};
 ghost use Rattle.clock_terms.specs.Limits.{IsRow, most_products, most_supply};
-ghost use Rattle.clock_reports.specs.inside.Reports.{IsReport};
 ghost use Rattle.clock_reports.specs.inside.WonLines.{none_held};
 ghost use Rattle.clock_house.specs.House.{standing_in};
 ghost use Rattle.clock_reports.specs.ReportText as words;
@@ -13,7 +12,7 @@ use crate::report::{Report, sheet_at};
 use clock_device::{NoMemory, Text};
 use clock_house::House;
 use clock_posting::{Line, with_sheet_lines};
-use clock_terms::{Bidder, Grid, Row, Setup};
+use clock_terms::{Grid, Row, Setup};
 use std::alloc::Global;
 
 /// The text of a report: the lines of each round's sheet, by rising round, then for each bidder the line
@@ -60,20 +59,11 @@ fn payment(lines: &[Line], demands: &Row) -> u64
 fn none_held_text(alloc: Global, products: usize) -> Result<Text, NoMemory>
     ensures { IfOk result (λ text. text ≡ none_held products) }
 {
-    let room = Vec::with_capacity(alloc, products.saturating_mul(2))?;
-    let mut text = Text::from_vec(room);
+    let mut text = Text::from_vec(Vec::with_capacity(alloc, products.saturating_mul(2))?);
     for _product in 0..products {
         text.extend_from_slice(b"0 ")?;
     }
     Ok(text)
-}
-
-/// Adds the demands for so many products of which none is held, out of the text of as many or more.
-fn push_none_held(text: &mut Text, none: &[u8], products: usize) -> Result<(), NoMemory>
-    requires { (many : ℕ) × (products ≤ many) × (none.now ≡ none_held many) }
-    ensures { OnOk result (text.new ≡ text.old ++ none_held products) }
-{
-    text.extend_from_slice(&none[..2 * products])
 }
 
 /// Adds demands by product, each with a space behind it. Nothing is looked at but what is held; the others are copied
@@ -86,34 +76,12 @@ fn push_demands(text: &mut Text, none: &[u8], demands: &Row) -> Result<(), NoMem
     let mut held = demands.held();
     let mut from = 0;
     'held: while let Some(one) = held.next() {
-        push_none_held(text, none, one.product - from)?;
+        text.extend_from_slice(&none[..2 * (one.product - from)])?;
         text.push_number(one.demand)?;
         text.push(b' ')?;
         from = one.product + 1;
     }
-    push_none_held(text, none, products - from)
-}
-
-/// Adds the line of a bidder.
-fn push_won(
-    text: &mut Text,
-    none: &[u8],
-    lines: &[Line],
-    bidder: &Bidder,
-    demands: &Row,
-) -> Result<(), NoMemory>
-    requires none { none.now ≡ none_held (length demands.now) }
-    requires each { length demands.now ≡ length lines.now }
-    requires few { length lines.now ≤ most_products }
-    requires small { All (λ demand. demand ≤ most_supply) demands.now }
-    ensures { OnOk result (text.new ≡ text.old ++ words.won_text lines.now (bidder.now, demands.now)) }
-{
-    text.extend_from_slice(b"won ")?;
-    text.extend_from_slice(bidder.name.as_slice())?;
-    text.push(b' ')?;
-    push_demands(text, none, demands)?;
-    text.push_number(payment(lines, demands))?;
-    text.push(b'\n')
+    text.extend_from_slice(&none[..2 * (products - from)])
 }
 
 /// Adds the lines of a set-up's bidders. There is a line for each product, and a row of the grid for each bidder.
@@ -132,7 +100,13 @@ fn push_wins(
 {
     let none = none_held_text(alloc, lines.len())?;
     for (number, bidder) in setup.bidders.iter().enumerate() {
-        push_won(text, none.as_slice(), lines, bidder, grid.row(number))?;
+        let demands = grid.row(number);
+        text.extend_from_slice(b"won ")?;
+        text.extend_from_slice(bidder.name.as_slice())?;
+        text.push(b' ')?;
+        push_demands(text, none.as_slice(), demands)?;
+        text.push_number(payment(lines, demands))?;
+        text.push(b'\n')?;
     }
     Ok(())
 }
@@ -159,7 +133,11 @@ pub fn audit_text(alloc: Global, report: &Report, digests: &[Digits]) -> Result<
     let mut text = Text::new(alloc);
     for (index, sheet) in sheets.iter().enumerate() {
         text = with_sheet_lines(text, &report.setup, sheet)?;
-        push_closed(&mut text, sheet.round, &digests[index])?;
+        text.extend_from_slice(b"closed ")?;
+        text.push_number(sheet.round)?;
+        text.push(b' ')?;
+        text.extend_from_slice(&digests[index])?;
+        text.push(b'\n')?;
     }
     let last = &sheets[sheets.len() - 1];
     if !last.ended {
@@ -168,17 +146,6 @@ pub fn audit_text(alloc: Global, report: &Report, digests: &[Digits]) -> Result<
     let lines = last.lines.as_slice();
     push_wins(alloc, &mut text, &report.setup, lines, &report.grid)?;
     Ok(text)
-}
-
-/// Adds the line of a closing, with its digest.
-fn push_closed(text: &mut Text, round: u64, digest: &Digits) -> Result<(), NoMemory>
-    ensures { OnOk result (text.new ≡ text.old ++ codes "closed " ++ decimal round ++ codes " " ++ digest.now ++ codes "\n") }
-{
-    text.extend_from_slice(b"closed ")?;
-    text.push_number(round)?;
-    text.push(b' ')?;
-    text.extend_from_slice(digest)?;
-    text.push(b'\n')
 }
 
 /// How many bytes a line of a product takes, about.
@@ -192,8 +159,7 @@ pub fn final_text<P>(alloc: Global, house: &House<P>) -> Result<Text, NoMemory>
     let products = house.setup().products.as_slice().len();
     let count = products.saturating_mul(house.closed_rounds() as usize);
     // room is taken at once, about: a long text that grows is copied, and both stand in memory
-    let room = Vec::with_capacity(alloc, count.saturating_mul(LINE_ROOM))?;
-    let mut text = Text::from_vec(room);
+    let mut text = Text::from_vec(Vec::with_capacity(alloc, count.saturating_mul(LINE_ROOM))?);
     for round in 0..house.closed_rounds() {
         text = with_sheet_lines(text, house.setup(), sheet_at(house, round))?;
     }

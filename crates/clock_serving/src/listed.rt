@@ -1,8 +1,9 @@
-ghost use Rattle.std.specs.Prelude.{◌≡◌, [], IfOk, Some, map, true, false};
+ghost use Rattle.std.specs.Prelude.{◌≡◌, ◌≤◌, ◌+◌, [], drop, length, map, IfOk, MatchBool, Some, true, false};
 ghost use Rattle.clock_device.specs.Told.{unread, unused};
 ghost use Rattle.clock_device.specs.SourceState.{source_told};
 ghost use Rattle.clock_device.specs.SinkState.{sink_told};
 ghost use Rattle.clock_serving.specs.Exchanges.{Closes, Exchange};
+ghost use Rattle.clock_serving.specs.Listed.{ListedState};
 
 use crate::acceptor::{Acceptor, Connection};
 use clock_device::{Bounded, Failed, ListSink, ListSource, NoMemory, Stop};
@@ -62,9 +63,6 @@ pub struct Listed<'a> {
 }
 
 impl<'a> Model for Listed<'a> {
-    ghost use Rattle.std.specs.Prelude.{◌≤◌, ◌+◌, drop, length, map, MatchBool};
-    ghost use Rattle.clock_serving.specs.Listed.{ListedState};
-
     ghost Value = { ListedState };
 
     ghost view = { λ l. record {
@@ -129,12 +127,8 @@ impl<'a> Acceptor for Listed<'a> {
             self.has_failed = true;
             return Err(Failed);
         };
-        let Ok(sink) = ListSink::new(
-            self.alloc,
-            client.room,
-            client.write.max(1),
-            client.write_stop,
-        ) else {
+        let write = client.write.max(1);
+        let Ok(sink) = ListSink::new(self.alloc, client.room, write, client.write_stop) else {
             self.has_failed = true;
             return Err(Failed);
         };

@@ -93,11 +93,6 @@ pub fn serve_on<P: Processor>(
     ensures kept { result ≢ Err JournalFault }
     ensures setup { front.new.setup ≡ front.old.setup }
 {
-    serve_all(
-        alloc,
-        front,
-        &mut Unkept,
-        &mut Listening::new(listener),
-        connections,
-    )
+    let mut port = Listening::new(listener);
+    serve_all(alloc, front, &mut Unkept, &mut port, connections)
 }

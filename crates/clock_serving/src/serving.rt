@@ -58,16 +58,6 @@ fn serve_one<P: Processor, K: Keeper, R: Source, W: Sink>(
     Ok(())
 }
 
-/// Tells of a round that was closed since.
-fn tell_closing<K: Keeper>(keeper: &mut K, before: u64, after: u64)
-    ensures kept { K.journal keeper.new ≡ K.journal keeper.old }
-    ensures told { GrowsBy (K.told keeper.old) (K.told keeper.new) (round_if before after) }
-{
-    if before < after {
-        keeper.round_closed(after);
-    }
-}
-
 /// Takes the next connection, serves it and closes it.
 fn serve_next<P: Processor, K: Keeper, C: Acceptor>(
     alloc: Global,
@@ -95,13 +85,14 @@ fn serve_next<P: Processor, K: Keeper, C: Acceptor>(
     let before = front.house().closed_rounds();
     let kept = serve_one(alloc, front, keeper, &mut one.source, &mut one.sink);
     connections.close(one);
-    match kept {
-        Ok(()) => {
-            tell_closing(keeper, before, front.house().closed_rounds());
-            Ok(())
-        }
-        Err(Failed) => Err(ServeFault::Journal),
+    if let Err(Failed) = kept {
+        return Err(ServeFault::Journal);
     }
+    let after = front.house().closed_rounds();
+    if before < after {
+        keeper.round_closed(after);
+    }
+    Ok(())
 }
 
 /// Serves so many connections, one after the other, with one request each. A fault of a stream ends its connection
@@ -129,9 +120,7 @@ pub fn serve_all<P: Processor, K: Keeper, C: Acceptor>(
 {
     front.house().law_of_house();
     for _connection in 0..count {
-        if let Err(fault) = serve_next(alloc, front, keeper, connections) {
-            return Err(fault);
-        }
+        serve_next(alloc, front, keeper, connections)?;
     }
     Ok(())
 }

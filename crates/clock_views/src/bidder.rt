@@ -10,7 +10,6 @@ ghost use Rattle.clock_views.specs.PageRooms.{room_of_account, room_around_bids,
 ghost use Rattle.clock_views.specs.Rooms.{most_text};
 ghost use Rattle.clock_views.specs.Values.{list_of, IsPage, Adds};
 ghost use Rattle.clock_views.specs.inside.Rooms.{room_of_bid, room_of_array};
-ghost use Rattle.clock_views.specs.inside.Values.{item_text};
 
 use crate::pieces::{
     ITEM_ROOM, page_with_room, push_comma_if, push_demands, push_label, push_name, push_number,
@@ -79,11 +78,8 @@ pub fn push_account_page(text: &mut Bounded<u8>, setup: &Setup, bidder: u32, own
         (record { eligibility = own.entry.eligibility; demands = own.entry.demands.now }) ended)) text.old.items
         text.new.items }
 {
-    push_number(
-        text,
-        b"{\"activity\":",
-        units_held(setup.products.as_slice(), own.demands),
-    );
+    let activity = units_held(setup.products.as_slice(), own.demands);
+    push_number(text, b"{\"activity\":", activity);
     push_demands(text, b",\"demands\":", own.demands.held());
     push_number(text, b",\"eligibility\":", own.eligibility);
     push_truth(text, b",\"ended\":", ended);
@@ -131,21 +127,12 @@ pub fn push_bids_page(text: &mut Bounded<u8>, round: u64, sheet: Option<&Sheet>)
     ensures { Adds (compact_text (bids_value round (option_copied sheet.entry))) text.old.items text.new.items }
 {
     push_label(text, b"{\"bids\":");
-    push_sheet_or_null(text, sheet);
-    push_number(text, b",\"round\":", round);
-    push_label(text, b"}");
-}
-
-/// Adds the array of a sheet's bids, or null where there is no sheet.
-fn push_sheet_or_null(text: &mut Bounded<u8>, sheet: Option<&Sheet>)
-    requires { most_text (sheet_or_null (option_copied sheet)) ≤ text.old.room }
-    ensures adds { Adds (compact_text (sheet_or_null (option_copied sheet.entry))) text.old.items text.new.items }
-    ensures room { text.old.room ≤ text.new.room + most_text (sheet_or_null (option_copied sheet.entry)) }
-{
     match sheet {
         Some(sheet) => push_bids(text, sheet.bids()),
         None => push_label(text, b"null"),
     }
+    push_number(text, b",\"round\":", round);
+    push_label(text, b"}");
 }
 
 /// Adds the array of some bids.
@@ -156,22 +143,13 @@ fn push_bids(text: &mut Bounded<u8>, bids: &[Bid])
 {
     text.push(b'[');
     for (i, bid) in bids.iter().enumerate() {
-        push_bid(text, i > 0, bid);
+        push_comma_if(text, i > 0);
+        push_number(text, b"{\"price\":", bid.price);
+        push_number(text, b",\"product\":", bid.product);
+        push_number(text, b",\"quantity\":", bid.quantity);
+        push_label(text, b"}");
     }
     text.push(b']');
-}
-
-/// Adds a bid, behind a comma where it is not the first.
-fn push_bid(text: &mut Bounded<u8>, later: bool, bid: &Bid)
-    requires { room_of_bid ≤ text.old.room }
-    ensures adds { Adds (item_text later (bid_value bid.now)) text.old.items text.new.items }
-    ensures room { text.old.room ≤ text.new.room + room_of_bid }
-{
-    push_comma_if(text, later);
-    push_number(text, b"{\"price\":", bid.price);
-    push_number(text, b",\"product\":", bid.product);
-    push_number(text, b",\"quantity\":", bid.quantity);
-    push_label(text, b"}");
 }
 
 /// What answers a sheet that was accepted: how many bids it has, and the current round.

@@ -1,15 +1,12 @@
 //! The pages of the operator.
 
-ghost use Rattle.std.specs.Prelude.{◌≡◌, ◌≤◌, ◌<◌, ◌+◌, ℕ, Bool, nat_lt, length, IfOk};
+ghost use Rattle.std.specs.Prelude.{◌≡◌, ◌≤◌, ◌<◌, ◌+◌, ℕ, Bool, length, IfOk};
 ghost use Rattle.std.specs.List.{range_with_len};
 ghost use Rattle.serde_json.specs.Written.{compact_text};
-ghost use Rattle.clock_house.specs.House.{holding_in};
 ghost use Rattle.clock_views.specs.OperatorPages.{closed_value, closed_bytes, results_value, result_in};
 ghost use Rattle.clock_views.specs.PageRooms.{room_of_closed, room_around_results};
 ghost use Rattle.clock_views.specs.Rooms.{most_text};
 ghost use Rattle.clock_views.specs.Values.{list_of, IsPage, Adds};
-ghost use Rattle.clock_views.specs.inside.Rooms.{room_of_result};
-ghost use Rattle.clock_views.specs.inside.Values.{item_text};
 
 use crate::bidder::name_of;
 use crate::pieces::{
@@ -93,41 +90,17 @@ pub fn push_results_page<P>(text: &mut Bounded<u8>, house: &House<P>)
         (range_with_len 0 (length house.now.setup.bidders))) ≤ text.old.room }
     ensures { Adds (compact_text (results_value house.now)) text.old.items text.new.items }
 {
-    push_label(text, b"{\"bidders\":");
-    push_results(text, house);
-    push_truth(text, b",\"ended\":", house.ended());
-    push_number(text, b",\"round\":", house.round());
-    push_label(text, b"}");
-}
-
-/// Adds the array of what each bidder holds.
-fn push_results<P>(text: &mut Bounded<u8>, house: &House<P>)
-    requires { most_text (list_of (result_in house.now) (range_with_len 0 (length house.now.setup.bidders)))
-        ≤ text.old.room }
-    ensures adds { Adds (compact_text (list_of (result_in house.now)
-        (range_with_len 0 (length house.now.setup.bidders)))) text.old.items text.new.items }
-    ensures room { text.old.room ≤ text.new.room + most_text (list_of (result_in house.now)
-        (range_with_len 0 (length house.now.setup.bidders))) }
-{
-    text.push(b'[');
+    push_label(text, b"{\"bidders\":[");
     for bidder in 0..bidder_count(house.setup()) {
-        push_result(text, house, bidder);
+        let own = house.own(bidder);
+        push_comma_if(text, bidder > 0);
+        push_demands(text, b"{\"demands\":", own.demands.held());
+        push_number(text, b",\"eligibility\":", own.eligibility);
+        push_name(text, b",\"name\":", name_of(house.setup(), bidder));
+        push_label(text, b"}");
     }
-    text.push(b']');
-}
-
-/// Adds what a bidder holds, behind a comma where it is not the first bidder.
-fn push_result<P>(text: &mut Bounded<u8>, house: &House<P>, bidder: u32)
-    requires bidder { bidder < length house.now.setup.bidders }
-    requires room { room_of_result (length (holding_in house.now bidder).demands) ≤ text.old.room }
-    ensures adds { Adds (item_text (nat_lt 0 bidder) (result_in house.now bidder)) text.old.items text.new.items }
-    ensures room { text.old.room ≤ text.new.room + room_of_result (length (holding_in house.now bidder).demands) }
-{
-    let own = house.own(bidder);
-    push_comma_if(text, bidder > 0);
-    push_demands(text, b"{\"demands\":", own.demands.held());
-    push_number(text, b",\"eligibility\":", own.eligibility);
-    push_name(text, b",\"name\":", name_of(house.setup(), bidder));
+    push_truth(text, b"],\"ended\":", house.ended());
+    push_number(text, b",\"round\":", house.round());
     push_label(text, b"}");
 }
 

@@ -20,10 +20,7 @@ pub(crate) const ITEM_ROOM: u128 = 21;
 pub(crate) fn page_with_room(alloc: Global, bytes: u128) -> Result<Bounded<u8>, NoMemory>
     ensures { IfOk result (λ text. text ≡ record { items = []; room = bytes }) }
 {
-    match usize::try_from(bytes) {
-        Ok(bytes) => Text::with_capacity(alloc, bytes),
-        Err(_) => Err(NoMemory),
-    }
+    Text::with_capacity(alloc, usize::try_from(bytes).or(Err(NoMemory))?)
 }
 
 /// Adds a label, as `{"bids":`, or a closing bracket.
@@ -62,12 +59,10 @@ pub(crate) fn push_number_or_null(text: &mut Bounded<u8>, label: &[u8], number: 
     ensures adds { Adds (label.now ++ compact_text (whole_or_null number)) text.old.items text.new.items }
     ensures room { text.old.room ≤ text.new.room + (length label.now + room_of_number) }
 {
+    text.extend_from_slice(label);
     match number {
-        Some(number) => push_number(text, label, number),
-        None => {
-            text.extend_from_slice(label);
-            text.extend_from_slice(b"null");
-        }
+        Some(number) => text.push_number(number),
+        None => text.extend_from_slice(b"null"),
     }
 }
 
@@ -78,11 +73,8 @@ pub(crate) fn push_truth(text: &mut Bounded<u8>, label: &[u8], truth: bool)
     ensures room { text.old.room ≤ text.new.room + (length label.now + room_of_truth) }
 {
     text.extend_from_slice(label);
-    if truth {
-        text.extend_from_slice(b"true");
-    } else {
-        text.extend_from_slice(b"false");
-    }
+    let word = if truth { "true" } else { "false" };
+    text.extend_from_slice(word.as_bytes());
 }
 
 /// Adds a label and the name behind it, in quotes. A name has no character that JSON escapes.

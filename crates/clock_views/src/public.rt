@@ -1,13 +1,13 @@
 //! The pages that everyone may see. Their texts are functions of what is public of a set-up.
 
-ghost use Rattle.std.specs.Prelude.{◌≡◌, ◌≤◌, ◌+◌, ℕ, Bool, length, zip, All, IfOk};
+ghost use Rattle.std.specs.Prelude.{◌≡◌, ◌≤◌, ◌+◌, ℕ, Bool, length, IfOk};
 ghost use Rattle.serde_json.specs.Written.{compact_text};
 ghost use Rattle.clock_terms.specs.Limits.{IsProduct, PublicSetup, public_setup};
-ghost use Rattle.clock_views.specs.PublicPages.{status_value, status_bytes, line_value, sheet_value, products_value, product_value, from_version_2 as number_from_version_2};
-ghost use Rattle.clock_views.specs.inside.Rooms.{room_of_product, room_of_array, room_of_offer, room_of_line};
+ghost use Rattle.clock_views.specs.PublicPages.{status_value, status_bytes, sheet_value, products_value, product_value, from_version_2 as number_from_version_2};
+ghost use Rattle.clock_views.specs.inside.Rooms.{room_of_product};
 ghost use Rattle.clock_views.specs.PageRooms.{room_of_status, room_of_sheet};
 ghost use Rattle.clock_views.specs.Rooms.{most_text};
-ghost use Rattle.clock_views.specs.Values.{list_of, IsPage, Adds};
+ghost use Rattle.clock_views.specs.Values.{IsPage, Adds};
 ghost use Rattle.clock_views.specs.inside.Values.{item_text};
 
 use crate::pieces::{
@@ -75,40 +75,21 @@ pub fn push_status_page(text: &mut Bounded<u8>, setup: &Setup, round: u64, ended
 pub fn products_page(alloc: Global, setup: &Setup) -> Result<Text, NoMemory>
     ensures { IfOk result (IsPage (products_value (public_setup setup.now))) }
 {
-    let room = OFFER_ROOM + PRODUCT_ROOM * setup.products.len() as u128;
+    let products = setup.products.as_slice();
+    let room = OFFER_ROOM + PRODUCT_ROOM * products.len() as u128;
     let mut text = page_with_room(alloc, room)?;
-    push_offer(&mut text, setup);
-    Ok(text.into_items())
-}
-
-/// Adds the same page to a text that has room for it.
-fn push_offer(text: &mut Bounded<u8>, setup: &Setup)
-    requires { room_of_offer (length setup.now.products) ≤ text.old.room }
-    ensures { Adds (compact_text (products_value (public_setup setup.now))) text.old.items text.new.items }
-{
     let limit = from_version_2(setup.version, setup.limit);
-    push_label(text, b"{");
-    push_number_if(text, b"\"limit\":", limit);
-    push_comma_if(text, limit.is_some());
-    push_label(text, b"\"products\":");
-    push_products(text, setup.version, setup.products.as_slice());
-    push_number(text, b",\"requirement\":", setup.requirement);
-    push_number(text, b",\"version\":", setup.version);
-    push_label(text, b"}");
-}
-
-/// Adds the array of some products.
-fn push_products(text: &mut Bounded<u8>, version: u64, products: &[Product])
-    requires limits { All IsProduct products.now }
-    requires room { room_of_array room_of_product (length products.now) ≤ text.old.room }
-    ensures adds { Adds (compact_text (list_of (product_value version) products.now)) text.old.items text.new.items }
-    ensures room { text.old.room ≤ text.new.room + room_of_array room_of_product (length products.now) }
-{
-    text.push(b'[');
+    push_label(&mut text, b"{");
+    push_number_if(&mut text, b"\"limit\":", limit);
+    push_comma_if(&mut text, limit.is_some());
+    push_label(&mut text, b"\"products\":[");
     for (i, product) in products.iter().enumerate() {
-        push_product(text, i > 0, version, product);
+        push_product(&mut text, i > 0, setup.version, product);
     }
-    text.push(b']');
+    push_number(&mut text, b"],\"requirement\":", setup.requirement);
+    push_number(&mut text, b",\"version\":", setup.version);
+    push_label(&mut text, b"}");
+    Ok(text.into_items())
 }
 
 /// Adds a product, behind a comma where it is not the first.
@@ -118,13 +99,10 @@ fn push_product(text: &mut Bounded<u8>, later: bool, version: u64, product: &Pro
     ensures adds { Adds (item_text later (product_value version product.now)) text.old.items text.new.items }
     ensures room { text.old.room ≤ text.new.room + room_of_product }
 {
+    let granule = from_version_2(version, product.granule);
     push_comma_if(text, later);
     push_number(text, b"{\"cap\":", product.cap);
-    push_number_if(
-        text,
-        b",\"granule\":",
-        from_version_2(version, product.granule),
-    );
+    push_number_if(text, b",\"granule\":", granule);
     push_name(text, b",\"name\":", product.name.as_slice());
     push_number(text, b",\"opening\":", product.opening.get());
     push_number(text, b",\"supply\":", product.supply);
@@ -162,42 +140,19 @@ pub fn push_sheet_page(text: &mut Bounded<u8>, setup: &Setup, sheet: &RoundSheet
     ensures { Adds (compact_text (sheet_value (public_setup setup.now) sheet.now)) text.old.items text.new.items }
 {
     push_truth(text, b"{\"ended\":", sheet.ended);
-    push_label(text, b",\"products\":");
-    push_lines(text, setup.products.as_slice(), sheet.lines.as_slice());
-    push_number(text, b",\"round\":", sheet.round);
-    push_label(text, b"}");
-}
-
-/// Adds the array of the lines of some products.
-fn push_lines(text: &mut Bounded<u8>, products: &[Product], lines: &[Line])
-    requires limits { All IsProduct products.now }
-    requires each { length lines.now ≡ length products.now }
-    requires room { room_of_array room_of_line (length lines.now) ≤ text.old.room }
-    ensures adds { Adds (compact_text (list_of (λ row. line_value row.0 row.1) (zip products.now lines.now)))
-        text.old.items text.new.items }
-    ensures room { text.old.room ≤ text.new.room + room_of_array room_of_line (length lines.now) }
-{
-    text.push(b'[');
-    for (i, line) in lines.iter().enumerate() {
-        push_line(text, i > 0, &products[i], line);
+    push_label(text, b",\"products\":[");
+    for (i, line) in sheet.lines.iter().enumerate() {
+        let product = &setup.products[i];
+        push_comma_if(text, i > 0);
+        push_number(text, b"{\"clock\":", line.clock.get());
+        push_number_or_null(text, b",\"demand\":", line.demand);
+        push_name(text, b",\"name\":", product.name.as_slice());
+        push_number_or_null(text, b",\"next\":", line.next);
+        push_number(text, b",\"posted\":", line.posted.get());
+        push_number(text, b",\"start\":", line.start.get());
+        push_label(text, b"}");
     }
-    text.push(b']');
-}
-
-/// Adds the line of a product, behind a comma where it is not the first.
-fn push_line(text: &mut Bounded<u8>, later: bool, product: &Product, line: &Line)
-    requires limits { IsProduct product.now }
-    requires room { room_of_line ≤ text.old.room }
-    ensures adds { Adds (item_text later (line_value product.now line.now)) text.old.items text.new.items }
-    ensures room { text.old.room ≤ text.new.room + room_of_line }
-{
-    push_comma_if(text, later);
-    push_number(text, b"{\"clock\":", line.clock.get());
-    push_number_or_null(text, b",\"demand\":", line.demand);
-    push_name(text, b",\"name\":", product.name.as_slice());
-    push_number_or_null(text, b",\"next\":", line.next);
-    push_number(text, b",\"posted\":", line.posted.get());
-    push_number(text, b",\"start\":", line.start.get());
+    push_number(text, b"],\"round\":", sheet.round);
     push_label(text, b"}");
 }
 

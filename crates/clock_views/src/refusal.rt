@@ -3,7 +3,7 @@
 ghost use Rattle.std.specs.Prelude.{◌≡◌, ◌≤◌, IsTrue, IfOk, not};
 ghost use Rattle.serde_json.specs.Written.{compact_text};
 ghost use Rattle.clock_views.specs.RefusalPage.{refusal_value, refusal_bytes};
-ghost use Rattle.clock_views.specs.Refusals.{IsShown, has_place, has_round, is_refusal, shown_bid, shown_tie, shown_put, shown_close, alone as code_alone, at_place as code_at_place, wrong_round as shown_wrong_round};
+ghost use Rattle.clock_views.specs.Refusals.{Shown, IsShown, has_place, has_round, is_refusal, shown_bid, shown_tie, shown_put, shown_close, alone as code_alone, at_place as code_at_place, wrong_round as shown_wrong_round};
 ghost use Rattle.clock_views.specs.Values.{IsPage, Adds};
 
 use crate::pieces::{page_with_room, push_label, push_number, push_number_if};
@@ -31,8 +31,6 @@ pub struct Refusal {
 }
 
 impl Model for Refusal {
-    ghost use Rattle.clock_views.specs.Refusals.{Shown, IsShown};
-
     ghost Value = { Shown };
 
     ghost view = { λ r. record { code = r.code; place = r.place; round = r.round } };

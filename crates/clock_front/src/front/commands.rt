@@ -64,16 +64,11 @@ fn put_sheet<P: Processor>(
 {
     let count = sheet.bids.as_slice().len() as u64;
     match house.prepare_sheet(bidder, sheet.round, sheet.bids) {
-        Ok(prepared) => match accepted(alloc, sheet.round, count) {
-            Ok(reply) => {
-                house.commit_put(prepared);
-                Ok(reply)
-            }
-            Err(refused) => {
-                drop(prepared);
-                Err(refused)
-            }
-        },
+        Ok(prepared) => {
+            let reply = accepted(alloc, sheet.round, count)?;
+            house.commit_put(prepared);
+            Ok(reply)
+        }
         Err(PutFault::NoMemory) => Err(NoMemory),
         Err(fault) => Ok(refusal(alloc, Refusal::from(fault))?),
     }
@@ -125,16 +120,11 @@ fn close_round<P: Processor>(
     ensures still { OnErr result (StandsStill house.old house.new) }
 {
     match house.prepare(closing.round, &closing.increments, closing.ties.as_slice()) {
-        Ok(settled) => match closed(alloc, closing.round, settled.ended()) {
-            Ok(reply) => {
-                house.commit(settled);
-                Ok(reply)
-            }
-            Err(refused) => {
-                drop(settled);
-                Err(refused)
-            }
-        },
+        Ok(settled) => {
+            let reply = closed(alloc, closing.round, settled.ended())?;
+            house.commit(settled);
+            Ok(reply)
+        }
         Err(CloseFault::NoMemory) => Err(NoMemory),
         Err(why) => Ok(refusal(alloc, Refusal::from(why))?),
     }

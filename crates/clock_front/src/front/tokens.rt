@@ -1,13 +1,13 @@
-ghost use Rattle.std.specs.Prelude.{◌≡◌, ◌≤◌, ℕ, List, [], length, IfOk, OnOk, if◌then◌else◌};
+ghost use Rattle.std.specs.Prelude.{◌≡◌, ℕ, List, length, IfOk, OnOk, if◌then◌else◌};
 ghost use Rattle.clock_front.specs.Askers as askers;
 ghost use Rattle.clock_front.specs.inside.Askers.{IsKnown};
-ghost use Rattle.clock_terms.specs.Limits.{SetupFields, most_bidders};
+ghost use Rattle.clock_terms.specs.Limits.{SetupFields};
 ghost use Rattle.clock_front.specs.inside.HeldTokens.{found, IsTableOf};
 ghost use Rattle.clock_http.specs.Heads.{same_bytes};
 ghost use Rattle.clock_http.specs.Shown.{shown_bytes};
 
 use clock_device::NoMemory;
-use clock_terms::{Bidder, Setup};
+use clock_terms::Setup;
 use indexmap::IndexMap;
 use std::alloc::Global;
 
@@ -34,28 +34,17 @@ fn add(alloc: Global, tokens: &mut Tokens, token: &[u8], asker: Asker) -> Result
     Ok(())
 }
 
-/// The bidders' tokens.
-fn add_bidders(alloc: Global, tokens: &mut Tokens, bidders: &[Bidder]) -> Result<(), NoMemory>
-    requires few { length bidders.now ≤ most_bidders }
-    requires empty { (token : List ℕ) → found tokens.old.entries token ≡ askers.holder [] token }
-    ensures { OnOk result ((token : List ℕ) → found tokens.new.entries token
-        ≡ askers.holder (askers.bidder_tokens 0 bidders.now) token) }
-{
-    let mut number = bidders.len();
-    while number > 0 {
-        number -= 1;
-        let token = bidders[number].token.as_slice();
-        add(alloc, tokens, token, Asker::Bidder(number as u32))?;
-    }
-    Ok(())
-}
-
 /// The tokens of a set-up.
 pub(crate) fn tokens_of(alloc: Global, setup: &Setup) -> Result<Tokens, NoMemory>
     ensures { IfOk result (λ tokens. IsTableOf setup.now tokens.entries) }
 {
     let mut tokens = IndexMap::new(alloc);
-    add_bidders(alloc, &mut tokens, setup.bidders.as_slice())?;
+    let mut number = setup.bidders.len();
+    while number > 0 {
+        number -= 1;
+        let token = setup.bidders[number].token.as_slice();
+        add(alloc, &mut tokens, token, Asker::Bidder(number as u32))?;
+    }
     let token = setup.operator.as_slice();
     add(alloc, &mut tokens, token, Asker::Operator)?;
     Ok(tokens)

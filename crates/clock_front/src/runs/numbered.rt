@@ -98,10 +98,7 @@ impl<P: Processor> NumberedHub<P> {
             → IfOk result (HasCompleted (completed numbered event.now) self.old.hub.house self.new.hub.house) }
     {
         match event {
-            Event::Connect => {
-                self.connect()?;
-                Ok(None)
-            }
+            Event::Connect => self.connect().and(Ok(None)),
             Event::Piece(number, piece) => self.feed(*number, piece.as_slice()),
             Event::Finish(number) => Ok(self.finish(*number)),
         }

@@ -3,7 +3,6 @@
 --     room_of_item, room_of_bid, room_of_product, room_of_line, room_of_result demands      of an item, with the comma
 --         before it
 --     room_of_array item count      of an array of so many items
---     room_of_offer products      of the page of so many products
 use Rattle.std.specs.Prelude.{ℕ, ◌+◌, ◌*◌}
 
 -- 20 digits
@@ -33,10 +32,6 @@ room_of_bid = 95
 -- five numbers and a name with their keys, in braces, and the comma before them
 abbrev pub room_of_product : ℕ
 room_of_product = 193
-
--- three numbers and the array with their keys, in braces, and the products
-abbrev pub room_of_offer : ℕ → ℕ
-room_of_offer products = 111 + room_of_product * products
 
 -- five numbers and a name with their keys, in braces, and the comma before them
 abbrev pub room_of_line : ℕ

@@ -30,9 +30,9 @@ append-requires-clause-fits g c = record {
   most = omega arith;
 }
 
-pub returns-in-Ok-clause-kept : goal.returns-in-Ok-clause-kept
-returns-in-Ok-clause-kept g c digest past in_step =
+pub returns-clause-kept : goal.returns-clause-kept
+returns-clause-kept g c digest past in_step =
     kept digest past c.args.text.now c.answer_known-reply.result c.args.front.now c.answer_known-reply.new.self _
-    (c.in-Ok.ensures.kept digest past in_step.has) in_step.stands c.answer_known-reply.ensures.answered
+    (c.in_ok-append.ensures.kept digest past in_step.has) in_step.stands c.answer_known-reply.ensures.answered
     (sym c.code.ensures ∙ differs_false the_type (search rules) _ _ (sym c.ne.ensures ∙ c.if-ne.false))
     (sym c.is_get.ensures ∙ c.if-is_get.false)

@@ -56,5 +56,11 @@ loop-index-preserved c =
     ) in
     let lines : c.in_ok-text.text ≡ c.loop-index.text ++ sheet_text products sheet =
     c.in_ok-text.ensures ∙ ap (λ (report : ReportFields). c.loop-index.text ++ sheet_text report.setup.products sheet) view in
+    let digest = get_or c.args.digests.now c.loop-index.index [] in
+    let closed = c.in_ok-push-2.ensures.ok
+    ∙ ap (λ (told : List ℕ). told ++ codes "\n") (c.in_ok-extend_from_slice-2.ensures.ok
+    ∙ ap (λ (told : List ℕ). told ++ digest) (c.in_ok-push.ensures.ok
+    ∙ ap (λ (told : List ℕ). told ++ codes " ") (c.in_ok-push_number.ensures.ok
+    ∙ ap (λ (told : List ℕ). told ++ decimal sheet.round) c.in_ok-extend_from_slice.ensures.ok))) in
     next_round products sheets.result.now c.args.digests.now c.loop-index.index _ _ _ sheet c.loop-index-test.true within c.index-sheets-index.is
-    (audited _ _ _ products sheet _ lines c.in_ok-push_closed.ensures) c.loop-index.invariant
+    (audited _ _ _ products sheet digest lines closed) c.loop-index.invariant

@@ -21,7 +21,7 @@ sheet_count house = length-map (reverse house.closed) (λ (closed : ClosedRound)
 pub loop-round-init : goal.loop-round-init
 loop-round-init g c =
     let house = c.args.house.now in
-    ap (λ (text : List ℕ). text ++ flat_map (sheet_text house.setup.products) (sheets_in house)) (c.from_vec-text.ensures ∙ c.in_ok-room.ensures.items)
+    ap (λ (text : List ℕ). text ++ flat_map (sheet_text house.setup.products) (sheets_in house)) (c.from_vec-text.ensures ∙ c.in_ok-with_capacity.ensures.items)
 
 pub loop-round-preserved : goal.loop-round-preserved
 loop-round-preserved g c =

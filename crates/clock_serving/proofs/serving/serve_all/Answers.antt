@@ -1,4 +1,5 @@
 use Rattle.std.proofs.Common.{◌≡◌, [], refl, subst, ◌∙◌}
+use Rattle.std.proofs.lemmas.Result.{err_from_is_err_and}
 use Rattle.clock_terms.specs.Limits.{IsSetup}
 use Rattle.clock_house.specs.House.{HouseFields}
 use Rattle.clock_serving.proofs.Walking.{came_none, grown_none}
@@ -25,17 +26,19 @@ loop-connection-init g c = record {
   setup = refl;
 }
 
-pub returns-in-Err-clause-served : goal.returns-in-Err-clause-served
-returns-in-Err-clause-served g c =
+pub returns-in_err-serve_next-clause-served : goal.returns-in_err-serve_next-clause-served
+returns-in_err-serve_next-clause-served g c =
     let coming = g.C.Acceptor.coming in
     let closed = g.C.Acceptor.closed in
     let journal = g.K.Keeper.journal in
     let told = g.K.Keeper.told in
     let loop = c.loop-connection in
-    ends_by loop._connection (coming c.args.connections.now) (coming loop.connections) (coming c.serve_next.new.connections) (closed c.args.connections.now) (closed loop.connections) (closed c.serve_next.new.connections)
+    let fault = err_from_is_err_and c.from_residual.result c.from_residual.ensures.1 in
+    rw (fault.1, fault.2)
+    (ends_by loop._connection (coming c.args.connections.now) (coming loop.connections) (coming c.serve_next.new.connections) (closed c.args.connections.now) (closed loop.connections) (closed c.serve_next.new.connections)
     (told c.args.keeper.now) (told loop.keeper) (told c.serve_next.new.keeper) (journal c.args.keeper.now) (journal loop.keeper) (journal c.serve_next.new.keeper) c.args.front.now loop.front c.serve_next.new.front
     (limits_of c.house.result.now c.args.front.now c.house.ensures c.law_of_house.ensures.limits) loop.invariant.setup loop.invariant.served
-    c.serve_next.result c.args.count c.in-Err.fault c.loop-connection-test.true c.in-Err.ensures.ends c.in-Err.ensures.told
+    c.serve_next.result c.args.count c.in_err-serve_next.field-0.0 c.loop-connection-test.true c.in_err-serve_next.ensures.ends c.in_err-serve_next.ensures.told)
 
 pub loop-connection-preserved : goal.loop-connection-preserved
 loop-connection-preserved g c =
@@ -48,9 +51,9 @@ loop-connection-preserved g c =
       served = one_more loop._connection (coming c.args.connections.now) (coming loop.connections) (coming c.serve_next.new.connections) (closed c.args.connections.now) (closed loop.connections) (closed c.serve_next.new.connections)
           (told c.args.keeper.now) (told loop.keeper) (told c.serve_next.new.keeper) (journal c.args.keeper.now) (journal loop.keeper) (journal c.serve_next.new.keeper) c.args.front.now loop.front c.serve_next.new.front
           (limits_of c.house.result.now c.args.front.now c.house.ensures c.law_of_house.ensures.limits) loop.invariant.setup loop.invariant.served
-          c.in_default.field-0 c.in_default.ensures.ends c.in_default.ensures.setup c.in_default.ensures.told;
-      unfailed = c.in_default.ensures.unfailed;
-      closed = c.in_default.ensures.closed;
-      taken = c.in_default.ensures.taken;
-      setup = c.in_default.ensures.setup ∙ loop.invariant.setup;
+          c.in_ok-serve_next.field-0 c.in_ok-serve_next.ensures.ends c.in_ok-serve_next.ensures.setup c.in_ok-serve_next.ensures.told;
+      unfailed = c.in_ok-serve_next.ensures.unfailed;
+      closed = c.in_ok-serve_next.ensures.closed;
+      taken = c.in_ok-serve_next.ensures.taken;
+      setup = c.in_ok-serve_next.ensures.setup ∙ loop.invariant.setup;
     }

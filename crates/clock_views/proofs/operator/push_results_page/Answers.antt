@@ -1,11 +1,103 @@
+use Rattle.std.proofs.Common.{◌≡◌, ◌<◌, ◌≤◌, ◌++◌, ◌-◌, ◌∙◌, ap, length, nat_lt, refl, arith}
+use Rattle.std.specs.Prelude.{codes}
+use Rattle.std.specs.List.{range_with_len}
+use Rattle.clock_house.specs.History.{bidder_at}
+use Rattle.clock_house.specs.House.{holding_in}
+use Rattle.clock_views.specs.OperatorPages.{result_in}
+use Rattle.clock_views.specs.inside.Values.{rest_text}
+use Rattle.clock_views.proofs.Lists.{one_number, array_between}
 use Rattle.clock_views.proofs.Pushes.{before, together}
-use Rattle.clock_views.proofs.Texts.{results_in_pieces}
+use Rattle.clock_views.proofs.Rooms.{none_most, result_in_most}
+use Rattle.clock_views.proofs.Texts.{result_in_pieces, results_in_pieces}
 use Rattle.clock_views.proofs.operator.push_results_page.Goals as goal
+
+pub push_demands-requires-clause-room : goal.push_demands-requires-clause-room
+push_demands-requires-clause-room g c =
+    let house = c.args.house.now in
+    let bidders = length house.setup.bidders in
+    let bidder = c.loop-bidder.bidder in
+    let below : bidder < bidders = rw (c.bidder_count-bidder-end.ensures, c.setup.ensures) at c.loop-bidder-test.true in
+    let demands = ap length (c.held.ensures.row ∙ c.own-own.ensures.demands) in
+    let rest = result_in_most house bidder bidders below in
+    omega (arith, c.requires, c.push_label.ensures.room, c.loop-bidder.invariant.room, rest, demands, c.push_comma_if.ensures.room)
+
+pub push_number-requires : goal.push_number-requires
+push_number-requires g c =
+    let house = c.args.house.now in
+    let bidders = length house.setup.bidders in
+    let bidder = c.loop-bidder.bidder in
+    let below : bidder < bidders = rw (c.bidder_count-bidder-end.ensures, c.setup.ensures) at c.loop-bidder-test.true in
+    let demands = ap length (c.held.ensures.row ∙ c.own-own.ensures.demands) in
+    let rest = result_in_most house bidder bidders below in
+    omega (arith, c.requires, c.push_label.ensures.room, c.loop-bidder.invariant.room, rest, demands, c.push_comma_if.ensures.room, c.push_demands.ensures.room)
+
+pub push_name-requires-clause-room : goal.push_name-requires-clause-room
+push_name-requires-clause-room g c =
+    let house = c.args.house.now in
+    let bidders = length house.setup.bidders in
+    let bidder = c.loop-bidder.bidder in
+    let below : bidder < bidders = rw (c.bidder_count-bidder-end.ensures, c.setup.ensures) at c.loop-bidder-test.true in
+    let demands = ap length (c.held.ensures.row ∙ c.own-own.ensures.demands) in
+    let rest = result_in_most house bidder bidders below in
+    omega (arith, c.requires, c.push_label.ensures.room, c.loop-bidder.invariant.room, rest, demands, c.push_comma_if.ensures.room, c.push_demands.ensures.room, c.push_number.ensures.room)
+
+pub push_label-requires-in-loop-bidder : goal.push_label-requires-in-loop-bidder
+push_label-requires-in-loop-bidder g c =
+    let house = c.args.house.now in
+    let bidders = length house.setup.bidders in
+    let bidder = c.loop-bidder.bidder in
+    let below : bidder < bidders = rw (c.bidder_count-bidder-end.ensures, c.setup.ensures) at c.loop-bidder-test.true in
+    let demands = ap length (c.held.ensures.row ∙ c.own-own.ensures.demands) in
+    let rest = result_in_most house bidder bidders below in
+    omega (arith, c.requires, c.push_label.ensures.room, c.loop-bidder.invariant.room, rest, demands, c.push_comma_if.ensures.room, c.push_demands.ensures.room, c.push_number.ensures.room, c.push_name.ensures.room)
+
+pub loop-bidder-preserved : goal.loop-bidder-preserved
+loop-bidder-preserved g c =
+    let house = c.args.house.now in
+    let bidders = length house.setup.bidders in
+    let bidder = c.loop-bidder.bidder in
+    let below : bidder < bidders = rw (c.bidder_count-bidder-end.ensures, c.setup.ensures) at c.loop-bidder-test.true in
+    let demands = ap length (c.held.ensures.row ∙ c.own-own.ensures.demands) in
+    let rest = result_in_most house bidder bidders below in
+    let added =
+    before c.push_comma_if.ensures.adds
+    (together (result_in_pieces (bidder_at house.setup bidder).name (holding_in house bidder))
+    (before (rw (c.held.ensures.row, c.own-own.ensures.demands) at c.push_demands.ensures.adds)
+    (before (rw c.own-own.ensures.eligibility at c.push_number.ensures.adds)
+    (before (rw (c.name_of.ensures.value, c.setup-in-loop-bidder.ensures) at c.push_name.ensures.adds) c.push_label-in-loop-bidder.ensures.adds)))) in
+    record {
+      adds = one_number (result_in house) c.loop-bidder.text.items c.push_label-in-loop-bidder.new.text.items bidder bidders below added
+          ∙ c.loop-bidder.invariant.adds;
+      room = omega (
+        arith,
+        c.loop-bidder.invariant.room,
+        rest,
+        demands,
+        c.push_comma_if.ensures.room,
+        c.push_demands.ensures.room,
+        c.push_number.ensures.room,
+        c.push_name.ensures.room,
+        c.push_label-in-loop-bidder.ensures.room,
+      );
+    }
+
+pub push_truth-requires : goal.push_truth-requires
+push_truth-requires g c =
+    let house = c.args.house.now in
+    let bidders = length house.setup.bidders in
+    let done : bidders ≤ c.loop-bidder.bidder = rw (c.bidder_count-bidder-end.ensures, c.setup.ensures) at c.loop-bidder-test.false in
+    omega (arith, c.requires, c.push_label.ensures.room, c.loop-bidder.invariant.room, none_most (result_in house) c.loop-bidder.bidder bidders done)
 
 pub returns : goal.returns
 returns g c =
-    together (results_in_pieces c.args.house.now)
-    (before c.push_label.ensures.adds
-    (before c.push_results.ensures.adds
+    let house = c.args.house.now in
+    let bidders = length house.setup.bidders in
+    let bidder = c.loop-bidder.bidder in
+    let done : bidders ≤ bidder = rw (c.bidder_count-bidder-end.ensures, c.setup.ensures) at c.loop-bidder-test.false in
+    let none : 0 ≡ bidders - bidder = omega (arith, done) in
+    let all = ap (λ left. c.loop-bidder.text.items ++ rest_text (result_in house) (nat_lt 0 bidder) (range_with_len bidder left)) none
+    ∙ c.loop-bidder.invariant.adds in
+    together (results_in_pieces house)
+    (array_between (result_in house) (range_with_len 0 bidders) (codes "{\"bidders\":") refl refl c.push_label.ensures.adds all
     (before (rw c.ended.ensures.is at c.push_truth.ensures.adds)
-    (before (rw c.round.ensures.is at c.push_number.ensures.adds) c.push_label-2.ensures.adds))))
+    (before (rw c.round.ensures.is at c.push_number-2.ensures.adds) c.push_label-2.ensures.adds)))

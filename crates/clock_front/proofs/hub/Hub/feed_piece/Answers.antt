@@ -1,23 +1,31 @@
-use Rattle.std.proofs.Common.{◌≡◌, ◌++◌, Some, IsSome, IfOk, sym, ◌∙◌, ap, subst, rules}
+use Rattle.std.proofs.Common.{◌++◌, IsSome, rules}
 use Rattle.clock_connections.specs.Connections.{text_of}
-use Rattle.clock_front.specs.declared.hub.Fed.TheVariants.{Reply}
-use Rattle.clock_front.specs.Hubs.{HubFields, IsFed}
-use Rattle.clock_front.specs.inside.Hubs.{hub_of}
-use Rattle.clock_front.proofs.ConnectionLaws.{some_text, fed_keeps}
+use Rattle.clock_connections.proofs.WaitingLaws.{keeps_waiting, waits_no_more}
+use Rattle.clock_front.proofs.ConnectionLaws.{some_text}
 use Rattle.clock_front.proofs.hub.Hub.feed_piece.Goals as goal
 
-pub invariant_of-self : goal.invariant_of-self
-invariant_of-self g c =
+pub answer_framed-reply-requires : goal.answer_framed-reply-requires
+answer_framed-reply-requires g c =
     let old = c.self.inside.connections in
     let stood : IsSome (text_of old c.args.conn) = search rules in
     let has = some_text (text_of old c.args.conn) stood in
-    fed_keeps (hub_of c.self.inside.front old) (hub_of c.complete_with.new.front c.complete_with.new.connections) c.args.conn (has.0 ++ c.args.piece.now)
-    (Reply c.in-Some.reply) c.self.invariant (c.in-Some.ensures.fed has.0 has.1)
+    (has.0 ++ c.args.piece.now, c.in-Some.ensures.is has.0 has.1)
 
-pub returns-in-None-clause-fed : goal.returns-in-None-clause-fed
-returns-in-None-clause-fed g c = λ text is.
-    let mid = hub_of c.complete_with.new.front c.complete_with.new.connections in
-    let same : mid ≡ c.args.self.now = ap (λ front. hub_of front c.complete_with.new.connections) c.in-None.ensures.front
-    ∙ ap (hub_of c.self.inside.front) c.in-None.ensures.connections ∙ c.self.view_is in
-    subst (λ (h : HubFields). IfOk c.feed_on.result (IsFed h c.feed_on.new.self c.args.conn (text ++ c.args.piece.now))) same
-    (c.feed_on.ensures.fed text (subst (λ (h : HubFields). text_of h.connections c.args.conn ≡ Some text) (sym same) is))
+pub invariant_of-self : goal.invariant_of-self
+invariant_of-self g c =
+    let gone = c.remove-answered.ensures.gone in
+    keeps_waiting c.self.inside.connections c.remove-answered.new.self c.args.conn c.self.invariant gone.others
+    (waits_no_more c.remove-answered.new.self c.args.conn gone.gone)
+
+pub returns-in-Some-clause-fed : goal.returns-in-Some-clause-fed
+returns-in-Some-clause-fed g c = rw (← c.self.view_is) (λ text is.
+    let joined = text ++ c.args.piece.now in
+    let framed = c.in-Some.ensures.is text is in (
+      c.in-Some.ensures.whole text is,
+      record {
+        gone = search rules;
+        answered = c.answer_framed-reply.ensures.answered joined framed;
+        private = c.answer_framed-reply.ensures.private joined framed;
+        setup = c.answer_framed-reply.ensures.setup;
+      },
+    ))

@@ -4,7 +4,7 @@ use Rattle.clock_views.specs.OperatorPages.{result_in}
 use Rattle.clock_views.specs.Rooms.{most_items}
 use Rattle.clock_views.specs.Values.{items_of}
 use Rattle.clock_views.specs.inside.Values.{rest_text}
-use Rattle.clock_views.proofs.operator.push_results.Given as goal
+use Rattle.clock_views.proofs.operator.push_results_page.Given as goal
 
 -- with the other bidders it is the whole array
 abbrev pub invariant-loop-bidder : goal.invariant-loop-bidder
