@@ -1,6 +1,7 @@
 //! `audit`: an auction that is recounted from its set-up document and its journal alone.
 ghost use Rattle.std.specs.Prelude.{◌≡◌, [], List, ℕ, IfOk, IfErr};
 ghost use Rattle.clock_front.specs.Fronts.{StandsForTexts};
+ghost use Rattle.clock_terms.specs.Limits.{SetupFields};
 ghost use Rattle.clock_keeping.specs.Keeping.{IsRefused};
 ghost use Rattle.clock_auction.specs.Audits.{IsRecounted, IsRecountOf, IsSomeRecount, IsUnrecounted, audited};
 
@@ -25,8 +26,6 @@ pub struct Recount {
 }
 
 impl Machine for Recount {
-    ghost use Rattle.clock_terms.specs.Limits.{SetupFields};
-
     ghost Rules = { SetupFields × List ℕ };
 
     ghost rules = { λ recount. (recount.front.setup, recount.first) };
