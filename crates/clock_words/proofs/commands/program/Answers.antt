@@ -1,4 +1,4 @@
-use Rattle.std.proofs.Common.{Ok, ap, refl, ◌∙◌}
+use Rattle.std.proofs.Common.{Ok, ap}
 use Rattle.clap.specs.Simple.{on_top}
 use Rattle.clock_words.proofs.Grammar.{with_below}
 use Rattle.clock_words.specs.Words.{asks_for_a_command, program_alone_grammar}

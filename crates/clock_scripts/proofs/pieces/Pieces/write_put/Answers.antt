@@ -1,6 +1,5 @@
 use Rattle.std.proofs.Common.{◌≡◌, ◌-◌, ℕ, List, Some, None, Ok, ap, arith, refl, rules, subst, sym, ◌∙◌}
 use Rattle.std.specs.Prelude.{slice_index_or}
-use Rattle.clock_bids.specs.declared.sheet.Bid.{Bid}
 use Rattle.clock_terms.specs.Limits.{SetupFields}
 use Rattle.clock_house.specs.History.{bidder_at}
 use Rattle.clock_house.specs.House.{standing_in, holding_in}
