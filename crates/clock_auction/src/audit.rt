@@ -1,6 +1,7 @@
 //! `audit`: an auction that is recounted from its set-up document and its journal alone.
 ghost use Rattle.std.specs.Prelude.{◌≡◌, [], List, ℕ, IfOk, IfErr};
 ghost use Rattle.clock_front.specs.Fronts.{StandsForTexts};
+ghost use Rattle.clock_terms.specs.Limits.{SetupFields};
 ghost use Rattle.clock_keeping.specs.Keeping.{IsRefused};
 ghost use Rattle.clock_auction.specs.Audits.{IsRecounted, IsRecountOf, IsSomeRecount, IsUnrecounted, audited};
 
@@ -8,8 +9,8 @@ use crate::digests::digits_of;
 use clock_commands::Fault;
 use clock_device::Text;
 use clock_front::Front;
-use clock_http::Code;
 use clock_journal::{Link, Machine, Untaken, link_of, recover};
+use clock_keeping::Auction;
 use clock_queue::Woken;
 use clock_reports::{Digits, audit_text, report_so_far};
 use std::alloc::Global;
@@ -17,35 +18,27 @@ use std::alloc::Global;
 /// An auction that takes the texts of a journal, and remembers the digest of each closing.
 #[derive(Drop)]
 pub struct Recount {
-    front: Front<Woken>,
+    auction: Auction<Woken>,
     first: Link,
     chain: Link,
-    texts: u64,
     digests: Vec<Digits>,
 }
 
 impl Machine for Recount {
-    ghost use Rattle.clock_terms.specs.Limits.{SetupFields};
-
     ghost Rules = { SetupFields × List ℕ };
 
-    ghost rules = { λ recount. (recount.front.setup, recount.first) };
+    ghost rules = { λ recount. (recount.auction.front.setup, recount.first) };
 
-    ghost stands_for = { λ recount texts. IsRecounted recount.first texts recount.front recount.chain recount.texts
-        recount.digests.items };
+    ghost stands_for = { λ recount texts. IsRecounted recount.first texts recount.auction.front recount.chain
+        recount.auction.texts recount.digests.items };
 
     ghost refuses = { λ rules texts text. IsRefused rules.0 texts text };
 
     fn take(&mut self, text: &[u8]) -> Result<(), Untaken> {
-        let before = self.front.house().closed_rounds();
-        match self.front.answer(text).code() {
-            Code::Done => {}
-            Code::Memory => return Err(Untaken::NoMemory),
-            _ => return Err(Untaken::Refused),
-        }
+        let before = self.auction.front.house().closed_rounds();
+        self.auction.take(text)?;
         self.chain = link_of(&self.chain, text);
-        self.texts = self.texts.saturating_add(1);
-        if before < self.front.house().closed_rounds() {
+        if before < self.auction.front.house().closed_rounds() {
             self.digests
                 .push(digits_of(&self.chain))
                 .or(Err(Untaken::NoMemory))?;
@@ -57,9 +50,9 @@ impl Machine for Recount {
 impl Recount {
     /// How many texts were taken, and the digest of the last.
     pub fn end(&self) -> (u64, Link)
-        ensures { result ≡ (self.now.texts, self.now.chain) }
+        ensures { result ≡ (self.now.auction.texts, self.now.chain) }
     {
-        (self.texts, self.chain)
+        (self.auction.texts, self.chain)
     }
 }
 
@@ -72,15 +65,14 @@ pub fn recounted(
     bytes: &[u8],
 ) -> Result<Recount, Fault>
     requires { StandsForTexts [] front }
-    ensures ok { IfOk result (λ recount. IsRecountOf front.setup first bytes.now recount.front recount.chain
-        recount.texts recount.digests.items) }
+    ensures ok { IfOk result (λ recount. IsRecountOf front.setup first bytes.now recount.auction.front recount.chain
+        recount.auction.texts recount.digests.items) }
     ensures err { IfErr result (IsUnrecounted front.setup first bytes.now) }
 {
     let mut recount = Recount {
-        front,
+        auction: Auction { front, texts: 0 },
         first,
         chain: first,
-        texts: 0,
         digests: Vec::new(alloc),
     };
     recover(&mut recount, &first, bytes)?;
@@ -90,13 +82,14 @@ pub fn recounted(
 /// The rounds that are closed, each with the digest of its closing, and what each bidder won where the auction has
 /// ended.
 pub fn audit_of(alloc: Global, recount: &Recount) -> Result<Text, Fault>
-    requires { IsSomeRecount recount.now.front recount.now.chain recount.now.texts recount.now.digests.items }
+    requires { IsSomeRecount recount.now.auction.front recount.now.chain recount.now.auction.texts
+        recount.now.digests.items }
     ensures ok { (first : List ℕ) (texts : List (List ℕ))
-        → IsRecounted first texts recount.now.front recount.now.chain recount.now.texts recount.now.digests.items
-        → IfOk result (λ text. text ≡ audited recount.now.front.setup first texts) }
+        → IsRecounted first texts recount.now.auction.front recount.now.chain recount.now.auction.texts
+        recount.now.digests.items → IfOk result (λ text. text ≡ audited recount.now.auction.front.setup first texts) }
     ensures err { IfErr result (λ fault. fault ≡ Fault.Memory) }
 {
-    let house = recount.front.house();
+    let house = recount.auction.front.house();
     if house.closed_rounds() == 0 {
         return Ok(Text::new(alloc));
     }

@@ -55,7 +55,8 @@ fn recounted_of<R>(rt: &R, front: Front<Woken>, first: Link, path: &str) -> Resu
 where
     R: Files<File = File> + Alloc<A = Global>,
     requires { StandsForTexts [] front }
-    ensures { IfOk result (λ recount. IsSomeRecount recount.front recount.chain recount.texts recount.digests.items) }
+    ensures { IfOk result (λ recount. IsSomeRecount recount.auction.front recount.chain recount.auction.texts
+        recount.digests.items) }
 {
     match journal_bytes(rt, path) {
         Ok(bytes) => recounted(rt.alloc(), front, first, bytes.as_slice()),

@@ -1,6 +1,6 @@
 //! `journal`: what a journal holds, text by text.
-ghost use Rattle.std.specs.Prelude.{◌≡◌, ◌++◌, List, ℕ, IfErr, IfOk, OnOk, []};
-ghost use Rattle.clock_auction.specs.Listings.{IsListed, IsListingOf, IsUnlisted, digest_line, listed, spaced, text_listed};
+ghost use Rattle.std.specs.Prelude.{◌≡◌, ◌++◌, List, ℕ, IfErr, IfOk, OnOk};
+ghost use Rattle.clock_auction.specs.Listings.{IsListed, IsListingOf, IsUnlisted, digest_line, spaced, text_listed};
 
 use crate::digests::digits_of;
 use clock_commands::Fault;
@@ -34,10 +34,7 @@ impl Machine for Listing {
         let place = self.place;
         let length = (text.len() as u64).saturating_add(BEFORE_TEXT as u64);
         self.place = place.saturating_add(length);
-        match push_text(&mut self.text, self.texts, place, &self.chain, text) {
-            Ok(()) => Ok(()),
-            Err(_) => Err(Untaken::NoMemory),
-        }
+        push_text(&mut self.text, self.texts, place, &self.chain, text).or(Err(Untaken::NoMemory))
     }
 }
 
@@ -55,16 +52,6 @@ impl Listing {
     {
         (self.texts, self.chain)
     }
-}
-
-/// A line with the digest of the set-up document.
-fn setup_line(alloc: Global, first: &Link) -> Result<Text, NoMemory>
-    ensures { IfOk result (λ text. text ≡ listed first.now []) }
-{
-    let mut text = Text::new(alloc);
-    text.extend_from_slice(b"setup ")?;
-    push_digits(&mut text, first)?;
-    Ok(text)
 }
 
 /// Adds the line of a record and its text, as it came.
@@ -109,9 +96,12 @@ pub fn listing_of(alloc: Global, first: Link, bytes: &[u8]) -> Result<Listing, F
         listing.place) }
     ensures err { IfErr result (IsUnlisted first bytes.now) }
 {
+    let mut text = Text::new(alloc);
+    text.extend_from_slice(b"setup ")?;
+    push_digits(&mut text, &first)?;
     let mut listing = Listing {
         first,
-        text: setup_line(alloc, &first)?,
+        text,
         chain: first,
         texts: 0,
         place: HEAD_LENGTH as u64,

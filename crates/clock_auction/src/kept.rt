@@ -59,7 +59,11 @@ where
     requires { StandsForTexts [] auction.old.front }
     ensures unfailed { IfOk result (λ journal. journal.has_failed ≡ false) }
 {
-    let (file, bytes) = opened(rt, path)?;
+    // the file is made where there is none, readable by its owner alone
+    let mut how = OpenOptions::new();
+    how.read(true).append(true).create(true).mode(0o600);
+    let file = how.open(rt, path).or(Err(Fault::Journal))?;
+    let bytes = locked_bytes(rt.alloc(), &file)?;
     let journal = go_on(rt, auction, FileDisk::new(file), digest, bytes.as_slice())?;
     sync_folder(rt, path)?;
     Ok(journal)
@@ -119,18 +123,6 @@ where
     let front = &mut auction.front;
     let connections = serving.connections;
     Ok(serve_all(rt.alloc(), front, &mut telling, &mut taken, connections)?)
-}
-
-/// The file, which is made where there is none, readable by its owner alone, and locked; and all its bytes.
-fn opened<R>(rt: &R, path: &str) -> Result<(File, Vec<u8>), Fault>
-where
-    R: Files<File = File> + Alloc<A = Global>,
-{
-    let mut how = OpenOptions::new();
-    how.read(true).append(true).create(true).mode(0o600);
-    let file = how.open(rt, path).or(Err(Fault::Journal))?;
-    let bytes = locked_bytes(rt.alloc(), &file)?;
-    Ok((file, bytes))
 }
 
 /// All bytes of a file of a disk, which is locked before they are read. Where standard output was closed when the

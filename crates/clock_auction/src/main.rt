@@ -50,19 +50,14 @@ fn run(rt: &HostRuntime, words: &[&str]) -> u8 {
             Err(fault) => fault_status(rt, fault),
         },
         Err(error) if error.kind() == ErrorKind::OutOfMemory => fault_status(rt, Fault::Memory),
-        Ok(None) | Err(_) => run_command(rt, words),
+        Ok(None) | Err(_) => command(
+            rt.alloc(),
+            words,
+            &mut FromReader::new(rt.stdin()),
+            &mut ToWriter::new(rt.stdout()),
+            &mut ToWriter::new(rt.stderr()),
+        ),
     }
-}
-
-/// Does what is done over the standard streams.
-fn run_command(rt: &HostRuntime, words: &[&str]) -> u8 {
-    command(
-        rt.alloc(),
-        words,
-        &mut FromReader::new(rt.stdin()),
-        &mut ToWriter::new(rt.stdout()),
-        &mut ToWriter::new(rt.stderr()),
-    )
 }
 
 /// Does what is to be done with files.

@@ -1,5 +1,6 @@
 //! A journal of which each closing is told on standard output.
 ghost use Rattle.std.specs.Prelude.{None};
+ghost use Rattle.clock_journal.specs.Kept.{JournalState};
 
 use crate::digests::Hex;
 use clock_device::Failed;
@@ -19,8 +20,6 @@ pub struct Telling<'a, R, D: Durable> {
 }
 
 impl<'a, R, D: Durable> Model for Telling<'a, R, D> {
-    ghost use Rattle.clock_journal.specs.Kept.{JournalState};
-
     ghost Value = { JournalState };
 
     ghost view = { λ telling. telling.journal };

@@ -78,13 +78,10 @@ pub fn command<R: Source, W: Sink, F: Sink>(
 fn usage_of(alloc: Global, error: Error) -> Option<String>
     ensures { IfSome result (λ usage. kind_of error ≢ ErrorKind.OutOfMemory) }
 {
-    let usage = if error.kind() == ErrorKind::OutOfMemory {
-        None
-    } else {
-        error.to_string(alloc).ok()
-    };
-    drop(error);
-    usage
+    if error.kind() == ErrorKind::OutOfMemory {
+        return None;
+    }
+    error.to_string(alloc).ok()
 }
 
 /// Reads the document, and prints the answer to it.

@@ -1,6 +1,6 @@
 -- Arrays that are written with a comma behind each item.
 use Rattle.std.proofs.Common.{◌≡◌, ℕ, ◌+◌, ◌-◌, ◌≤◌, Bool, true, false, nat_lt, List, [], ◌∷◌, ◌++◌, length, take, drop, codes, refl, sym, ap, ◌∙◌, append_assoc, append-nil, arith}
-use Rattle.std.specs.Prelude.{if◌then◌else◌}
+use Rattle.std.specs.Prelude.{Result, Ok, Err, OnOk, if◌then◌else◌}
 use Rattle.std.proofs.Math.Seq.{take-append_seam}
 use Rattle.std.proofs.lemmas.Bool.Decides.{nat_tests}
 use Rattle.std.proofs.lemmas.List.{drop_all, length-append}
@@ -64,9 +64,10 @@ module _ {A : Type 0} (value : A → Data) where
   }
 
   -- and so where a loop has come past the last item
-  pub array_done : (items : List A) (old begun text new : List ℕ) (start i : ℕ) → Adds (codes "[") old begun → start ≡ length begun → length items ≤ i
-      → text ++ with_commas value (drop i items) ≡ begun ++ with_commas value items → new ≡ array_ended start text
-      → Adds (compact_text (list_of value items)) old new
-  array_done items old begun text new start i bracket from past all closed =
+  pub array_done : {T E : Type 0} (items : List A) (old begun text new : List ℕ) (start i : ℕ) (result : Result T E) → Adds (codes "[") old begun
+      → start ≡ length begun → length items ≤ i → text ++ with_commas value (drop i items) ≡ begun ++ with_commas value items
+      → OnOk result (new ≡ array_ended start text) → OnOk result (Adds (compact_text (list_of value items)) old new)
+  array_done items old begun text new start i (Ok done) bracket from past all closed =
       array_from items old begun text new start bracket from
       (sym (append-nil text) ∙ ap (λ (rest : List A). text ++ with_commas value rest) (sym (drop_all i items past)) ∙ all) closed
+  array_done items old begun text new start i (Err fault) bracket from past all closed = tt

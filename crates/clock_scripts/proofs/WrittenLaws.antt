@@ -1,21 +1,23 @@
 -- Requests whose pieces stand one behind the other.
-use Rattle.std.proofs.Common.{◌≡◌, ℕ, ◌+◌, ◌-◌, ◌≤◌, List, [], ◌++◌, length, take, drop, codes, sym, ◌∙◌, ap, ap₂, subst, arith, append-nil}
+use Rattle.std.proofs.Common.{◌≡◌, ℕ, ◌+◌, ◌-◌, ◌≤◌, List, [], ◌++◌, length, take, drop, codes, refl, sym, ◌∙◌, ap, ap₂, subst, arith, append-nil}
 use Rattle.std.proofs.Math.Seq.{drop-append_seam}
 use Rattle.std.proofs.lemmas.List.{take-append-le, drop-append-le, length-append, length-drop, take_all}
-use Rattle.std.specs.Prelude.{Result, Ok, Err, IfOk}
+use Rattle.std.specs.Prelude.{Option, Some, Result, Ok, Err, IfOk, option_map}
 use Rattle.clock_device.specs.declared.no_memory.NoMemory.{NoMemory}
 use Rattle.clock_terms.specs.Limits.{SetupFields}
+use Rattle.clock_bids.specs.declared.sheet.Bid.{Bid}
 use Rattle.clock_order.specs.declared.ties.Tie.{Tie}
 use Rattle.clock_closing.specs.declared.closed_round.ClosedRound.{ClosedRound}
-use Rattle.clock_house.specs.History.{standing}
+use Rattle.clock_house.specs.History.{bidder_at, holding, standing}
 use Rattle.clock_views.specs.Values.{Adds}
 use Rattle.clock_replays.specs.declared.replay.Closing.{Closing}
+use Rattle.clock_replays.specs.declared.replay.Script.{Script}
 use Rattle.clock_scripts.specs.declared.pieces.Extent.{Extent}
 use Rattle.clock_scripts.specs.declared.pieces.Written.{Written}
 use Rattle.clock_scripts.specs.declared.pieces.Pieces.{Pieces}
-use Rattle.clock_scripts.specs.RequestTexts.{request_head, request_text, written_close, close_text}
-use Rattle.clock_scripts.specs.ScriptedRequests.{scripted_close}
-use Rattle.clock_scripts.specs.Pieces.{IsKept, IsExtentIn, Keeps, Writes, piece_at, text_at}
+use Rattle.clock_scripts.specs.RequestTexts.{request_head, request_text, written_put, put_text, written_close, close_text}
+use Rattle.clock_scripts.specs.ScriptedRequests.{scripted_sheet, scripted_put, scripted_close}
+use Rattle.clock_scripts.specs.Pieces.{IsKept, IsExtentIn, Keeps, Writes, WritesIf, piece_at, text_at}
 
 -- a piece stands in a longer text still
 kept_in : (text more whole : List ℕ) (extent : Extent) → whole ≡ text ++ more → IsExtentIn text extent → IsKept text whole extent
@@ -106,3 +108,25 @@ closing_behind old pushed new setup closed closing token round ties start result
     ∙ ap₂ (λ (k : ℕ) (list : List Tie). close_text setup.operator k closing.increments list) at same in
     subst (λ (whole : List ℕ). IfOk result (Writes old new whole)) text
     (written_behind old pushed new (codes "POST /v1/close") token (written_close round closing.increments ties) start result heads added from ended)
+
+-- the sheet that a script gives was added to a text
+pub record AddsSheet (setup : SetupFields) (closed : List ClosedRound) (bidder : ℕ) (script : Script) (old new : List ℕ) : Type 0 where
+  pub bids : List Bid
+  pub given : scripted_sheet script (standing setup.products closed) (holding setup closed bidder) ≡ Some bids
+  pub added : Adds (written_put (standing setup.products closed).round bids) old new
+
+-- a bidder's request, by what it is written of
+pub put_behind : (old pushed new : Pieces) (setup : SetupFields) (closed : List ClosedRound) (bidder : ℕ) (script : Script) (token : List ℕ) (start : ℕ)
+    (written : Written) → token ≡ (bidder_at setup bidder).token → pushed.heads.items ≡ old.heads.items
+    → AddsSheet setup closed bidder script old.bodies.text.items pushed.bodies.text.items → start ≡ length old.bodies.text.items
+    → Writes pushed new (request_text (codes "PUT /v1/me/bids") token (drop start pushed.bodies.text.items)) written
+    → WritesIf old new (scripted_put setup closed bidder script) (Some written)
+unfolding scripted_put
+put_behind old pushed new setup closed bidder script token start written own heads sheet from ended =
+    let round = (standing setup.products closed).round in
+    let behind = written_behind old pushed new (codes "PUT /v1/me/bids") token (written_put round sheet.bids) start (Ok written) heads sheet.added from ended in (
+      ap (λ (given : Option (List Bid)). option_map (put_text (bidder_at setup bidder).token round) given) sheet.given
+          ∙ ap (λ (sender : List ℕ). Some (put_text sender round sheet.bids)) (sym own)
+          ∙ ap Some (sym behind.reads),
+      record { kept = behind.kept; reads = refl; within = behind.within },
+    )

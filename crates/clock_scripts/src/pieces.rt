@@ -1,13 +1,14 @@
 //! The requests of scripted bidders and of the operator, and the pieces that they are written in: each has a head and a
 //! body.
 
-ghost use Rattle.std.specs.Prelude.{◌≡◌, ◌<◌, ◌≤◌, ◌-◌, false, length, drop, codes, IfOk, IfSome, option_map, slice_index_or, None};
+ghost use Rattle.std.specs.Prelude.{◌≡◌, ◌<◌, ◌≤◌, ◌-◌, false, length, drop, IfOk, IfSome, OnOk};
 ghost use Rattle.clock_terms.specs.Limits.{IsToken};
 ghost use Rattle.clock_house.specs.History.{bidder_at};
 ghost use Rattle.clock_house.specs.House.{standing_in, holding_in};
 ghost use Rattle.clock_replays.specs.Replays.{IsScript, IsLimits};
+ghost use Rattle.clock_views.specs.Values.{Adds};
 ghost use Rattle.clock_scripts.specs.Pieces.{AwaitsBody, HoldsNothing, IsWrittenIn, Writes, WritesIf, is_awaited, piece_at};
-ghost use Rattle.clock_scripts.specs.RequestTexts.{request_text, put_text};
+ghost use Rattle.clock_scripts.specs.RequestTexts.{request_text, written_put};
 ghost use Rattle.clock_scripts.specs.ScriptedRequests as rules;
 ghost use Rattle.clock_scripts.specs.Sincere.{sincere_sheet};
 ghost use Rattle.clock_scripts.specs.inside.Heads.{HasHead};
@@ -18,7 +19,7 @@ use crate::sincere::Sincere;
 use clock_device::NoMemory;
 use clock_house::House;
 use clock_http::{MOST_BODY, law_head_of_grammar};
-use clock_replays::{BidList, Closing, LimitLists, Script};
+use clock_replays::{Closing, LimitLists, Script};
 use clock_terms::Setup;
 use std::alloc::Global;
 
@@ -61,6 +62,29 @@ fn token_of(setup: &Setup, bidder: u32) -> &[u8]
     ensures limits { IsToken result.now }
 {
     setup.bidders.as_slice()[bidder as usize].token.as_slice()
+}
+
+/// Adds the body of the sheet that a sincere bidder puts.
+fn push_sincere<P>(
+    bodies: &mut Bodies,
+    house: &House<P>,
+    bidder: u32,
+    limits: &LimitLists,
+) -> Result<(), NoMemory>
+    requires known { bidder < length house.now.setup.bidders }
+    requires going { (standing_in house.now).ended ≡ false }
+    requires limits { IsLimits house.now.setup.products limits.now }
+    ensures { OnOk result (Adds (written_put (standing_in house.now).round
+        (sincere_sheet (standing_in house.now).round (standing_in house.now).prices
+        (holding_in house.now bidder).demands limits.now)) bodies.old.text.items bodies.new.text.items) }
+{
+    house.law_of_house();
+    let sheet = Sincere {
+        prices: house.prices().as_slice(),
+        own: house.own(bidder),
+        limits,
+    };
+    sheet.push(bodies)
 }
 
 impl Pieces {
@@ -118,68 +142,6 @@ impl Pieces {
         })
     }
 
-    /// Writes the head of the request by which the holder of a token puts a sheet, whose body stands behind all others
-    /// from a place on.
-    fn end_put(&mut self, token: &[u8], body: usize) -> Result<Written, NoMemory>
-        requires body { body ≤ length self.old.bodies.text.items }
-        requires token { IsToken token.now }
-        ensures writes { IfOk result (Writes self.old self.new
-            (request_text (codes "PUT /v1/me/bids") token.now (drop body self.old.bodies.text.items))) }
-        ensures awaits { IfOk result (AwaitsBody self.new) }
-    {
-        law_head_of_grammar();
-        self.end_request(b"PUT /v1/me/bids", token, body)
-    }
-
-    /// Writes the sheet that a sincere bidder puts.
-    fn write_sincere<P>(
-        &mut self,
-        house: &House<P>,
-        bidder: u32,
-        limits: &LimitLists,
-    ) -> Result<Written, NoMemory>
-        requires known { bidder < length house.now.setup.bidders }
-        requires going { (standing_in house.now).ended ≡ false }
-        requires limits { IsLimits house.now.setup.products limits.now }
-        ensures writes { IfOk result (Writes self.old self.new (put_text (bidder_at house.now.setup bidder).token
-            (standing_in house.now).round
-            (sincere_sheet (standing_in house.now).round (standing_in house.now).prices
-            (holding_in house.now bidder).demands limits.now))) }
-        ensures awaits { IfOk result (AwaitsBody self.new) }
-    {
-        house.law_of_house();
-        let sheet = Sincere {
-            prices: house.prices().as_slice(),
-            own: house.own(bidder),
-            limits,
-        };
-        let start = self.bodies.text.len();
-        sheet.push(&mut self.bodies)?;
-        self.end_put(token_of(house.setup(), bidder), start)
-    }
-
-    /// Writes the sheet of a round in a list of sheets, from round 1 on, by the holder of a token, if there is one.
-    fn write_literal(
-        &mut self,
-        token: &[u8],
-        round: u64,
-        sheets: &[Option<BidList>],
-    ) -> Result<Option<Written>, NoMemory>
-        requires { IsToken token.now }
-        ensures writes { IfOk result (WritesIf self.old self.new
-            (option_map (put_text token.now round) (slice_index_or sheets.now (round - 1) None))) }
-        ensures awaits { IfOk result (λ written. IfSome written (AwaitsBody self.new)) }
-    {
-        match sheets.get(round.saturating_sub(1) as usize) {
-            Some(Some(bids)) => {
-                let start = self.bodies.text.len();
-                self.bodies.push_sheet(round, bids.as_slice())?;
-                Ok(Some(self.end_put(token, start)?))
-            }
-            _ => Ok(None),
-        }
-    }
-
     /// Writes the request by which a bidder puts the sheet that its script gives, if there is one.
     #[tactic(auto, unfolding(crate::specs::ScriptedRequests::scripted_put))]
     pub fn write_put<P>(
@@ -195,13 +157,20 @@ impl Pieces {
             (rules.scripted_put house.now.setup house.now.closed bidder script.now)) }
         ensures awaits { IfOk result (λ written. IfSome written (AwaitsBody self.new)) }
     {
+        let start = self.bodies.text.len();
         match script {
-            Script::Sincere(limits) => Ok(Some(self.write_sincere(house, bidder, limits)?)),
+            Script::Sincere(limits) => push_sincere(&mut self.bodies, house, bidder, limits)?,
             Script::Literal(sheets) => {
-                let token = token_of(house.setup(), bidder);
-                self.write_literal(token, house.round(), sheets.as_slice())
+                let round = house.round();
+                match sheets.get(round.saturating_sub(1) as usize) {
+                    Some(Some(bids)) => self.bodies.push_sheet(round, bids.as_slice())?,
+                    _ => return Ok(None),
+                }
             }
         }
+        law_head_of_grammar();
+        let token = token_of(house.setup(), bidder);
+        Ok(Some(self.end_request(b"PUT /v1/me/bids", token, start)?))
     }
 
     /// Writes the request by which the operator closes the current round.

@@ -50,8 +50,7 @@ fn push_numbers(text: &mut Vec<u8>, numbers: &[u64]) -> Result<(), NoMemory>
         push_number(text, b"", *number)?;
         push_label(text, b",")?;
     }
-    end_array(text, start)?;
-    Ok(())
+    end_array(text, start)
 }
 
 /// Adds a tie number, with a comma behind it.
@@ -73,8 +72,7 @@ fn push_ties(text: &mut Vec<u8>, ties: &[Tie]) -> Result<(), NoMemory>
     for tie in ties {
         push_tie(text, tie)?;
     }
-    end_array(text, start)?;
-    Ok(())
+    end_array(text, start)
 }
 
 /// Adds the body of a closing, its increments under their key.

@@ -5,7 +5,7 @@ ghost use Rattle.std.specs.Prelude.{◌≡◌, ◌≤◌, ◌++◌, ℕ, List, [
 ghost use Rattle.clock_bids.specs.declared.sheet.Bid.{Bid};
 ghost use Rattle.clock_views.specs.Values.{Adds};
 ghost use Rattle.clock_scripts.specs.RequestTexts.{written_put};
-ghost use Rattle.clock_scripts.specs.inside.Bodies.{bid_start, bid_text, bids_text};
+ghost use Rattle.clock_scripts.specs.inside.Bodies.{IsStartOf, bid_start, bid_text, bids_text};
 
 use crate::request_writer::{end_array, push_label, push_number};
 use clock_bids::Bid;
@@ -29,9 +29,6 @@ struct BidStart {
 }
 
 impl Model for BidStart {
-    ghost use Rattle.std.specs.Prelude.{List, ℕ, take};
-    ghost use Rattle.clock_scripts.specs.inside.Bodies.{IsStartOf};
-
     ghost Value = { List ℕ };
 
     ghost view = { λ f. take f.length f.text };

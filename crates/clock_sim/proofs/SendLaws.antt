@@ -1,6 +1,6 @@
 -- A request that comes in pieces is answered as its whole text is.
-use Rattle.std.proofs.Common.{◌≡◌, ℕ, false, List, ◌∷◌, ◌++◌, Option, ◌⊎◌, Result, Ok, Err, inl, inr, sym, ◌∙◌, ap, subst}
-use Rattle.std.specs.Prelude.{option_and_then, IfOk}
+use Rattle.std.proofs.Common.{◌≡◌, ℕ, false, List, ◌∷◌, ◌++◌, Option, ◌⊎◌, inl, inr, sym, ◌∙◌, ap, subst}
+use Rattle.std.specs.Prelude.{option_and_then}
 use Rattle.clock_house.specs.House.{HouseFields, StandsFor}
 use Rattle.clock_front.specs.Askers.{asker}
 use Rattle.clock_http.specs.Framing.{Framing, Head, framing, head_in, needs_more, IsDecided}
@@ -12,7 +12,6 @@ use Rattle.clock_http.specs.Replies.{Answer}
 use Rattle.clock_front.specs.Requests.{Request, request_of, ask_of}
 use Rattle.clock_front.specs.Hubs.{HubFields, IsFed, IsAnswered}
 use Rattle.clock_connections.specs.declared.connections.Conn.{Conn}
-use Rattle.clock_connections.specs.declared.connections.HubFault.{HubFault}
 use Rattle.clock_front.specs.declared.hub.Fed.TheVariants.{More}
 
 -- a piece came, and then the input ended
@@ -29,11 +28,6 @@ ended_after old mid new conn text reply fed answered = record {
   private = subst (λ (house : HouseFields). IsStruckOut text reply ⊎ IsPrivateReply text house reply) fed.2 answered.private;
   setup = answered.setup ∙ ap (λ (house : HouseFields). house.setup) fed.2;
 }
-
-pub answered_at_end : (old mid new : HubFields) (conn : Conn) (text : List ℕ) (result : Result Answer HubFault) → IsFed old mid conn text More
-    → IfOk result (IsAnswered mid new conn text) → IfOk result (IsAnswered old new conn text)
-answered_at_end old mid new conn text (Ok reply) fed answered = ended_after old mid new conn text reply fed answered
-answered_at_end old mid new conn text (Err fault) fed answered = answered
 
 abbrev request_from : Option Head → Framing → Request
 request_from found is = record { token = option_and_then (λ head. head.token) found; ask = ask_of is }

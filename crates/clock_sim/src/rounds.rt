@@ -29,18 +29,15 @@ fn put_scripted<P: Processor>(
 {
     let round = hub.front().house().round();
     group.make_room();
-    let written = group.pieces.write_put(hub.front().house(), bidder, script)?;
-    match written {
-        None => Ok(()),
-        Some(written) => {
-            let turn = Turn {
-                bidder: bidder as u64,
-                round,
-                written,
-            };
-            group.take_turn(hub, turn)
-        }
-    }
+    let Some(written) = group.pieces.write_put(hub.front().house(), bidder, script)? else {
+        return Ok(());
+    };
+    let turn = Turn {
+        bidder: bidder as u64,
+        round,
+        written,
+    };
+    group.take_turn(hub, turn)
 }
 
 /// The bidders put their sheets, in the order of their numbers.

@@ -23,19 +23,6 @@ fn told(code: Code, sender: Option<u64>, round: u64) -> Result<(), SimFault>
     }
 }
 
-/// The reply to a request with its last piece, behind which the input ends.
-fn last_reply<P: Processor>(hub: &mut Hub<P>, conn: Conn, piece: &[u8]) -> Result<Reply, HubFault>
-    ensures answered { (text : List ℕ) → text_of hub.old.connections conn ≡ Some text
-        → IfOk result (IsAnswered hub.old hub.new conn (text ++ piece.now)) }
-    ensures still { (text : List ℕ) → text_of hub.old.connections conn ≡ Some text → OnErr result (hub.new.house
-        ≡ hub.old.house) }
-{
-    match hub.feed(conn, piece)? {
-        Fed::Reply(reply) => Ok(reply),
-        Fed::More => hub.finish(conn),
-    }
-}
-
 /// Sends the body of a request whose head has come over a connection.
 pub(crate) fn send_body<P: Processor>(
     hub: &mut Hub<P>,
@@ -50,7 +37,10 @@ pub(crate) fn send_body<P: Processor>(
     ensures others { (head : List ℕ) → text_of hub.old.connections conn ≡ Some head
         → OnOk result (KeepsOthers hub.old.connections hub.new.connections conn) }
 {
-    let reply = last_reply(hub, conn, body)?;
+    let reply = match hub.feed(conn, body)? {
+        Fed::Reply(reply) => reply,
+        Fed::More => hub.finish(conn)?,
+    };
     told(reply.code(), sender, round)
 }
 

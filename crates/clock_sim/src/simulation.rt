@@ -112,18 +112,8 @@ pub fn replay_text(alloc: Global, replay: Replay) -> Result<Text, SimFault>
     ensures ok { IfOk result (λ text. rules.played_text replay ≡ Ok text) }
     ensures err { IfErr result (IsRefusal SimFault.NoMemory (rules.played_text replay)) }
 {
-    let Replay {
-        setup,
-        scripts,
-        closings,
-    } = replay;
-    let Ok(front) = Front::new(alloc, setup, Woken) else {
-        drop(scripts);
-        drop(closings);
-        return Err(SimFault::NoMemory);
-    };
-    let mut hub = Hub::new(alloc, front);
-    let text = text_played(alloc, &mut hub, scripts, closings);
+    let mut hub = Hub::new(alloc, Front::new(alloc, replay.setup, Woken)?);
+    let text = text_played(alloc, &mut hub, replay.scripts, replay.closings);
     // let go by a call, as above
     drop(hub);
     text

@@ -1,7 +1,7 @@
 //! The commands and options of the program, as clap is told of them.
 ghost use Rattle.std.specs.Prelude.{◌≡◌, false, IfOk};
-ghost use Rattle.clap.specs.Words.{App, new_app, rule_of, with_subcommand};
-ghost use Rattle.clock_words.specs.Words.{files_grammar, grammar, needed_rule, number_rule, option_rule, prices_grammar, program_alone_grammar, serve_grammar};
+ghost use Rattle.clap.specs.Words.{new_app, rule_of};
+ghost use Rattle.clock_words.specs.Words.{files_grammar, grammar, needed_rule, number_rule, option_rule, prices_grammar, serve_grammar};
 ghost use Rattle.clock_words.specs.inside.Commands.{IsCommand};
 
 use crate::help::{
@@ -57,23 +57,6 @@ fn named<'a>(alloc: Global, name: &'a str, about: &'a str, help: &'a str) -> Com
     Command::new(alloc, name).about(about).after_help(help)
 }
 
-/// A command with one more below it, where that was made.
-fn with_command<'a>(
-    command: Command<'a>,
-    below: Result<Command<'a>, AllocError>,
-) -> Result<Command<'a>, AllocError>
-    ensures { (app sub : App) → IsCommand app command.entry → IfOk below.entry (IsCommand sub)
-        → IfOk result (IsCommand (with_subcommand app sub.top)) }
-{
-    match below {
-        Ok(below) => command.subcommand(below),
-        Err(refused) => {
-            drop(command);
-            Err(refused)
-        }
-    }
-}
-
 /// `prices` and its option.
 fn prices_command<'a>(alloc: Global) -> Result<Command<'a>, AllocError>
     ensures { IfOk result (IsCommand prices_grammar) }
@@ -116,31 +99,25 @@ fn files_command<'a>(
         .arg(needed_option(alloc, "journal", kept))
 }
 
-/// The program without its commands.
-fn program_alone<'a>(alloc: Global) -> Result<Command<'a>, AllocError>
-    ensures { IfOk result (IsCommand program_alone_grammar) }
-{
-    let about = "The bidding system of an ascending clock auction";
-    let program = named(alloc, "clock_auction", about, PROGRAM_HELP)
-        .version("0.1.0")
-        .no_binary_name(true)
-        .subcommand_required(true);
-    program.bin_name("clock_auction")
-}
-
 /// The program's commands.
 pub fn program<'a>(alloc: Global) -> Result<Command<'a>, AllocError>
     ensures { IfOk result (IsCommand grammar) }
 {
-    let priced = with_command(program_alone(alloc)?, prices_command(alloc))?;
-    let about = "Prints the sheet of round 1";
-    let opened = priced.subcommand(named(alloc, "opening", about, OPENING_HELP))?;
-    let about = "Plays an auction of scripted bidders and prints its rounds and what each won";
-    let replayed = opened.subcommand(named(alloc, "replay", about, REPLAY_HELP))?;
-    let served = with_command(replayed, serve_command(alloc))?;
-    let about = "Prints what a journal holds, text by text";
-    let told = with_command(served, files_command(alloc, "journal", about, JOURNAL_HELP))?;
-    let about =
+    let about = "The bidding system of an ascending clock auction";
+    let opening = "Prints the sheet of round 1";
+    let replay = "Plays an auction of scripted bidders and prints its rounds and what each won";
+    let journal = "Prints what a journal holds, text by text";
+    let audit =
         "Recounts an auction from its journal and prints its rounds and what each bidder won";
-    with_command(told, files_command(alloc, "audit", about, AUDIT_HELP))
+    named(alloc, "clock_auction", about, PROGRAM_HELP)
+        .version("0.1.0")
+        .no_binary_name(true)
+        .subcommand_required(true)
+        .bin_name("clock_auction")?
+        .subcommand(prices_command(alloc)?)?
+        .subcommand(named(alloc, "opening", opening, OPENING_HELP))?
+        .subcommand(named(alloc, "replay", replay, REPLAY_HELP))?
+        .subcommand(serve_command(alloc)?)?
+        .subcommand(files_command(alloc, "journal", journal, JOURNAL_HELP)?)?
+        .subcommand(files_command(alloc, "audit", audit, AUDIT_HELP)?)
 }

@@ -4,8 +4,7 @@ use Rattle.clock_scripts.proofs.ArrayLaws.{array_done}
 use Rattle.clock_scripts.proofs.request_writer.push_ties.Goals as goal
 
 pub returns : goal.returns
-returns c = record {
-  is = (array_done tie_value c.args.ties.now c.args.text.now.items c.push_label.new.text.items c.loop-tie.text.items c.end_array.new.text.items
-      c.len-start.result c.loop-tie.tie-index c.in_ok-push_label.ensures (omega (arith, c.len-start.ensures, c.push_label.new.text.ok.0)) (omega arith)
-      c.loop-tie.invariant c.in_ok-end_array.ensures).is;
-}
+returns c =
+    array_done tie_value c.args.ties.now c.args.text.now.items c.push_label.new.text.items c.loop-tie.text.items c.end_array.new.text.items c.len-start.result
+    c.loop-tie.tie-index c.end_array.result c.in_ok-push_label.ensures (omega (arith, c.len-start.ensures, c.push_label.new.text.ok.0)) (omega arith)
+    c.loop-tie.invariant c.end_array.ensures

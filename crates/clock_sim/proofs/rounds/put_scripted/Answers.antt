@@ -17,7 +17,7 @@ returns-in_err-written g c =
 
 pub take_turn-requires-clause-next : goal.take_turn-requires-clause-next
 take_turn-requires-clause-next g c =
-    written_next c.args.hub.now c.args.group.now c.make_room.new.self c.write_put.new.self _ c.args.bidder c.args.script.now c.in_ok-written.written
+    written_next c.args.hub.now c.args.group.now c.make_room.new.self c.write_put.new.self _ c.args.bidder c.args.script.now c.in_ok-written.field-0
     c.requires.under_way c.make_room.ensures.waits (c.house-2.ensures ∙ c.front-2.ensures) c.in_ok-written.ensures.writes c.in-Some.written
     c.round-round.result c.in-Some.is
 
@@ -25,13 +25,13 @@ pub take_turn-requires-clause-awaits : goal.take_turn-requires-clause-awaits
 take_turn-requires-clause-awaits g c =
     subst (λ (written : Option Written). IfSome written (AwaitsBody c.write_put.new.self)) c.in-Some.is c.in_ok-written.ensures.awaits
 
-pub returns-in-Some : goal.returns-in-Some
-returns-in-Some g c =
-    turn_taken c.args.hub.now c.args.group.now c.make_room.new.self c.write_put.new.self _ c.args.bidder c.args.script.now c.in_ok-written.written
+pub returns : goal.returns
+returns g c =
+    turn_taken c.args.hub.now c.args.group.now c.make_room.new.self c.write_put.new.self _ c.args.bidder c.args.script.now c.in_ok-written.field-0
     c.requires.under_way c.make_room.ensures.waits (c.house-2.ensures ∙ c.front-2.ensures) c.in_ok-written.ensures.writes c.in-Some.written
     c.round-round.result c.take_turn.new.hub c.take_turn.new.self c.take_turn.result c.in-Some.is (c.round-round.ensures.is ∙ ap (λ (house : HouseFields). (standing_in house).round) (c.house.ensures ∙ c.front.ensures)) c.take_turn.ensures
 
-pub returns-in-None : goal.returns-in-None
-returns-in-None g c =
-    turn_passed c.args.hub.now c.args.group.now c.make_room.new.self c.write_put.new.self _ c.args.bidder c.args.script.now c.in_ok-written.written
-    c.requires.under_way c.make_room.ensures.waits (c.house-2.ensures ∙ c.front-2.ensures) c.in_ok-written.ensures.writes _ c.in-None.is
+pub returns-in_default : goal.returns-in_default
+returns-in_default g c =
+    turn_passed c.args.hub.now c.args.group.now c.make_room.new.self c.write_put.new.self _ c.args.bidder c.args.script.now c.in_ok-written.field-0
+    c.requires.under_way c.make_room.ensures.waits (c.house-2.ensures ∙ c.front-2.ensures) c.in_ok-written.ensures.writes _ c.in_default.is

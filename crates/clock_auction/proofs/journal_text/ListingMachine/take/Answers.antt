@@ -1,9 +1,17 @@
-use Rattle.std.proofs.Common.{arith}
+use Rattle.std.proofs.Common.{Result, Ok, Err, arith}
+use Rattle.std.specs.Prelude.{OnOk}
+use Rattle.std.specs.Result.{result_or}
 use Rattle.clock_auction.proofs.ListingLaws.{listed_on}
 use Rattle.clock_auction.proofs.journal_text.ListingMachine.take.Goals as goal
 
-pub returns-in-Ok-clause-taken : goal.returns-in-Ok-clause-taken
-returns-in-Ok-clause-taken c texts is =
+-- what holds where there is an answer holds where its refusal has become another
+with_other : {T E F : Type 0} {P Q : Type 0} (result : Result T E) (other : F) → OnOk result P → (P → Q) → OnOk (result_or result (Err other)) Q
+with_other (Ok answer) other holds then_ = then_ holds
+with_other (Err refused) other holds then_ = tt
+
+pub returns-clause-taken : goal.returns-clause-taken
+returns-clause-taken c =
+    rw c.or.ensures (with_other c.push_text.result _ c.push_text.ensures (λ added texts is.
     listed_on c.args.self.now.first texts c.args.text.now c.args.self.now.text _ c.args.self.now.chain _ c.args.self.now.texts _ c.args.self.now.place _ is
-    c.saturating_add-self.ensures c.link_of-self.ensures c.in-Ok.ensures
-    (omega (arith, c.saturating_add-self-2.ensures, c.saturating_add-length.ensures))
+    c.saturating_add-self.ensures c.link_of-self.ensures added
+    (omega (arith, c.saturating_add-self-2.ensures, c.saturating_add-length.ensures))))
