@@ -1,24 +1,35 @@
 -- What clap promises of a parse, said of the program's own grammar.
-use Rattle.std.proofs.Common.{◌≡◌, ◌≢◌, ◌∷◌, [], inl, inr, true, false, List, Option, None, refl, subst, ap₂, ◌∙◌}
+use Rattle.std.proofs.Common.{◌≡◌, ◌≢◌, ◌∷◌, [], inl, inr, true, List, Option, None, refl, subst, ap₂, ◌∙◌}
 use Rattle.std.specs.Prelude.{IfErr, IfOk, Result, Ok, Err}
-use Rattle.clap.specs.Words.{AddsSubcommand, App, FailsBy, HasKind, HasMatchesOf, Kinds, Text, fault_of, is_simple, is_simple_and_free}
-use Rattle.clap.specs.Words.{kind_of, subcommand_of, subcommand_rows_of, with_subcommand}
+use Rattle.clap.specs.Words.{AddsArg, AddsSubcommand, App, FailsBy, HasKind, HasMatchesOf, Kinds, Rule, Text, fault_of, is_simple, is_simple_and_free}
+use Rattle.clap.specs.Words.{kind_of, subcommand_of, subcommand_rows_of, with_rule, with_subcommand}
+use Rattle.clap.specs.declared.builder.arg.Arg.{Arg}
 use Rattle.clap.specs.declared.builder.command.Command.{Command}
 use Rattle.clap.specs.declared.error.Error.{Error}
 use Rattle.clap.specs.declared.error.kind.ErrorKind.TheVariants.{OutOfMemory}
 use Rattle.clap.specs.declared.parser.matches.ArgMatches.{ArgMatches}
 use Rattle.clap.proofs.OnLiterals.{clap_on_literals}
 use Rattle.clock_words.specs.Words.{grammar, unless_refused}
-use Rattle.clock_words.specs.inside.Commands.{IsCommand}
+use Rattle.clock_words.specs.inside.Commands.{IsCommand, IsOption}
 
--- a command was added
-pub with_below : {E : Type 0} (app sub : App) (command below : Command) (result : Result Command E) → IsCommand app command → IsCommand sub below
-    → IfOk result (AddsSubcommand command below) → IfOk result (IsCommand (with_subcommand app sub.top))
-with_below app sub command below (Ok made) is is_below added = record {
-  shape = added.shape is_below.local ∙ ap₂ (λ (a b : App). with_subcommand a b.top) is.shape is_below.shape;
-  local = rw (added.globals, is.local, is_below.local) refl;
-}
-with_below app sub command below (Err refused) is is_below added = tt
+module _ {E : Type 0} (app : App) (command : Command) (is : IsCommand app command) where
+  -- an option was added
+  pub with_one_more : (rule : Rule) (option : Arg) (result : Result Command E) → IsOption rule option
+      → IfOk result (AddsArg command option) → IfOk result (IsCommand (with_rule app rule))
+  with_one_more rule option (Ok made) is_option added = record {
+    shape = added.shape is_option.local ∙ ap₂ with_rule is.shape is_option.shape;
+    local = rw (added.globals, is.local, is_option.local) refl;
+  }
+  with_one_more rule option (Err refused) is_option added = tt
+
+  -- a command was added
+  pub with_below : (sub : App) (below : Command) (result : Result Command E) → IsCommand sub below
+      → IfOk result (AddsSubcommand command below) → IfOk result (IsCommand (with_subcommand app sub.top))
+  with_below sub below (Ok made) is_below added = record {
+    shape = added.shape is_below.local ∙ ap₂ (λ (a b : App). with_subcommand a b.top) is.shape is_below.shape;
+    local = rw (added.globals, is.local, is_below.local) refl;
+  }
+  with_below sub below (Err refused) is_below added = tt
 
 grammar_free : is_simple_and_free grammar ≡ true
 unfolding clap_on_literals

@@ -1,8 +1,8 @@
 //! The commands and options of the program, as clap is told of them.
-ghost use Rattle.std.specs.Prelude.{◌≡◌, false, IfOk};
-ghost use Rattle.clap.specs.Words.{new_app, rule_of};
-ghost use Rattle.clock_words.specs.Words.{files_grammar, grammar, needed_rule, number_rule, option_rule, prices_grammar, serve_grammar};
-ghost use Rattle.clock_words.specs.inside.Commands.{IsCommand};
+ghost use Rattle.std.specs.Prelude.{IfOk};
+ghost use Rattle.clap.specs.Words.{App, Rule, new_app, with_rule, with_subcommand};
+ghost use Rattle.clock_words.specs.Words.{files_grammar, grammar, needed_rule, number_rule, option_rule, prices_grammar, program_alone_grammar, serve_grammar};
+ghost use Rattle.clock_words.specs.inside.Commands.{IsCommand, IsOption};
 
 use crate::help::{
     AUDIT_HELP, JOURNAL_HELP, OPENING_HELP, PRICES_HELP, PROGRAM_HELP, REPLAY_HELP, SERVE_HELP,
@@ -23,8 +23,7 @@ pub const MOST_SERVED: u64 = 1_000_000;
 
 /// An option of one value, which may be left out.
 fn option<'a>(alloc: Global, name: &'a str, value: &'a str, help: &'a str) -> Arg<'a>
-    ensures rule { rule_of result ≡ option_rule name.now }
-    ensures local { result.global ≡ false }
+    ensures { IsOption (option_rule name.now) result }
 {
     Arg::new(alloc, name)
         .long(name)
@@ -34,16 +33,14 @@ fn option<'a>(alloc: Global, name: &'a str, value: &'a str, help: &'a str) -> Ar
 
 /// An option of a file, which must be given.
 fn needed_option<'a>(alloc: Global, name: &'a str, help: &'a str) -> Arg<'a>
-    ensures rule { rule_of result ≡ needed_rule name.now }
-    ensures local { result.global ≡ false }
+    ensures { IsOption (needed_rule name.now) result }
 {
     option(alloc, name, "FILE", help).required(true)
 }
 
 /// An option of a number from 1 on, which must be given.
 fn number_option<'a>(alloc: Global, name: &'a str, most: u64, help: &'a str) -> Arg<'a>
-    ensures rule { rule_of result ≡ number_rule name.now most }
-    ensures local { result.global ≡ false }
+    ensures { IsOption (number_rule name.now most) result }
 {
     option(alloc, name, "N", help)
         .required(true)
@@ -55,6 +52,28 @@ fn named<'a>(alloc: Global, name: &'a str, about: &'a str, help: &'a str) -> Com
     ensures { IsCommand (new_app name.now) result }
 {
     Command::new(alloc, name).about(about).after_help(help)
+}
+
+/// The command with one option more.
+fn with_option<'a>(
+    command: Result<Command<'a>, AllocError>,
+    option: Arg<'a>,
+) -> Result<Command<'a>, AllocError>
+    ensures { (app : App) (rule : Rule) → IfOk command.entry (IsCommand app) → IsOption rule option.entry
+        → IfOk result (IsCommand (with_rule app rule)) }
+{
+    command?.arg(option)
+}
+
+/// The program with one command more.
+fn with_command<'a>(
+    program: Result<Command<'a>, AllocError>,
+    command: Result<Command<'a>, AllocError>,
+) -> Result<Command<'a>, AllocError>
+    ensures { (app below : App) → IfOk program.entry (IsCommand app) → IfOk command.entry (IsCommand below)
+        → IfOk result (IsCommand (with_subcommand app below.top)) }
+{
+    program?.subcommand(command?)
 }
 
 /// `prices` and its option.
@@ -77,11 +96,14 @@ fn serve_command<'a>(alloc: Global) -> Result<Command<'a>, AllocError>
     let port = "The port of 127.0.0.1, from 1 to 65535";
     let served = "How many connections are served, from 1 to 1000000";
     let kept = "The file in which accepted sheets and closings are kept";
-    named(alloc, "serve", about, SERVE_HELP)
-        .arg(needed_option(alloc, "setup", SETUP_FILE))?
-        .arg(number_option(alloc, "port", MOST_PORT, port))?
-        .arg(number_option(alloc, "connections", MOST_SERVED, served))?
-        .arg(option(alloc, "journal", "FILE", kept))
+    let serve = named(alloc, "serve", about, SERVE_HELP);
+    let serve = serve.arg(needed_option(alloc, "setup", SETUP_FILE));
+    let serve = with_option(serve, number_option(alloc, "port", MOST_PORT, port));
+    let serve = with_option(
+        serve,
+        number_option(alloc, "connections", MOST_SERVED, served),
+    );
+    with_option(serve, option(alloc, "journal", "FILE", kept))
 }
 
 /// A command of a set-up document and a journal.
@@ -94,30 +116,39 @@ fn files_command<'a>(
     ensures { IfOk result (IsCommand (files_grammar name.now)) }
 {
     let kept = "The file in which accepted sheets and closings were kept";
-    named(alloc, name, about, help)
-        .arg(needed_option(alloc, "setup", SETUP_FILE))?
-        .arg(needed_option(alloc, "journal", kept))
+    let command = named(alloc, name, about, help);
+    let command = command.arg(needed_option(alloc, "setup", SETUP_FILE));
+    with_option(command, needed_option(alloc, "journal", kept))
+}
+
+/// The program without its commands.
+fn program_alone<'a>(alloc: Global) -> Result<Command<'a>, AllocError>
+    ensures { IfOk result (IsCommand program_alone_grammar) }
+{
+    let about = "The bidding system of an ascending clock auction";
+    named(alloc, "clock_auction", about, PROGRAM_HELP)
+        .version("0.1.0")
+        .no_binary_name(true)
+        .subcommand_required(true)
+        .bin_name("clock_auction")
 }
 
 /// The program's commands.
 pub fn program<'a>(alloc: Global) -> Result<Command<'a>, AllocError>
     ensures { IfOk result (IsCommand grammar) }
 {
-    let about = "The bidding system of an ascending clock auction";
     let opening = "Prints the sheet of round 1";
     let replay = "Plays an auction of scripted bidders and prints its rounds and what each won";
     let journal = "Prints what a journal holds, text by text";
     let audit =
         "Recounts an auction from its journal and prints its rounds and what each bidder won";
-    named(alloc, "clock_auction", about, PROGRAM_HELP)
-        .version("0.1.0")
-        .no_binary_name(true)
-        .subcommand_required(true)
-        .bin_name("clock_auction")?
-        .subcommand(prices_command(alloc)?)?
-        .subcommand(named(alloc, "opening", opening, OPENING_HELP))?
-        .subcommand(named(alloc, "replay", replay, REPLAY_HELP))?
-        .subcommand(serve_command(alloc)?)?
-        .subcommand(files_command(alloc, "journal", journal, JOURNAL_HELP)?)?
-        .subcommand(files_command(alloc, "audit", audit, AUDIT_HELP)?)
+    let program = with_command(program_alone(alloc), prices_command(alloc));
+    let program = with_command(program, Ok(named(alloc, "opening", opening, OPENING_HELP)));
+    let program = with_command(program, Ok(named(alloc, "replay", replay, REPLAY_HELP)));
+    let program = with_command(program, serve_command(alloc));
+    let program = with_command(
+        program,
+        files_command(alloc, "journal", journal, JOURNAL_HELP),
+    );
+    with_command(program, files_command(alloc, "audit", audit, AUDIT_HELP))
 }

@@ -159,9 +159,9 @@ fn task_in<'a>(matches: &ArgMatches<'a>) -> Option<FileTask<'a>>
 {
     let (name, options) = matches.subcommand()?;
     match name {
-        "serve" => Some(FileTask::Serve(serving_with(options)?)),
-        "journal" => Some(FileTask::Journal(files_with(options)?)),
-        "audit" => Some(FileTask::Audit(files_with(options)?)),
+        "serve" => serving_with(options).map(FileTask::Serve),
+        "journal" => files_with(options).map(FileTask::Journal),
+        "audit" => files_with(options).map(FileTask::Audit),
         _ => None,
     }
 }

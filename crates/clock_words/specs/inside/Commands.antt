@@ -1,10 +1,17 @@
 -- What is made for clap, and what it gives.
+--     IsOption rule option      the option is this one
 --     IsCommand app command      the command is this one
 --     within_limits least most number      the number, where it is within the limits
 use Rattle.std.specs.Prelude.{◌≡◌, ◌&&◌, ℕ, Option, Some, None, false, nat_le, if◌then◌else◌}
-use Rattle.clap.specs.Words.{App, app_of}
+use Rattle.clap.specs.Words.{App, Rule, app_of, rule_of}
+use Rattle.clap.specs.declared.builder.arg.Arg.{Arg}
 use Rattle.clap.specs.declared.builder.command.Command.{Command}
 use Rattle.clap.specs.declared.builder.command.Command.TheViews.{out-Command}
+
+-- the option is this one, and none of the commands below too
+pub record IsOption (rule : Rule) (option : Arg) : Type 0 where
+  pub shape : rule_of option ≡ rule
+  pub local : option.global ≡ false
 
 -- the command is this one, and no option of it is one of the commands below too
 pub record IsCommand (app : App) (command : Command) : Type 0 where

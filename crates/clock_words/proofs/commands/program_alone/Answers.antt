@@ -1,0 +1,5 @@
+use Rattle.std.proofs.Common.{rules}
+use Rattle.clock_words.proofs.commands.program_alone.Goals as goal
+
+pub returns : goal.returns
+returns c = search rules
