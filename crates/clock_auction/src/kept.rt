@@ -1,14 +1,14 @@
 //! An auction that is served with a journal: its file is taken over before the port is listened on.
-ghost use Rattle.std.specs.Prelude.{◌≡◌, [], IfErr, IfOk, Some, false};
+ghost use Rattle.std.specs.Prelude.{◌≡◌, [], IfOk, false};
 ghost use Rattle.clock_front.specs.Fronts.{StandsForTexts};
-ghost use Rattle.clock_auction.specs.Starts.{IsGoingOn, IsNotGoingOn};
+ghost use Rattle.clock_auction.specs.Starts.{of_start};
 
 use crate::digests::Hex;
 use crate::serve::{file_bytes, front_in, listening};
 use crate::telling::Telling;
 use clock_commands::Fault;
-use clock_journal::{Durable, FileDisk, Journal, Link, digest_of};
-use clock_keeping::{Auction, take_up};
+use clock_journal::{FileDisk, Journal, Link, Recovered, digest_of};
+use clock_keeping::{Auction, GoOnFault, go_on};
 use clock_queue::Woken;
 use clock_serving::{Listening, serve_all};
 use clock_words::Serving;
@@ -64,35 +64,24 @@ where
     how.read(true).append(true).create(true).mode(0o600);
     let file = how.open(rt, path).or(Err(Fault::Journal))?;
     let bytes = locked_bytes(rt.alloc(), &file)?;
-    let journal = go_on(rt, auction, FileDisk::new(file), digest, bytes.as_slice())?;
-    sync_folder(rt, path)?;
-    Ok(journal)
+    let bytes = bytes.as_slice();
+    let tell = |recovered: Recovered| tell_cut(rt, recovered.end, bytes.len());
+    match go_on(auction, FileDisk::new(file), digest, bytes, tell) {
+        Ok(journal) => {
+            sync_folder(rt, path)?;
+            Ok(journal)
+        }
+        Err(fault) => Err(start_fault(fault)),
+    }
 }
 
-/// Takes an auction up from all bytes of a disk, whatever kind of disk it is, and goes on with the journal there.
-pub fn go_on<R: Eprint, D: Durable>(
-    rt: &R,
-    auction: &mut Auction<Woken>,
-    disk: D,
-    digest: Link,
-    bytes: &[u8],
-) -> Result<Journal<D>, Fault>
-where
-    D: Drop,
-    requires fresh { StandsForTexts [] auction.old.front }
-    requires unfailed { D.has_failed disk ≡ false }
-    ensures in_step { D.written disk ≡ Some bytes.now
-        → IfOk result (λ journal. IsGoingOn digest bytes.now journal auction.new.front auction.new.texts) }
-    ensures err { IfErr result (IsNotGoingOn auction.old.front.setup digest bytes.now auction.new.front
-        auction.new.texts) }
-    ensures unfailed { IfOk result (λ journal. journal.has_failed ≡ false) }
-    ensures setup { auction.new.front.setup ≡ auction.old.front.setup }
+/// The fault of a journal that is not gone on with.
+pub fn start_fault(fault: GoOnFault) -> Fault
+    ensures { result ≡ of_start fault }
 {
-    let recovered = take_up(auction, &digest, bytes)?;
-    tell_cut(rt, recovered.end, bytes.len());
-    match Journal::resume(disk, digest, recovered) {
-        Ok(journal) => Ok(journal),
-        Err(_) => Err(Fault::Journal),
+    match fault {
+        GoOnFault::Refused(fault) => Fault::from(fault),
+        GoOnFault::Failed => Fault::Journal,
     }
 }
 

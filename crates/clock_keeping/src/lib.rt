@@ -1,10 +1,12 @@
 //! An auction whose accepted texts are kept in a journal, and which is taken up from there.
 //!
-//! [`answer_and_keep`] answers one text, and [`take_up`] all texts of a file.
+//! [`answer_and_keep`] answers one text, and [`take_up`] all texts of a file, with whose journal [`go_on`] goes on.
 #![tactic(auto)]
 
+mod going_on;
 mod keeping;
 mod taking;
 
+pub use going_on::{GoOnFault, go_on};
 pub use keeping::{answer_and_keep, law_gets_change_nothing};
 pub use taking::{Auction, take_up};
