@@ -1,12 +1,10 @@
 -- How a read that stops the reading ends it.
-use Rattle.std.proofs.Common.{◌≡◌, ℕ, ◌+◌, ◌≤◌, Bool, false, ◌||◌, List, [], ◌++◌, Err, length, refl, ◌∙◌, inl, arith}
+use Rattle.std.proofs.Common.{◌≡◌, ℕ, ◌+◌, ◌≤◌, false, true, List, [], ◌++◌, Err, length, ◌∙◌, inl, arith}
 use Rattle.std.proofs.lemmas.List.{append-nil, length-append}
 use Rattle.clock_device.specs.Streams.{HasRead}
 use Rattle.clock_device.proofs.Streams.{read_twice}
 use Rattle.clock_device.specs.Told.{Reading, SourceTold}
 use Rattle.clock_commands.specs.Input.{IsReadingOf, Takes, most_bytes}
-use Rattle.clock_commands.specs.inside.Input.{IsStepOf, is_input_fault}
-use Rattle.clock_commands.specs.declared.fault.Fault.{Fault}
 use Rattle.clock_commands.specs.declared.fault.Fault.TheVariants as fault
 
 -- what was told in between, before one further read
@@ -20,17 +18,19 @@ module _ (reading : Reading) (mid : SourceTold) (document : List ℕ)
   took bytes others further count =
       record { read = read_twice reading.before.left mid.left reading.after.left document bytes read further; used = count }
 
-  -- that read was the one that was for nothing
-  took_at_last : (bytes : List ℕ) → HasRead mid.left reading.after.left bytes → Takes reading 1 (document ++ bytes)
-  took_at_last bytes further = took bytes 1 further (rw length-append (omega arith))
+  -- it failed
+  pub failed_last : HasRead mid.left reading.after.left [] → reading.after.has_failed ≡ true → IsReadingOf reading (Err fault.Input)
+  failed_last further fails = inl (document ++ [], (took [] 1 further (rw length-append (omega arith)), rw append-nil few), fails)
 
-  pub stopped : (cause : Fault) → reading.after.has_failed ≡ (mid.has_failed || is_input_fault {A = Bool} (Err cause))
-      → (document_after : List ℕ) → IsStepOf mid.left reading.after.left document document_after (Err cause) → IsReadingOf reading (Err cause)
-  stopped fault.Input fails document_after step =
-      inl (document ++ [], (took_at_last [] step, rw append-nil few), fails ∙ rw unfailed refl)
-  stopped fault.LongInput fails document_after step =
-      let long : length document + length step.0 ≡ most_bytes + 1 = rw length-append at step.2 in
-      ((document ++ step.0, took step.0 0 step.1 (rw length-append (omega (arith, long))), step.2), fails ∙ rw unfailed refl)
-  stopped fault.Memory fails document_after step =
-      (document ++ step.0, (took_at_last step.0 step.1, step.2), fails ∙ rw unfailed refl)
-  stopped other fails document_after step = absurd step
+  -- it gave one byte too many
+  pub too_much : (bytes : List ℕ) → HasRead mid.left reading.after.left bytes → length document + length bytes ≡ most_bytes + 1
+      → reading.after.has_failed ≡ mid.has_failed → IsReadingOf reading (Err fault.LongInput)
+  too_much bytes further long fails =
+      let all : length (document ++ bytes) ≡ most_bytes + 1 = rw length-append long in
+      ((document ++ bytes, took bytes 0 further (omega (arith, all)), all), fails ∙ unfailed)
+
+  -- there was no memory for its bytes
+  pub no_memory : (bytes : List ℕ) → HasRead mid.left reading.after.left bytes → length document + length bytes ≤ most_bytes
+      → reading.after.has_failed ≡ mid.has_failed → IsReadingOf reading (Err fault.Memory)
+  no_memory bytes further some fails =
+      (document ++ bytes, (took bytes 1 further (rw length-append (omega arith)), rw length-append some), fails ∙ unfailed)

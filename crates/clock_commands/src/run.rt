@@ -1,4 +1,4 @@
-ghost use Rattle.std.specs.Prelude.{◌≡◌, ◌≢◌, ◌≤◌, IfSome, map};
+ghost use Rattle.std.specs.Prelude.{◌≢◌, ◌≤◌, IfSome, map};
 ghost use Rattle.clap.specs.Words.{kind_of};
 ghost use Rattle.clock_device.specs.Told.{IsUnread, IsUnused};
 ghost use Rattle.clock_commands.specs.FaultLines.{fault_line};

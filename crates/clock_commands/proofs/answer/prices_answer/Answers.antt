@@ -1,6 +1,6 @@
-use Rattle.std.proofs.Common.{◌∙◌, ap, subst, sym}
+use Rattle.std.proofs.Common.{subst, sym}
 use Rattle.std.specs.Prelude.{All, List}
-use Rattle.clock_terms.specs.Limits.{SetupFields, IsProduct}
+use Rattle.clock_terms.specs.Limits.{IsProduct}
 use Rattle.clock_terms.specs.declared.setup.Product.{Product}
 use Rattle.clock_commands.proofs.answer.prices_answer.Goals as goal
 
