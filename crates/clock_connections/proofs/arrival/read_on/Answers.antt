@@ -1,7 +1,10 @@
-use Rattle.std.proofs.Common.{◌≡◌, [], List, ℕ, inr, sym, subst, ap, ◌∙◌, arith}
+use Rattle.std.proofs.Common.{List, ℕ, Err, inr, sym, subst, ap, ◌∙◌, arith}
 use Rattle.std.proofs.lemmas.Result.{err_from_is_err_and}
+use Rattle.clock_device.specs.Calls.{interruptions_after}
 use Rattle.clock_device.specs.Streams.{HasRead}
+use Rattle.clock_device.specs.declared.stream.Stop.{Stop}
 use Rattle.clock_http.specs.Framing.{needs_more}
+use Rattle.clock_connections.specs.Arrivals.{UsesReads}
 use Rattle.clock_connections.proofs.ArrivalLaws.{no_room, nothing_needs_more, nothing_read, read_failed}
 use Rattle.clock_connections.proofs.arrival.read_on.Goals as goal
 
@@ -49,14 +52,16 @@ returns-in-Err-Failed-clause-arrival g c =
     let told = g.R.Source.told in
     let loop = c.loop-read in
     let once = c.in-Err-Failed.ensures in
+    let still = once.interrupted ∙ ap (λ (stop : Stop). interruptions_after {N = ℕ} (told loop.source).interruptions (Err stop)) c.in-Err-Failed.field-0-is in
     read_failed (record { before = told c.args.source.now; after = told c.read.new.self }) (told loop.source) loop.request
     loop.invariant.read loop.invariant.needed (omega (arith, loop.invariant.counted, loop.invariant.used)) loop.invariant.unfailed
-    (omega (arith, once.counted, loop.invariant.counted)) (omega (arith, once.interrupted)) _ c.in-Err-Failed.field-0-is once.bytes once.failed
+    (omega (arith, once.counted, loop.invariant.counted)) (omega (arith, still)) _ c.in-Err-Failed.field-0-is once.bytes once.failed
 
 pub returns-clause-arrival : goal.returns-clause-arrival
 returns-clause-arrival g c =
+    let told = g.R.Source.told in
     let l = c.loop-read in
-    let used = record {
+    let used : UsesReads (record { before = told c.args.source.now; after = told l.source }) l.request = record {
       read = l.invariant.read;
       needed = l.invariant.needed;
       used = omega (arith, l.invariant.counted, l.invariant.used);

@@ -1,4 +1,3 @@
-use Rattle.std.proofs.Common.{◌≡◌}
 use Rattle.std.proofs.lemmas.Result.{err_from_is_err_and}
 use Rattle.clock_connections.proofs.ArrivalLaws.{no_room_at_first}
 use Rattle.clock_connections.proofs.arrival.read_request.Goals as goal
