@@ -1,7 +1,6 @@
-ghost use Rattle.std.specs.Prelude.{◌≡◌, ◌≤◌, [], length};
+ghost use Rattle.std.specs.Prelude.{◌≡◌, ◌≤◌};
 ghost use Rattle.clock_device.specs.Told.{IsUnread};
 ghost use Rattle.clock_connections.specs.Arrivals.{most_request_reads, EndsArrival};
-ghost use Rattle.clock_connections.specs.inside.Filling.{EndsFilling};
 ghost use Rattle.clock_connections.specs.declared.arrival.Unread.TheVariants as unread;
 
 use clock_device::{NoMemory, Source, Stop, room_for_read};
@@ -31,32 +30,6 @@ impl From<NoMemory> for Unread {
     }
 }
 
-/// Reads into a request that has no bytes yet, until they decide what it is, or the input ends.
-fn read_on<R: Source>(
-    source: &mut R,
-    piece: &mut [u8],
-    request: &mut Arriving,
-) -> Result<(), Unread>
-    requires told { IsUnread (R.told source.old) }
-    requires room { length piece.old ≡ PIECE }
-    requires fresh { request.old ≡ [] }
-    ensures arrival { EndsFilling (record { before = R.told source.old; after = R.told source.new }) request.new result }
-    ensures calls { (R.told source.new).calls ≤ most_request_reads }
-{
-    for _read in 0..MOST_READS {
-        let count = match source.read(piece) {
-            Ok(count) => count,
-            Err(Stop::Interrupted) => continue,
-            Err(Stop::Failed) => return Err(Unread::Read),
-        };
-        let short = request.take(&piece[..count])?;
-        if count == 0 || !short {
-            return Ok(());
-        }
-    }
-    Err(Unread::Read)
-}
-
 /// Reads until the bytes decide what the request is, or the input ends. An interrupted read is tried again, and
 /// 2,000,000 reads are made at most.
 pub fn read_request<R: Source>(alloc: Global, source: &mut R) -> Result<Arriving, Unread>
@@ -66,8 +39,16 @@ pub fn read_request<R: Source>(alloc: Global, source: &mut R) -> Result<Arriving
 {
     let mut piece = room_for_read(alloc, PIECE)?;
     let mut request = Arriving::new(alloc);
-    match read_on(source, piece.as_mut_slice(), &mut request) {
-        Ok(()) => Ok(request),
-        Err(unread) => Err(unread),
+    for _read in 0..MOST_READS {
+        let count = match source.read(piece.as_mut_slice()) {
+            Ok(count) => count,
+            Err(Stop::Interrupted) => continue,
+            Err(Stop::Failed) => return Err(Unread::Read),
+        };
+        let short = request.take(&piece[..count])?;
+        if count == 0 || !short {
+            return Ok(request);
+        }
     }
+    Err(Unread::Read)
 }
