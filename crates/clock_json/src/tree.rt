@@ -26,7 +26,7 @@ pub fn text_at<'v>(value: &'v Value, key: &str) -> Option<&'v str>
 }
 
 /// The items of a list under a key.
-pub fn items_at<'v>(value: &'v Value, key: &str) -> Option<&'v [Value]>
+fn items_at<'v>(value: &'v Value, key: &str) -> Option<&'v [Value]>
     ensures { option_map (λ items. items_view items.now) result ≡ members.items_at key.now (view value.now) }
 {
     value
@@ -129,13 +129,6 @@ impl<'v> PlainReader<'v> for NumberReader {
     }
 }
 
-/// The numbers of a list, or none where an item is no whole number from 0 to 2^64 - 1.
-pub fn numbers_of(alloc: Global, items: &[Value]) -> Result<Option<Items<u64>>, NoMemory>
-    ensures { IfOk result (λ numbers. numbers ≡ members.each members.number_from (items_view items.now)) }
-{
-    each_of(alloc, &NumberReader, items)
-}
-
 /// A row of numbers is read from a list of them.
 #[derive(Drop)]
 pub struct RowReader;
@@ -148,7 +141,7 @@ impl<'v> ValueReader<'v> for RowReader {
 
     fn part_of(&self, alloc: Global, value: &'v Value) -> Result<Option<Items<u64>>, NoMemory> {
         match value.as_array() {
-            Some(items) => numbers_of(alloc, items.as_slice()),
+            Some(items) => each_of(alloc, &NumberReader, items.as_slice()),
             None => Ok(None),
         }
     }
