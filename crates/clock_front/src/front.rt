@@ -47,10 +47,29 @@ pub use unanswered::Unanswered;
 pub struct Front<P> {
     alloc: Global,
     house: House<P>,
-    routes: Routes,
+    kept: Kept,
+}
+
+/// What is kept beside the house, which never changes: whose each token is, the routes, and the page of products.
+#[derive(Drop)]
+struct Kept {
     tokens: Tokens,
-    /// The page of products, which never changes.
+    routes: Routes,
     products: Text,
+}
+
+/// What a front of a set-up keeps beside its house.
+fn what_is_kept(alloc: Global, setup: &Setup) -> Result<Kept, NoMemory>
+    ensures { IfOk result (λ kept. IsTableOf setup.now kept.tokens.entries × IsProductsPage setup.now kept.products) }
+{
+    let products = products_page(alloc, setup)?;
+    let tokens = tokens_of(alloc, setup)?;
+    let routes = Routes::new(alloc)?;
+    Ok(Kept {
+        tokens,
+        routes,
+        products,
+    })
 }
 
 impl<P> Model for Front<P> {
@@ -58,7 +77,7 @@ impl<P> Model for Front<P> {
 
     ghost view = { λ f. f.house };
 
-    ghost invariant = { λ f. IsTableOf f.house.setup f.tokens.entries × IsProductsPage f.house.setup f.products };
+    ghost invariant = { λ f. IsTableOf f.house.setup f.kept.tokens.entries × IsProductsPage f.house.setup f.kept.products };
 }
 
 impl<P: Processor> Front<P> {
@@ -67,16 +86,33 @@ impl<P: Processor> Front<P> {
         ensures setup { IfOk result (λ front. front.setup ≡ setup) }
         ensures stands { IfOk result (StandsForTexts []) }
     {
-        let tokens = tokens_of(alloc, &setup)?;
-        let routes = Routes::new(alloc)?;
-        let products = products_page(alloc, &setup)?;
-        Ok(Front {
-            alloc,
-            house: House::new(alloc, setup, processor)?,
-            routes,
-            tokens,
-            products,
-        })
+        match what_is_kept(alloc, &setup) {
+            Ok(kept) => Front::with(alloc, House::new(alloc, setup, processor), kept),
+            Err(none) => {
+                drop(setup);
+                drop(processor);
+                Err(none)
+            }
+        }
+    }
+
+    /// The front of a house, with what is kept beside it.
+    fn with(
+        alloc: Global,
+        house: Result<House<P>, NoMemory>,
+        kept: Kept,
+    ) -> Result<Front<P>, NoMemory>
+        requires { IfOk house (λ house. IsTableOf house.setup kept.tokens.entries
+            × IsProductsPage house.setup kept.products) }
+        ensures { result ≡ house }
+    {
+        match house {
+            Ok(house) => Ok(Front { alloc, house, kept }),
+            Err(none) => {
+                drop(kept);
+                Err(none)
+            }
+        }
     }
 
     /// What an asker asks for is told or done, or it is told why not.
@@ -92,7 +128,7 @@ impl<P: Processor> Front<P> {
     {
         match what {
             Asked::Read(what) => {
-                let page = self.products.as_slice();
+                let page = self.kept.products.as_slice();
                 Ok(tell(self.alloc, &self.house, page, asker, what)?)
             }
             Asked::Put(body) => answer_put(self.alloc, &mut self.house, asker, body),
@@ -122,8 +158,8 @@ impl<P: Processor> Front<P> {
             Framing::NeedMore => turn_away(self.alloc, Refusal::alone(Code::CutShort)),
             Framing::Refused(code) => Ok(fixed_reply(code)),
             Framing::Whole { head, body } => {
-                let asker = asker_of(&self.tokens, head.token);
-                let what = asked_of(&self.routes, &head, body);
+                let asker = asker_of(&self.kept.tokens, head.token);
+                let what = asked_of(&self.kept.routes, &head, body);
                 self.answer_asked(asker, what)
             }
         }

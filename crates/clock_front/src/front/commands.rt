@@ -120,11 +120,16 @@ fn close_round<P: Processor>(
     ensures still { OnErr result (StandsStill house.old house.new) }
 {
     match house.prepare(closing.round, &closing.increments, closing.ties.as_slice()) {
-        Ok(settled) => {
-            let reply = closed(alloc, closing.round, settled.ended())?;
-            house.commit(settled);
-            Ok(reply)
-        }
+        Ok(settled) => match closed(alloc, closing.round, settled.ended()) {
+            Ok(reply) => {
+                house.commit(settled);
+                Ok(reply)
+            }
+            Err(none) => {
+                drop(settled);
+                Err(none)
+            }
+        },
         Err(CloseFault::NoMemory) => Err(NoMemory),
         Err(why) => Ok(refusal(alloc, Refusal::from(why))?),
     }

@@ -50,7 +50,7 @@ returns-in-Refused-clause-followed g c = λ text is.
 pub answer_asked-requires : goal.answer_asked-requires
 answer_asked-requires g c =
     c.asker_of-asker.ensures.known c.args.self.now.setup
-    (subst (λ (h : HouseFields). IsTableOf h.setup c.self.inside.tokens.entries) c.self.view_is c.self.invariant.0)
+    (subst (λ (h : HouseFields). IsTableOf h.setup c.self.inside.kept.tokens.entries) c.self.view_is c.self.invariant.0)
 
 pub returns-in-Whole-clause-still : goal.returns-in-Whole-clause-still
 returns-in-Whole-clause-still g c = c.answer_asked.ensures.still
@@ -58,7 +58,7 @@ returns-in-Whole-clause-still g c = c.answer_asked.ensures.still
 pub returns-in-Whole-clause-reply : goal.returns-in-Whole-clause-reply
 returns-in-Whole-clause-reply g c = λ text is.
     let house = c.args.self.now in
-    let table = subst (λ (h : HouseFields). IsTableOf h.setup c.self.inside.tokens.entries) c.self.view_is c.self.invariant.0 in
+    let table = subst (λ (h : HouseFields). IsTableOf h.setup c.self.inside.kept.tokens.entries) c.self.view_is c.self.invariant.0 in
     of_text house.setup text (λ who ask. IfOk c.answer_asked.result (λ reply. reply ≡ answer_of (outcome house who ask))) _ _
     (shown_head c.in-Whole.head) c.in-Whole.body.now (c.asker_of-asker.ensures.shown house.setup table) c.asked_of-what.ensures
     (ap shown_framing (sym c.in-Whole.is) ∙ is) c.answer_asked.ensures.reply
@@ -66,7 +66,7 @@ returns-in-Whole-clause-reply g c = λ text is.
 pub returns-in-Whole-clause-followed : goal.returns-in-Whole-clause-followed
 returns-in-Whole-clause-followed g c = λ text is.
     let house = c.args.self.now in
-    let table = subst (λ (h : HouseFields). IsTableOf h.setup c.self.inside.tokens.entries) c.self.view_is c.self.invariant.0 in
+    let table = subst (λ (h : HouseFields). IsTableOf h.setup c.self.inside.kept.tokens.entries) c.self.view_is c.self.invariant.0 in
     of_text house.setup text (λ who ask. OnOk c.answer_asked.result (IsFollowedBy (command_of house.setup who ask) house c.answer_asked.new.self)) _ _
     (shown_head c.in-Whole.head) c.in-Whole.body.now (c.asker_of-asker.ensures.shown house.setup table) c.asked_of-what.ensures
     (ap shown_framing (sym c.in-Whole.is) ∙ is) c.answer_asked.ensures.followed
@@ -103,7 +103,7 @@ returns-in-NeedMore-clause-wanted_privately g c = λ text is.
 pub returns-in-Whole-clause-wanted : goal.returns-in-Whole-clause-wanted
 returns-in-Whole-clause-wanted g c = λ text is.
     let house = c.args.self.now in
-    let table = subst (λ (h : HouseFields). IsTableOf h.setup c.self.inside.tokens.entries) c.self.view_is c.self.invariant.0 in
+    let table = subst (λ (h : HouseFields). IsTableOf h.setup c.self.inside.kept.tokens.entries) c.self.view_is c.self.invariant.0 in
     of_text house.setup text (λ who ask. IfErr c.answer_asked.result (WantsRoom who ask (outcome house who ask))) _ _
     (shown_head c.in-Whole.head) c.in-Whole.body.now (c.asker_of-asker.ensures.shown house.setup table) c.asked_of-what.ensures
     (ap shown_framing (sym c.in-Whole.is) ∙ is) c.answer_asked.ensures.wanted

@@ -8,17 +8,17 @@ use Rattle.clock_front.specs.Outcomes.{answer_of, close_outcome, done}
 use Rattle.clock_front.proofs.ChangeLaws.{closed_outcome, closing_followed}
 use Rattle.clock_front.proofs.front.commands.close_round.Goals as goal
 
-pub returns-in_ok-reply-in-Ok-clause-reply : goal.returns-in_ok-reply-in-Ok-clause-reply
-returns-in_ok-reply-in-Ok-clause-reply g c =
+pub returns-in-Ok-closed-clause-reply : goal.returns-in-Ok-closed-clause-reply
+returns-in-Ok-closed-clause-reply g c =
     let closing = c.args.closing.now in
     let asked = c.in-Ok.ensures.asked in
-    c.in_ok-reply-in-Ok.ensures
+    c.in-Ok-closed.ensures
     ∙ ap (λ (ended : Bool). answer_of (done (closed_value closing.round ended))) c.ended.ensures
     ∙ ap answer_of (closed_outcome c.in-Ok.settled c.args.house.now c.prepare.new.self closing.round closing.increments closing.ties
     asked.0 asked.1 (asked.2 ∙ c.as_slice.ensures) c.in-Ok.ensures.fits c.in-Ok.ensures.same)
 
-pub returns-in_ok-reply-in-Ok-clause-followed : goal.returns-in_ok-reply-in-Ok-clause-followed
-returns-in_ok-reply-in-Ok-clause-followed g c =
+pub returns-in-Ok-closed-clause-followed : goal.returns-in-Ok-closed-clause-followed
+returns-in-Ok-closed-clause-followed g c =
     let closing = c.args.closing.now in
     let asked = c.in-Ok.ensures.asked in
     closing_followed c.in-Ok.settled c.args.house.now c.prepare.new.self c.commit.new.self closing.round closing.increments closing.ties
