@@ -1,15 +1,16 @@
 -- One bid more is judged by the last one before it for its product.
-use Rattle.std.proofs.Common.{◌≡◌, ℕ, ◌+◌, ◌*◌, ◌<◌, ◌≤◌, List, length, take, refl, ◌∙◌, sym, arith, get_or}
+use Rattle.std.proofs.Common.{◌≡◌, ℕ, ◌+◌, ◌*◌, ◌<◌, ◌≤◌, List, length, take, refl, ap, ◌∙◌, sym, arith, get_or}
 use Rattle.std.specs.Prelude.{Option, Some, None}
-use Rattle.std.proofs.lemmas.List.{get_or_default}
+use Rattle.std.proofs.lemmas.List.{get_or_default, take_all, drop_all}
 use Rattle.clock_terms.specs.declared.setup.Product.{Product}
 use Rattle.clock_terms.specs.declared.prices.PricePair.{PricePair}
-use Rattle.clock_terms.specs.Faults.{first_fault}
+use Rattle.clock_terms.specs.Eligibility.{activity}
+use Rattle.clock_terms.specs.Faults.{first_fault, in_turn}
 use Rattle.clock_terms.specs.Limits.{most_supply, most_units}
 use Rattle.clock_terms.proofs.FaultLaws.{turn_passed, turn_failed}
 use Rattle.clock_bids.specs.declared.sheet.Bid.{Bid}
 use Rattle.clock_bids.specs.declared.sheet.BidFault.{BidFault}
-use Rattle.clock_bids.specs.Sheet.{bid_checks}
+use Rattle.clock_bids.specs.Sheet.{asked_demands, bid_checks}
 use Rattle.clock_bids.specs.inside.Parts.{checks_of_bids}
 use Rattle.clock_bids.specs.inside.Chains.{last_bids, quantity_of, checks_by_last}
 use Rattle.clock_bids.specs.inside.Judging.{AreJudged}
@@ -25,6 +26,17 @@ none_judged products prices demands bids = record {
   small = omega arith;
   ahead = refl;
 }
+
+-- where all bids are judged, none has a fault, and it is known what they ask for
+module _ (products : List Product) (prices : List PricePair) (demands : List ℕ) (bids : List Bid) (n taken : ℕ)
+    (all : AreJudged products prices demands bids n taken) (end : length bids ≤ n) where
+  pub none_at_fault : first_fault (checks_of_bids products prices demands bids) ≡ None
+  none_at_fault =
+      sym all.ahead
+      ∙ ap (λ (list : List Bid). first_fault (in_turn (λ i bid. bid_checks products prices demands (take i bids) i bid) n list)) (drop_all n bids end)
+
+  pub all_taken : taken ≡ activity products (asked_demands (length products) bids)
+  all_taken = all.taken_is ∙ ap (λ (list : List Bid). activity products (asked_demands (length products) list)) (take_all n bids end)
 
 module _ (products : List Product) (prices : List PricePair) (demands : List ℕ) (bids : List Bid) (i taken : ℕ)
     (so_far : AreJudged products prices demands bids i taken) (within : i < length bids) (seen : List Product) (last : Option Bid)

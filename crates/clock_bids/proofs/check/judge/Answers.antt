@@ -3,7 +3,7 @@ use Rattle.clock_terms.specs.declared.setup.Product.{Product}
 use Rattle.clock_bids.specs.inside.LastBids.{AreLastPlaces}
 use Rattle.clock_bids.proofs.Tables.{no_bid}
 use Rattle.clock_bids.proofs.LastBids.{last_places-more, last_read}
-use Rattle.clock_bids.proofs.Judging.{fault_found, known, units_held, judged_more}
+use Rattle.clock_bids.proofs.Judging.{none_at_fault, all_taken, fault_found, known, units_held, judged_more}
 use Rattle.clock_bids.proofs.check.judge.Goals as goal
 
 pub loop-i-init : goal.loop-i-init
@@ -72,3 +72,13 @@ loop-i-preserved c =
           c.taken_with-taken.ensures.most;
       kept = last_places-more (length list) bids i c.loop-i.places.items within here c.loop-i.invariant.kept;
     }
+
+pub returns-clause-ok : goal.returns-clause-ok
+returns-clause-ok c =
+    none_at_fault c.args.setup.now.products c.args.prices.now c.args.demands.now c.args.bids.now c.loop-i.i c.loop-i.taken c.loop-i.invariant.judged
+    (omega (arith, c.loop-i-test.false))
+
+pub returns-clause-taken : goal.returns-clause-taken
+returns-clause-taken c =
+    all_taken c.args.setup.now.products c.args.prices.now c.args.demands.now c.args.bids.now c.loop-i.i c.loop-i.taken c.loop-i.invariant.judged
+    (omega (arith, c.loop-i-test.false))
