@@ -23,7 +23,7 @@ use Rattle.clock_processor.proofs.Supply.{same_or_not}
 use Rattle.clock_processor.proofs.Apply.{may_apply, sum_after, under_way_applied}
 use Rattle.clock_queue.specs.declared.queue.Queue.{Queue}
 use Rattle.clock_queue.specs.inside.Lines.{line_of, line_by, woken_line, woken_by, product_line, bidder_line, HasLines}
-use Rattle.clock_queue.specs.inside.Queue.{IsQueue, IsTracked, IsWaiting, IsInLine, StaysWithinTests, SameTerms}
+use Rattle.clock_queue.specs.inside.Queue.{IsQueue, IsTracked, IsWaiting, IsInLine, IsAppliedWhole, StaysWithinTests}
 use Rattle.clock_queue.specs.inside.Queue.{line_at, count_in, room_in, with_first, progress, work}
 use Rattle.clock_queue.specs.Bound.{most_of_one}
 use Rattle.clock_queue.proofs.Members.{Contains-cons_cases, Contains-first, Contains-rest, count_by_none}
@@ -262,25 +262,17 @@ pub record IsApplied (changes : List Change) (first : ℕ) (old new : Queue) : T
   pub lines : new.lines ≡ set old.lines (woken_line (get_or changes first no_change)) []
   pub ready : IsPermutation (old.ready ++ get_or old.lines (woken_line (get_or changes first no_change)) []) new.ready
 
--- what holds of the queue after the application
-pub record HoldsAfter (changes : List Change) (first : ℕ) (old new : Queue) : Type 0 where
-  pub queue : IsQueue changes (with_first first new)
-  pub counts : StaysWithinTests changes old → StaysWithinTests changes new
-  pub applied : progress new ≡ with_application old.board.products old.board.eligibilities changes (progress old) first
-  pub terms : SameTerms old new
-  pub no_room : room_in changes new first ≡ 0
-  pub less : work changes new < work changes old
-
+-- so the queue is the one of a request that is applied by its whole room
 pub holds_after : (changes : List Change) (first : ℕ) (old new : Queue) → IsQueue changes (with_first first old) →
     IsBoard old.board.products old.board.eligibilities old.board.grid → 0 < room_in changes old first →
-    IsApplied changes first old new → HoldsAfter changes first old new
-holds_after changes first old new is is_board some applied =
+    StaysWithinTests changes old → IsApplied changes first old new → IsAppliedWhole changes first old new
+holds_after changes first old new is is_board some within applied =
     let same : after changes old first is is_board some new.ready applied.ready ≡ new =
     λ k. record { board = sym applied.board k; left = sym applied.left k; admitted = sym applied.admitted k; ready = new.ready; lines = sym applied.lines k } in
-    subst (HoldsAfter changes first old) same
+    subst (IsAppliedWhole changes first old) same
     (record {
       queue = queue_after changes old first is is_board some new.ready applied.ready;
-      counts = count_after changes old first is is_board some new.ready applied.ready;
+      counts = count_after changes old first is is_board some new.ready applied.ready within;
       applied = progress_after changes old first is is_board some new.ready applied.ready;
       terms = record { products = refl; eligibilities = refl };
       no_room = no_room_after changes old first is is_board some new.ready applied.ready;

@@ -1,7 +1,7 @@
 ghost use Rattle.std.specs.Prelude.{◌≡◌, ◌+◌, ◌<◌, ◌≤◌, [], length, map, IfOk, OnOk, All};
 ghost use Rattle.clock_processor.specs.Board.{IsBoard};
 ghost use Rattle.clock_processor.specs.Requests.{CanSettle};
-ghost use Rattle.clock_queue.specs.inside.Queue.{GoesOn, IsQueue, SameTerms, StaysWithinTests, after_test, progress, progress_with, room_in, with_first, work};
+ghost use Rattle.clock_queue.specs.inside.Queue.{GoesOn, IsAppliedWhole, IsQueue, StaysWithinTests, after_test, room_in, with_first, work};
 
 use crate::lines::{WaitingLines, line_of, lines_for, woken_line};
 use crate::ready::Ready;
@@ -99,17 +99,13 @@ impl<'a> Queue<'a> {
         requires is_board { IsBoard self.old.board.products self.old.board.eligibilities self.old.board.grid }
         requires room { room ≡ room_in changes.now self.old place }
         requires positive { 0 < room }
-        ensures queue { OnOk result (IsQueue changes.now (with_first place self.new)) }
-        ensures counts { OnOk result (StaysWithinTests changes.now self.new) }
-        ensures applied { OnOk result (progress self.new ≡ progress_with changes.now self.old place) }
-        ensures terms { OnOk result (SameTerms self.old self.new) }
-        ensures no_room { OnOk result (room_in changes.now self.new place ≡ 0) }
-        ensures less { OnOk result (work changes.now self.new < work changes.now self.old) }
+        ensures { OnOk result (IsAppliedWhole changes.now place self.old self.new) }
     {
+        let change = &changes[place];
         let left = self.left.as_slice()[place];
-        self.board.apply(&changes[place], room);
+        self.board.apply(change, room);
         self.left.set(place, left - room);
-        let line = woken_line(&changes[place]);
+        let line = woken_line(change);
         let woken = self.lines.at(line);
         self.ready.extend(woken)?;
         self.lines.clear(line);

@@ -11,6 +11,7 @@
 --         within the bound
 --     GoesOn changes old new      from one queue the settling goes on to another
 --     work changes queue      a number that falls with each test
+--     IsAppliedWhole changes place old new      a request is applied by its whole room
 use Rattle.std.specs.Prelude.{◌≡◌, ℕ, ◌+◌, ◌*◌, ◌<◌, ◌≤◌, ◌==◌, ◌⊎◌, List, [], ◌∷◌, take, length, sum, count_by, All, slice_index, slice_index_or}
 use Rattle.std.specs.List.{Contains}
 use Rattle.clock_terms.specs.declared.change.Change.{Change}
@@ -100,3 +101,12 @@ module _ (changes : List Change) where
   -- test takes one out of the ready ones
   abbrev pub work : Queue → ℕ
   work queue = sum queue.left * (most_of_one changes + 1) + length queue.ready
+
+  -- the request at a place, the first that is ready, is applied by its whole room: it has none left, and stays the first
+  pub record IsAppliedWhole (place : ℕ) (old new : Queue) : Type 0 where
+    pub queue : IsQueue (with_first place new)
+    pub counts : StaysWithinTests new
+    pub applied : progress new ≡ progress_with old place
+    pub terms : SameTerms old new
+    pub no_room : room_in new place ≡ 0
+    pub less : work new < work old
