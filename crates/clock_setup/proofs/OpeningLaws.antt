@@ -1,6 +1,6 @@
 -- Laws of the checks of an opening document.
-use Rattle.std.proofs.Common.{◌≡◌, ℕ, ◌+◌, ◌*◌, ◌<◌, ◌≤◌, All, ◌==◌, Bool, true, false, nat_le, if◌then◌else◌, List, [], ◌∷◌, ◌++◌, length, get_or, drop}
-use Rattle.std.proofs.Common.{zip, Option, Some, None, Ok, Err, refl, sym, ap, ◌∙◌, subst, arith}
+use Rattle.std.proofs.Common.{◌≡◌, ℕ, ◌+◌, ◌*◌, ◌<◌, ◌≤◌, All, ◌==◌, Bool, true, false, nat_le, if◌then◌else◌, List, [], ◌∷◌, length, get_or, drop}
+use Rattle.std.proofs.Common.{zip, Option, Some, None, Result, Ok, Err, refl, sym, ap, ◌∙◌, subst, arith}
 use Rattle.std.specs.List.{list_all, AllPass}
 use Rattle.std.proofs.lemmas.Bool.{and_parts, le-leb, lt-leb}
 use Rattle.std.proofs.lemmas.Bool.Decides.{nat_tests}
@@ -8,21 +8,22 @@ use Rattle.std.proofs.lemmas.List.{get_or_default, drop_all, drop_more}
 use Rattle.std.proofs.lemmas.List.Sums.{AllPass-from_list_all, sum_by-cons}
 use Rattle.std.proofs.lemmas.Nat.{mul-le}
 use Rattle.std.proofs.lemmas.Slice.Zip.{get_or-zip, length-zip}
-use Rattle.std.specs.Prelude.{option_and_then, codes}
+use Rattle.std.specs.Prelude.{codes}
 use Rattle.serde_json.specs.Data.{Data}
 use Rattle.serde_json.specs.Find.{get}
-use Rattle.clock_json.specs.Tree.{number_at, items_at, has_members, row_of, each}
+use Rattle.clock_json.specs.Tree.{number_at, has_members, each}
 use Rattle.clock_terms.specs.declared.setup.Product.{Product}
 use Rattle.clock_terms.specs.declared.setup.Bidder.{Bidder}
 use Rattle.clock_setup.specs.declared.opening.OpeningFault.{OpeningFault}
 use Rattle.clock_setup.specs.declared.opening.OpeningFault.TheVariants.{Shape, Demand, Activity, Increment}
 use Rattle.clock_terms.specs.Demands.{IsGrid}
 use Rattle.clock_terms.specs.Eligibility.{activity}
-use Rattle.clock_terms.specs.Faults.{first_fault, in_turn}
+use Rattle.clock_terms.specs.Faults.{first_fault, in_turn, ◌>>=◌}
 use Rattle.clock_terms.specs.Limits.{SetupFields, IsProduct, is_within, cap_of, no_product, least_increment, most_increment}
 use Rattle.clock_setup.specs.SetupDocument.{setup_of}
 use Rattle.clock_setup.specs.OpeningShape.{OpeningParts, parts_of}
 use Rattle.clock_setup.specs.OpeningDocument.{has_counts, demand_checks, row_checks, opening_checks, opening_with, in_opening, opening_of}
+use Rattle.clock_setup.specs.inside.OpeningData.{rows_in}
 use Rattle.clock_terms.proofs.FaultLaws.{passed, failed, turn_passed, turn_failed, turn_none}
 
 -- a pair of two lists
@@ -31,14 +32,16 @@ pub zip_at : {A B : Type 0} (ks : List A) (vs : List B) (i : ℕ) (a : A) (b : B
 zip_at ks vs i a b h k first second =
     ap (λ x. (x, b)) first ∙ ap (λ y. (get_or ks i a, y)) second ∙ sym (get_or-zip ks vs i (a, b) h k)
 
--- a bidder with its row
-pub row_line : (bidders : List Bidder) (rows : List (List ℕ)) (number : ℕ) (bidder : Bidder) (row : List ℕ) → number < length bidders
-    → length rows ≡ length bidders → bidder ≡ get_or bidders number bidder → row ≡ get_or rows number []
+-- a bidder with its row, where the bidders are read as a slice
+pub row_line : {slice : List Bidder} (bidders : List Bidder) (rows : List (List ℕ)) (number : ℕ) (bidder : Bidder) (row : List ℕ) → slice ≡ bidders
+    → number < length slice → length rows ≡ length bidders → bidder ≡ get_or slice number bidder → row ≡ get_or rows number []
     → ((bidder, row) ≡ get_or (zip bidders rows) number (bidder, row)) × (number < length (zip bidders rows))
-row_line bidders rows number bidder row within count first second =
-    let held : number < length rows = omega (arith, within, count) in (
-      zip_at bidders rows number bidder row within held first (second ∙ get_or_default rows number [] row held),
-      omega (arith, length-zip bidders rows, count, within),
+row_line bidders rows number bidder row same within count first second =
+    let here : number < length bidders = omega (arith, within, ap length same) in
+    let held : number < length rows = omega (arith, here, count) in (
+      zip_at bidders rows number bidder row here held (first ∙ ap (λ list. get_or list number bidder) same)
+          (second ∙ get_or_default rows number [] row held),
+      omega (arith, length-zip bidders rows, count, here),
     )
 
 line_at : (products : List Product) (row : List ℕ) (i : ℕ) (d : Product) → length row ≡ length products → i < length row
@@ -114,55 +117,40 @@ units_small products row place one held each limits within =
     let units : (get_or products place one).units ≤ 1000000 = omega (arith, good.units.1) in
     mul-le _ _ 1000000 1000 units demand
 
--- a row whose demands fail
-pub row_failed : (products : List Product) (number : ℕ) (bidder : Bidder) (row : List ℕ) (fault : OpeningFault)
-    → first_fault (in_turn (demand_checks number) 0 (zip products row)) ≡ Some fault
-    → first_fault (row_checks products number (bidder, row)) ≡ Some fault
-unfolding row_checks
-row_failed products number bidder row fault h = failed (in_turn (demand_checks number) 0 (zip products row)) _ fault h
+-- a row, where the products are read as a slice
+module _ {slice products : List Product} (same : slice ≡ products) (number : ℕ) (bidder : Bidder) (row : List ℕ) where
+  demands_first : {first : Option OpeningFault} → first_fault (in_turn (demand_checks number) 0 (zip slice row)) ≡ first
+      → first_fault (in_turn (demand_checks number) 0 (zip products row)) ≡ first
+  demands_first is = ap (λ (list : List Product). first_fault (in_turn (demand_checks number) 0 (zip list row))) (sym same) ∙ is
 
--- a row whose activity fails
-pub row_above : (products : List Product) (number : ℕ) (bidder : Bidder) (row : List ℕ)
-    → first_fault (in_turn (demand_checks number) 0 (zip products row)) ≡ None → bidder.eligibility < activity products row
-    → first_fault (row_checks products number (bidder, row)) ≡ Some (Activity number)
-unfolding row_checks
-row_above products number bidder row h above =
-    passed (in_turn (demand_checks number) 0 (zip products row)) _ h
-    ∙ ap (λ (b : Bool). first_fault ((Activity number, b) ∷ [])) (lt-leb (activity products row) bidder.eligibility above)
+  -- its demands fail
+  pub row_failed : (fault : OpeningFault) → first_fault (in_turn (demand_checks number) 0 (zip slice row)) ≡ Some fault
+      → first_fault (row_checks products number (bidder, row)) ≡ Some fault
+  unfolding row_checks
+  row_failed fault h = failed (in_turn (demand_checks number) 0 (zip products row)) _ fault (demands_first h)
 
--- a row that passes
-pub row_passed : (products : List Product) (number : ℕ) (bidder : Bidder) (row : List ℕ)
-    → first_fault (in_turn (demand_checks number) 0 (zip products row)) ≡ None → activity products row ≤ bidder.eligibility
-    → first_fault (row_checks products number (bidder, row)) ≡ None
-unfolding row_checks
-row_passed products number bidder row h within =
-    passed (in_turn (demand_checks number) 0 (zip products row)) _ h
-    ∙ ap (λ (b : Bool). first_fault ((Activity number, b) ∷ [])) (le-leb (activity products row) bidder.eligibility within)
+  -- its activity fails
+  pub row_above : (units : ℕ) → first_fault (in_turn (demand_checks number) 0 (zip slice row)) ≡ None → units ≡ activity slice row
+      → bidder.eligibility < units → first_fault (row_checks products number (bidder, row)) ≡ Some (Activity number)
+  unfolding row_checks
+  row_above units h taken above =
+      let all : units ≡ activity products row = taken ∙ ap (λ (list : List Product). activity list row) same in
+      passed (in_turn (demand_checks number) 0 (zip products row)) _ (demands_first h)
+      ∙ ap (λ (b : Bool). first_fault ((Activity number, b) ∷ [])) (lt-leb (activity products row) bidder.eligibility (omega (arith, all, above)))
+
+  -- it passes
+  pub row_passed : (units : ℕ) → first_fault (in_turn (demand_checks number) 0 (zip slice row)) ≡ None → units ≡ activity slice row
+      → units ≤ bidder.eligibility → first_fault (row_checks products number (bidder, row)) ≡ None
+  unfolding row_checks
+  row_passed units h taken within =
+      let all : units ≡ activity products row = taken ∙ ap (λ (list : List Product). activity list row) same in
+      passed (in_turn (demand_checks number) 0 (zip products row)) _ (demands_first h)
+      ∙ ap (λ (b : Bool). first_fault ((Activity number, b) ∷ [])) (le-leb (activity products row) bidder.eligibility (omega (arith, all, within)))
 
 -- ---- the whole document
 
-not_same : (a b : ℕ) → (a ≡ b → ⊥) → (a == b) ≡ false
-not_same a b h = grind (arith, nat_tests)
-
-same_test : (a b : ℕ) → a ≡ b → (a == b) ≡ true
-same_test a b h = grind (arith, nat_tests)
-
 same_of_test : (a b : ℕ) → (a == b) ≡ true → a ≡ b
 same_of_test a b h = grind (arith, nat_tests)
-
-module _ (setup : SetupFields) (demands : List (List ℕ)) {bidders : List Bidder} (count : ℕ) (same_bidders : bidders ≡ setup.bidders) where
-  -- another count of rows than of bidders
-  pub other_count : count ≡ length demands → (count ≡ length bidders → ⊥) → has_counts setup demands ≡ false
-  other_count counted other =
-      let differs : (length demands == length setup.bidders) ≡ false = not_same _ _ (λ e. other (counted ∙ e ∙ sym (ap length same_bidders))) in
-      rw differs refl
-
-  -- as many rows as bidders
-  pub row_lengths : {products : List Product} → count ≡ length demands → count ≡ length bidders → products ≡ setup.products
-      → has_counts setup demands ≡ list_all (λ row. length row == length products) demands
-  row_lengths counted as_many same_products =
-      let same : (length demands == length setup.bidders) ≡ true = same_test _ _ (sym counted ∙ as_many ∙ ap length same_bidders) in
-      rw same (ap (λ (list : List Product). list_all (λ row. length row == length list) demands) (sym same_products))
 
 -- rows in the right counts are a grid
 pub grid_of_counts : (setup : SetupFields) (demands : List (List ℕ)) → has_counts setup demands ≡ true
@@ -184,44 +172,38 @@ pub opening_shape : (value : Data) → parts_of value ≡ None → opening_of va
 unfolding opening_of
 opening_shape value none = rw none refl
 
--- its rows of demands
-abbrev pub rows_in : Data → Option (List (List ℕ))
-rows_in value = option_and_then (each row_of) (items_at (codes "demands") value)
+-- a document of the shape, by what its set-up comes to
+pub opening_means : (value setup : Data) (demands : List (List ℕ)) (increment : ℕ) (held : Result SetupFields OpeningFault)
+    → get (codes "setup") value ≡ Some setup → rows_in value ≡ Some demands → number_at (codes "increment") value ≡ Some increment
+    → has_members 3 value ≡ true → in_opening (setup_of setup) ≡ held
+    → opening_of value ≡ (held >>= λ setup. opening_with setup demands increment)
+unfolding opening_of parts_of
+opening_means value setup demands increment held there rows number whole is = rw (there, rows, number, whole, is) refl
 
--- the parts of a document that is of the shape
-pub parts_read : (value setup : Data) (demands : List (List ℕ)) (increment : ℕ) → get (codes "setup") value ≡ Some setup → rows_in value ≡ Some demands
-    → number_at (codes "increment") value ≡ Some increment → has_members 3 value ≡ true
-    → parts_of value ≡ Some (record { setup = setup; demands = demands; increment = increment })
-unfolding parts_of
-parts_read value setup demands increment held rows number whole = rw (held, rows, number, whole) refl
+module _ (setup : SetupFields) (demands : List (List ℕ)) (increment : ℕ) where
+  -- rows that do not fit the set-up
+  pub counts_refused : has_counts setup demands ≡ false → opening_with setup demands increment ≡ Err Shape
+  unfolding opening_checks
+  counts_refused counts = rw counts refl
 
--- a document whose set-up is refused
-pub opening_setup : (value : Data) (parts : OpeningParts) (fault : OpeningFault) → parts_of value ≡ Some parts
-    → in_opening (setup_of parts.setup) ≡ Err fault → opening_of value ≡ Err fault
-unfolding opening_of
-opening_setup value parts fault read refused = rw (read, refused) refl
+  -- behind counts that fit, the first fault of the rows
+  pub rows_refused : (fault : OpeningFault) → has_counts setup demands ≡ true
+      → first_fault (in_turn (row_checks setup.products) 0 (zip setup.bidders demands)) ≡ Some fault → opening_with setup demands increment ≡ Err fault
+  unfolding opening_checks
+  rows_refused fault counts rows = rw (counts, failed (in_turn (row_checks setup.products) 0 (zip setup.bidders demands)) _ fault rows) refl
 
--- rows that do not fit the set-up
-pub counts_fault : (setup : SetupFields) (demands : List (List ℕ)) (increment : ℕ) → has_counts setup demands ≡ false
-    → first_fault (opening_checks setup demands increment) ≡ Some Shape
-unfolding opening_checks
-counts_fault setup demands increment counts = rw counts refl
+  -- behind rows that pass, the increment
+  pub increment_refused : has_counts setup demands ≡ true → first_fault (in_turn (row_checks setup.products) 0 (zip setup.bidders demands)) ≡ None
+      → is_within least_increment most_increment increment ≡ false → opening_with setup demands increment ≡ Err Increment
+  unfolding opening_checks
+  increment_refused counts rows outside =
+      rw (counts, passed (in_turn (row_checks setup.products) 0 (zip setup.bidders demands)) _ rows, outside) refl
 
--- behind counts that fit, the rows and the increment decide
-pub later_fault : (setup : SetupFields) (demands : List (List ℕ)) (increment : ℕ) (first : Option OpeningFault) → has_counts setup demands ≡ true
-    → first ≡ first_fault (in_turn (row_checks setup.products) 0 (zip setup.bidders demands)
-    ++ ((Increment, is_within least_increment most_increment increment) ∷ []))
-    → first_fault (opening_checks setup demands increment) ≡ first
-unfolding opening_checks
-later_fault setup demands increment first counts is = rw counts (sym is)
-
--- a set-up's opening is refused by the first of its checks that fails
-pub refused : (setup : SetupFields) (demands : List (List ℕ)) (increment : ℕ) (fault : OpeningFault)
-    → first_fault (opening_checks setup demands increment) ≡ Some fault → opening_with setup demands increment ≡ Err fault
-refused setup demands increment fault first = rw first refl
-
--- and is opened where each passes
-pub opened : (setup : SetupFields) (demands grid : List (List ℕ)) (increment : ℕ) → grid ≡ demands
-    → first_fault (opening_checks setup demands increment) ≡ None
-    → opening_with setup demands increment ≡ Ok (record { setup = setup; grid = grid; increment = increment })
-opened setup demands grid increment same none = rw (none, same) refl
+  -- a set-up is opened where each check passes
+  pub opened : (grid : List (List ℕ)) → grid ≡ demands → has_counts setup demands ≡ true
+      → first_fault (in_turn (row_checks setup.products) 0 (zip setup.bidders demands)) ≡ None
+      → is_within least_increment most_increment increment ≡ true
+      → opening_with setup demands increment ≡ Ok (record { setup = setup; grid = grid; increment = increment })
+  unfolding opening_checks
+  opened grid same counts rows within =
+      rw (counts, passed (in_turn (row_checks setup.products) 0 (zip setup.bidders demands)) _ rows, within, same) refl

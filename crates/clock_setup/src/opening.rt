@@ -4,7 +4,8 @@ ghost use Rattle.clock_terms.specs.Demands.{IsGrid};
 ghost use Rattle.clock_terms.specs.Eligibility.{activity};
 ghost use Rattle.clock_terms.specs.Faults.{IsFirstFault, IsRefusal, first_fault, in_turn};
 ghost use Rattle.clock_terms.specs.Limits.{IsProduct, IsRow, IsWithin, most_products, least_increment, most_increment};
-ghost use Rattle.clock_setup.specs.OpeningDocument.{document_opening, opening_of, opening_with, row_checks, demand_checks};
+ghost use Rattle.clock_setup.specs.OpeningDocument.{document_opening, has_counts, opening_of, opening_with, row_checks, demand_checks};
+ghost use Rattle.clock_setup.specs.inside.OpeningData.{rows_in};
 
 use crate::document::setup_of;
 use crate::fault::SetupFault;
@@ -93,31 +94,66 @@ fn units_within(number: u64, products: &[Product], row: &[u64]) -> Result<u64, O
     Ok(units)
 }
 
-/// The grid of the bidders' rows of demands, or the first fault that one has.
-fn grid_of_rows(alloc: Global, setup: &Setup, demands: &FlatRows) -> Result<Grid, OpeningFault>
-    requires { IsGrid (length setup.now.bidders) (length setup.now.products) demands.now }
-    ensures same { IfOk result (λ grid. grid ≡ demands.now) }
-    ensures ok { IfOk result (λ _.
-        first_fault (in_turn (row_checks setup.now.products) 0 (zip setup.now.bidders demands.now)) ≡ None) }
+/// Whether there is a row for each bidder, and in each row a number for each product.
+fn has_counts(setup: &Setup, demands: &FlatRows) -> bool
+    ensures { result ≡ has_counts setup.now demands.now }
+{
+    demands.count() == setup.bidders.len() && demands.has_lengths(setup.products.len())
+}
+
+/// A bidder's row, or the first fault of its demands and their activity.
+fn row_within(
+    alloc: Global,
+    setup: &Setup,
+    number: u64,
+    bidder: &Bidder,
+    demands: &[u64],
+) -> Result<Row, OpeningFault>
+    requires { length demands.now ≡ length setup.now.products }
+    ensures same { IfOk result (λ row. row ≡ demands.now) }
+    ensures row { IfOk result (IsRow setup.now.products) }
+    ensures ok { IfOk result
+        (λ _. first_fault (row_checks setup.now.products number (bidder.now, demands.now)) ≡ None) }
     ensures err { IfErr result (IsFirstFault OpeningFault.NoMemory
-        (first_fault (in_turn (row_checks setup.now.products) 0 (zip setup.now.bidders demands.now)))) }
+        (first_fault (row_checks setup.now.products number (bidder.now, demands.now)))) }
     ensures held { IfErr result (λ fault. fault ≢ OpeningFault.Setup SetupFault.NoMemory) }
 {
+    let units = units_within(number, setup.products.as_slice(), demands)?;
+    if units > bidder.eligibility {
+        return Err(OpeningFault::Activity(number));
+    }
+    Ok(Row::of(alloc, setup, demands)?)
+}
+
+/// The grid of the opening of a set-up, or the first fault of what is looked at behind the set-up.
+fn opening_grid(
+    alloc: Global,
+    setup: &Setup,
+    demands: &FlatRows,
+    increment: u64,
+) -> Result<Grid, OpeningFault>
+    ensures ok { IfOk result (λ grid. opening_with setup.now demands.now increment
+        ≡ Ok (record { setup = setup.now; grid = grid; increment = increment })) }
+    ensures grid { IfOk result (IsGrid (length setup.now.bidders) (length setup.now.products)) }
+    ensures increment { IfOk result (λ _. IsWithin least_increment most_increment increment) }
+    ensures err { IfErr result (IsRefusal OpeningFault.NoMemory (opening_with setup.now demands.now increment)) }
+    ensures held { IfErr result (λ fault. fault ≢ OpeningFault.Setup SetupFault.NoMemory) }
+{
+    if !has_counts(setup, demands) {
+        return Err(OpeningFault::Shape);
+    }
     let bidders = setup.bidders.as_slice();
-    let products = setup.products.as_slice();
-    let mut numbers = with_room(alloc, products.len())?;
+    let mut numbers = with_room(alloc, setup.products.len())?;
     let mut rows = with_room(alloc, bidders.len())?;
     for (number, bidder) in bidders.iter().enumerate() {
         demands.read_row(number, &mut numbers)?;
-        let asked = numbers.as_slice();
-        let units = units_within(number as u64, products, asked)?;
-        if units > bidder.eligibility {
-            return Err(OpeningFault::Activity(number as u64));
-        }
-        let row = Row::of(alloc, setup, asked)?;
+        let row = row_within(alloc, setup, number as u64, bidder, numbers.as_slice())?;
         push(&mut rows, row)?;
     }
     drop(numbers);
+    if !is_within(LEAST_INCREMENT, MOST_INCREMENT, increment) {
+        return Err(OpeningFault::Increment);
+    }
     Ok(Grid::of_rows(alloc, setup, rows)?)
 }
 
@@ -135,21 +171,31 @@ fn compared(
     ensures err { IfErr result (IsRefusal OpeningFault.NoMemory (opening_with setup demands increment)) }
     ensures held { IfErr result (λ fault. fault ≢ OpeningFault.Setup SetupFault.NoMemory) }
 {
-    // There is a row for each bidder, and in each row a number for each product.
-    if demands.count() != setup.bidders.as_slice().len()
-        || !demands.has_lengths(setup.products.as_slice().len())
-    {
-        return Err(OpeningFault::Shape);
+    let grid = opening_grid(alloc, &setup, &demands, increment);
+    drop(demands);
+    match grid {
+        Ok(grid) => Ok(Opening {
+            setup,
+            grid,
+            increment,
+        }),
+        Err(fault) => {
+            drop(setup);
+            Err(fault)
+        }
     }
-    let grid = grid_of_rows(alloc, &setup, &demands)?;
-    if !is_within(LEAST_INCREMENT, MOST_INCREMENT, increment) {
-        return Err(OpeningFault::Increment);
-    }
-    Ok(Opening {
-        setup,
-        grid,
-        increment,
-    })
+}
+
+/// The rows of demands that a value of JSON has, or none.
+fn demands_in(alloc: Global, value: &Value) -> Result<Option<FlatRows>, NoMemory>
+    ensures { IfOk result (λ demands. demands ≡ rows_in (view value.now)) }
+{
+    let Some(rows) = each_at(alloc, value, "demands", &RowReader)? else {
+        return Ok(None);
+    };
+    let demands = FlatRows::from_lists(alloc, rows.as_slice());
+    drop(rows);
+    Ok(Some(demands?))
 }
 
 /// The opening that a value of JSON means, or its first fault.
@@ -168,10 +214,7 @@ fn opening_in(alloc: Global, value: &Value) -> Result<Opening, OpeningFault>
     if !has_members(value, 3) {
         return Err(OpeningFault::Shape);
     }
-    let rows = each_at(alloc, value, "demands", &RowReader)?.ok_or(OpeningFault::Shape)?;
-    let demands = FlatRows::from_lists(alloc, rows.as_slice());
-    drop(rows);
-    let demands = demands?;
+    let demands = demands_in(alloc, value)?.ok_or(OpeningFault::Shape)?;
     match setup_of(alloc, setup) {
         Ok(setup) => compared(alloc, setup, demands, increment),
         Err(SetupFault::NoMemory) => Err(OpeningFault::NoMemory),

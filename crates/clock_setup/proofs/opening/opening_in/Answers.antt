@@ -1,13 +1,14 @@
-use Rattle.std.proofs.Common.{◌≡◌, ◌≢◌, true, Some, Ok, IfOk, IfErr, ap, sym, subst, ◌∙◌, rules}
+use Rattle.std.proofs.Common.{◌≡◌, ◌≢◌, true, Some, Ok, Err, IfOk, IfErr, ap, sym, subst, ◌∙◌, rules}
 use Rattle.std.specs.Prelude.{codes}
 use Rattle.serde_json.specs.Find.{get}
 use Rattle.serde_json.specs.View.{view}
 use Rattle.clock_json.specs.Tree.{has_members, number_at}
 use Rattle.clock_terms.specs.Faults.{IsRefusal}
+use Rattle.clock_setup.specs.declared.opening.OpeningFault.TheVariants.{Setup, NoMemory}
 use Rattle.clock_setup.specs.declared.fault.SetupFault.TheVariants as setup_faults
-use Rattle.clock_setup.specs.declared.opening.OpeningFault.TheVariants.{NoMemory}
 use Rattle.clock_setup.specs.OpeningDocument.{in_opening}
-use Rattle.clock_setup.proofs.OpeningLaws.{rows_in, parts_read, opening_setup, opening_at}
+use Rattle.clock_setup.specs.inside.OpeningData.{rows_in}
+use Rattle.clock_setup.proofs.OpeningLaws.{opening_means}
 use Rattle.clock_setup.proofs.opening.opening_in.Goals as goal
 
 pub returns-in-Ok-clause-ok : goal.returns-in-Ok-clause-ok
@@ -15,35 +16,27 @@ returns-in-Ok-clause-ok c =
     let value = view c.args.value.now in
     let held : get (codes "setup") value ≡ Some (view c.in-Some-Some.setup.now) = sym (rw c.in-Some-Some.is-0 at c.get.ensures) in
     let increment : number_at (codes "increment") value ≡ Some c.in-Some-Some.increment = sym (rw c.in-Some-Some.is-1 at c.number_at.ensures) in
-    let rows : rows_in value ≡ Some c.in_ok-rows.rows = sym c.in_ok-each_at.ensures ∙ c.in_ok-rows.ensures.ok_part in
-    let same = c.in_ok-demands.ensures ∙ c.as_slice.ensures in
-    let whole : has_members 3 value ≡ true = search rules in
+    let rows : rows_in value ≡ Some c.in_ok-demands.demands = sym c.in_ok-demands_in.ensures ∙ c.in_ok-demands.ensures.ok_part in
+    let whole : has_members 3 value ≡ true = sym c.has_members.ensures ∙ c.if-not-has_members.false in
     subst (λ answer. IfOk c.compared.result (λ opening. answer ≡ Ok opening))
-    (sym (opening_at value _ c.in-Ok.setup (parts_read value _ _ _ held (rows ∙ ap Some (sym same)) increment whole) c.in-Ok.ensures.ok)) c.compared.ensures.ok
+    (sym (opening_means value _ _ _ (Ok c.in-Ok.setup) held rows increment whole (ap in_opening c.in-Ok.ensures.ok))) c.compared.ensures.ok
 
 pub returns-in-Ok-clause-err : goal.returns-in-Ok-clause-err
 returns-in-Ok-clause-err c =
     let value = view c.args.value.now in
     let held : get (codes "setup") value ≡ Some (view c.in-Some-Some.setup.now) = sym (rw c.in-Some-Some.is-0 at c.get.ensures) in
     let increment : number_at (codes "increment") value ≡ Some c.in-Some-Some.increment = sym (rw c.in-Some-Some.is-1 at c.number_at.ensures) in
-    let rows : rows_in value ≡ Some c.in_ok-rows.rows = sym c.in_ok-each_at.ensures ∙ c.in_ok-rows.ensures.ok_part in
-    let same = c.in_ok-demands.ensures ∙ c.as_slice.ensures in
-    let whole : has_members 3 value ≡ true = search rules in
+    let rows : rows_in value ≡ Some c.in_ok-demands.demands = sym c.in_ok-demands_in.ensures ∙ c.in_ok-demands.ensures.ok_part in
+    let whole : has_members 3 value ≡ true = sym c.has_members.ensures ∙ c.if-not-has_members.false in
     subst (λ answer. IfErr c.compared.result (IsRefusal NoMemory answer))
-    (sym (opening_at value _ c.in-Ok.setup (parts_read value _ _ _ held (rows ∙ ap Some (sym same)) increment whole) c.in-Ok.ensures.ok)) c.compared.ensures.err
+    (sym (opening_means value _ _ _ (Ok c.in-Ok.setup) held rows increment whole (ap in_opening c.in-Ok.ensures.ok))) c.compared.ensures.err
 
-pub returns : goal.returns
-returns c =
+pub returns-clause-err : goal.returns-clause-err
+returns-clause-err c = λ known.
     let value = view c.args.value.now in
     let held : get (codes "setup") value ≡ Some (view c.in-Some-Some.setup.now) = sym (rw c.in-Some-Some.is-0 at c.get.ensures) in
     let increment : number_at (codes "increment") value ≡ Some c.in-Some-Some.increment = sym (rw c.in-Some-Some.is-1 at c.number_at.ensures) in
-    let rows : rows_in value ≡ Some c.in_ok-rows.rows = sym c.in_ok-each_at.ensures ∙ c.in_ok-rows.ensures.ok_part in
-    let whole : has_members 3 value ≡ true = search rules in
+    let rows : rows_in value ≡ Some c.in_ok-demands.demands = sym c.in_ok-demands_in.ensures ∙ c.in_ok-demands.ensures.ok_part in
+    let whole : has_members 3 value ≡ true = sym c.has_members.ensures ∙ c.if-not-has_members.false in
     let other : c.in-Err.fault ≢ setup_faults.NoMemory = search rules in
-    record {
-      ok = tt;
-      grid = tt;
-      increment = tt;
-      err = λ known. opening_setup value _ _ (parts_read value _ _ _ held rows increment whole) (ap in_opening (c.in-Err.ensures.err other));
-      held = search rules;
-    }
+    opening_means value _ _ _ (Err (Setup c.in-Err.fault)) held rows increment whole (ap in_opening (c.in-Err.ensures.err other))
