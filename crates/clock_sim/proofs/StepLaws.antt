@@ -1,7 +1,7 @@
 -- Steps of a rehearsal, one after the other.
 use Rattle.std.proofs.Common.{◌≡◌, ◌≢◌, ℕ, ◌+◌, ◌<◌, ◌≤◌, Bool, true, false, List, [], ◌∷◌, length, drop, get_or, Option, None, Result, Ok, Err}
 use Rattle.std.proofs.Common.{refl, sym, ◌∙◌, ap, subst, inl, inr}
-use Rattle.std.specs.Prelude.{MatchResult, if◌then◌else◌}
+use Rattle.std.specs.Prelude.{MatchResult, OnOk, IfErr, if◌then◌else◌}
 use Rattle.std.proofs.lemmas.List.{drop_more, drop_all}
 use Rattle.clock_terms.specs.Limits.{SetupFields}
 use Rattle.clock_terms.specs.Faults.{◌>>=◌, IsRefusal}
@@ -16,11 +16,10 @@ use Rattle.clock_sim.specs.declared.sim_fault.SimFault.{SimFault}
 use Rattle.clock_sim.specs.declared.sim_fault.SimFault.TheVariants.{NoMemory, ClosingsSpent}
 use Rattle.clock_sim.specs.Rehearsal.{if_done, refused_by, after_request, rounds_after, after_puts, after_close, after_round, rehearsed, simulated}
 use Rattle.clock_reports.specs.FinalReport.{report_of}
-use Rattle.clock_replays.specs.Replays.{ReplayFields}
 use Rattle.clock_replays.specs.declared.replay.Script.{Script}
 use Rattle.clock_replays.specs.declared.replay.Closing.{Closing}
 use Rattle.clock_scripts.specs.ScriptedRequests.{scripted_close}
-use Rattle.clock_sim.specs.inside.Steps.{IsGoing, IsTold, ComesTo, MakesStep, IsLeft}
+use Rattle.clock_sim.specs.inside.Steps.{IsGoing, IsTold, ComesTo, MakesStep, IsLeft, replay_of}
 
 abbrev pub Texts : Type 0
 Texts = List (List ℕ)
@@ -295,26 +294,21 @@ module _ (whole : Step) (scripts : List Script) (closings : List Closing) (i : �
 
 -- ---- the report
 
--- the report of a rehearsal that has come to its end
-pub reported : (replay : ReplayFields) (setup : SetupFields) (old new : HouseFields) → setup ≡ replay.setup → old.setup ≡ setup → StandsForTexts [] old
-    → {U : Type 0} → (done : U) → MakesStep (rehearsed old.setup replay.scripts replay.closings) old new (Ok done)
-    → simulated replay ≡ Ok (report_of new.setup new.closed)
-reported replay setup old new copied held stands done made =
-    let end = made.comes [] stands in
-    let here : old.setup ≡ replay.setup = held ∙ copied in
-    let of_setup : rehearsed replay.setup replay.scripts replay.closings [] ≡ Ok end.texts =
-    ap (λ (s : SetupFields). rehearsed s replay.scripts replay.closings []) (sym here) ∙ end.is in
-    let same : new.setup ≡ replay.setup = made.setup ∙ here in
-    ap (λ (answer : Result Texts SimFault). answer >>= (λ texts. Ok (report_of replay.setup (rounds_after replay.setup texts)))) of_setup
-    ∙ ap (λ (s : SetupFields). Ok (report_of s (rounds_after s end.texts))) (sym same)
-    ∙ ap (λ (closed : List ClosedRound). Ok (report_of new.setup closed)) (sym end.stands.closed)
+module _ (old new : HouseFields) (scripts : List Script) (closings : List Closing) where
+  -- a rehearsal that is played to its end comes to a report
+  pub reported : {U : Type 0} (result : Result U SimFault) → StandsForTexts [] old → MakesStep (rehearsed old.setup scripts closings) old new result
+      → OnOk result (simulated (replay_of old scripts closings) ≡ Ok (report_of new.setup new.closed))
+  reported (Ok done) stands made =
+      let end = made.comes [] stands in
+      ap (λ (answer : Result Texts SimFault). answer >>= (λ texts. Ok (report_of old.setup (rounds_after old.setup texts)))) end.is
+      ∙ ap (λ (s : SetupFields). Ok (report_of s (rounds_after s end.texts))) (sym made.setup)
+      ∙ ap (λ (closed : List ClosedRound). Ok (report_of new.setup closed)) (sym end.stands.closed)
+  reported (Err fault) stands made = tt
 
--- the fault of a rehearsal
-pub faulted : (replay : ReplayFields) (setup : SetupFields) (old new : HouseFields) (fault : SimFault) → setup ≡ replay.setup → old.setup ≡ setup
-    → StandsForTexts [] old
-    → {U : Type 0} → MakesStep {T = U} (rehearsed old.setup replay.scripts replay.closings) old new (Err fault)
-    → fault ≢ NoMemory → simulated replay ≡ Err fault
-faulted replay setup old new fault copied held stands made other =
-    let here : old.setup ≡ replay.setup = held ∙ copied in
-    ap (λ (answer : Result Texts SimFault). answer >>= (λ texts. Ok (report_of replay.setup (rounds_after replay.setup texts))))
-    (ap (λ (s : SetupFields). rehearsed s replay.scripts replay.closings []) (sym here) ∙ made.comes [] stands other)
+  -- or its fault is told
+  pub faulted : {U : Type 0} (result : Result U SimFault) → StandsForTexts [] old → MakesStep (rehearsed old.setup scripts closings) old new result
+      → IfErr result (IsRefusal NoMemory (simulated (replay_of old scripts closings)))
+  faulted (Ok done) stands made = tt
+  faulted (Err fault) stands made =
+      λ other. ap (λ (answer : Result Texts SimFault). answer >>= (λ texts. Ok (report_of old.setup (rounds_after old.setup texts))))
+      (made.comes [] stands other)

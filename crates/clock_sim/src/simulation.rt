@@ -34,8 +34,7 @@ fn play_out<P: Processor>(
 {
     let products = hub.front().house().setup().products.as_slice().len();
     let mut group = Group::new(alloc, products)?;
-    play(hub, &mut group, scripts, closings)?;
-    Ok(())
+    play(hub, &mut group, scripts, closings)
 }
 
 /// Plays an auction before its first request, and makes its report.
