@@ -1,9 +1,9 @@
 -- Arrays that are written with a comma behind each item.
-use Rattle.std.proofs.Common.{◌≡◌, ℕ, ◌+◌, ◌-◌, ◌≤◌, Bool, true, false, nat_lt, List, [], ◌∷◌, ◌++◌, length, take, drop, codes, refl, sym, ap, ◌∙◌, append_assoc, append-nil, arith}
+use Rattle.std.proofs.Common.{◌≡◌, ℕ, ◌+◌, ◌-◌, ◌<◌, ◌≤◌, Bool, true, false, nat_lt, List, [], ◌∷◌, ◌++◌, length, get_or, take, drop, codes, refl, sym, ap, ◌∙◌, append_assoc, append-nil, arith}
 use Rattle.std.specs.Prelude.{Result, Ok, Err, OnOk, if◌then◌else◌}
 use Rattle.std.proofs.Math.Seq.{take-append_seam}
 use Rattle.std.proofs.lemmas.Bool.Decides.{nat_tests}
-use Rattle.std.proofs.lemmas.List.{drop_all, length-append}
+use Rattle.std.proofs.lemmas.List.{drop_all, drop_more, length-append}
 use Rattle.serde_json.specs.Data.{Data}
 use Rattle.serde_json.specs.Written.{compact_text, items_text, comma_if}
 use Rattle.clock_views.specs.Values.{items_of, list_of, Adds}
@@ -62,6 +62,14 @@ module _ {A : Type 0} (value : A → Data) where
         ∙ ap (λ (first : List ℕ). first ++ items_text false (items_of value items)) bracket.is
         ∙ append_assoc old (codes "[") (items_text false (items_of value items));
   }
+
+  -- the item at a place is added with its comma, before those behind it
+  pub comma_more : (items : List A) (i : ℕ) (other : A) (text next : List ℕ) → i < length items → Adds (with_comma value (get_or items i other)) text next
+      → next ++ with_commas value (drop (i + 1) items) ≡ text ++ with_commas value (drop i items)
+  comma_more items i other text next within added =
+      ap (λ (s : List ℕ). s ++ with_commas value (drop (i + 1) items)) added.is
+      ∙ append_assoc text (with_comma value (get_or items i other)) (with_commas value (drop (i + 1) items))
+      ∙ ap (λ (list : List A). text ++ with_commas value list) (sym (drop_more items i other within))
 
   -- and so where a loop has come past the last item
   pub array_done : {T E : Type 0} (items : List A) (old begun text new : List ℕ) (start i : ℕ) (result : Result T E) → Adds (codes "[") old begun

@@ -4,7 +4,7 @@ ghost use Rattle.std.specs.Prelude.{◌≡◌, ◌++◌, codes, decimal, OnOk};
 ghost use Rattle.serde_json.specs.Written.{compact_text};
 ghost use Rattle.clock_views.specs.Values.{whole, list_of, Adds};
 ghost use Rattle.clock_scripts.specs.RequestTexts as texts;
-ghost use Rattle.clock_scripts.specs.inside.Arrays.{array_ended, with_comma};
+ghost use Rattle.clock_scripts.specs.inside.Arrays.{array_ended};
 
 use clock_device::NoMemory;
 use clock_order::Tie;
@@ -53,16 +53,6 @@ fn push_numbers(text: &mut Vec<u8>, numbers: &[u64]) -> Result<(), NoMemory>
     end_array(text, start)
 }
 
-/// Adds a tie number, with a comma behind it.
-fn push_tie(text: &mut Vec<u8>, tie: &Tie) -> Result<(), NoMemory>
-    ensures { OnOk result (Adds (with_comma texts.tie_value tie.now) text.old.items text.new.items) }
-{
-    push_number(text, b"[", tie.bidder)?;
-    push_number(text, b",", tie.product)?;
-    push_number(text, b",", tie.number)?;
-    push_label(text, b"],")
-}
-
 /// Adds an array of tie numbers.
 fn push_ties(text: &mut Vec<u8>, ties: &[Tie]) -> Result<(), NoMemory>
     ensures { OnOk result (Adds (compact_text (list_of texts.tie_value ties.now)) text.old.items text.new.items) }
@@ -70,7 +60,10 @@ fn push_ties(text: &mut Vec<u8>, ties: &[Tie]) -> Result<(), NoMemory>
     push_label(text, b"[")?;
     let start = text.len();
     for tie in ties {
-        push_tie(text, tie)?;
+        push_number(text, b"[", tie.bidder)?;
+        push_number(text, b",", tie.product)?;
+        push_number(text, b",", tie.number)?;
+        push_label(text, b"],")?;
     }
     end_array(text, start)
 }

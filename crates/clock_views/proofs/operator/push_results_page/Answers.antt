@@ -1,9 +1,14 @@
-use Rattle.std.proofs.Common.{◌≡◌, ◌<◌, ◌≤◌, ◌++◌, ◌-◌, ◌∙◌, ap, length, nat_lt, refl, arith}
+use Rattle.std.proofs.Common.{◌≡◌, ◌<◌, ◌≤◌, ◌+◌, ◌++◌, ◌-◌, ◌∙◌, ℕ, ap, length, nat_lt, refl, arith}
 use Rattle.std.specs.Prelude.{codes}
 use Rattle.std.specs.List.{range_with_len}
 use Rattle.clock_house.specs.History.{bidder_at}
-use Rattle.clock_house.specs.House.{holding_in}
+use Rattle.clock_house.specs.House.{HouseFields, holding_in}
+use Rattle.clock_terms.specs.Limits.{SetupFields}
 use Rattle.clock_views.specs.OperatorPages.{result_in}
+use Rattle.clock_views.specs.PageRooms.{room_around_results}
+use Rattle.clock_views.specs.Rooms.{most_items, most_text}
+use Rattle.clock_views.specs.Values.{items_of, list_of}
+use Rattle.clock_views.specs.inside.Rooms.{room_of_result}
 use Rattle.clock_views.specs.inside.Values.{rest_text}
 use Rattle.clock_views.proofs.Lists.{one_number, array_between}
 use Rattle.clock_views.proofs.Pushes.{before, together}
@@ -11,45 +16,40 @@ use Rattle.clock_views.proofs.Rooms.{none_most, result_in_most}
 use Rattle.clock_views.proofs.Texts.{result_in_pieces, results_in_pieces}
 use Rattle.clock_views.proofs.operator.push_results_page.Goals as goal
 
+-- what is left of the room serves what a bidder holds
+has_room : (house : HouseFields) (setup : SetupFields) (bidder bidders demands given opened now : ℕ) → setup ≡ house.setup
+    → bidders ≡ length setup.bidders → bidder < bidders → demands ≡ length (holding_in house bidder).demands
+    → room_around_results + most_text (list_of (result_in house) (range_with_len 0 (length house.setup.bidders))) ≤ given → given ≤ opened + 12
+    → opened + most_items (items_of (result_in house) (range_with_len bidder (length house.setup.bidders - bidder)))
+    ≤ now + most_items (items_of (result_in house) (range_with_len 0 (length house.setup.bidders)))
+    → room_of_result demands ≤ now
+has_room house setup bidder bidders demands given opened now same all below held asked label left =
+    let rest = result_in_most house bidder (length house.setup.bidders) (rw (all, same) at below) in
+    omega (arith, rest, held, asked, label, left)
+
 pub push_demands-requires-clause-room : goal.push_demands-requires-clause-room
 push_demands-requires-clause-room g c =
-    let house = c.args.house.now in
-    let bidders = length house.setup.bidders in
-    let bidder = c.loop-bidder.bidder in
-    let below : bidder < bidders = rw (c.bidder_count-bidder-end.ensures, c.setup.ensures) at c.loop-bidder-test.true in
-    let demands = ap length (c.held.ensures.row ∙ c.own-own.ensures.demands) in
-    let rest = result_in_most house bidder bidders below in
-    omega (arith, c.requires, c.push_label.ensures.room, c.loop-bidder.invariant.room, rest, demands, c.push_comma_if.ensures.room)
+    let room = has_room c.args.house.now _ c.loop-bidder.bidder _ _ _ _ _ c.setup.ensures c.bidder_count-bidder-end.ensures c.loop-bidder-test.true
+    (ap length (c.held.ensures.row ∙ c.own-own.ensures.demands)) c.requires c.push_label.ensures.room c.loop-bidder.invariant.room in
+    omega (arith, room, c.push_comma_if.ensures.room)
 
 pub push_number-requires : goal.push_number-requires
 push_number-requires g c =
-    let house = c.args.house.now in
-    let bidders = length house.setup.bidders in
-    let bidder = c.loop-bidder.bidder in
-    let below : bidder < bidders = rw (c.bidder_count-bidder-end.ensures, c.setup.ensures) at c.loop-bidder-test.true in
-    let demands = ap length (c.held.ensures.row ∙ c.own-own.ensures.demands) in
-    let rest = result_in_most house bidder bidders below in
-    omega (arith, c.requires, c.push_label.ensures.room, c.loop-bidder.invariant.room, rest, demands, c.push_comma_if.ensures.room, c.push_demands.ensures.room)
+    let room = has_room c.args.house.now _ c.loop-bidder.bidder _ _ _ _ _ c.setup.ensures c.bidder_count-bidder-end.ensures c.loop-bidder-test.true
+    (ap length (c.held.ensures.row ∙ c.own-own.ensures.demands)) c.requires c.push_label.ensures.room c.loop-bidder.invariant.room in
+    omega (arith, room, c.push_comma_if.ensures.room, c.push_demands.ensures.room)
 
 pub push_name-requires-clause-room : goal.push_name-requires-clause-room
 push_name-requires-clause-room g c =
-    let house = c.args.house.now in
-    let bidders = length house.setup.bidders in
-    let bidder = c.loop-bidder.bidder in
-    let below : bidder < bidders = rw (c.bidder_count-bidder-end.ensures, c.setup.ensures) at c.loop-bidder-test.true in
-    let demands = ap length (c.held.ensures.row ∙ c.own-own.ensures.demands) in
-    let rest = result_in_most house bidder bidders below in
-    omega (arith, c.requires, c.push_label.ensures.room, c.loop-bidder.invariant.room, rest, demands, c.push_comma_if.ensures.room, c.push_demands.ensures.room, c.push_number.ensures.room)
+    let room = has_room c.args.house.now _ c.loop-bidder.bidder _ _ _ _ _ c.setup.ensures c.bidder_count-bidder-end.ensures c.loop-bidder-test.true
+    (ap length (c.held.ensures.row ∙ c.own-own.ensures.demands)) c.requires c.push_label.ensures.room c.loop-bidder.invariant.room in
+    omega (arith, room, c.push_comma_if.ensures.room, c.push_demands.ensures.room, c.push_number.ensures.room)
 
 pub push_label-requires-in-loop-bidder : goal.push_label-requires-in-loop-bidder
 push_label-requires-in-loop-bidder g c =
-    let house = c.args.house.now in
-    let bidders = length house.setup.bidders in
-    let bidder = c.loop-bidder.bidder in
-    let below : bidder < bidders = rw (c.bidder_count-bidder-end.ensures, c.setup.ensures) at c.loop-bidder-test.true in
-    let demands = ap length (c.held.ensures.row ∙ c.own-own.ensures.demands) in
-    let rest = result_in_most house bidder bidders below in
-    omega (arith, c.requires, c.push_label.ensures.room, c.loop-bidder.invariant.room, rest, demands, c.push_comma_if.ensures.room, c.push_demands.ensures.room, c.push_number.ensures.room, c.push_name.ensures.room)
+    let room = has_room c.args.house.now _ c.loop-bidder.bidder _ _ _ _ _ c.setup.ensures c.bidder_count-bidder-end.ensures c.loop-bidder-test.true
+    (ap length (c.held.ensures.row ∙ c.own-own.ensures.demands)) c.requires c.push_label.ensures.room c.loop-bidder.invariant.room in
+    omega (arith, room, c.push_comma_if.ensures.room, c.push_demands.ensures.room, c.push_number.ensures.room, c.push_name.ensures.room)
 
 pub loop-bidder-preserved : goal.loop-bidder-preserved
 loop-bidder-preserved g c =
