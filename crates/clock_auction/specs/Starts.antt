@@ -6,6 +6,7 @@ use Rattle.clock_commands.specs.FaultLines.{of_journal}
 use Rattle.clock_commands.specs.declared.fault.Fault.{Fault}
 use Rattle.clock_commands.specs.declared.fault.Fault.TheVariants.{Journal}
 
+-- the fault of the journal as `serve` names it; of a disk that has failed, that of the journal itself
 abbrev pub of_start : GoOnFault → Fault
 of_start (Refused fault) = of_journal fault
 of_start Failed = Journal

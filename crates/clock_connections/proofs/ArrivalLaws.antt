@@ -1,13 +1,10 @@
 -- How the bytes of a request come, read by read.
-use Rattle.std.proofs.Common.{◌≡◌, ℕ, ◌+◌, ◌≤◌, true, false, ◌||◌, List, [], Option, length, inl, refl, ap, ◌∙◌, arith}
-use Rattle.clock_device.specs.Streams.{HasRead, HasWrittenNothing}
-use Rattle.clock_device.specs.Calls.{is_failure}
-use Rattle.clock_device.specs.declared.stream.Stop.{Stop}
-use Rattle.clock_device.specs.declared.stream.Stop.TheVariants.{Failed}
+use Rattle.std.proofs.Common.{◌≡◌, ℕ, ◌+◌, ◌≤◌, true, false, ◌||◌, List, [], Option, length, refl, ◌∙◌, arith}
+use Rattle.clock_device.specs.Streams.{HasRead}
 use Rattle.clock_device.proofs.Streams.{read_nothing, read_twice, same_bytes}
 use Rattle.clock_http.specs.Framing.{framing, needs_more}
 use Rattle.clock_device.specs.Told.{IsUnread, Reading, SourceTold}
-use Rattle.clock_connections.specs.Arrivals.{IsReadByNeed, IsNotRead, HasNoRoom}
+use Rattle.clock_connections.specs.Arrivals.{IsReadByNeed, HasNoRoom}
 
 pub nothing_needs_more : needs_more [] ≡ true
 unfolding framing
@@ -38,12 +35,3 @@ module _ (reading : Reading) (mid : SourceTold) (front : List ℕ)
   pub no_room : (last : List ℕ) → HasRead mid.left reading.after.left last → reading.after.has_failed ≡ (mid.has_failed || false)
       → HasNoRoom reading
   no_room last further fails = (front, last, by_need last further, fails ∙ rw unfailed refl)
-
-  -- it failed
-  pub read_failed : (stop : Stop) → stop ≡ Failed → HasWrittenNothing mid.left reading.after.left
-      → reading.after.has_failed ≡ (mid.has_failed || is_failure stop) → IsNotRead reading
-  read_failed stop is same fails = inl (
-    front,
-    by_need [] (read_nothing mid.left reading.after.left same),
-    fails ∙ ap (λ stop. mid.has_failed || is_failure stop) is ∙ rw unfailed refl,
-  )

@@ -8,4 +8,3 @@ pub mod Readings
 pub mod Writings
 pub mod SourceState
 pub mod SinkState
-pub mod inside
