@@ -1,11 +1,11 @@
 //! `audit`: an auction that is recounted from its set-up document and its journal alone.
 ghost use Rattle.std.specs.Prelude.{◌≡◌, [], List, ℕ, IfOk, IfErr};
-ghost use Rattle.clock_front.specs.Fronts.{StandsForTexts};
 ghost use Rattle.clock_terms.specs.Limits.{SetupFields};
+ghost use Rattle.clock_front.specs.Fronts.{StandsForTexts};
 ghost use Rattle.clock_keeping.specs.Keeping.{IsRefused};
 ghost use Rattle.clock_auction.specs.Audits.{IsRecounted, IsRecountOf, IsSomeRecount, IsUnrecounted, audited};
 
-use crate::digests::digits_of;
+use crate::journal_text::digits_of;
 use clock_commands::Fault;
 use clock_device::Text;
 use clock_front::Front;

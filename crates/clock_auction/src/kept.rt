@@ -1,20 +1,24 @@
 //! An auction that is served with a journal: its file is taken over before the port is listened on.
-ghost use Rattle.std.specs.Prelude.{◌≡◌, [], IfOk, false};
+ghost use Rattle.std.specs.Prelude.{◌≡◌, [], IfOk, false, None};
+ghost use Rattle.clock_journal.specs.Kept.{JournalState};
 ghost use Rattle.clock_front.specs.Fronts.{StandsForTexts};
 ghost use Rattle.clock_auction.specs.Starts.{of_start};
 
-use crate::digests::Hex;
+use crate::journal_text::Hex;
 use crate::serve::{file_bytes, front_in, listening};
-use crate::telling::Telling;
 use clock_commands::Fault;
-use clock_journal::{FileDisk, Journal, Link, Recovered, digest_of};
+use clock_device::Failed;
+use clock_front::{Front, Progress, Reply};
+use clock_journal::{Durable, FileDisk, Journal, Link, Recovered, digest_of};
 use clock_keeping::{Auction, GoOnFault, go_on};
+use clock_processor::Processor;
 use clock_queue::Woken;
-use clock_serving::{Listening, serve_all};
+use clock_serving::{Keeper, Listening, serve_all};
 use clock_words::Serving;
 use std::alloc::Global;
 use std::fs::{File, OpenOptions, TryLockError};
 use std::io::{self, Read};
+use std::marker::Model;
 use std::net::{Net, TcpListener, TcpStream};
 use std::os::fd::AsRawFd;
 use std::os::unix::fs::OpenOptionsExt;
@@ -167,4 +171,41 @@ fn folder_of(path: &str) -> &str {
 pub fn tell_journal<R: Print>(rt: &R, texts: u64, chain: Link) -> Result<(), Fault> {
     let digest = Hex(chain);
     println!(rt; "journal {texts} {digest}").or(Err(Fault::Output))
+}
+
+/// A journal that tells each closing with its digest.
+///
+/// Contracts see the journal. Which closings were told is not seen, as standard output tells none.
+#[derive(Drop)]
+pub struct Telling<'a, R, D: Durable> {
+    pub rt: &'a R,
+    pub journal: Journal<D>,
+}
+
+impl<'a, R, D: Durable> Model for Telling<'a, R, D> {
+    ghost Value = { JournalState };
+
+    ghost view = { λ telling. telling.journal };
+}
+
+impl<R: Print, D: Durable> Keeper for Telling<'_, R, D> {
+    ghost journal = { λ telling. telling };
+
+    ghost told = { λ telling. None };
+
+    fn answer<P: Processor>(
+        &mut self,
+        front: &mut Front<P>,
+        text: &[u8],
+        progress: Progress,
+    ) -> Result<Reply, Failed> {
+        self.journal.answer(front, text, progress)
+    }
+
+    /// The reply was given out, so nothing waits for the line.
+    fn round_closed(&mut self, round: u64) {
+        let rt = self.rt;
+        let digest = Hex(*self.journal.chain());
+        let _untold = println!(rt; "closed {round} {digest}");
+    }
 }

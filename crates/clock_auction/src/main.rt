@@ -4,12 +4,10 @@
 ghost use Rattle.std.specs.Prelude.{◌≡◌, map, string_bytes, IfOk};
 
 mod audit;
-mod digests;
 mod files;
 mod journal_text;
 mod kept;
 mod serve;
-mod telling;
 
 use clap::error::ErrorKind;
 use clock_commands::{Fault, command, show_fault};

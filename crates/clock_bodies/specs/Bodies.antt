@@ -9,8 +9,8 @@ use Rattle.clock_terms.specs.Faults.{or_fault}
 use Rattle.clock_json.specs.Tree.{number_at, items_at, has_members, each, json, ◌>>=◌}
 use Rattle.clock_bids.specs.declared.sheet.Bid.{Bid}
 use Rattle.clock_bodies.specs.declared.put_body.PutBody.{PutBody}
-use Rattle.clock_bodies.specs.declared.body_fault.BodyFault.{BodyFault}
-use Rattle.clock_bodies.specs.declared.body_fault.BodyFault.TheVariants.{NotJson, Shape}
+use Rattle.clock_bodies.specs.declared.body.BodyFault.{BodyFault}
+use Rattle.clock_bodies.specs.declared.body.BodyFault.TheVariants.{NotJson, Shape}
 
 -- {"price":N,"product":N,"quantity":N}
 unfoldable pub bid_of : Data → Option Bid

@@ -12,8 +12,8 @@ use Rattle.clock_terms.specs.declared.increments.Increments.TheVariants.{Single,
 use Rattle.clock_json.specs.Tree.{number_from, number_at, items_at, has_members, each, json, ◌>>=◌}
 use Rattle.clock_order.specs.declared.ties.Tie.{Tie}
 use Rattle.clock_bodies.specs.declared.close_body.CloseBody.{CloseBody}
-use Rattle.clock_bodies.specs.declared.body_fault.BodyFault.{BodyFault}
-use Rattle.clock_bodies.specs.declared.body_fault.BodyFault.TheVariants.{Shape}
+use Rattle.clock_bodies.specs.declared.body.BodyFault.{BodyFault}
+use Rattle.clock_bodies.specs.declared.body.BodyFault.TheVariants.{Shape}
 use Rattle.clock_bodies.specs.Bodies.{meant_by}
 
 -- three numbers

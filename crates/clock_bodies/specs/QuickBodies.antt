@@ -9,7 +9,7 @@ use Rattle.clock_bids.specs.declared.sheet.Bid.{Bid}
 use Rattle.clock_order.specs.declared.ties.Tie.{Tie}
 use Rattle.clock_terms.specs.declared.increments.Increments.{Increments}
 use Rattle.clock_terms.specs.declared.increments.Increments.TheVariants.{Single, PerProduct}
-use Rattle.clock_bodies.specs.declared.put_scan.FoundBid.{FoundBid}
+use Rattle.clock_bodies.specs.declared.put_body.FoundBid.{FoundBid}
 
 -- a bid's keys, each with what was found
 abbrev pub bid_fields : FoundBid → Fields

@@ -8,8 +8,8 @@ use Rattle.serde_json.specs.Data.{Data, object, array}
 use Rattle.clock_json.specs.Reading.{whole, numbers, items_of, Fields, members_of}
 use Rattle.clock_order.specs.declared.ties.Tie.{Tie}
 use Rattle.clock_terms.specs.declared.increments.Increments.{Increments}
-use Rattle.clock_bodies.specs.declared.close_scan.FoundClose.{FoundClose}
-use Rattle.clock_bodies.specs.declared.close_scan.ScannedClose.{ScannedClose}
+use Rattle.clock_bodies.specs.declared.close_body.FoundClose.{FoundClose}
+use Rattle.clock_bodies.specs.declared.close_body.ScannedClose.{ScannedClose}
 use Rattle.clock_bodies.specs.QuickBodies.{tie_data, single_of, listed_of}
 
 -- a list of tie numbers as a value

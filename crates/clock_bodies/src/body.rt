@@ -5,12 +5,37 @@ ghost use Rattle.serde_json.specs.View.{view};
 ghost use Rattle.clock_json.specs.Tree.{json};
 ghost use Rattle.clock_bodies.specs.Bodies.{meant_by};
 
-use crate::body_fault::BodyFault;
 use clock_device::NoMemory;
 use clock_json::tree::read_value;
 use clock_json::{PartReader, scanned_text};
 use serde_json::Value;
 use std::alloc::Global;
+use thiserror::Error;
+
+/// Why a body is refused: the first of these that applies.
+#[derive(Clone, Copy, Debug, PartialEq, Eq, Error)]
+pub enum BodyFault {
+    /// The bytes are no JSON value.
+    #[error("not a JSON value")]
+    NotJson,
+    /// The value is not the object that is asked for: a key is missing or strange, or a value is of another kind.
+    #[error("not of the shape that is asked for")]
+    Shape,
+    /// There was no memory. It stands in place of any other answer.
+    #[error("out of memory")]
+    NoMemory,
+}
+
+impl From<NoMemory> for BodyFault {
+    ghost use Rattle.std.specs.Prelude.{◌≡◌};
+    ghost use Rattle.clock_bodies.specs.declared.body.BodyFault.TheVariants as faults;
+
+    ghost from_gives = { λ _ fault. fault ≡ faults.NoMemory };
+
+    fn from(_refused: NoMemory) -> BodyFault {
+        BodyFault::NoMemory
+    }
+}
 
 /// What a body is by a tree of values.
 pub(crate) trait Body: Sized + Drop {

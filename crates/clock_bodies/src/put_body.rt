@@ -1,12 +1,14 @@
-ghost use Rattle.std.specs.Prelude.{◌≡◌, ◌≢◌, Ok, Err, IfOk, IfErr};
+ghost use Rattle.std.specs.Prelude.{◌≡◌, ◌≢◌, ◌++◌, ◌<◌, Ok, Err, IfOk, IfErr, List, length, map, OnOk};
+ghost use Rattle.clock_json.specs.Reading.{Reads, ReadsAll};
 ghost use Rattle.clock_bodies.specs.Bodies as bodies;
+ghost use Rattle.clock_bodies.specs.QuickBodies.{bid_fields, bid_data};
+ghost use Rattle.clock_bodies.specs.inside.QuickBodies.{bids_data, put_fields, put_data};
 
-use crate::body::{Body, read_body};
-use crate::body_fault::BodyFault;
-use crate::put_scan::{BidReader, FoundPut};
+use crate::body::{Body, BodyFault, read_body};
 use clock_bids::Bid;
 use clock_device::{Items, NoMemory};
 use clock_json::tree::{PlainReader, each_at, has_members, number_at};
+use clock_json::{PartReader, Scan, ScanStop, ScannedMembers, is_key, push, with_room};
 use serde_json::Value;
 use std::alloc::Global;
 
@@ -58,4 +60,149 @@ pub fn read_put(alloc: Global, bytes: &[u8]) -> Result<PutBody, BodyFault>
     ensures err { IfErr result (λ fault. fault ≢ BodyFault.NoMemory → bodies.put_body bytes.now ≡ Err fault) }
 {
     read_body::<FoundPut>(alloc, bytes)
+}
+
+/// How many bytes a bid and its comma take at least.
+const LEAST_BID: usize = 37;
+
+/// For how many bids room is taken ahead at most: for those of the longest sheet that can stand, and one more. The list
+/// is kept while the sheet is in force, however much white space its text had.
+const MOST_AHEAD: usize = 8_193;
+
+/// What was found of a bid so far.
+#[derive(Clone, Copy, Default)]
+struct FoundBid {
+    price: Option<u64>,
+    product: Option<u64>,
+    quantity: Option<u64>,
+}
+
+impl<'v> ScannedMembers<'v> for FoundBid {
+    type Whole = Bid;
+
+    ghost levels = { 0 };
+
+    ghost fields = { bid_fields };
+
+    ghost shown = { bid_data };
+
+    #[inline(always)]
+    fn nothing() -> FoundBid {
+        FoundBid::default()
+    }
+
+    #[inline(always)]
+    fn read(&mut self, _alloc: Global, key: &[u8], scan: &mut Scan<'v>) -> Result<(), ScanStop> {
+        let number = Some(scan.number()?);
+        if is_key(key, "price") {
+            self.price = number;
+        } else if is_key(key, "product") {
+            self.product = number;
+        } else if is_key(key, "quantity") {
+            self.quantity = number;
+        } else {
+            return Err(ScanStop::Unusual);
+        }
+        Ok(())
+    }
+
+    #[inline(always)]
+    fn whole(self) -> Option<Bid> {
+        Some(Bid {
+            product: self.product?,
+            quantity: self.quantity?,
+            price: self.price?,
+        })
+    }
+}
+
+/// A bid is read from its members, where no key has an escape and each number is written in digits alone.
+#[derive(Drop)]
+pub struct BidReader;
+
+impl<'v> PartReader<'v> for BidReader {
+    type Part = Bid;
+
+    ghost levels = { 1 };
+
+    ghost shown = { bid_data };
+
+    #[inline(never)]
+    fn part(alloc: Global, scan: &mut Scan<'v>) -> Result<Bid, ScanStop> {
+        FoundBid::part(alloc, scan)
+    }
+}
+
+/// The bids that are next, behind those of a list, as far as they are written without white space, their keys in the
+/// order of their bytes, and with a comma behind each. They are read by several bytes at a time.
+#[inline(never)]
+fn compact_bids(scan: &mut Scan<'_>, list: &mut Vec<Bid>) -> Result<(), ScanStop>
+    ensures { OnOk result ((bids : List Bid) × (list.new.items ≡ list.old.items ++ bids)
+        × ReadsAll 1 scan.old (map bid_data bids) scan.new) }
+{
+    'bids: while let Some(bid) = scan.compact_bid() {
+        let bid = Bid {
+            product: bid.product,
+            quantity: bid.quantity,
+            price: bid.price,
+        };
+        push(list, bid)?;
+    }
+    Ok(())
+}
+
+/// The list of bids that is next, with room made at once for as many as there may be.
+#[inline(never)]
+fn bids(alloc: Global, scan: &mut Scan<'_>) -> Result<Items<Bid>, ScanStop>
+    ensures value { IfOk result (λ bids. Reads 2 scan.old (bids_data bids) scan.new) }
+    ensures shorter { OnOk result (length scan.new < length scan.old) }
+{
+    scan.opens_array()?;
+    let mut list = with_room(alloc, MOST_AHEAD.min(scan.bytes_left() / LEAST_BID))?;
+    compact_bids(scan, &mut list)?;
+    'items: while !scan.closes_array() {
+        let next = BidReader::part(alloc, scan)?;
+        push(&mut list, next)?;
+        compact_bids(scan, &mut list)?;
+    }
+    Ok(Items::from_vec(list))
+}
+
+/// What was found of a sheet so far.
+#[derive(Default, Drop)]
+pub(crate) struct FoundPut {
+    round: Option<u64>,
+    bids: Option<Items<Bid>>,
+}
+
+impl<'v> ScannedMembers<'v> for FoundPut {
+    type Whole = PutBody;
+
+    ghost levels = { 2 };
+
+    ghost fields = { put_fields };
+
+    ghost shown = { put_data };
+
+    fn nothing() -> FoundPut {
+        FoundPut::default()
+    }
+
+    fn read(&mut self, alloc: Global, key: &[u8], scan: &mut Scan<'v>) -> Result<(), ScanStop> {
+        if is_key(key, "round") {
+            self.round = Some(scan.number()?);
+        } else if is_key(key, "bids") {
+            self.bids = Some(bids(alloc, scan)?);
+        } else {
+            return Err(ScanStop::Unusual);
+        }
+        Ok(())
+    }
+
+    fn whole(self) -> Option<PutBody> {
+        Some(PutBody {
+            round: self.round?,
+            bids: self.bids?,
+        })
+    }
 }

@@ -12,8 +12,8 @@ use Rattle.clock_order.specs.declared.ties.TieFault.{TieFault}
 use Rattle.clock_order.specs.Ties.{tie_fault}
 use Rattle.clock_posting.specs.declared.sheet.RoundSheet.{RoundSheet}
 use Rattle.clock_posting.specs.declared.posting.Posting.{Posting}
-use Rattle.clock_posting.specs.declared.fault.PostFault.{PostFault}
-use Rattle.clock_posting.specs.declared.fault.PostFault.TheVariants as post_faults
+use Rattle.clock_posting.specs.declared.posting.PostFault.{PostFault}
+use Rattle.clock_posting.specs.declared.posting.PostFault.TheVariants as post_faults
 use Rattle.clock_posting.specs.Posting.{IsPosting, IsConsistent, next_pair, post_fault, price_limit_fault}
 use Rattle.clock_closing.specs.declared.closed_round.Slip.{Slip}
 use Rattle.clock_closing.specs.declared.fault.CloseFault.{CloseFault}

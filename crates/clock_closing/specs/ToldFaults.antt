@@ -2,8 +2,8 @@
 --     told_of_tie fault, told_of_post fault      the refusal that is told
 use Rattle.clock_order.specs.declared.ties.TieFault.{TieFault}
 use Rattle.clock_order.specs.declared.ties.TieFault.TheVariants as tie_faults
-use Rattle.clock_posting.specs.declared.fault.PostFault.{PostFault}
-use Rattle.clock_posting.specs.declared.fault.PostFault.TheVariants as post_faults
+use Rattle.clock_posting.specs.declared.posting.PostFault.{PostFault}
+use Rattle.clock_posting.specs.declared.posting.PostFault.TheVariants as post_faults
 use Rattle.clock_closing.specs.declared.fault.CloseFault.{CloseFault}
 use Rattle.clock_closing.specs.declared.fault.CloseFault.TheVariants as close_faults
 

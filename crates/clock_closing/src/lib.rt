@@ -8,10 +8,8 @@ mod closed_round;
 mod fault;
 mod holdings;
 mod open_round;
-mod prepared;
 
-pub use closed_round::{ClosedRound, Results, Slip, Slips};
+pub use closed_round::{ClosedRound, Prepared, Results, Slip, Slips};
 pub use fault::CloseFault;
 pub use holdings::Holdings;
 pub use open_round::OpenRound;
-pub use prepared::Prepared;

@@ -8,9 +8,9 @@ ghost use Rattle.clock_closing.specs.inside.Postings.{IsAsked};
 
 mod outcome;
 
+use crate::closed_round::{ClosingInputs, Prepared};
 use crate::fault::CloseFault;
 use crate::holdings::Holdings;
-use crate::prepared::{ClosingInputs, Prepared};
 use clock_bids::Sheet;
 use clock_device::NoMemory;
 use clock_order::{Tie, Ties};

@@ -1,7 +1,7 @@
 -- A posting that the price limit forbids has that fault.
 use Rattle.std.proofs.Common.{◌≡◌, ℕ, List, Option, Some, None, Err, refl}
 use Rattle.clock_posting.specs.Posting.{post_fault}
-use Rattle.clock_posting.specs.declared.fault.PostFault.TheVariants as post
+use Rattle.clock_posting.specs.declared.posting.PostFault.TheVariants as post
 use Rattle.clock_commands.specs.Answers.{unless_limited}
 use Rattle.clock_commands.specs.declared.fault.Fault.TheVariants as fault
 

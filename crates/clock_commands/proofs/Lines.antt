@@ -2,7 +2,7 @@
 use Rattle.std.proofs.Common.{◌≡◌, ℕ, List, ◌++◌, Option, Some, None, refl, append_assoc}
 use Rattle.std.proofs.lemmas.List.{append-nil}
 use Rattle.clock_http.specs.declared.code.Code.{Code}
-use Rattle.clock_commands.specs.declared.fault_lines.Words.{Words}
+use Rattle.clock_commands.specs.declared.fault.Words.{Words}
 use Rattle.clock_commands.specs.inside.Lines.{behind, code_behind, text_of_words, with_code, with_number}
 
 number_added : (text : List ℕ) (number : Option ℕ) → with_number text number ≡ text ++ behind number

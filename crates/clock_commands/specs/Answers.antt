@@ -16,8 +16,8 @@ use Rattle.clock_replays.specs.Replays.{ReplayFields}
 use Rattle.clock_reports.specs.Reports.{ReportFields}
 use Rattle.clock_sim.specs.Rehearsal.{simulated}
 use Rattle.clock_reports.specs.ReportText.{report_text}
-use Rattle.clock_replays.specs.declared.fault.ScriptFault.{ScriptFault}
-use Rattle.clock_sim.specs.declared.sim_fault.SimFault.{SimFault}
+use Rattle.clock_replays.specs.declared.replay.ScriptFault.{ScriptFault}
+use Rattle.clock_sim.specs.declared.simulation.SimFault.{SimFault}
 use Rattle.clock_commands.specs.PriceLines.{price_lines}
 use Rattle.clock_words.specs.declared.words.Job.{Job}
 use Rattle.clock_words.specs.declared.words.Job.TheVariants as job

@@ -9,10 +9,10 @@ use Rattle.clock_setup.specs.declared.fault.SetupFault.{SetupFault}
 use Rattle.clock_setup.specs.declared.fault.SetupFault.TheVariants as in_setup
 use Rattle.clock_setup.specs.declared.opening.OpeningFault.{OpeningFault}
 use Rattle.clock_setup.specs.declared.opening.OpeningFault.TheVariants as in_opening
-use Rattle.clock_replays.specs.declared.fault.ScriptFault.{ScriptFault}
-use Rattle.clock_replays.specs.declared.fault.ScriptFault.TheVariants as in_script
-use Rattle.clock_sim.specs.declared.sim_fault.SimFault.{SimFault}
-use Rattle.clock_sim.specs.declared.sim_fault.SimFault.TheVariants as in_simulation
+use Rattle.clock_replays.specs.declared.replay.ScriptFault.{ScriptFault}
+use Rattle.clock_replays.specs.declared.replay.ScriptFault.TheVariants as in_script
+use Rattle.clock_sim.specs.declared.simulation.SimFault.{SimFault}
+use Rattle.clock_sim.specs.declared.simulation.SimFault.TheVariants as in_simulation
 use Rattle.clock_journal.specs.declared.recovery.JournalFault.{JournalFault}
 use Rattle.clock_journal.specs.declared.recovery.JournalFault.TheVariants as in_journal
 use Rattle.clock_serving.specs.declared.serving.ServeFault.{ServeFault}

@@ -4,11 +4,8 @@
 
 mod answer;
 mod fault;
-mod fault_lines;
-mod input;
 mod run;
 
 pub use answer::setup_in;
 pub use fault::Fault;
-pub use input::read_all;
-pub use run::{command, show_fault};
+pub use run::{command, read_all, show_fault};

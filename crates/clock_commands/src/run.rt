@@ -1,20 +1,55 @@
 ghost use Rattle.std.specs.Prelude.{◌≢◌, ◌≤◌, IfSome, map};
 ghost use Rattle.clap.specs.Words.{kind_of};
 ghost use Rattle.clock_device.specs.Told.{IsUnread, IsUnused};
-ghost use Rattle.clock_commands.specs.FaultLines.{fault_line};
-ghost use Rattle.clock_commands.specs.Input.{most_document_reads};
-ghost use Rattle.clock_commands.specs.Run.{ComesTo, IsRunOf, Shows};
 ghost use Rattle.clock_words.specs.Words.{IsJob, job_of};
+ghost use Rattle.clock_commands.specs.FaultLines.{fault_line};
+ghost use Rattle.clock_commands.specs.Input.{most_document_reads, IsReadingOf};
+ghost use Rattle.clock_commands.specs.Run.{ComesTo, IsRunOf, Shows};
 
 use crate::answer::answer;
-use crate::fault::Fault;
-use crate::fault_lines::write_fault;
-use crate::input::read_all;
+use crate::fault::{Fault, write_fault};
 use clap::Error;
 use clap::error::ErrorKind;
-use clock_device::{Sink, Source, write_all};
+use clock_device::{Sink, Source, Stop, Text, room_for_read, write_all};
 use clock_words::{Job, job_asked};
 use std::alloc::Global;
+
+/// How many bytes of input are read at most.
+const MOST_BYTES: usize = 67_108_864;
+
+/// How many reads are made at most.
+const MOST_READS: u64 = 100_000_000;
+
+/// How many bytes one read asks for at most.
+const PIECE: usize = 65_536;
+
+/// All bytes of the input. An interrupted read is tried again.
+pub fn read_all<R: Source>(alloc: Global, reader: &mut R) -> Result<Text, Fault>
+    requires { IsUnread (R.told reader.old) }
+    ensures reading { IsReadingOf (record { before = R.told reader.old; after = R.told reader.new }) result }
+    ensures calls { (R.told reader.new).calls ≤ most_document_reads }
+{
+    let mut piece = room_for_read(alloc, PIECE)?;
+    let mut document = Text::new(alloc);
+    for _call in 0..MOST_READS {
+        let free = MOST_BYTES - document.as_slice().len();
+        let asked = piece.len().min(free + 1);
+        let part = &mut piece.as_mut_slice()[..asked];
+        let count = match reader.read(part) {
+            Ok(count) => count,
+            Err(Stop::Interrupted) => continue,
+            Err(Stop::Failed) => return Err(Fault::Input),
+        };
+        if count > free {
+            return Err(Fault::LongInput);
+        }
+        if count == 0 {
+            return Ok(document);
+        }
+        document.extend_from_slice(&part[..count])?;
+    }
+    Err(Fault::Input)
+}
 
 /// What is shown of good words that ask for `serve`, `journal` or `audit`, which are no commands on streams.
 static NOT_HERE: &str =

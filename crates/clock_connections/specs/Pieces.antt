@@ -8,8 +8,8 @@ use Rattle.std.specs.Prelude.{ℕ, ◌++◌, List, [], ◌∷◌, Option, Some, 
 use Rattle.std.specs.Prelude.{is_some, count_by, slice_index_or, slice_set}
 use Rattle.clock_http.specs.Framing.{needs_more}
 use Rattle.clock_connections.specs.Connections.{most_connections}
-use Rattle.clock_connections.specs.declared.event.Event.{Event}
-use Rattle.clock_connections.specs.declared.event.Event.TheVariants.{Connect, Piece, Finish}
+use Rattle.clock_connections.specs.declared.connections.Event.{Event}
+use Rattle.clock_connections.specs.declared.connections.Event.TheVariants.{Connect, Piece, Finish}
 
 -- for each number the pieces that came, joined; nothing where the connection was refused, or its request is complete
 abbrev pub Numbered : Type 0

@@ -4,10 +4,6 @@
 //! [`read_request`] reads one request out of a source, as far as it is needed.
 #![tactic(auto)]
 
-mod arrival;
 mod connections;
-mod event;
 
-pub use arrival::{Unread, read_request};
-pub use connections::{Conn, Connections, HubFault};
-pub use event::Event;
+pub use connections::{Conn, Connections, Event, HubFault, Unread, read_request};

@@ -2,9 +2,7 @@ ghost use Rattle.std.specs.Prelude.{◌≡◌, ◌++◌, ◌+◌, ◌≤◌, ◌
 ghost use Rattle.clock_device.specs.Decimal.{number_or_dash};
 ghost use Rattle.clock_device.specs.Streams.{WritesText};
 
-use crate::bounded::Bounded;
-use crate::items::Items;
-use crate::no_memory::NoMemory;
+use crate::items::{Bounded, Items, NoMemory};
 use crate::stream::{Failed, Sink, write_all};
 use itoa::Buffer;
 

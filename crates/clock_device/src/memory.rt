@@ -7,7 +7,7 @@ ghost use Rattle.clock_device.specs.Streams.{CountsTaken};
 ghost use Rattle.clock_device.specs.SourceState.{SourceState, after_read, new_source, read_answer, source_told};
 ghost use Rattle.clock_device.specs.SinkState.{SinkState, after_write, new_sink, sink_told, write_count};
 
-use crate::no_memory::NoMemory;
+use crate::items::NoMemory;
 use crate::stream::{Failed, Sink, Source, Stop};
 use std::alloc::Global;
 use std::marker::Model;

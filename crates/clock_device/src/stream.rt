@@ -3,10 +3,11 @@ ghost use Rattle.std.specs.Io.{ReadsAtMost};
 ghost use Rattle.std.specs.Io.KnownBytes.{ReadConsumes, WriteAppends};
 ghost use Rattle.clock_device.specs.Calls.{count_after, interruptions_after, is_failed_read};
 ghost use Rattle.clock_device.specs.Streams.{CountsTaken, WritesText};
-ghost use Rattle.clock_device.specs.Told.{SinkTold, SourceTold};
+ghost use Rattle.clock_device.specs.Told.{SinkTold, SourceTold, IsUnread, IsUnused, unread, unused};
 
-use crate::no_memory::NoMemory;
+use crate::items::NoMemory;
 use std::alloc::Global;
+use std::io::{ErrorKind, Read, Write};
 use thiserror::Error;
 
 /// Why a read gave no bytes. Nothing was taken from the source.
@@ -75,4 +76,94 @@ pub fn write_all<W: Sink>(sink: &mut W, bytes: &[u8]) -> Result<(), Failed>
         done += sink.write(&bytes[done..])?;
     }
     Ok(())
+}
+
+/// Anything that std reads from, as a [`Source`].
+///
+/// It tells the bytes that the reader tells: those of a slice or a list, and none of a file or a socket.
+#[derive(Drop)]
+pub struct FromReader<R> {
+    reader: R,
+    calls: u64,
+    interruptions: u64,
+    has_failed: bool,
+}
+
+impl<R: Read> FromReader<R> {
+    /// The reader, on which no read was made through this yet.
+    pub fn new(reader: R) -> FromReader<R>
+        ensures told { ⟦<FromReader<R> as Source>⟧.told result ≡ unread (R.remaining reader) }
+        ensures unread { IsUnread (⟦<FromReader<R> as Source>⟧.told result) }
+    {
+        FromReader {
+            reader,
+            calls: 0,
+            interruptions: 0,
+            has_failed: false,
+        }
+    }
+}
+
+impl<R: Read> Source for FromReader<R> {
+    ghost told = { λ source. record {
+      left = R.remaining source.reader;
+      calls = source.calls;
+      interruptions = source.interruptions;
+      has_failed = source.has_failed;
+    } };
+
+    fn read(&mut self, buffer: &mut [u8]) -> Result<usize, Stop> {
+        self.calls = self.calls.saturating_add(1);
+        match self.reader.read(buffer) {
+            Ok(count) => Ok(count),
+            Err(error) if error.kind() == ErrorKind::Interrupted => {
+                self.interruptions = self.interruptions.saturating_add(1);
+                Err(Stop::Interrupted)
+            }
+            Err(_) => {
+                self.has_failed = true;
+                Err(Stop::Failed)
+            }
+        }
+    }
+}
+
+/// Anything that std writes to, as a [`Sink`].
+///
+/// It tells the bytes that the writer tells: those of a `Vec`, and none of a file or a socket.
+#[derive(Drop)]
+pub struct ToWriter<W> {
+    writer: W,
+    calls: u64,
+    has_failed: bool,
+}
+
+impl<W: Write> ToWriter<W> {
+    /// The writer, on which no write was made through this yet.
+    pub fn new(writer: W) -> ToWriter<W>
+        ensures told { ⟦<ToWriter<W> as Sink>⟧.told result ≡ unused (W.contents writer) }
+        ensures unused { IsUnused (⟦<ToWriter<W> as Sink>⟧.told result) }
+    {
+        ToWriter {
+            writer,
+            calls: 0,
+            has_failed: false,
+        }
+    }
+}
+
+impl<W: Write> Sink for ToWriter<W> {
+    ghost told = { λ sink. record { taken = W.contents sink.writer; calls = sink.calls; has_failed = sink.has_failed } };
+
+    /// A writer that is interrupted, or takes no byte, has failed.
+    fn write(&mut self, bytes: &[u8]) -> Result<usize, Failed> {
+        self.calls = self.calls.saturating_add(1);
+        match self.writer.write(bytes) {
+            Ok(count) if count > 0 => Ok(count),
+            _ => {
+                self.has_failed = true;
+                Err(Failed)
+            }
+        }
+    }
 }

@@ -12,8 +12,8 @@ use Rattle.clock_http.specs.Replies.{Answer}
 use Rattle.clock_front.specs.Headline.{Runs, IsRun}
 use Rattle.clock_front.proofs.RunLaws.{IsUnderWay, step}
 use Rattle.clock_connections.specs.declared.connections.Conn.{Conn}
-use Rattle.clock_connections.specs.declared.event.Event.{Event}
-use Rattle.clock_connections.specs.declared.event.Event.TheVariants.{Connect, Piece, Finish}
+use Rattle.clock_connections.specs.declared.connections.Event.{Event}
+use Rattle.clock_connections.specs.declared.connections.Event.TheVariants.{Connect, Piece, Finish}
 use Rattle.clock_front.specs.declared.runs.EventReply.{EventReply}
 use Rattle.clock_connections.specs.Pieces.{Numbered, completed, after, and_then, requests_from, requests_of}
 use Rattle.clock_connections.specs.Connections.{ConnectionFields}

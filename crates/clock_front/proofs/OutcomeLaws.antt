@@ -10,9 +10,9 @@ use Rattle.clock_views.specs.Refusals.{Shown}
 use Rattle.clock_http.specs.Replies.{Answer}
 use Rattle.clock_bodies.specs.declared.put_body.PutBody.{PutBody}
 use Rattle.clock_bodies.specs.declared.close_body.CloseBody.{CloseBody}
-use Rattle.clock_bodies.specs.declared.body_fault.BodyFault.{BodyFault}
-use Rattle.clock_front.specs.declared.front.tokens.Asker.{Asker}
-use Rattle.clock_front.specs.declared.front.tokens.Asker.TheVariants.{Nobody, Operator, Bidder}
+use Rattle.clock_bodies.specs.declared.body.BodyFault.{BodyFault}
+use Rattle.clock_front.specs.declared.front.asked.Asker.{Asker}
+use Rattle.clock_front.specs.declared.front.asked.Asker.TheVariants.{Nobody, Operator, Bidder}
 use Rattle.clock_front.specs.declared.front.asked.PageAsked.{PageAsked}
 use Rattle.clock_front.specs.declared.front.asked.PageAsked.TheVariants as reading
 use Rattle.clock_front.specs.Requests as asked

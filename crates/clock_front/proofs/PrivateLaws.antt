@@ -13,15 +13,15 @@ use Rattle.clock_front.specs.Fronts.{commands_of}
 use Rattle.clock_front.specs.Outcomes.{Outcome, outcome, answer_of, put_outcome, refused}
 use Rattle.clock_front.specs.Private.{IsPrivateReply}
 use Rattle.clock_front.specs.Rooms.{IsPrivateWant, IsWantOf, WantsRoom, asks_for_page, refusal_room, reply_room}
-use Rattle.clock_front.specs.declared.front.unanswered.Unanswered.{Unanswered}
-use Rattle.clock_front.specs.declared.front.unanswered.Unanswered.TheVariants.{Room}
+use Rattle.clock_front.specs.declared.front.fixed_replies.Unanswered.{Unanswered}
+use Rattle.clock_front.specs.declared.front.fixed_replies.Unanswered.TheVariants.{Room}
 use Rattle.clock_front.specs.inside.Private.{IsToldByView, IsToldAsker}
 use Rattle.clock_http.specs.Replies.{Answer}
 use Rattle.clock_front.specs.Requests.{Ask, request_of, put}
 use Rattle.clock_front.specs.inside.Knowledge.{known_outcome}
 use Rattle.clock_bodies.specs.declared.put_body.PutBody.{PutBody}
-use Rattle.clock_front.specs.declared.front.tokens.Asker.{Asker}
-use Rattle.clock_front.specs.declared.front.tokens.Asker.TheVariants.{Nobody, Operator, Bidder}
+use Rattle.clock_front.specs.declared.front.asked.Asker.{Asker}
+use Rattle.clock_front.specs.declared.front.asked.Asker.TheVariants.{Nobody, Operator, Bidder}
 use Rattle.clock_front.proofs.FrontLaws.{outcome_after}
 use Rattle.clock_front.proofs.RunLaws.{right}
 use Rattle.clock_front.proofs.AskerLaws.{asker_own}

@@ -23,12 +23,12 @@ use Rattle.clock_views.specs.PublicPages.{status_value, products_value, sheet_va
 use Rattle.clock_views.specs.BidderPages.{account_value, bids_value, accepted_value, slip_value}
 use Rattle.clock_views.specs.OperatorPages.{closed_value, results_value}
 use Rattle.clock_http.specs.declared.routes.Page.{Page}
-use Rattle.clock_front.specs.declared.front.tokens.Asker.{Asker}
-use Rattle.clock_front.specs.declared.front.tokens.Asker.TheVariants.{Nobody, Operator, Bidder}
+use Rattle.clock_front.specs.declared.front.asked.Asker.{Asker}
+use Rattle.clock_front.specs.declared.front.asked.Asker.TheVariants.{Nobody, Operator, Bidder}
 use Rattle.clock_bodies.specs.declared.put_body.PutBody.{PutBody}
 use Rattle.clock_bodies.specs.declared.close_body.CloseBody.{CloseBody}
-use Rattle.clock_bodies.specs.declared.body_fault.BodyFault.{BodyFault}
-use Rattle.clock_bodies.specs.declared.body_fault.BodyFault.TheVariants.{NotJson, Shape, NoMemory}
+use Rattle.clock_bodies.specs.declared.body.BodyFault.{BodyFault}
+use Rattle.clock_bodies.specs.declared.body.BodyFault.TheVariants.{NotJson, Shape, NoMemory}
 use Rattle.clock_bodies.specs.CloseBodies.{in_version}
 use Rattle.clock_http.specs.Decimals.{plain_number}
 use Rattle.clock_http.specs.Replies.{Answer, reply_bytes}

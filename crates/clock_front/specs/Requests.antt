@@ -14,7 +14,7 @@ use Rattle.clock_http.specs.declared.routes.Page.{Page}
 use Rattle.clock_http.specs.declared.routes.Page.TheVariants.{Status, Products, Sheet, Account, Bids, Slip, Close, Results}
 use Rattle.clock_bodies.specs.declared.put_body.PutBody.{PutBody}
 use Rattle.clock_bodies.specs.declared.close_body.CloseBody.{CloseBody}
-use Rattle.clock_bodies.specs.declared.body_fault.BodyFault.{BodyFault}
+use Rattle.clock_bodies.specs.declared.body.BodyFault.{BodyFault}
 
 -- refused by its framing or path; not by this method; a page; a sheet or closing, judged only if its sender may send it
 pub data Ask : Type 0 where

@@ -1,16 +1,16 @@
-ghost use Rattle.std.specs.Prelude.{◌≡◌, ◌⊎◌, ℕ, List, true, [], length, IfOk, IfErr, IsOk, OnOk, OnErr};
-ghost use Rattle.clock_house.specs.House.{HouseFields, IsFollowedBy, StandsStill};
+ghost use Rattle.std.specs.Prelude.{◌≡◌, ◌⊎◌, [], ℕ, List, true, length, IfOk, IfErr, IsOk, OnOk, OnErr};
 ghost use Rattle.clock_http.specs.declared.code.Code.{Code as ReplyCode};
+ghost use Rattle.clock_http.specs.Framing.{framing as framing_of, incomplete, needs_more, refusal as refusal_of};
+ghost use Rattle.clock_http.specs.Shown.{IsFramed, Knows, shown_framing};
+ghost use Rattle.clock_house.specs.House.{HouseFields, IsFollowedBy, StandsStill};
 ghost use Rattle.clock_front.specs.Askers.{asker as asker_with};
 ghost use Rattle.clock_front.specs.inside.Askers.{IsKnown};
-ghost use Rattle.clock_http.specs.Framing.{framing as framing_of, incomplete, needs_more, refusal as refusal_of};
 ghost use Rattle.clock_front.specs.Fronts.{AnswersText, IsCutShort, IsDoneBy, IsStruckOut, StandsForTexts};
 ghost use Rattle.clock_front.specs.Outcomes.{answer_of, outcome, command_of};
 ghost use Rattle.clock_front.specs.Rooms.{IsPrivateWant, IsWantOf, WantsRoom};
 ghost use Rattle.clock_front.specs.Private.{IsPrivateReply};
 ghost use Rattle.clock_front.specs.inside.Private.{IsToldAsker};
 ghost use Rattle.clock_front.specs.Requests.{request_of};
-ghost use Rattle.clock_http.specs.Shown.{IsFramed, Knows, shown_framing};
 ghost use Rattle.clock_front.specs.inside.HeldTokens.{IsTableOf};
 ghost use Rattle.clock_front.specs.inside.KeptPage.{IsProductsPage};
 ghost use Rattle.clock_front.specs.inside.ShownAsked.{shown_asked};
@@ -20,24 +20,20 @@ mod commands;
 mod fixed_replies;
 mod pages;
 mod telling;
-mod tokens;
-mod unanswered;
 
-use crate::front::asked::{Asked, asked_of};
+use crate::front::asked::{Asked, Asker, Tokens, asked_of, asker_of, tokens_of};
 use crate::front::commands::{answer_close, answer_put};
 use crate::front::fixed_replies::fixed_reply;
 use crate::front::telling::{tell, turn_away};
-use crate::front::tokens::{Asker, Tokens, asker_of, tokens_of};
 use clock_device::{NoMemory, Text};
 use clock_house::House;
 use clock_http::{Code, Framing, Progress, Reply, Routes, frame};
 use clock_processor::Processor;
 use clock_terms::Setup;
 use clock_views::{Refusal, products_page};
-pub use fixed_replies::no_memory_reply;
+pub use fixed_replies::{Unanswered, no_memory_reply};
 use std::alloc::Global;
 use std::marker::Model;
-pub use unanswered::Unanswered;
 
 /// An auction house that is asked by texts of HTTP.
 ///

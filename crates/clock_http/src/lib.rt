@@ -16,7 +16,6 @@ mod laws;
 mod progress;
 mod reply;
 mod routes;
-mod scan;
 
 pub use arriving::Arriving;
 pub use code::Code;

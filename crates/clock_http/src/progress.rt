@@ -1,4 +1,4 @@
-ghost use Rattle.std.specs.Prelude.{◌≡◌, ◌≤◌, ◌<◌, ℕ, List, [], length, take, None, codes};
+ghost use Rattle.std.specs.Prelude.{◌≡◌, ◌≤◌, ◌<◌, [], ℕ, List, length, take, None, codes};
 ghost use Rattle.clock_http.specs.Scans.{head_length as length_of_head};
 ghost use Rattle.clock_http.specs.Framing as spec;
 ghost use Rattle.clock_http.specs.Heads.{same_bytes};
@@ -6,8 +6,7 @@ ghost use Rattle.clock_http.specs.Shown.{Knows, KnowsOfStart, IsFramed, IsHeadWi
 ghost use Rattle.clock_http.specs.inside.Followed.{Waits};
 
 use crate::code::Code;
-use crate::head::{EndedHead, read_head};
-use crate::scan::head_length;
+use crate::head::{EndedHead, head_length, read_head};
 
 /// The most bytes of a head, its last line end included.
 const HEAD_LIMIT: usize = 16_384;

@@ -2,14 +2,12 @@
 #![tactic(auto)]
 
 mod durable;
-mod file_disk;
 mod format;
 mod journal;
 mod laws;
 mod recovery;
 
-pub use durable::Durable;
-pub use file_disk::FileDisk;
+pub use durable::{Durable, FileDisk};
 pub use format::{BEFORE_TEXT, HEAD_LENGTH, Link, MOST_TEXT, digest_of, link_of};
 pub use journal::Journal;
 pub use laws::{

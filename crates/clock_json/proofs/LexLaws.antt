@@ -19,8 +19,8 @@ use Rattle.json.specs.Lex.{Class, Lexeme, Place, may_begin, may_close, token, co
 use Rattle.json.specs.Align.{is_blank}
 use Rattle.clock_json.specs.Left.{place_of}
 use Rattle.clock_json.specs.inside.Marks.{IsMark}
-use Rattle.clock_json.specs.declared.expected.Expected.{Expected}
-use Rattle.clock_json.specs.declared.expected.Expected.TheVariants as ours
+use Rattle.clock_json.specs.declared.scan.Expected.{Expected}
+use Rattle.clock_json.specs.declared.scan.Expected.TheVariants as ours
 use Rattle.json.proofs.Printed.Numbers.{lex-number, in_word-ended}
 use Rattle.json.proofs.Printed.Decimals.{IsNumber-decimal}
 

@@ -3,8 +3,8 @@ use Rattle.std.specs.Prelude.{ℕ, List}
 use Rattle.json.specs.Token.{Token}
 use Rattle.json.specs.Lex as lexer
 use Rattle.json.specs.Lex.{lex, between, punctuate}
-use Rattle.clock_json.specs.declared.expected.Expected.{Expected}
-use Rattle.clock_json.specs.declared.expected.Expected.TheVariants.{Fresh, AfterValue, AfterComma}
+use Rattle.clock_json.specs.declared.scan.Expected.{Expected}
+use Rattle.clock_json.specs.declared.scan.Expected.TheVariants.{Fresh, AfterValue, AfterComma}
 
 -- where the lexer stands
 abbrev pub place_of : Expected → lexer.Place

@@ -5,25 +5,17 @@
 
 mod compact;
 mod digits;
-mod expected;
-mod lists;
-mod members;
 mod numbers;
 mod parts;
-mod plain;
 mod room;
 mod rows;
 mod scan;
-mod separated;
-mod stop;
 pub mod tree;
 mod words;
 
 pub use compact::CompactBid;
-pub use members::ScannedMembers;
-pub use parts::{PartReader, scanned_parts, scanned_text};
+pub use parts::{PartReader, ScannedMembers, scanned_parts, scanned_text};
 pub use room::{push, with_room};
 pub use rows::FlatRows;
-pub use scan::Scan;
-pub use stop::ScanStop;
+pub use scan::{Scan, ScanStop};
 pub use words::{is_blank, is_key, is_text};

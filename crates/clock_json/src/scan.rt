@@ -1,20 +1,66 @@
 //! A text read mark by mark.
-ghost use Rattle.std.specs.Prelude.{◌≡◌, ◌∷◌, ◌++◌, [], ℕ, List, ◌<◌, drop, length, map, replicate, IsTrue, IfSome, IfNone, IfOk, OnOk};
+ghost use Rattle.std.specs.Prelude.{◌≡◌, ◌∷◌, ◌++◌, [], ◌<◌, ℕ, List, drop, length, map, replicate, IsTrue, IfSome, IfNone, IfOk, OnOk, true, false};
 ghost use Rattle.std.specs.Bool.{MatchBool};
 ghost use Rattle.json.specs.Token.{Token, begin_array, begin_object, end_array, end_object, key as key_token, tokens_code};
 ghost use Rattle.json.specs.Lex.{after_value, fresh, may_begin, may_close, tokens};
 ghost use Rattle.serde_json.specs.Data.{null, string};
 ghost use Rattle.clock_json.specs.Compact.{compact_bid};
-ghost use Rattle.clock_json.specs.Left.{left};
+ghost use Rattle.clock_json.specs.Left.{left, place_of};
 ghost use Rattle.clock_json.specs.Reading.{whole, numbers, Reads, ReadsAll};
 ghost use Rattle.clock_json.specs.inside.Marks.{IsMark};
 
 use crate::compact::{CompactBid, compact_bid_at};
-use crate::expected::Expected;
-use crate::separated::{after_empties, numbers_at};
-use crate::stop::ScanStop;
+use crate::digits::{after_empties, numbers_at};
 use crate::words::{after_space, after_value, byte_at, decimal_at, ends_text, null_at, quoted};
+use clock_device::NoMemory;
 use std::marker::Model;
+
+/// Why a text was not read.
+#[derive(Clone, Copy, Debug, PartialEq, Eq)]
+pub enum ScanStop {
+    /// The text has another shape. Nothing is said of what it means.
+    Unusual,
+    /// There was no memory.
+    NoMemory,
+}
+
+impl From<NoMemory> for ScanStop {
+    ghost use Rattle.std.specs.Prelude.{◌≡◌};
+    ghost use Rattle.clock_json.specs.declared.scan.ScanStop.TheVariants as stops;
+
+    ghost from_gives = { λ _ stop. stop ≡ stops.NoMemory };
+
+    fn from(_refused: NoMemory) -> ScanStop {
+        ScanStop::NoMemory
+    }
+}
+
+/// What may stand next.
+#[derive(Clone, Copy, Drop)]
+pub(crate) enum Expected {
+    Fresh,
+    AfterValue,
+    AfterComma,
+}
+
+impl Expected {
+    /// Whether a value or a key may begin here.
+    #[inline(always)]
+    pub(crate) fn may_begin(self) -> bool
+        ensures { result ≡ may_begin (place_of self) }
+    {
+        matches!(self, Expected::Fresh | Expected::AfterComma)
+    }
+
+    /// Whether a comma was right before, so that no bracket and no brace may close here.
+    #[inline(always)]
+    pub(crate) fn is_after_comma(self) -> bool
+        ensures comma { IsTrue result → self ≡ Expected.AfterComma }
+        ensures others { result ≡ false → may_close (place_of self) ≡ true }
+    {
+        matches!(self, Expected::AfterComma)
+    }
+}
 
 /// A text that is being read. Contracts see the tokens that are still to come. A call that reads nothing may leave it
 /// anywhere, except that where nothing closes it stays as it is.

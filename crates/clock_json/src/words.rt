@@ -1,18 +1,64 @@
 //! Bytes of a text as lexemes: white space, commas, quoted words and numbers.
-ghost use Rattle.std.specs.Prelude.{◌≡◌, ℕ, List, ◌∷◌, ◌<◌, ◌^◌, ◌||◌, true, false, None, IsTrue, drop, length, get_or, decimal, IfSome, IfOk};
+ghost use Rattle.std.specs.Prelude.{◌≡◌, ◌∷◌, ◌<◌, ◌^◌, ◌||◌, ◌+◌, ◌≤◌, ℕ, List, true, false, None, IsTrue, drop, length, get_or, decimal, IfSome, IfOk, map};
 ghost use Rattle.std.specs.Str.{IsUtf8};
+ghost use Rattle.std.specs.List.{prefix_len};
+ghost use Rattle.std.specs.Simd.Lanes.{mask_l};
 ghost use Rattle.json.specs.Token.{null, number, string};
 ghost use Rattle.json.specs.Lex.{lex, between, token, class, begins_colon, after_value as past_value, punctuate};
 ghost use Rattle.json.specs.Word.{is_operator, is_space as is_blank_byte};
 ghost use Rattle.json.specs.Align.{is_blank as is_blank_class};
 ghost use Rattle.serde_json.specs.Read.{read};
+ghost use Rattle.json.specs.Run.{is_stop, is_plain};
 ghost use Rattle.clock_json.specs.Left.{left};
 
 use crate::compact::has_room;
 use crate::digits::digits_up_to;
-use crate::expected::Expected;
-use crate::plain::plain_end;
-use crate::stop::ScanStop;
+use crate::scan::{Expected, ScanStop};
+use std::simd::prelude::*;
+
+/// The bytes among these at which plain text ends, as bits.
+#[inline(always)]
+fn stops(bytes: u8x16) -> u64
+    ensures { result ≡ mask_l (map is_stop bytes) }
+{
+    (bytes.simd_eq(u8x16::splat(b'"'))
+        | bytes.simd_eq(u8x16::splat(b'\\'))
+        | bytes.simd_lt(u8x16::splat(b' '))).to_bitmask()
+}
+
+/// Where the plain text ends that begins there, byte by byte.
+#[inline(never)]
+fn plain_end_slowly(bytes: &[u8], start: usize) -> usize
+    requires { start ≤ length bytes.now }
+    ensures { result ≡ start + prefix_len is_plain (drop start bytes.now) }
+{
+    let mut end = start;
+    'text: while end < bytes.len()
+        && bytes[end] != b'"'
+        && bytes[end] != b'\\'
+        && bytes[end] >= b' '
+    {
+        end += 1;
+    }
+    end
+}
+
+/// Where the plain text ends that begins there.
+#[inline(always)]
+pub(crate) fn plain_end(bytes: &[u8], start: usize) -> usize
+    requires { start ≤ length bytes.now }
+    ensures { result ≡ start + prefix_len is_plain (drop start bytes.now) }
+{
+    let mut end = start;
+    'text: while bytes.len() - end >= 16 {
+        let found = stops(u8x16::from_slice(&bytes[end..]));
+        if found != 0 {
+            return end + found.trailing_zeros() as usize;
+        }
+        end += 16;
+    }
+    plain_end_slowly(bytes, end)
+}
 
 /// The byte there, or 0 past the end.
 #[inline(always)]

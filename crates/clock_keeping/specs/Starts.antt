@@ -11,8 +11,8 @@ use Rattle.clock_journal.specs.Kept.{JournalState}
 use Rattle.clock_journal.specs.Recovering.{IsPlaced, IsRefusal, IsRefusedRightly}
 use Rattle.clock_journal.specs.declared.recovery.Recovered.{Recovered}
 use Rattle.clock_keeping.specs.Keeping.{IsInStep, IsRefused, IsTakenUp, counted}
-use Rattle.clock_keeping.specs.declared.going_on.GoOnFault.{GoOnFault}
-use Rattle.clock_keeping.specs.declared.going_on.GoOnFault.TheVariants.{Refused, Failed}
+use Rattle.clock_keeping.specs.declared.taking.GoOnFault.{GoOnFault}
+use Rattle.clock_keeping.specs.declared.taking.GoOnFault.TheVariants.{Refused, Failed}
 
 -- the file is the journal of so many texts, but for a torn tail; all are on the disk, and the auction stands for them
 pub record IsGoingOn (digest bytes : List ℕ) (journal : JournalState) (house : HouseFields) (count : ℕ) : Type 0 where

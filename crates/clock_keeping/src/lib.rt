@@ -3,10 +3,8 @@
 //! [`answer_and_keep`] answers one text, and [`take_up`] all texts of a file, with whose journal [`go_on`] goes on.
 #![tactic(auto)]
 
-mod going_on;
 mod keeping;
 mod taking;
 
-pub use going_on::{GoOnFault, go_on};
 pub use keeping::{answer_and_keep, law_gets_change_nothing};
-pub use taking::{Auction, take_up};
+pub use taking::{Auction, GoOnFault, go_on, take_up};

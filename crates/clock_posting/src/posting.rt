@@ -6,13 +6,37 @@ ghost use Rattle.clock_terms.specs.Prices.{opening_prices};
 ghost use Rattle.clock_posting.specs.PostedPrice.{IsWithinPrices, posted_prices};
 ghost use Rattle.clock_posting.specs.Posting as rules;
 
-use crate::fault::PostFault;
 use crate::posted_prices::{posted_prices, start_prices};
 use crate::round_end::RoundEnd;
 use crate::sheet::RoundSheet;
+use clock_device::NoMemory;
 use clock_processor::Settled;
 use clock_terms::{Changes, Grid, Increments, OpeningPrices, Prices, Setup};
 use std::alloc::Global;
+use thiserror::Error;
+
+/// Why a closing posts nothing.
+#[derive(Clone, Copy, Debug, PartialEq, Eq, Error)]
+pub enum PostFault {
+    /// The auction goes on, and this product, the first such, can have no next clock price:
+    /// it would be above the highest price.
+    #[error("the next clock price of product {0} would be too high")]
+    PriceLimit(u64),
+    /// There was no memory. It stands in place of any other answer.
+    #[error("out of memory")]
+    NoMemory,
+}
+
+impl From<NoMemory> for PostFault {
+    ghost use Rattle.std.specs.Prelude.{◌≡◌};
+    ghost use Rattle.clock_posting.specs.declared.posting.PostFault.TheVariants as faults;
+
+    ghost from_gives = { λ _ fault. fault ≡ faults.NoMemory };
+
+    fn from(_none: NoMemory) -> PostFault {
+        PostFault::NoMemory
+    }
+}
 
 /// What the closing of a round posts: its sheet, and the prices of the next round.
 #[derive(Drop)]

@@ -3,8 +3,7 @@ ghost use Rattle.clock_terms.specs.Faults.{IsFirstFault};
 ghost use Rattle.clock_posting.specs.Posting as rules;
 ghost use Rattle.clock_posting.specs.inside.RoundEnd.{FitsTogether, HasClocksOf, IsPostingOf, limit_of, lines_of, next_of};
 
-use crate::fault::PostFault;
-use crate::posting::Posting;
+use crate::posting::{PostFault, Posting};
 use crate::sheet::{Line, Lines, RoundSheet};
 use clock_device::NoMemory;
 use clock_money::{Price, clock_price};

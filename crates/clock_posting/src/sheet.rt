@@ -1,7 +1,10 @@
-ghost use Rattle.std.specs.Prelude.{◌≡◌, IfOk};
+ghost use Rattle.std.specs.Prelude.{◌≡◌, ◌++◌, IfOk, codes, length, OnOk};
+ghost use Rattle.clock_device.specs.Decimal.{number_or_dash};
+ghost use Rattle.clock_posting.specs.SheetText.{sheet_text, line_text};
 
-use clock_device::{Items, NoMemory};
+use clock_device::{Items, NoMemory, Text};
 use clock_money::Price;
+use clock_terms::{Product, Setup};
 use std::alloc::Global;
 
 /// What a round's sheet says of a product. Prices are in whole dollars. It names no bidder.
@@ -44,4 +47,57 @@ impl RoundSheet {
             lines: self.lines.copy(alloc)?,
         })
     }
+}
+
+/// The lines that tell a round's sheet: `round N`, then for each product
+/// `NAME START CLOCK POSTED DEMAND NEXT`, with `-` where there is no demand or next clock price.
+/// Fields are parted by one space, numbers are plain decimal, and each line ends with a line feed:
+///
+/// ```text
+/// round 1
+/// A 100 100 100 - 110
+/// B 100 100 100 3 110
+/// ```
+pub fn sheet_lines(alloc: Global, setup: &Setup, sheet: &RoundSheet) -> Result<Text, NoMemory>
+    requires { length sheet.now.lines ≡ length setup.now.products }
+    ensures { IfOk result (λ text. text ≡ sheet_text setup.now.products sheet.now) }
+{
+    with_sheet_lines(Text::new(alloc), setup, sheet)
+}
+
+/// A text, and behind it the lines that tell a round's sheet, as [`sheet_lines`] has them. The text is taken over, so
+/// that none is left with a part of the lines where there is no memory.
+pub fn with_sheet_lines(mut text: Text, setup: &Setup, sheet: &RoundSheet) -> Result<Text, NoMemory>
+    requires { length sheet.now.lines ≡ length setup.now.products }
+    ensures { IfOk result (λ lines. lines ≡ text ++ sheet_text setup.now.products sheet.now) }
+{
+    let products = setup.products.as_slice();
+    text.extend_from_slice(b"round ")?;
+    text.push_number(sheet.round)?;
+    text.push(b'\n')?;
+    for (i, line) in sheet.lines.iter().enumerate() {
+        push_line(&mut text, &products[i], line)?;
+    }
+    Ok(text)
+}
+
+/// Adds a space and a number, or a dash where there is none.
+fn push_field(text: &mut Text, number: Option<u64>) -> Result<(), NoMemory>
+    ensures { OnOk result (text.new ≡ text.old ++ codes " " ++ number_or_dash number) }
+{
+    text.push(b' ')?;
+    text.push_or_dash(number)
+}
+
+/// Adds the line of a product.
+fn push_line(text: &mut Text, product: &Product, line: &Line) -> Result<(), NoMemory>
+    ensures { OnOk result (text.new ≡ text.old ++ line_text product.now line.now) }
+{
+    text.extend_from_slice(product.name.as_slice())?;
+    push_field(text, Some(line.start.get()))?;
+    push_field(text, Some(line.clock.get()))?;
+    push_field(text, Some(line.posted.get()))?;
+    push_field(text, line.demand)?;
+    push_field(text, line.next)?;
+    text.push(b'\n')
 }

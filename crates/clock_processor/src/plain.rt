@@ -6,8 +6,7 @@ ghost use Rattle.clock_processor.specs.Requests.{IsRequest};
 ghost use Rattle.clock_processor.specs.inside.UnderWay.{IsUnderWay, SameButTests, StaysWithinCaps, progress_of};
 
 use crate::board::Board;
-use crate::processor::Processor;
-use crate::settled::{Settled, amounts_of};
+use crate::processor::{Processor, Settled, amounts_of};
 use clock_device::NoMemory;
 use clock_terms::{Amounts, Change, Changes};
 use std::alloc::Global;

@@ -4,7 +4,6 @@
 
 mod lines;
 mod queue;
-mod ready;
 mod woken;
 
 pub use woken::Woken;

@@ -3,8 +3,7 @@ ghost use Rattle.clock_processor.specs.Board.{IsBoard};
 ghost use Rattle.clock_processor.specs.Requests.{CanSettle};
 ghost use Rattle.clock_queue.specs.inside.Queue.{GoesOn, IsAppliedWhole, IsQueue, StaysWithinTests, after_test, room_in, with_first, work};
 
-use crate::lines::{WaitingLines, line_of, lines_for, woken_line};
-use crate::ready::Ready;
+use crate::lines::{Ready, WaitingLines, line_of, lines_for, woken_line};
 use clock_device::NoMemory;
 use clock_processor::{Board, Settled, amounts_of};
 use clock_terms::{Amounts, Change};

@@ -19,7 +19,7 @@ use Rattle.clock_terms.proofs.FaultLaws.{both_pass, turn_passed, turn_failed, tu
 use Rattle.clock_replays.specs.declared.replay.Script.{Script}
 use Rattle.clock_replays.specs.declared.replay.Script.TheVariants.{Literal, Sincere}
 use Rattle.clock_replays.specs.declared.replay.Closing.{Closing}
-use Rattle.clock_replays.specs.declared.fault.ScriptFault.TheVariants.{Shape, Scripts, Limits}
+use Rattle.clock_replays.specs.declared.replay.ScriptFault.TheVariants.{Shape, Scripts, Limits}
 use Rattle.clock_replays.specs.Replays.{NeverRises, IsScript, ReplayFields, IsReplay, is_of_version}
 use Rattle.clock_replays.specs.ReplayChecks.{never_rises, are_of_version, has_lists, limit_checks, script_checks, replay_checks}
 

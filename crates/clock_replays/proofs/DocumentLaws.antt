@@ -8,8 +8,8 @@ use Rattle.clock_terms.specs.Faults.{first_fault, unless}
 use Rattle.clock_terms.specs.Limits.{SetupFields}
 use Rattle.clock_setup.specs.declared.fault.SetupFault.{SetupFault}
 use Rattle.clock_setup.specs.SetupDocument.{setup_of}
-use Rattle.clock_replays.specs.declared.fault.ScriptFault.{ScriptFault}
-use Rattle.clock_replays.specs.declared.fault.ScriptFault.TheVariants.{Shape, Setup}
+use Rattle.clock_replays.specs.declared.replay.ScriptFault.{ScriptFault}
+use Rattle.clock_replays.specs.declared.replay.ScriptFault.TheVariants.{Shape, Setup}
 use Rattle.clock_replays.specs.declared.replay.Script.{Script}
 use Rattle.clock_replays.specs.declared.replay.Closing.{Closing}
 use Rattle.clock_replays.specs.ReplayShape.{ReplayParts, script_of, closing_from, parts_of}

@@ -5,7 +5,7 @@ use Rattle.clock_terms.proofs.Examples.{one_product}
 use Rattle.clock_terms.specs.Faults.{first_fault}
 use Rattle.clock_replays.specs.declared.replay.Script.{Script}
 use Rattle.clock_replays.specs.declared.replay.Script.TheVariants.{Literal, Sincere}
-use Rattle.clock_replays.specs.declared.fault.ScriptFault.TheVariants.{Shape, Scripts, Limits}
+use Rattle.clock_replays.specs.declared.replay.ScriptFault.TheVariants.{Shape, Scripts, Limits}
 use Rattle.clock_replays.specs.Replays.{ReplayFields}
 use Rattle.clock_replays.specs.ReplayChecks.{replay_checks, limit_checks, script_checks}
 

@@ -10,8 +10,8 @@ use Rattle.clock_terms.specs.Faults.{in_turn}
 use Rattle.clock_replays.specs.declared.replay.Script.{Script}
 use Rattle.clock_replays.specs.declared.replay.Script.TheVariants.{Literal, Sincere}
 use Rattle.clock_replays.specs.declared.replay.Closing.{Closing}
-use Rattle.clock_replays.specs.declared.fault.ScriptFault.{ScriptFault}
-use Rattle.clock_replays.specs.declared.fault.ScriptFault.TheVariants.{Shape, Scripts, Limits}
+use Rattle.clock_replays.specs.declared.replay.ScriptFault.{ScriptFault}
+use Rattle.clock_replays.specs.declared.replay.ScriptFault.TheVariants.{Shape, Scripts, Limits}
 use Rattle.clock_replays.specs.Replays.{ReplayFields, is_of_version}
 
 -- no price is above an earlier one

@@ -8,8 +8,8 @@ use Rattle.clock_terms.specs.Limits.{SetupFields}
 use Rattle.clock_terms.specs.Faults.{first_fault, unless, or_fault, ◌>>=◌}
 use Rattle.clock_json.specs.Tree.{json}
 use Rattle.clock_setup.specs.SetupDocument.{setup_of}
-use Rattle.clock_replays.specs.declared.fault.ScriptFault.{ScriptFault}
-use Rattle.clock_replays.specs.declared.fault.ScriptFault.TheVariants.{NotJson, Shape, Setup}
+use Rattle.clock_replays.specs.declared.replay.ScriptFault.{ScriptFault}
+use Rattle.clock_replays.specs.declared.replay.ScriptFault.TheVariants.{NotJson, Shape, Setup}
 use Rattle.clock_replays.specs.Replays.{ReplayFields}
 use Rattle.clock_replays.specs.ReplayShape.{ReplayParts, parts_of}
 use Rattle.clock_replays.specs.ReplayChecks.{replay_checks}

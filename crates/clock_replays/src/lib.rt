@@ -2,15 +2,12 @@
 //! first fault.
 #![tactic(auto)]
 
-mod checks;
-mod fault;
 mod limit_lists;
 mod read;
 mod replay;
 mod replay_scan;
 mod replay_tree;
 
-pub use fault::ScriptFault;
 pub use limit_lists::LimitLists;
 pub use read::read_replay;
-pub use replay::{BidList, Closing, Closings, Replay, Script, Scripts, SheetList};
+pub use replay::{BidList, Closing, Closings, Replay, Script, ScriptFault, Scripts, SheetList};

@@ -3,7 +3,7 @@ use Rattle.std.proofs.Common.{◌≡◌, ℕ, ◌+◌, ◌-◌, ◌≤◌, List,
 use Rattle.std.proofs.Math.Seq.{drop-append_seam}
 use Rattle.std.proofs.lemmas.List.{take-append-le, drop-append-le, length-append, length-drop, take_all}
 use Rattle.std.specs.Prelude.{Option, Some, Result, Ok, Err, IfOk, option_map}
-use Rattle.clock_device.specs.declared.no_memory.NoMemory.{NoMemory}
+use Rattle.clock_device.specs.declared.items.NoMemory.{NoMemory}
 use Rattle.clock_terms.specs.Limits.{SetupFields}
 use Rattle.clock_bids.specs.declared.sheet.Bid.{Bid}
 use Rattle.clock_order.specs.declared.ties.Tie.{Tie}

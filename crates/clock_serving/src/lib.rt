@@ -8,11 +8,9 @@
 mod acceptor;
 mod keeper;
 mod listed;
-mod listening;
 mod serving;
 
-pub use acceptor::{Acceptor, Connection};
+pub use acceptor::{Acceptor, Connection, Listening, serve_on};
 pub use keeper::{Keeper, Unkept};
 pub use listed::{Client, Closed, Listed};
-pub use listening::{Listening, serve_on};
 pub use serving::{ServeFault, law_told_bytes, serve_all};

@@ -5,14 +5,16 @@ ghost use Rattle.clock_terms.specs.Eligibility.{activity};
 ghost use Rattle.clock_terms.specs.Faults.{IsFirstFault, IsRefusal, first_fault, in_turn};
 ghost use Rattle.clock_terms.specs.Limits.{IsProduct, IsRow, IsWithin, most_products, least_increment, most_increment};
 ghost use Rattle.clock_setup.specs.OpeningDocument.{document_opening, has_counts, opening_of, opening_with, row_checks, demand_checks};
-ghost use Rattle.clock_setup.specs.inside.OpeningData.{rows_in};
+ghost use Rattle.clock_setup.specs.inside.OpeningData.{rows_in, scanned_data, found_opening};
 
 use crate::document::setup_of;
 use crate::fault::SetupFault;
-use crate::opening_scan::FoundOpening;
+use crate::setup_scan::HeldSetup;
 use clock_device::NoMemory;
 use clock_json::tree::{RowReader, each_at, has_members, number_at, read_value};
-use clock_json::{FlatRows, push, scanned_text, with_room};
+use clock_json::{
+    FlatRows, PartReader, Scan, ScanStop, ScannedMembers, is_key, push, scanned_text, with_room,
+};
 use clock_money::{LEAST_INCREMENT, MOST_INCREMENT};
 use clock_terms::{Bidder, Grid, Product, Row, Setup, is_within};
 use serde_json::Value;
@@ -240,4 +242,43 @@ pub fn read_opening(alloc: Global, bytes: &[u8]) -> Result<Opening, OpeningFault
     }
     let value = read_value(alloc, bytes)?.ok_or(OpeningFault::NotJson)?;
     opening_in(alloc, &value)
+}
+
+/// What was found of an opening.
+#[derive(Default, Drop)]
+pub(crate) struct FoundOpening {
+    demands: Option<FlatRows>,
+    held: Option<HeldSetup>,
+    increment: Option<u64>,
+}
+
+impl<'v> ScannedMembers<'v> for FoundOpening {
+    type Whole = (HeldSetup, FlatRows, u64);
+
+    ghost levels = { 3 };
+
+    ghost fields = { found_opening };
+
+    ghost shown = { scanned_data };
+
+    fn nothing() -> FoundOpening {
+        FoundOpening::default()
+    }
+
+    fn read(&mut self, alloc: Global, key: &[u8], scan: &mut Scan<'v>) -> Result<(), ScanStop> {
+        if is_key(key, "demands") {
+            self.demands = Some(scan.flat_rows(alloc)?);
+        } else if is_key(key, "setup") {
+            self.held = Some(HeldSetup::part(alloc, scan)?);
+        } else if is_key(key, "increment") {
+            self.increment = Some(scan.number()?);
+        } else {
+            return Err(ScanStop::Unusual);
+        }
+        Ok(())
+    }
+
+    fn whole(self) -> Option<(HeldSetup, FlatRows, u64)> {
+        Some((self.held?, self.demands?, self.increment?))
+    }
 }

@@ -15,8 +15,8 @@ use Rattle.clock_front.specs.Fronts.{StandsForTexts}
 use Rattle.clock_front.specs.Hubs.{HubFields}
 use Rattle.clock_replays.specs.declared.replay.Script.{Script}
 use Rattle.clock_sim.specs.declared.groups.Group.{Group}
-use Rattle.clock_sim.specs.declared.sim_fault.SimFault.{SimFault}
-use Rattle.clock_sim.specs.declared.sim_fault.SimFault.TheVariants.{NoMemory}
+use Rattle.clock_sim.specs.declared.simulation.SimFault.{SimFault}
+use Rattle.clock_sim.specs.declared.simulation.SimFault.TheVariants.{NoMemory}
 use Rattle.clock_sim.specs.Rehearsal.{if_done, after_request, after_request_if, after_put, after_puts, rounds_after}
 use Rattle.clock_scripts.specs.declared.pieces.Pieces.{Pieces}
 use Rattle.clock_scripts.specs.declared.pieces.Written.{Written}

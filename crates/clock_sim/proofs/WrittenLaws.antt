@@ -12,7 +12,7 @@ use Rattle.clock_scripts.specs.declared.pieces.Written.{Written}
 use Rattle.clock_scripts.specs.Pieces.{IsWrittenIn, Keeps, WritesIf, piece_at, text_at}
 use Rattle.clock_sim.specs.declared.groups.Waiting.{Waiting}
 use Rattle.clock_sim.specs.declared.groups.Group.{Group}
-use Rattle.clock_sim.specs.declared.sim_fault.SimFault.{SimFault}
+use Rattle.clock_sim.specs.declared.simulation.SimFault.{SimFault}
 use Rattle.clock_sim.specs.Rehearsal.{after_request}
 use Rattle.clock_sim.specs.inside.Groups.{Request, request_in, requests_in, after_group, AreApart, StandFrom, StillWait, Waits}
 use Rattle.clock_sim.specs.inside.Steps.{MakesStep}

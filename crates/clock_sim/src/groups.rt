@@ -1,18 +1,73 @@
 //! The requests of a group: their connections stand at once, all heads come before the first body.
-
-ghost use Rattle.std.specs.Prelude.{◌≡◌, [], Some, true, IfOk, OnOk};
+ghost use Rattle.std.specs.Prelude.{◌≡◌, [], ◌++◌, Some, true, IfOk, OnOk, ℕ, List, OnErr};
 ghost use Rattle.clock_http.specs.Framing.{needs_more};
+ghost use Rattle.clock_connections.specs.Connections.{text_of, KeepsOthers};
+ghost use Rattle.clock_front.specs.Hubs.{IsAnswered};
 ghost use Rattle.clock_scripts.specs.Pieces.{AwaitsBody, HoldsNothing, piece_at};
 ghost use Rattle.clock_sim.specs.inside.Groups.{AreApart, AreWritten, ComesUnderWay, IsNext, IsUnderWay, StandFrom, StillWait, Waits, after_group, requests_in, with_turn};
-ghost use Rattle.clock_sim.specs.inside.Steps.{MakesStep};
+ghost use Rattle.clock_sim.specs.inside.Steps.{MakesStep, IsTold};
+ghost use Rattle.clock_sim.specs.Rehearsal as rules;
 
-use crate::sending::{send, send_body};
-use crate::sim_fault::SimFault;
+use crate::simulation::SimFault;
 use clock_device::NoMemory;
-use clock_front::{Conn, Hub, HubFault};
+use clock_front::{Conn, Fed, Hub, HubFault, Reply};
+use clock_http::{Code, law_decided_once, law_one_head};
 use clock_processor::Processor;
 use clock_scripts::{Pieces, Written};
 use std::alloc::Global;
+
+/// What the code of a reply is told as: a refusal as the fault of a bidder, or of the operator.
+fn told(code: Code, sender: Option<u64>, round: u64) -> Result<(), SimFault>
+    ensures { IsTold code (rules.refused_by sender round code) result }
+{
+    match (code, sender) {
+        (Code::Done, _) => Ok(()),
+        (Code::Memory, _) => Err(SimFault::NoMemory),
+        (_, Some(bidder)) => Err(SimFault::Refused(bidder, round, code)),
+        (_, None) => Err(SimFault::Closing(round, code)),
+    }
+}
+
+/// Sends the body of a request whose head has come over a connection.
+pub(crate) fn send_body<P: Processor>(
+    hub: &mut Hub<P>,
+    conn: Conn,
+    sender: Option<u64>,
+    round: u64,
+    body: &[u8],
+) -> Result<(), SimFault>
+    ensures step { (head : List ℕ) → text_of hub.old.connections conn ≡ Some head
+        → MakesStep (λ texts. rules.after_request hub.old.house.setup texts sender round (head ++ body.now))
+        hub.old.house hub.new.house result }
+    ensures others { (head : List ℕ) → text_of hub.old.connections conn ≡ Some head
+        → OnOk result (KeepsOthers hub.old.connections hub.new.connections conn) }
+{
+    let reply = match hub.feed(conn, body)? {
+        Fed::Reply(reply) => reply,
+        Fed::More => hub.finish(conn)?,
+    };
+    told(reply.code(), sender, round)
+}
+
+/// Sends a request over a connection of its own. One that is refused at its head is answered before its body.
+pub(crate) fn send<P: Processor>(
+    hub: &mut Hub<P>,
+    sender: Option<u64>,
+    round: u64,
+    head: &[u8],
+    body: &[u8],
+) -> Result<(), SimFault>
+    ensures { MakesStep (λ texts. rules.after_request hub.old.house.setup texts sender round (head.now ++ body.now))
+        hub.old.house hub.new.house result }
+{
+    law_decided_once();
+    law_one_head();
+    let conn = hub.connect()?;
+    match hub.feed(conn, head)? {
+        Fed::More => send_body(hub, conn, sender, round, body),
+        Fed::Reply(reply) => told(reply.code(), sender, round),
+    }
+}
 
 /// How many requests a group has at most.
 const MOST_WAITING: usize = 64;

@@ -6,11 +6,8 @@
 
 mod groups;
 mod rounds;
-mod sending;
-mod sim_fault;
 mod simulation;
 
 pub use clock_replays::{Closing, Replay, Script, ScriptFault, read_replay};
 pub use clock_reports::{Report, report_text};
-pub use sim_fault::SimFault;
-pub use simulation::{replay_text, simulate, simulate_with};
+pub use simulation::{SimFault, replay_text, simulate, simulate_with};

@@ -2,14 +2,13 @@
 
 ghost use Rattle.std.specs.Prelude.{◌≡◌, ◌<◌, length, true, OnOk};
 ghost use Rattle.clock_house.specs.House.{standing_in};
-ghost use Rattle.clock_sim.specs.Rehearsal as rules;
 ghost use Rattle.clock_replays.specs.Replays.{IsScript};
+ghost use Rattle.clock_sim.specs.Rehearsal as rules;
 ghost use Rattle.clock_sim.specs.inside.Groups.{ComesUnderWay, IsUnderWay, requests_in, with_put};
 ghost use Rattle.clock_sim.specs.inside.Steps.{AreScriptsOf, IsGoing, MakesStep};
 
-use crate::groups::{Group, Turn};
-use crate::sending::send;
-use crate::sim_fault::SimFault;
+use crate::groups::{Group, Turn, send};
+use crate::simulation::SimFault;
 use clock_front::Hub;
 use clock_processor::Processor;
 use clock_replays::{Closing, Script};

@@ -6,9 +6,7 @@ mod change;
 mod eligibility;
 mod grid;
 mod held_list;
-mod held_products;
 mod increments;
-mod kept_row;
 mod limits;
 mod prices;
 mod row;
@@ -17,14 +15,12 @@ mod setup;
 pub use change::{Change, Changes, Kind};
 pub use eligibility::{activity, next_eligibility, units_held};
 pub use grid::{Amounts, Grid};
-pub use held_products::{Held, HeldProducts};
 pub use increments::Increments;
-pub use kept_row::KeptRow;
 pub use limits::{
     FIRST_GRANULE, FIRST_LIMIT, LATEST_VERSION, LEAST_LIMIT, LEAST_REQUIREMENT, LONGEST_NAME,
     LONGEST_TOKEN, MOST_BIDDERS, MOST_ELIGIBILITY, MOST_LIMIT, MOST_PRODUCTS, MOST_REQUIREMENT,
     MOST_SUPPLY, MOST_UNITS, SHORTEST_TOKEN, is_within,
 };
 pub use prices::{OpeningPrices, PricePair, Prices};
-pub use row::{NewDemand, Row};
+pub use row::{Held, HeldProducts, KeptRow, NewDemand, Row};
 pub use setup::{Bidder, Bidders, Product, Products, Setup, products_copy};

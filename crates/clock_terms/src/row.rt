@@ -1,15 +1,14 @@
-ghost use Rattle.std.specs.Prelude.{◌≡◌, ℕ, List, ◌≤◌, ◌<◌, length, replicate, IfOk, slice_index, slice_set, vec_capacity};
+ghost use Rattle.std.specs.Prelude.{◌≡◌, ◌≤◌, ◌<◌, ◌+◌, ℕ, List, length, replicate, IfOk, slice_index, slice_set, vec_capacity, drop, unwrap_or, option_map, IfSome};
 ghost use Rattle.std.specs.List.{AllWithin};
 ghost use Rattle.clock_terms.specs.Demands.{demand_after};
-ghost use Rattle.clock_terms.specs.HeldDemands.{demands_of};
-ghost use Rattle.clock_terms.specs.inside.Rows.{IsKeptRow};
+ghost use Rattle.clock_terms.specs.HeldDemands.{demands_of, next_of};
+ghost use Rattle.clock_terms.specs.inside.Rows.{IsKeptRow, AreHeld, IsKeptWalk};
 ghost use Rattle.clock_terms.specs.Limits.{IsRow, most_products, most_supply};
+ghost use Rattle.clock_terms.specs.Walks.{Walk};
 
 use crate::held_list::{
-    GROUP_SIZE, HeldDemand, demand_at, find_starts, held_of, is_at, place_in_group, store,
+    GROUP_SIZE, HeldDemand, demand_at, find_starts, held_of, is_at, place_in_group, place_of, store,
 };
-use crate::held_products::HeldProducts;
-use crate::kept_row::KeptRow;
 use crate::setup::Setup;
 use clock_device::NoMemory;
 use std::alloc::Global;
@@ -207,5 +206,124 @@ impl Row {
         ensures passed { AllWithin (λ demand. demand ≡ 0) self.now 0 result.from }
     {
         HeldProducts::of(self.count, self.held.as_slice())
+    }
+}
+
+/// A bidder's demands as a closed round keeps them: they are not changed any more, so there is room for those that are
+/// held alone. Contracts see the list of the demands, one for each product.
+#[derive(Drop)]
+pub struct KeptRow {
+    pub(crate) count: usize,
+    pub(crate) held: Vec<HeldDemand>,
+}
+
+impl Model for KeptRow {
+    ghost Value = { List ℕ };
+
+    ghost view = { λ r. demands_of r.count r.held.items };
+
+    ghost invariant = { λ r. AreHeld 0 r.held.items r.count × (r.count ≤ most_products) };
+}
+
+impl KeptRow {
+    /// How many demands there are.
+    pub fn len(&self) -> usize
+        ensures is { result ≡ length self.now }
+        ensures few { result ≤ most_products }
+    {
+        self.count
+    }
+
+    /// The demand for a product, in blocks. The product is one of the row's. Who wants many of them goes over those
+    /// that are held.
+    pub fn get(&self, product: usize) -> u64
+        requires { product < length self.now }
+        ensures { result ≡ slice_index self.now product }
+    {
+        let held = self.held.as_slice();
+        demand_at(held, place_of(held, 0, product), product)
+    }
+
+    /// The products of which a block is held.
+    #[inline(always)]
+    pub fn held(&self) -> HeldProducts<'_>
+        ensures row { result.demands ≡ self.now }
+        ensures passed { AllWithin (λ demand. demand ≡ 0) self.now 0 result.from }
+    {
+        HeldProducts::of(self.count, self.held.as_slice())
+    }
+}
+
+/// A product of which a block is held.
+#[derive(Clone, Copy)]
+pub struct Held {
+    /// The product's number in the set-up, from 0.
+    pub product: usize,
+    /// In blocks: at least 1, and at most 1,000.
+    pub demand: u64,
+}
+
+/// The products of which a row holds a block, by rising number. Contracts see the row's demands and the place from
+/// which on it has not looked.
+#[derive(Drop)]
+pub struct HeldProducts<'a> {
+    count: usize,
+    held: &'a [HeldDemand],
+    given: usize,
+}
+
+impl<'a> Model for HeldProducts<'a> {
+    ghost Value = { Walk };
+
+    ghost view = { λ h. record {
+      demands = demands_of h.count h.held.now;
+      from = next_of h.count (drop h.given h.held.now);
+    } };
+
+    ghost invariant = { λ h. IsKeptWalk h.count h.held.now h.given };
+}
+
+impl<'a> HeldProducts<'a> {
+    /// A walk over demands that are held, in order, of so many products.
+    #[inline(always)]
+    pub(crate) fn of(count: usize, held: &'a [HeldDemand]) -> HeldProducts<'a>
+        requires { IsKeptWalk count held.now 0 }
+        ensures { result ≡ record { demands = demands_of count held.now; from = next_of count held.now } }
+    {
+        HeldProducts {
+            count,
+            held,
+            given: 0,
+        }
+    }
+
+    /// How many products the row has.
+    pub fn products(&self) -> usize
+        ensures { result ≡ length self.now.demands }
+    {
+        self.count
+    }
+
+    /// The least product that is held and was not yet given, with the demand for it; None where no further one is held.
+    #[inline(always)]
+    pub fn next(&mut self) -> Option<Held>
+        ensures row { self.new.demands ≡ self.old.demands }
+        ensures least { IfSome result (λ held. self.old.from ≤ held.product) }
+        ensures within { IfSome result (λ held. held.product < length self.old.demands) }
+        ensures demand { IfSome result (λ held. held.demand ≡ slice_index self.old.demands held.product) }
+        ensures held { IfSome result (λ held. 0 < held.demand) }
+        ensures small { IfSome result (λ held. held.demand ≤ most_supply) }
+        ensures passed { AllWithin (λ demand. demand ≡ 0) self.old.demands self.old.from
+            (unwrap_or (option_map (λ held. held.product) result) (length self.old.demands)) }
+        ensures given { IfSome result (λ held. held.product < self.new.from) }
+        ensures ahead { IfSome result (λ held.
+            AllWithin (λ demand. demand ≡ 0) self.old.demands (held.product + 1) self.new.from) }
+    {
+        let one = self.held.get(self.given)?;
+        self.given += 1;
+        Some(Held {
+            product: one.product as usize,
+            demand: one.demand as u64,
+        })
     }
 }

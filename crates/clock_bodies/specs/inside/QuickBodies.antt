@@ -4,7 +4,7 @@ use Rattle.serde_json.specs.Data.{Data, object, array}
 use Rattle.clock_json.specs.Reading.{whole, items_of, Fields, members_of}
 use Rattle.clock_bids.specs.declared.sheet.Bid.{Bid}
 use Rattle.clock_bodies.specs.declared.put_body.PutBody.{PutBody}
-use Rattle.clock_bodies.specs.declared.put_scan.FoundPut.{FoundPut}
+use Rattle.clock_bodies.specs.declared.put_body.FoundPut.{FoundPut}
 use Rattle.clock_bodies.specs.declared.close_body.CloseBody.{CloseBody}
 use Rattle.clock_bodies.specs.QuickBodies.{bid_data}
 use Rattle.clock_bodies.specs.QuickClosings.{close_value}

@@ -15,13 +15,13 @@ use Rattle.clock_terms.specs.Increments.{AreIncrements}
 use Rattle.clock_terms.specs.Faults.{first_fault, unless, IsFirstFault, IsRefusal}
 use Rattle.clock_terms.specs.declared.change.Change.{Change}
 use Rattle.clock_order.specs.declared.ties.Tie.{Tie}
-use Rattle.clock_closing.specs.declared.prepared.ClosingInputs.{ClosingInputs}
+use Rattle.clock_closing.specs.declared.closed_round.ClosingInputs.{ClosingInputs}
 use Rattle.clock_closing.specs.declared.fault.CloseFault.{CloseFault}
 use Rattle.clock_closing.specs.declared.closed_round.Results.{Results}
 use Rattle.clock_closing.specs.OpenRound.{OpenRound, OpenRoundFields, bidder_numbers}
 use Rattle.clock_posting.specs.declared.posting.Posting.{Posting}
-use Rattle.clock_posting.specs.declared.fault.PostFault.{PostFault}
-use Rattle.clock_posting.specs.declared.fault.PostFault.TheVariants as post_faults
+use Rattle.clock_posting.specs.declared.posting.PostFault.{PostFault}
+use Rattle.clock_posting.specs.declared.posting.PostFault.TheVariants as post_faults
 use Rattle.clock_posting.specs.Posting.{IsPosting, IsConsistent, post_fault, price_limit_fault}
 use Rattle.clock_closing.specs.declared.fault.CloseFault.TheVariants as close_faults
 use Rattle.clock_closing.specs.Faults.{fault_check}

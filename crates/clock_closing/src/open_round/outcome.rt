@@ -12,10 +12,9 @@ ghost use Rattle.clock_closing.specs.Closing as rules;
 ghost use Rattle.clock_closing.specs.inside.Postings.{AreRequests, ComesTo, IsRoundOf, posted_now};
 ghost use Rattle.clock_closing.specs.Results.{demands_of};
 
-use crate::closed_round::{ClosedRound, Results, Slip, Slips};
+use crate::closed_round::{ClosedRound, ClosingInputs, Results, Slip, Slips};
 use crate::fault::CloseFault;
 use crate::open_round::OpenRound;
-use crate::prepared::ClosingInputs;
 use clock_bids::{Changes, Own, asked_demands, bids_of, with_changes_of};
 use clock_device::NoMemory;
 use clock_order::{Ties, ordered};

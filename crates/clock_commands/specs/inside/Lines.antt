@@ -4,7 +4,7 @@
 use Rattle.std.specs.Prelude.{ℕ, List, [], ◌++◌, Option, Some, None, codes, decimal}
 use Rattle.clock_http.specs.Codes.{text_of}
 use Rattle.clock_http.specs.declared.code.Code.{Code}
-use Rattle.clock_commands.specs.declared.fault_lines.Words.{Words}
+use Rattle.clock_commands.specs.declared.fault.Words.{Words}
 
 abbrev pub behind : Option ℕ → List ℕ
 behind None = []

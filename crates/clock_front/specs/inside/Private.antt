@@ -9,8 +9,8 @@ use Rattle.clock_http.specs.Replies.{Answer}
 use Rattle.clock_front.specs.Requests.{Ask}
 use Rattle.clock_front.specs.Outcomes.{answer_of}
 use Rattle.clock_front.specs.inside.Knowledge.{known_from, known_outcome}
-use Rattle.clock_front.specs.declared.front.tokens.Asker.{Asker}
-use Rattle.clock_front.specs.declared.front.tokens.Asker.TheVariants.{Nobody, Operator, Bidder}
+use Rattle.clock_front.specs.declared.front.asked.Asker.{Asker}
+use Rattle.clock_front.specs.declared.front.asked.Asker.TheVariants.{Nobody, Operator, Bidder}
 
 -- the answer to a bidder is what its view tells, with the public set-up and its own row, whichever commands the house
 -- stands for

@@ -3,6 +3,9 @@
 ghost use Rattle.std.specs.Prelude.{◌≡◌, ◌≢◌, ◌<◌, Ok, Err, length, IfOk, IfErr, OnOk, OnErr};
 ghost use Rattle.clock_house.specs.House.{put_fault_in, closing_in, IsFollowedBy, StandsStill};
 ghost use Rattle.clock_house.specs.Command as command;
+ghost use Rattle.clock_views.specs.BidderPages.{accepted_value};
+ghost use Rattle.clock_views.specs.OperatorPages.{closed_value};
+ghost use Rattle.clock_views.specs.Refusals.{alone};
 ghost use Rattle.clock_bodies.specs.Bodies.{put_body};
 ghost use Rattle.clock_bodies.specs.CloseBodies.{close_body, in_version};
 ghost use Rattle.clock_front.specs.Outcomes.{answer_of, body_code, close_outcome, command_of, done, outcome, put_outcome, refused};
@@ -10,14 +13,11 @@ ghost use Rattle.clock_front.specs.Rooms.{WantsRoom};
 ghost use Rattle.clock_front.specs.inside.Askers.{IsKnown};
 ghost use Rattle.clock_front.specs.inside.Private.{IsToldByView};
 ghost use Rattle.clock_front.specs.Requests as asked;
-ghost use Rattle.clock_views.specs.BidderPages.{accepted_value};
-ghost use Rattle.clock_views.specs.OperatorPages.{closed_value};
-ghost use Rattle.clock_views.specs.Refusals.{alone};
 
 use crate::front::Unanswered;
+use crate::front::asked::Asker;
 use crate::front::pages::refusal;
 use crate::front::telling::{bidder_of, operator_of, turn_away};
-use crate::front::tokens::Asker;
 use clock_bodies::{BodyFault, CloseBody, PutBody, is_of_version, read_close, read_put};
 use clock_device::NoMemory;
 use clock_house::{CloseFault, House, PutFault};

@@ -8,11 +8,10 @@ ghost use Rattle.clock_front.specs.inside.ShownAsked.{shown_reading};
 ghost use Rattle.clock_front.specs.inside.KeptPage.{IsProductsPage};
 
 use crate::front::Unanswered;
-use crate::front::asked::PageAsked;
+use crate::front::asked::{Asker, PageAsked};
 use crate::front::pages::{
     account, bids, not_allowed, products, refusal, results, sheet, slip, status,
 };
-use crate::front::tokens::Asker;
 use clock_house::House;
 use clock_http::{Code, NoRoom, Reply};
 use clock_views::Refusal;

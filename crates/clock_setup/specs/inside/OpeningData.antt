@@ -8,7 +8,7 @@ use Rattle.serde_json.specs.Data.{Data, object}
 use Rattle.clock_json.specs.Tree.{items_at, row_of, each}
 use Rattle.clock_json.specs.Reading.{whole, rows, Fields, members_of}
 use Rattle.clock_setup.specs.declared.setup_scan.HeldSetup.{HeldSetup}
-use Rattle.clock_setup.specs.declared.opening_scan.FoundOpening.{FoundOpening}
+use Rattle.clock_setup.specs.declared.opening.FoundOpening.{FoundOpening}
 use Rattle.clock_setup.specs.SetupData.{setup_data}
 
 abbrev pub opening_fields : Option Data → Option ℕ → Option Data → Fields

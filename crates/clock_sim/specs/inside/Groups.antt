@@ -29,7 +29,7 @@ use Rattle.clock_sim.specs.declared.groups.Turn.{Turn}
 use Rattle.clock_sim.specs.declared.groups.Waiting.{Waiting}
 use Rattle.clock_sim.specs.declared.groups.Group.{Group}
 use Rattle.clock_replays.specs.declared.replay.Script.{Script}
-use Rattle.clock_sim.specs.declared.sim_fault.SimFault.{SimFault}
+use Rattle.clock_sim.specs.declared.simulation.SimFault.{SimFault}
 use Rattle.clock_sim.specs.Rehearsal.{rounds_after, after_request, after_put}
 use Rattle.clock_sim.specs.inside.Steps.{IsGoing, MakesWay}
 

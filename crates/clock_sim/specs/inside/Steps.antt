@@ -17,8 +17,8 @@ use Rattle.clock_replays.specs.declared.replay.Script.{Script}
 use Rattle.clock_replays.specs.declared.replay.Closing.{Closing}
 use Rattle.clock_terms.specs.Limits.{SetupFields}
 use Rattle.clock_replays.specs.Replays.{ReplayFields, IsScript}
-use Rattle.clock_sim.specs.declared.sim_fault.SimFault.{SimFault}
-use Rattle.clock_sim.specs.declared.sim_fault.SimFault.TheVariants.{NoMemory}
+use Rattle.clock_sim.specs.declared.simulation.SimFault.{SimFault}
+use Rattle.clock_sim.specs.declared.simulation.SimFault.TheVariants.{NoMemory}
 
 -- scripts and closings that are played in the auction of a house
 abbrev pub replay_of : HouseFields → List Script → List Closing → ReplayFields

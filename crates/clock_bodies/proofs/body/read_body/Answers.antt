@@ -1,7 +1,7 @@
 use Rattle.std.proofs.Common.{ap, ◌∙◌}
 use Rattle.clock_terms.specs.Faults.{or_fault}
 use Rattle.clock_json.proofs.JsonLaws.{json_value}
-use Rattle.clock_bodies.specs.declared.body_fault.BodyFault.TheVariants.{Shape}
+use Rattle.clock_bodies.specs.declared.body.BodyFault.TheVariants.{Shape}
 use Rattle.clock_bodies.specs.Bodies.{meant_by}
 use Rattle.clock_bodies.proofs.body.read_body.Goals as goal
 

@@ -1,6 +1,6 @@
 use Rattle.std.proofs.Common.{◌≡◌, Ok, IfOk, IfErr, sym, subst}
 use Rattle.clock_terms.specs.Faults.{IsRefusal}
-use Rattle.clock_replays.specs.declared.fault.ScriptFault.TheVariants.{NoMemory}
+use Rattle.clock_replays.specs.declared.replay.ScriptFault.TheVariants.{NoMemory}
 use Rattle.clock_replays.proofs.ReplayDataLaws.{replay_read}
 use Rattle.clock_replays.proofs.read.read_replay.Goals as goal
 

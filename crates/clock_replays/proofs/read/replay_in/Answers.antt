@@ -6,7 +6,7 @@ use Rattle.serde_json.specs.View.{view}
 use Rattle.clock_json.specs.Tree.{has_members}
 use Rattle.clock_terms.specs.Faults.{IsRefusal}
 use Rattle.clock_setup.specs.declared.fault.SetupFault.TheVariants as setup_faults
-use Rattle.clock_replays.specs.declared.fault.ScriptFault.TheVariants.{NoMemory}
+use Rattle.clock_replays.specs.declared.replay.ScriptFault.TheVariants.{NoMemory}
 use Rattle.clock_replays.proofs.DocumentLaws.{scripts_in, closings_in, no_setup, no_scripts, no_closings, other_members, parts_read, not_there}
 use Rattle.clock_replays.proofs.DocumentLaws.{in_setup, replay_setup, replay_at}
 use Rattle.clock_replays.proofs.read.replay_in.Goals as goal

@@ -1,6 +1,6 @@
 use Rattle.std.proofs.Common.{ap, sym, ◌∙◌}
 use Rattle.std.proofs.lemmas.Result.{err_from_is_err_and}
-use Rattle.clock_closing.specs.declared.prepared.ClosingInputs.{ClosingInputs}
+use Rattle.clock_closing.specs.declared.closed_round.ClosingInputs.{ClosingInputs}
 use Rattle.clock_closing.specs.inside.Postings.{posted_now}
 use Rattle.clock_closing.proofs.open_round.OpenRound.close.Goals as goal
 

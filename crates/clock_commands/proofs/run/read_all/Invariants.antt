@@ -1,0 +1,16 @@
+use Rattle.std.proofs.Common.{◌≡◌, ◌≤◌, ◌<◌, ◌+◌, false, length, vec_len}
+use Rattle.clock_device.specs.Streams.{HasRead}
+use Rattle.clock_commands.specs.Input.{most_bytes}
+use Rattle.clock_commands.proofs.run.read_all.Given as goal
+
+-- the document so far was read, in so many reads, of which each took a byte or was interrupted, and none has failed
+abbrev pub invariant-loop-call : goal.invariant-loop-call
+invariant-loop-call g l = record {
+  room : 0 < vec_len l.piece;
+  few : length l.document ≤ most_bytes;
+  read : HasRead (g.R.Source.told l.initial.reader).left (g.R.Source.told l.reader).left l.document;
+  counted : (g.R.Source.told l.reader).calls ≡ l._call;
+  used : l._call ≤ length l.document + (g.R.Source.told l.reader).interruptions;
+  interrupted : (g.R.Source.told l.reader).interruptions ≤ l._call;
+  unfailed : (g.R.Source.told l.reader).has_failed ≡ false;
+}

@@ -1,0 +1,18 @@
+use Rattle.std.proofs.Common.{true, ◌≡◌, ◌≤◌, ◌<◌, ◌+◌, false, length, vec_len}
+use Rattle.clock_device.specs.Streams.{HasRead}
+use Rattle.clock_http.specs.Framing.{needs_more}
+use Rattle.clock_connections.specs.Arrivals.{most_piece}
+use Rattle.clock_connections.proofs.connections.read_request.Given as goal
+
+-- the bytes so far were read and need more; each read took one of them or was interrupted, and none has failed
+abbrev pub invariant-loop-read : goal.invariant-loop-read
+invariant-loop-read g l = record {
+  room : 0 < vec_len l.piece;
+  short : vec_len l.piece ≤ most_piece;
+  read : HasRead (g.R.Source.told l.initial.source).left (g.R.Source.told l.source).left l.request;
+  needed : needs_more l.request ≡ true;
+  counted : (g.R.Source.told l.source).calls ≡ l._read;
+  used : l._read ≤ length l.request + (g.R.Source.told l.source).interruptions;
+  interrupted : (g.R.Source.told l.source).interruptions ≤ l._read;
+  unfailed : (g.R.Source.told l.source).has_failed ≡ false;
+}

@@ -1,0 +1,28 @@
+use Rattle.std.proofs.Common.{◌+◌, [], drop, refl, sym, subst, arith}
+use Rattle.std.proofs.lemmas.Bool.{and_parts, eqb-true}
+use Rattle.json.specs.Lex.{lex, between}
+use Rattle.clock_json.specs.Left.{left}
+use Rattle.clock_json.specs.Reading.{numbers, ReadsAll}
+use Rattle.clock_json.specs.declared.scan.Expected.TheVariants.{AfterComma}
+use Rattle.clock_json.proofs.CompactLaws.{empty_at, empty_reads, replicate_push}
+use Rattle.clock_json.proofs.Steps.{all_next}
+use Rattle.clock_json.proofs.digits.after_empties.Goals as goal
+
+pub lists-init : goal.lists-init
+unfolding ReadsAll
+lists-init c = (refl, omega arith)
+
+pub lists-preserved : goal.lists-preserved
+lists-preserved c =
+    let l = c.lists in
+    let bytes = c.args.bytes.now in
+    let old = left AfterComma (drop c.args.start bytes) in
+    let new = left AfterComma (drop (l.at + 3) bytes) in
+    let two = and_parts _ _ c.if-bytes-at.true in
+    let one = and_parts _ _ two.0 in
+    let empty = empty_at bytes l.at (c.has_room.ensures c.lists-test.true) (eqb-true _ 91 one.0) (eqb-true _ 93 one.1) (eqb-true _ 44 two.1) in (
+      subst (λ values. ReadsAll 1 old values new) (sym (replicate_push l.count (numbers [])))
+          (all_next 1 old (left AfterComma (drop l.at bytes)) new _ (numbers []) l.invariant.0
+          (empty_reads (lex between (drop l.at bytes)) (lex between (drop (l.at + 3) bytes)) empty)),
+      omega (arith, l.invariant.1),
+    )

@@ -1,0 +1,11 @@
+use Rattle.std.proofs.Common.{List, ap, ◌∙◌}
+use Rattle.clock_terms.specs.declared.held_list.HeldDemand.{HeldDemand}
+use Rattle.clock_terms.specs.HeldDemands.{demand_for}
+use Rattle.clock_terms.proofs.HeldLaws.{kept_demand}
+use Rattle.clock_terms.proofs.row.KeptRow.get.Goals as goal
+
+pub returns : goal.returns
+returns c =
+    let row = c.self.inside in
+    c.demand_at.ensures.is ∙ ap (λ (list : List HeldDemand). demand_for list c.args.product) c.as_slice-held.ensures.value
+    ∙ kept_demand row.count row.held.items c.args.self.now c.args.product c.self.view_is c.requires
