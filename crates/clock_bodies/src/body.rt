@@ -4,6 +4,7 @@ ghost use Rattle.serde_json.specs.Data.{Data};
 ghost use Rattle.serde_json.specs.View.{view};
 ghost use Rattle.clock_json.specs.Tree.{json};
 ghost use Rattle.clock_bodies.specs.Bodies.{meant_by};
+ghost use Rattle.clock_bodies.specs.declared.body.BodyFault.TheVariants as faults;
 
 use clock_device::NoMemory;
 use clock_json::tree::read_value;
@@ -27,9 +28,6 @@ pub enum BodyFault {
 }
 
 impl From<NoMemory> for BodyFault {
-    ghost use Rattle.std.specs.Prelude.{◌≡◌};
-    ghost use Rattle.clock_bodies.specs.declared.body.BodyFault.TheVariants as faults;
-
     ghost from_gives = { λ _ fault. fault ≡ faults.NoMemory };
 
     fn from(_refused: NoMemory) -> BodyFault {

@@ -59,7 +59,9 @@ impl<T> Items<T> {
     pub fn with_capacity(alloc: Global, capacity: usize) -> Result<Bounded<T>, NoMemory>
         ensures { IfOk result (λ list. list ≡ record { items = []; room = capacity }) }
     {
-        Bounded::with_capacity(alloc, capacity)
+        Ok(Bounded {
+            held: Vec::with_capacity(alloc, capacity)?,
+        })
     }
 
     /// The items of a vector, which is taken over and not copied.
@@ -191,15 +193,6 @@ impl<T> Model for Bounded<T> {
 }
 
 impl<T> Bounded<T> {
-    /// No items, and room for so many.
-    pub fn with_capacity(alloc: Global, capacity: usize) -> Result<Bounded<T>, NoMemory>
-        ensures { IfOk result (λ list. list ≡ record { items = []; room = capacity }) }
-    {
-        Ok(Bounded {
-            held: Vec::with_capacity(alloc, capacity)?,
-        })
-    }
-
     /// Adds an item at the end. There is room for it.
     pub fn push(&mut self, item: T)
     where

@@ -1,5 +1,6 @@
-ghost use Rattle.std.specs.Prelude.{◌≡◌, ℕ, ◌+◌, ◌≤◌, ◌++◌, drop, length, codes, IfOk, IfErr};
-ghost use Rattle.clock_http.specs.Replies.{allow_line, challenge_line, reply_bytes};
+ghost use Rattle.std.specs.Prelude.{◌≡◌, ◌+◌, ◌≤◌, ◌++◌, ℕ, drop, length, codes, IfOk, IfErr};
+ghost use Rattle.clock_http.specs.Replies.{allow_line, challenge_line, reply_bytes, Answer};
+ghost use Rattle.clock_http.specs.HeldReply.{shown_held};
 
 use crate::code::Code;
 use crate::routes::Page;
@@ -72,9 +73,6 @@ pub struct Reply {
 }
 
 impl Model for Reply {
-    ghost use Rattle.clock_http.specs.Replies.{Answer};
-    ghost use Rattle.clock_http.specs.HeldReply.{shown_held};
-
     ghost Value = { Answer };
 
     ghost view = { λ r. record { code = r.code; bytes = shown_held r.held } };

@@ -8,6 +8,7 @@ ghost use Rattle.clock_json.specs.Compact.{compact_bid};
 ghost use Rattle.clock_json.specs.Left.{left, place_of};
 ghost use Rattle.clock_json.specs.Reading.{whole, numbers, Reads, ReadsAll};
 ghost use Rattle.clock_json.specs.inside.Marks.{IsMark};
+ghost use Rattle.clock_json.specs.declared.scan.ScanStop.TheVariants as stops;
 
 use crate::compact::{CompactBid, compact_bid_at};
 use crate::digits::{after_empties, numbers_at};
@@ -25,9 +26,6 @@ pub enum ScanStop {
 }
 
 impl From<NoMemory> for ScanStop {
-    ghost use Rattle.std.specs.Prelude.{◌≡◌};
-    ghost use Rattle.clock_json.specs.declared.scan.ScanStop.TheVariants as stops;
-
     ghost from_gives = { λ _ stop. stop ≡ stops.NoMemory };
 
     fn from(_refused: NoMemory) -> ScanStop {

@@ -5,6 +5,7 @@ ghost use Rattle.clock_terms.specs.Increments.{AreIncrements};
 ghost use Rattle.clock_terms.specs.Prices.{opening_prices};
 ghost use Rattle.clock_posting.specs.PostedPrice.{IsWithinPrices, posted_prices};
 ghost use Rattle.clock_posting.specs.Posting as rules;
+ghost use Rattle.clock_posting.specs.declared.posting.PostFault.TheVariants as faults;
 
 use crate::posted_prices::{posted_prices, start_prices};
 use crate::round_end::RoundEnd;
@@ -28,9 +29,6 @@ pub enum PostFault {
 }
 
 impl From<NoMemory> for PostFault {
-    ghost use Rattle.std.specs.Prelude.{◌≡◌};
-    ghost use Rattle.clock_posting.specs.declared.posting.PostFault.TheVariants as faults;
-
     ghost from_gives = { λ _ fault. fault ≡ faults.NoMemory };
 
     fn from(_none: NoMemory) -> PostFault {

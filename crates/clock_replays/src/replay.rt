@@ -1,3 +1,7 @@
+ghost use Rattle.std.specs.Prelude.{◌≡◌};
+ghost use Rattle.clock_replays.specs.Replays.{ReplayFields, IsReplay};
+ghost use Rattle.clock_replays.specs.declared.replay.ScriptFault.TheVariants as faults;
+
 use crate::limit_lists::LimitLists;
 use clock_bids::Bid;
 use clock_device::{Items, NoMemory};
@@ -52,8 +56,6 @@ pub struct Replay {
 }
 
 impl Model for Replay {
-    ghost use Rattle.clock_replays.specs.Replays.{ReplayFields, IsReplay};
-
     ghost Value = { ReplayFields };
 
     ghost view = { λ r. record { setup = r.setup; scripts = r.scripts; closings = r.closings } };
@@ -88,9 +90,6 @@ pub enum ScriptFault {
 }
 
 impl From<NoMemory> for ScriptFault {
-    ghost use Rattle.std.specs.Prelude.{◌≡◌};
-    ghost use Rattle.clock_replays.specs.declared.replay.ScriptFault.TheVariants as faults;
-
     ghost from_gives = { λ _ fault. fault ≡ faults.NoMemory };
 
     fn from(_refused: NoMemory) -> ScriptFault {

@@ -6,7 +6,7 @@ ghost use Rattle.clock_serving.specs.Exchanges.{Closes, Exchange};
 ghost use Rattle.clock_serving.specs.Listed.{ListedState};
 
 use crate::acceptor::{Acceptor, Connection};
-use clock_device::{Bounded, Failed, ListSink, ListSource, NoMemory, Stop};
+use clock_device::{Bounded, Failed, Items, ListSink, ListSource, NoMemory, Stop};
 use std::alloc::Global;
 use std::marker::Model;
 
@@ -94,7 +94,7 @@ impl<'a> Listed<'a> {
             next: 0,
             is_open: false,
             offered: &[],
-            closed: Bounded::with_capacity(alloc, clients.len())?,
+            closed: Items::with_capacity(alloc, clients.len())?,
             has_failed: false,
         })
     }

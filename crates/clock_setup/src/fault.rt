@@ -1,3 +1,6 @@
+ghost use Rattle.std.specs.Prelude.{◌≡◌};
+ghost use Rattle.clock_setup.specs.declared.fault.SetupFault.TheVariants as faults;
+
 use clock_device::NoMemory;
 use thiserror::Error;
 
@@ -62,9 +65,6 @@ pub enum SetupFault {
 }
 
 impl From<NoMemory> for SetupFault {
-    ghost use Rattle.std.specs.Prelude.{◌≡◌};
-    ghost use Rattle.clock_setup.specs.declared.fault.SetupFault.TheVariants as faults;
-
     ghost from_gives = { λ _ fault. fault ≡ faults.NoMemory };
 
     fn from(_refused: NoMemory) -> SetupFault {

@@ -6,6 +6,7 @@ ghost use Rattle.clock_terms.specs.Faults.{IsFirstFault, IsRefusal, first_fault,
 ghost use Rattle.clock_terms.specs.Limits.{IsProduct, IsRow, IsWithin, most_products, least_increment, most_increment};
 ghost use Rattle.clock_setup.specs.OpeningDocument.{document_opening, has_counts, opening_of, opening_with, row_checks, demand_checks};
 ghost use Rattle.clock_setup.specs.inside.OpeningData.{rows_in, scanned_data, found_opening};
+ghost use Rattle.clock_setup.specs.declared.opening.OpeningFault.TheVariants as faults;
 
 use crate::document::setup_of;
 use crate::fault::SetupFault;
@@ -62,8 +63,6 @@ pub enum OpeningFault {
 }
 
 impl From<NoMemory> for OpeningFault {
-    ghost use Rattle.clock_setup.specs.declared.opening.OpeningFault.TheVariants as faults;
-
     ghost from_gives = { λ _ fault. fault ≡ faults.NoMemory };
 
     fn from(_refused: NoMemory) -> OpeningFault {

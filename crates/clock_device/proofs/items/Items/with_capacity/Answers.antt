@@ -1,6 +1,6 @@
 use Rattle.std.proofs.Common.{refl}
 use Rattle.std.proofs.Math.Nat.{sub-zero}
-use Rattle.clock_device.proofs.items.Bounded.with_capacity.Goals as goal
+use Rattle.clock_device.proofs.items.Items.with_capacity.Goals as goal
 
 pub returns : goal.returns
 returns g c =
