@@ -1,3 +1,9 @@
+//! Heads of requests: where one ends, how its lines end, and what stands in it.
+//!
+//! ```text
+//! HTTP-message = start-line CRLF *( field-line CRLF ) CRLF [ message-body ]    (RFC 9112, section 2.1)
+//! ```
+
 ghost use Rattle.std.specs.Prelude.{◌≡◌, ◌≤◌, ◌+◌, ◌-◌, length, false, IfOk, drop, option_map};
 ghost use Rattle.httparse.specs.Spans.{IsWithin, span_bytes};
 ghost use Rattle.clock_http.specs.Scans.{line_ends as count_of_line_ends, is_loose as is_loose_text, head_length as length_of_head};

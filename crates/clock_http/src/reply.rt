@@ -1,6 +1,5 @@
 ghost use Rattle.std.specs.Prelude.{◌≡◌, ◌+◌, ◌≤◌, ◌++◌, ℕ, drop, length, codes, IfOk, IfErr};
-ghost use Rattle.clock_http.specs.Replies.{allow_line, challenge_line, reply_bytes, Answer};
-ghost use Rattle.clock_http.specs.HeldReply.{shown_held};
+ghost use Rattle.clock_http.specs.Replies.{allow_line, challenge_line, reply_bytes};
 
 use crate::code::Code;
 use crate::routes::Page;
@@ -73,6 +72,9 @@ pub struct Reply {
 }
 
 impl Model for Reply {
+    ghost use Rattle.clock_http.specs.Replies.{Answer};
+    ghost use Rattle.clock_http.specs.HeldReply.{shown_held};
+
     ghost Value = { Answer };
 
     ghost view = { λ r. record { code = r.code; bytes = shown_held r.held } };

@@ -1,4 +1,5 @@
-//! Numbers of digits alone, whose digits are counted sixteen at a time.
+//! Numbers of digits alone, whose digits are counted sixteen at a time; and items of a list that stand one behind the
+//! other with nothing between them but a comma: numbers, and empty lists.
 ghost use Rattle.std.specs.Prelude.{◌≡◌, ◌+◌, ◌≤◌, ◌<◌, ◌^◌, ◌∷◌, ◌++◌, [], false, drop, get_or, length, take, IfSome, ℕ, List, map, replicate, decimal, IfOk};
 ghost use Rattle.std.specs.Str.Parse.{AllDigits, digits_value};
 ghost use Rattle.json.specs.Token.{number};

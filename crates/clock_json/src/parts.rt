@@ -1,4 +1,4 @@
-//! Parts of one kind: lists of them, and whole texts.
+//! Parts of one kind: lists of them, whole texts, and objects of known keys, which may stand in any order.
 ghost use Rattle.std.specs.Prelude.{◌≡◌, ◌<◌, ◌≤◌, ℕ, suc, length, map, Some, IfSome, OnSome, IfOk, OnOk};
 ghost use Rattle.std.specs.Str.{IsUtf8};
 ghost use Rattle.serde_json.specs.Data.{Data, array, no_members, object};

@@ -1,4 +1,5 @@
-//! Bytes of a text as lexemes: white space, commas, quoted words and numbers.
+//! Bytes of a text as lexemes: white space, commas, quoted words and numbers. Where plain text ends, at a quote, a
+//! backslash or a control character, is looked for in sixteen bytes together.
 ghost use Rattle.std.specs.Prelude.{◌≡◌, ◌∷◌, ◌<◌, ◌^◌, ◌||◌, ◌+◌, ◌≤◌, ℕ, List, true, false, None, IsTrue, drop, length, get_or, decimal, IfSome, IfOk, map};
 ghost use Rattle.std.specs.Str.{IsUtf8};
 ghost use Rattle.std.specs.List.{prefix_len};

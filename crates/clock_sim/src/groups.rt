@@ -1,4 +1,5 @@
-//! The requests of a group: their connections stand at once, all heads come before the first body.
+//! A request is sent over a connection of its own, its head before its body. Those of a group: their connections stand
+//! at once, all heads come before the first body.
 ghost use Rattle.std.specs.Prelude.{◌≡◌, [], ◌++◌, Some, true, IfOk, OnOk, ℕ, List, OnErr};
 ghost use Rattle.clock_http.specs.Framing.{needs_more};
 ghost use Rattle.clock_connections.specs.Connections.{text_of, KeepsOthers};
