@@ -2,5 +2,4 @@ pub mod Exchanges
 pub mod Closings
 pub mod Serving
 pub mod Laws
-pub mod Listed
 pub mod inside

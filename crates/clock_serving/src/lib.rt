@@ -1,16 +1,14 @@
 //! The loop of a server: connections that are taken one after the other, with one request each.
 //!
-//! [`serve_all`] serves them by a front. What they are taken from is an [`Acceptor`]: a [`Listening`] on a port of
-//! the machine, or a [`Listed`] in memory. Where accepted texts are kept is a [`Keeper`]: a journal, or [`Unkept`].
-//! [`serve_on`] is both of a port, where nothing is kept.
+//! [`serve_all`] serves them by a front. What they are taken from is an [`Acceptor`], as a [`Listening`] on a port of the
+//! machine (clock_acceptance has one in memory). Where accepted texts are kept is a [`Keeper`]: a journal, or
+//! [`Unkept`]. [`serve_on`] is both of a port, where nothing is kept.
 #![tactic(auto)]
 
 mod acceptor;
 mod keeper;
-mod listed;
 mod serving;
 
 pub use acceptor::{Acceptor, Connection, Listening, serve_on};
 pub use keeper::{Keeper, Unkept};
-pub use listed::{Client, Closed, Listed};
 pub use serving::{ServeFault, law_told_bytes, serve_all};

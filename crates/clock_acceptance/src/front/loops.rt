@@ -5,12 +5,13 @@ ghost use Rattle.std.specs.Prelude.{◌≡◌, false};
 use super::texts::{ACCEPTED, CUT_SHORT, FIRST_ROUND, PUT, STATUS};
 use crate::comparing::assert_is;
 use crate::front::example::on_one_product;
+use crate::listed::{Client, Closed, Listed};
 use clock_device::Stop;
 use clock_fixtures::MemoryDisk;
 use clock_front::Front;
 use clock_journal::Journal;
 use clock_processor::Plain;
-use clock_serving::{Client, Closed, Keeper, Listed, ServeFault, Unkept, serve_all};
+use clock_serving::{Keeper, ServeFault, Unkept, serve_all};
 use std::alloc::Global;
 use std::process::Abort;
 

@@ -3,10 +3,10 @@ ghost use Rattle.clock_device.specs.Told.{unread, unused};
 ghost use Rattle.clock_device.specs.SourceState.{source_told};
 ghost use Rattle.clock_device.specs.SinkState.{sink_told};
 ghost use Rattle.clock_serving.specs.Exchanges.{Closes, Exchange};
-ghost use Rattle.clock_serving.specs.Listed.{ListedState};
+ghost use Rattle.clock_acceptance.specs.Listed.{ListedState};
 
-use crate::acceptor::{Acceptor, Connection};
 use clock_device::{Bounded, Failed, Items, ListSink, ListSource, NoMemory, Stop};
+use clock_serving::{Acceptor, Connection};
 use std::alloc::Global;
 use std::marker::Model;
 
