@@ -5,7 +5,7 @@ ghost use Rattle.clock_front.specs.Fronts.{StandsForTexts};
 ghost use Rattle.clock_keeping.specs.Keeping.{IsRefused};
 ghost use Rattle.clock_auction.specs.Audits.{IsRecounted, IsRecountOf, IsSomeRecount, IsUnrecounted, audited};
 
-use crate::journal_text::digits_of;
+use crate::digests::digits_of;
 use clock_commands::Fault;
 use clock_device::Text;
 use clock_front::Front;

@@ -1,37 +1,12 @@
 //! `journal`: what a journal holds, text by text.
 ghost use Rattle.std.specs.Prelude.{◌≡◌, ◌++◌, List, ℕ, IfErr, IfOk, OnOk};
-ghost use Rattle.hex.specs.Hex.{encode_lower};
 ghost use Rattle.clock_auction.specs.Listings.{IsListed, IsListingOf, IsUnlisted, digest_line, spaced, text_listed};
 
+use crate::digests::digits_of;
 use clock_commands::Fault;
 use clock_device::{NoMemory, Text};
 use clock_journal::{BEFORE_TEXT, HEAD_LENGTH, Link, Machine, Untaken, link_of, recover};
-use clock_reports::Digits;
-use hex::encode_to_slice;
 use std::alloc::Global;
-use std::fmt::{self, Display, Formatter};
-
-/// A digest in 64 small digits of base 16.
-pub fn digits_of(digest: &Link) -> Digits
-    ensures { result ≡ encode_lower digest.now }
-{
-    let mut digits = [0; 64];
-    encode_to_slice(digest.as_slice(), &mut digits).unwrap();
-    digits
-}
-
-/// A digest that is shown in digits.
-#[derive(Clone, Copy)]
-pub struct Hex(pub Link);
-
-impl Display for Hex {
-    fn fmt<W: fmt::Write>(&self, f: &mut Formatter<W>) -> fmt::Result {
-        for digit in digits_of(&self.0).as_slice() {
-            f.write_char(*digit as char)?;
-        }
-        Ok(())
-    }
-}
 
 /// The text of a listing so far, and where the next record stands.
 #[derive(Drop)]

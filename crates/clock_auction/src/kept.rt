@@ -4,7 +4,7 @@ ghost use Rattle.clock_journal.specs.Kept.{JournalState};
 ghost use Rattle.clock_front.specs.Fronts.{StandsForTexts};
 ghost use Rattle.clock_auction.specs.Starts.{of_start};
 
-use crate::journal_text::Hex;
+use crate::digests::Hex;
 use crate::serve::{file_bytes, front_in, listening};
 use clock_commands::Fault;
 use clock_device::Failed;

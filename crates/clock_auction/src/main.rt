@@ -4,6 +4,7 @@
 ghost use Rattle.std.specs.Prelude.{◌≡◌, map, string_bytes, IfOk};
 
 mod audit;
+mod digests;
 mod files;
 mod journal_text;
 mod kept;

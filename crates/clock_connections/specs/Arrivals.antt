@@ -9,8 +9,8 @@ use Rattle.clock_device.specs.Streams.{HasRead, IsReadOut}
 use Rattle.clock_device.specs.Readings.{HasFailedRead, RunsOutOfReads}
 use Rattle.clock_device.specs.Told.{Reading}
 use Rattle.clock_http.specs.Framing.{needs_more, IsDecided}
-use Rattle.clock_connections.specs.declared.connections.Unread.{Unread}
-use Rattle.clock_connections.specs.declared.connections.Unread.TheVariants as unread
+use Rattle.clock_connections.specs.declared.arrival.Unread.{Unread}
+use Rattle.clock_connections.specs.declared.arrival.Unread.TheVariants as unread
 
 -- how many reads are made at most
 abbrev pub most_request_reads : ℕ

@@ -1,13 +1,10 @@
-ghost use Rattle.std.specs.Prelude.{◌≡◌, ◌++◌, [], ◌≤◌, ℕ, List, Some, IfOk, IfErr, IfSome, OnErr, OnOk, OnSome, false, is_some, IsSome};
-ghost use Rattle.clock_device.specs.Told.{IsUnread};
+ghost use Rattle.std.specs.Prelude.{◌≡◌, ◌++◌, ℕ, List, [], Some, IfOk, IfErr, IfSome, OnErr, OnOk, OnSome, false, is_some, IsSome};
 ghost use Rattle.clock_http.specs.Framing.{needs_more};
 ghost use Rattle.clock_http.specs.Shown.{IsFramed};
 ghost use Rattle.clock_connections.specs.declared.connections.HubFault.TheVariants as faults;
 ghost use Rattle.clock_connections.specs.Connections.{text_of, ConnectionFields, IsConnected, IsConnectFault, IsGone, IsTaken, OpenConnection};
-ghost use Rattle.clock_connections.specs.Arrivals.{most_request_reads, EndsArrival};
-ghost use Rattle.clock_connections.specs.declared.connections.Unread.TheVariants as unread;
 
-use clock_device::{NoMemory, Source, Stop, Text, room_for_read};
+use clock_device::{NoMemory, Text};
 use clock_http::{Arriving, Framing};
 use slab::Slab;
 use std::alloc::Global;
@@ -27,52 +24,6 @@ pub enum Event {
     Connect,
     Piece(u64, Text),
     Finish(u64),
-}
-
-/// How many reads are made at most.
-const MOST_READS: u64 = 2_000_000;
-
-/// How many bytes one read asks for at most.
-const PIECE: usize = 16_384;
-
-/// Why no request was read.
-#[derive(Clone, Copy, Debug, PartialEq, Eq)]
-pub enum Unread {
-    /// A read failed, or all reads were made.
-    Read,
-    /// There was no memory for the bytes.
-    Memory,
-}
-
-impl From<NoMemory> for Unread {
-    ghost from_gives = { λ _ fault. fault ≡ unread.Memory };
-
-    fn from(_refused: NoMemory) -> Unread {
-        Unread::Memory
-    }
-}
-
-/// Reads until the bytes decide what the request is, or the input ends. An interrupted read is tried again, and
-/// 2,000,000 reads are made at most.
-pub fn read_request<R: Source>(alloc: Global, source: &mut R) -> Result<Arriving, Unread>
-    requires { IsUnread (R.told source.old) }
-    ensures arrival { EndsArrival (record { before = R.told source.old; after = R.told source.new }) result }
-    ensures calls { (R.told source.new).calls ≤ most_request_reads }
-{
-    let mut piece = room_for_read(alloc, PIECE)?;
-    let mut request = Arriving::new(alloc);
-    for _read in 0..MOST_READS {
-        let count = match source.read(piece.as_mut_slice()) {
-            Ok(count) => count,
-            Err(Stop::Interrupted) => continue,
-            Err(Stop::Failed) => return Err(Unread::Read),
-        };
-        let short = request.take(&piece[..count])?;
-        if count == 0 || !short {
-            return Ok(request);
-        }
-    }
-    Err(Unread::Read)
 }
 
 /// The most connections that stand at once.

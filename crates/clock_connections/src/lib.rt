@@ -4,6 +4,8 @@
 //! [`read_request`] reads one request out of a source, as far as it is needed.
 #![tactic(auto)]
 
+mod arrival;
 mod connections;
 
-pub use connections::{Conn, Connections, Event, HubFault, Unread, read_request};
+pub use arrival::{Unread, read_request};
+pub use connections::{Conn, Connections, Event, HubFault};

@@ -1,4 +1,4 @@
-//! What a request asks for, by its path and method.
+//! Who asks, by the token of a request, and for what, by its path and method.
 ghost use Rattle.std.specs.Prelude.{◌≡◌, ℕ, List, length, IfOk, OnOk, if◌then◌else◌};
 ghost use Rattle.clock_terms.specs.Limits.{SetupFields};
 ghost use Rattle.clock_http.specs.Routes.{page_of};

@@ -2,7 +2,7 @@ use Rattle.std.proofs.Common.{true, ◌≡◌, ◌≤◌, ◌<◌, ◌+◌, fals
 use Rattle.clock_device.specs.Streams.{HasRead}
 use Rattle.clock_http.specs.Framing.{needs_more}
 use Rattle.clock_connections.specs.Arrivals.{most_piece}
-use Rattle.clock_connections.proofs.connections.read_request.Given as goal
+use Rattle.clock_connections.proofs.arrival.read_request.Given as goal
 
 -- the bytes so far were read and need more; each read took one of them or was interrupted, and none has failed
 abbrev pub invariant-loop-read : goal.invariant-loop-read

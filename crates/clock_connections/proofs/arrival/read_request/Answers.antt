@@ -3,7 +3,7 @@ use Rattle.std.proofs.lemmas.Result.{err_from_is_err_and}
 use Rattle.clock_device.specs.Streams.{HasRead}
 use Rattle.clock_http.specs.Framing.{needs_more}
 use Rattle.clock_connections.proofs.ArrivalLaws.{no_room, no_room_at_first, nothing_needs_more, nothing_read}
-use Rattle.clock_connections.proofs.connections.read_request.Goals as goal
+use Rattle.clock_connections.proofs.arrival.read_request.Goals as goal
 
 pub returns-in_err-piece-clause-arrival : goal.returns-in_err-piece-clause-arrival
 returns-in_err-piece-clause-arrival g c =

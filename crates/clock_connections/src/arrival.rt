@@ -1,0 +1,54 @@
+ghost use Rattle.std.specs.Prelude.{◌≡◌, ◌≤◌};
+ghost use Rattle.clock_device.specs.Told.{IsUnread};
+ghost use Rattle.clock_connections.specs.Arrivals.{most_request_reads, EndsArrival};
+ghost use Rattle.clock_connections.specs.declared.arrival.Unread.TheVariants as unread;
+
+use clock_device::{NoMemory, Source, Stop, room_for_read};
+use clock_http::Arriving;
+use std::alloc::Global;
+
+/// How many reads are made at most.
+const MOST_READS: u64 = 2_000_000;
+
+/// How many bytes one read asks for at most.
+const PIECE: usize = 16_384;
+
+/// Why no request was read.
+#[derive(Clone, Copy, Debug, PartialEq, Eq)]
+pub enum Unread {
+    /// A read failed, or all reads were made.
+    Read,
+    /// There was no memory for the bytes.
+    Memory,
+}
+
+impl From<NoMemory> for Unread {
+    ghost from_gives = { λ _ fault. fault ≡ unread.Memory };
+
+    fn from(_refused: NoMemory) -> Unread {
+        Unread::Memory
+    }
+}
+
+/// Reads until the bytes decide what the request is, or the input ends. An interrupted read is tried again, and
+/// 2,000,000 reads are made at most.
+pub fn read_request<R: Source>(alloc: Global, source: &mut R) -> Result<Arriving, Unread>
+    requires { IsUnread (R.told source.old) }
+    ensures arrival { EndsArrival (record { before = R.told source.old; after = R.told source.new }) result }
+    ensures calls { (R.told source.new).calls ≤ most_request_reads }
+{
+    let mut piece = room_for_read(alloc, PIECE)?;
+    let mut request = Arriving::new(alloc);
+    for _read in 0..MOST_READS {
+        let count = match source.read(piece.as_mut_slice()) {
+            Ok(count) => count,
+            Err(Stop::Interrupted) => continue,
+            Err(Stop::Failed) => return Err(Unread::Read),
+        };
+        let short = request.take(&piece[..count])?;
+        if count == 0 || !short {
+            return Ok(request);
+        }
+    }
+    Err(Unread::Read)
+}
