@@ -1,6 +1,6 @@
 //! The texts of requests, and the pieces that they are written in.
 
-ghost use Rattle.std.specs.Prelude.{◌≡◌, ◌++◌, codes, decimal, OnOk};
+ghost use Rattle.std.specs.Prelude.{◌≡◌, ◌++◌, decimal, OnOk};
 ghost use Rattle.serde_json.specs.Written.{compact_text};
 ghost use Rattle.clock_views.specs.Values.{whole, list_of, Adds};
 ghost use Rattle.clock_scripts.specs.RequestTexts as texts;

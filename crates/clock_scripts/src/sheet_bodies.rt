@@ -1,7 +1,7 @@
 //! The bodies of sheets, and the texts of bids: but for the quantity they are the same for all who bid for a product at
 //! one price.
 
-ghost use Rattle.std.specs.Prelude.{◌≡◌, ◌≤◌, ◌++◌, ℕ, List, [], true, codes, decimal, length, take, OnOk, IfOk};
+ghost use Rattle.std.specs.Prelude.{◌≡◌, ◌++◌, ℕ, List, [], true, codes, decimal, length, take, OnOk, IfOk};
 ghost use Rattle.clock_bids.specs.declared.sheet.Bid.{Bid};
 ghost use Rattle.clock_views.specs.Values.{Adds};
 ghost use Rattle.clock_scripts.specs.RequestTexts.{written_put};

@@ -1,6 +1,6 @@
 //! The sheets of sincere bidders.
 
-ghost use Rattle.std.specs.Prelude.{◌≡◌, ◌≤◌, ◌<◌, ◌≢◌, length, take, reverse, OnOk, codes};
+ghost use Rattle.std.specs.Prelude.{◌≡◌, ◌≤◌, ◌<◌, ◌≢◌, length, take, reverse, OnOk};
 ghost use Rattle.clock_views.specs.Values.{Adds};
 ghost use Rattle.clock_replays.specs.Replays.{NeverRises};
 ghost use Rattle.clock_scripts.specs.RequestTexts.{written_put};

@@ -1,4 +1,4 @@
-ghost use Rattle.std.specs.Prelude.{◌≡◌, ◌≤◌, ℕ, List, OnOk, MatchResult, false, length};
+ghost use Rattle.std.specs.Prelude.{◌≡◌, List, OnOk, MatchResult, false, length};
 ghost use Rattle.clock_device.specs.Told.{IsUnread, IsUnused};
 ghost use Rattle.clock_serving.specs.Exchanges.{Came, Exchange, GrowsBy, HasClosed, bytes_given};
 ghost use Rattle.clock_serving.specs.Serving.{EndsServing, is_accept_fault};

@@ -1,11 +1,10 @@
 //! A request is sent over a connection of its own, its head before its body. Those of a group: their connections stand
 //! at once, all heads come before the first body.
-ghost use Rattle.std.specs.Prelude.{◌≡◌, [], ◌++◌, Some, true, IfOk, OnOk, ℕ, List, OnErr};
+ghost use Rattle.std.specs.Prelude.{◌≡◌, [], ◌++◌, Some, true, IfOk, OnOk, ℕ, List};
 ghost use Rattle.clock_http.specs.Framing.{needs_more};
 ghost use Rattle.clock_connections.specs.Connections.{text_of, KeepsOthers};
-ghost use Rattle.clock_front.specs.Hubs.{IsAnswered};
 ghost use Rattle.clock_scripts.specs.Pieces.{AwaitsBody, HoldsNothing, piece_at};
-ghost use Rattle.clock_sim.specs.inside.Groups.{AreApart, AreWritten, ComesUnderWay, IsNext, IsUnderWay, StandFrom, StillWait, Waits, after_group, requests_in, with_turn};
+ghost use Rattle.clock_sim.specs.inside.Groups.{AreApart, AreWritten, ComesUnderWay, IsNext, StandFrom, StillWait, Waits, after_group, requests_in, with_turn};
 ghost use Rattle.clock_sim.specs.inside.Steps.{MakesStep, IsTold};
 ghost use Rattle.clock_sim.specs.Rehearsal as rules;
 
