@@ -5,7 +5,6 @@ pub mod Steps
 mod RowSteps
 mod CompactLaws
 mod DigitLaws
-mod PieceLaws
 mod PlainLaws
 pub mod JsonLaws
 pub mod TreeLaws

@@ -5,7 +5,6 @@
 
 mod compact;
 mod digits;
-mod numbers;
 mod parts;
 mod room;
 mod rows;

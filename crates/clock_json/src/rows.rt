@@ -1,31 +1,33 @@
 //! Rows of numbers, all in one list.
-ghost use Rattle.std.specs.Prelude.{◌≡◌, ◌==◌, ◌<◌, ◌≤◌, ◌+◌, [], ◌++◌, ℕ, List, length, take, slice_index, slice_index_or, IfOk, OnOk};
+ghost use Rattle.std.specs.Prelude.{◌≡◌, ◌==◌, ◌<◌, ◌≤◌, ◌+◌, [], ◌++◌, ℕ, List, length, map, take, slice_index, slice_index_or, IsTrue, IfOk, OnOk};
 ghost use Rattle.std.specs.List.{list_all};
-ghost use Rattle.clock_json.specs.Rows.{cut};
+ghost use Rattle.clock_json.specs.Rows.{cut, shortened};
 ghost use Rattle.clock_json.specs.inside.Rows.{numbers_in};
 ghost use Rattle.clock_json.specs.Reading.{numbers, rows, Reads};
 
-use crate::numbers::Numbers;
 use crate::room::push;
 use crate::scan::{Scan, ScanStop};
 use clock_device::{Items, NoMemory};
 use std::alloc::Global;
 use std::marker::Model;
 
-/// Rows of numbers. Contracts see the list of rows, and nothing of how it is kept: all numbers stand in one list, row
-/// by row, with the length of each row beside it.
+/// The largest number that two bytes hold.
+const MOST_SHORT: u64 = 65_535;
+
+/// Rows of numbers that two bytes hold. Contracts see the list of rows, and nothing of how it is kept: all numbers stand
+/// in one list, row by row, with the length of each row beside it.
 #[derive(Drop)]
 pub struct FlatRows {
     pub(crate) lengths: Vec<usize>,
-    pub(crate) numbers: Numbers,
+    pub(crate) numbers: Vec<u16>,
 }
 
 impl Model for FlatRows {
     ghost Value = { List (List ℕ) };
 
-    ghost view = { λ a. cut a.lengths.items a.numbers };
+    ghost view = { λ a. cut a.lengths.items a.numbers.items };
 
-    ghost invariant = { λ a. numbers_in a.lengths.items ≡ length a.numbers };
+    ghost invariant = { λ a. numbers_in a.lengths.items ≡ length a.numbers.items };
 }
 
 /// Whether each length is that width.
@@ -50,16 +52,33 @@ fn span_of(lengths: &[usize], place: usize, whole: usize) -> (usize, usize)
     (start, start + lengths[place])
 }
 
+/// Adds numbers at the end, a larger one as 65,535, and tells whether none is larger. Each is looked at, since a loop
+/// that may end early is slow.
+fn push_short(list: &mut Vec<u16>, numbers: &[u64]) -> Result<bool, NoMemory>
+    ensures pushed { OnOk result (list.new.items ≡ list.old.items ++ map shortened numbers.now) }
+    ensures same { IfOk result (λ same. IsTrue same → map shortened numbers.now ≡ numbers.now) }
+{
+    let start = list.len();
+    list.resize(start + numbers.len(), 0)?;
+    let places = &mut list[start..];
+    let mut has_long = false;
+    for (place, number) in numbers.iter().enumerate() {
+        has_long |= *number > MOST_SHORT;
+        places[place] = (*number).min(MOST_SHORT) as u16;
+    }
+    Ok(!has_long)
+}
+
 impl FlatRows {
-    /// The numbers of some lists as rows.
+    /// The numbers of some lists as rows, those above 65,535 as 65,535.
     pub fn from_lists(alloc: Global, lists: &[Items<u64>]) -> Result<FlatRows, NoMemory>
-        ensures { IfOk result (λ rows. rows ≡ lists.now) }
+        ensures { IfOk result (λ rows. rows ≡ map (map shortened) lists.now) }
     {
-        let mut numbers = Numbers::new(alloc);
+        let mut numbers = Vec::new(alloc);
         let mut lengths = Vec::new(alloc);
         for list in lists {
             let row = list.as_slice();
-            numbers.extend_from_slice(row)?;
+            push_short(&mut numbers, row)?;
             lengths.push(row.len())?;
         }
         Ok(FlatRows { lengths, numbers })
@@ -85,7 +104,14 @@ impl FlatRows {
         ensures { OnOk result (row.new.items ≡ slice_index_or self.now place []) }
     {
         let (start, end) = span_of(self.lengths.as_slice(), place, self.numbers.len());
-        self.numbers.read(start, end, row)
+        let numbers = &self.numbers[start..end];
+        row.clear();
+        row.resize(numbers.len(), 0)?;
+        let entries = row.as_mut_slice();
+        for (entry, number) in numbers.iter().enumerate() {
+            entries[entry] = *number as u64;
+        }
+        Ok(())
     }
 }
 
@@ -115,19 +141,21 @@ impl<'a> Scan<'a> {
         Ok(())
     }
 
-    /// Reads a list of such lists, with all their numbers in one list.
+    /// Reads a list of such lists, of numbers up to 65,535.
     pub fn flat_rows(&mut self, alloc: Global) -> Result<FlatRows, ScanStop>
         ensures value { IfOk result (λ list. Reads 2 self.old (rows list) self.new) }
         ensures shorter { OnOk result (length self.new < length self.old) }
     {
         self.opens_array()?;
-        let mut numbers = Numbers::new(alloc);
+        let mut numbers = Vec::new(alloc);
         let mut lengths = Vec::new(alloc);
         let mut row = Vec::new(alloc);
         'items: while !self.closes_array() {
             row.clear();
             self.numbers_behind(&mut row)?;
-            numbers.extend_from_slice(row.as_slice())?;
+            if !push_short(&mut numbers, row.as_slice())? {
+                return Err(ScanStop::Unusual);
+            }
             push(&mut lengths, row.as_slice().len())?;
         }
         Ok(FlatRows { lengths, numbers })

@@ -1,6 +1,6 @@
 -- Laws of the checks of an opening document.
 use Rattle.std.proofs.Common.{◌≡◌, ℕ, ◌+◌, ◌*◌, ◌<◌, ◌≤◌, All, ◌==◌, Bool, true, false, nat_le, if◌then◌else◌, List, [], ◌∷◌, length, get_or, drop}
-use Rattle.std.proofs.Common.{zip, Option, Some, None, Result, Ok, Err, refl, sym, ap, ◌∙◌, subst, arith}
+use Rattle.std.proofs.Common.{zip, Option, Some, None, Ok, Err, refl, sym, ap, ◌∙◌, subst, arith}
 use Rattle.std.specs.List.{list_all, AllPass}
 use Rattle.std.proofs.lemmas.Bool.{and_parts, le-leb, lt-leb}
 use Rattle.std.proofs.lemmas.Bool.Decides.{nat_tests}
@@ -8,22 +8,19 @@ use Rattle.std.proofs.lemmas.List.{get_or_default, drop_all, drop_more}
 use Rattle.std.proofs.lemmas.List.Sums.{AllPass-from_list_all, sum_by-cons}
 use Rattle.std.proofs.lemmas.Nat.{mul-le}
 use Rattle.std.proofs.lemmas.Slice.Zip.{get_or-zip, length-zip}
-use Rattle.std.specs.Prelude.{codes}
 use Rattle.serde_json.specs.Data.{Data}
-use Rattle.serde_json.specs.Find.{get}
-use Rattle.clock_json.specs.Tree.{number_at, has_members, each}
+use Rattle.clock_json.specs.Tree.{each}
 use Rattle.clock_terms.specs.declared.setup.Product.{Product}
 use Rattle.clock_terms.specs.declared.setup.Bidder.{Bidder}
 use Rattle.clock_setup.specs.declared.opening.OpeningFault.{OpeningFault}
 use Rattle.clock_setup.specs.declared.opening.OpeningFault.TheVariants.{Shape, Demand, Activity, Increment}
 use Rattle.clock_terms.specs.Demands.{IsGrid}
 use Rattle.clock_terms.specs.Eligibility.{activity}
-use Rattle.clock_terms.specs.Faults.{first_fault, in_turn, ◌>>=◌}
+use Rattle.clock_terms.specs.Faults.{first_fault, in_turn}
 use Rattle.clock_terms.specs.Limits.{SetupFields, IsProduct, is_within, cap_of, no_product, least_increment, most_increment}
 use Rattle.clock_setup.specs.SetupDocument.{setup_of}
 use Rattle.clock_setup.specs.OpeningShape.{OpeningParts, parts_of}
-use Rattle.clock_setup.specs.OpeningDocument.{has_counts, demand_checks, row_checks, opening_checks, opening_with, in_opening, opening_of}
-use Rattle.clock_setup.specs.inside.OpeningData.{rows_in}
+use Rattle.clock_setup.specs.OpeningDocument.{has_counts, demand_checks, row_checks, opening_checks, opening_with, opening_of}
 use Rattle.clock_terms.proofs.FaultLaws.{passed, failed, turn_passed, turn_failed, turn_none}
 
 -- a pair of two lists
@@ -54,7 +51,8 @@ line_at products row i d same h =
 line_within : (products : List Product) (row : List ℕ) (i : ℕ) → length row ≡ length products → i < length row → i < length (zip products row)
 line_within products row i same h = omega (arith, length-zip products row)
 
-one_demand : (number i : ℕ) (p : Product) (demand : ℕ) (b : Bool) → nat_le demand p.cap ≡ b
+-- what is found of one demand
+pub one_demand : (number i : ℕ) (p : Product) (demand : ℕ) (b : Bool) → nat_le demand p.cap ≡ b
     → first_fault (demand_checks number i (p, demand)) ≡ (if b then None else Some (Demand number i))
 unfolding demand_checks
 one_demand number i p demand b is = rw is refl
@@ -171,14 +169,6 @@ opening_at value parts setup read held = rw (read, held) refl
 pub opening_shape : (value : Data) → parts_of value ≡ None → opening_of value ≡ Err Shape
 unfolding opening_of
 opening_shape value none = rw none refl
-
--- a document of the shape, by what its set-up comes to
-pub opening_means : (value setup : Data) (demands : List (List ℕ)) (increment : ℕ) (held : Result SetupFields OpeningFault)
-    → get (codes "setup") value ≡ Some setup → rows_in value ≡ Some demands → number_at (codes "increment") value ≡ Some increment
-    → has_members 3 value ≡ true → in_opening (setup_of setup) ≡ held
-    → opening_of value ≡ (held >>= λ setup. opening_with setup demands increment)
-unfolding opening_of parts_of
-opening_means value setup demands increment held there rows number whole is = rw (there, rows, number, whole, is) refl
 
 module _ (setup : SetupFields) (demands : List (List ℕ)) (increment : ℕ) where
   -- rows that do not fit the set-up

@@ -5,7 +5,7 @@ ghost use Rattle.clock_terms.specs.Eligibility.{activity};
 ghost use Rattle.clock_terms.specs.Faults.{IsFirstFault, IsRefusal, first_fault, in_turn};
 ghost use Rattle.clock_terms.specs.Limits.{IsProduct, IsRow, IsWithin, most_products, least_increment, most_increment};
 ghost use Rattle.clock_setup.specs.OpeningDocument.{document_opening, has_counts, opening_of, opening_with, row_checks, demand_checks};
-ghost use Rattle.clock_setup.specs.inside.OpeningData.{rows_in, scanned_data, found_opening};
+ghost use Rattle.clock_setup.specs.inside.OpeningData.{short_rows_in, scanned_data, found_opening};
 ghost use Rattle.clock_setup.specs.declared.opening.OpeningFault.TheVariants as faults;
 
 use crate::document::setup_of;
@@ -165,6 +165,8 @@ fn compared(
     demands: FlatRows,
     increment: u64,
 ) -> Result<Opening, OpeningFault>
+    // A fact of every set-up, which a caller's proof takes from here.
+    ensures limits { All IsProduct setup.products }
     ensures ok { IfOk result (λ opening. opening_with setup demands increment ≡ Ok opening) }
     ensures grid { IfOk result
         (λ opening. IsGrid (length opening.setup.bidders) (length opening.setup.products) opening.grid) }
@@ -187,9 +189,10 @@ fn compared(
     }
 }
 
-/// The rows of demands that a value of JSON has, or none.
+/// The rows of demands that a value of JSON has, or none. A demand above 65,535 stands there as that, which is above
+/// each cap as well.
 fn demands_in(alloc: Global, value: &Value) -> Result<Option<FlatRows>, NoMemory>
-    ensures { IfOk result (λ demands. demands ≡ rows_in (view value.now)) }
+    ensures { IfOk result (λ demands. demands ≡ short_rows_in (view value.now)) }
 {
     let Some(rows) = each_at(alloc, value, "demands", &RowReader)? else {
         return Ok(None);

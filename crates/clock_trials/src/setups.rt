@@ -294,6 +294,8 @@ const OPENINGS: &[(&str, &str, &str, Opened)] = &[
     ("[[3],[1,1]]", "10", ONE_PRODUCT, Err(OpeningFault::Shape)),
     ("[[3],[1]]", "10", ONE_PRODUCT, Err(Demand(0, 0))),
     ("[[2],[3]]", "51", ONE_PRODUCT, Err(Demand(1, 0))),
+    ("[[70000],[1]]", "10", ONE_PRODUCT, Err(Demand(0, 0))),
+    ("[[2],[65537]]", "51", ONE_PRODUCT, Err(Demand(1, 0))),
     ("[[1],[1]]", "0", ONE_PRODUCT, Err(OpeningFault::Increment)),
     ("[[1],[1]]", "51", ONE_PRODUCT, Err(OpeningFault::Increment)),
     ("[[1],[1]]", "[10]", ONE_PRODUCT, Err(OpeningFault::Shape)),
@@ -301,6 +303,7 @@ const OPENINGS: &[(&str, &str, &str, Opened)] = &[
     ("[7]", "0", NO_VERSION, Err(OpeningFault::Shape)),
     ("[[3],[1]]", "10", WEAK, Err(Demand(0, 0))),
     ("[[2],[3]]", "10", WEAK, Err(Activity(0))),
+    ("[[2],[70000]]", "10", WEAK, Err(Activity(0))),
     ("[[2],[1]]", "51", WEAK, Err(Activity(0))),
 ];
 

@@ -1,11 +1,12 @@
 -- The value of JSON that an opening is, whose meaning as a document is this opening.
 --     opening_fields demands increment setup      its keys, each with its value where one was found
 --     opening_data setup demands increment      the whole document, over the value of its set-up
---     rows_in value      the rows of demands of a document
+--     short_rows_in value      the rows of demands of a document, each demand shortened
 --     found_opening, scanned_data      what was found of an opening that is being read, and the value of a whole one
-use Rattle.std.specs.Prelude.{ℕ, List, [], ◌∷◌, Option, Some, option_and_then, option_map, codes}
+use Rattle.std.specs.Prelude.{ℕ, List, [], ◌∷◌, Option, Some, option_and_then, option_map, map, codes}
 use Rattle.serde_json.specs.Data.{Data, object}
 use Rattle.clock_json.specs.Tree.{items_at, row_of, each}
+use Rattle.clock_json.specs.Rows.{shortened}
 use Rattle.clock_json.specs.Reading.{whole, rows, Fields, members_of}
 use Rattle.clock_setup.specs.declared.setup_scan.HeldSetup.{HeldSetup}
 use Rattle.clock_setup.specs.declared.opening.FoundOpening.{FoundOpening}
@@ -21,9 +22,9 @@ opening_fields demands increment setup =
 abbrev pub opening_data : Data → List (List ℕ) → ℕ → Data
 opening_data setup demands increment = object (members_of (opening_fields (Some (rows demands)) (Some increment) (Some setup)))
 
--- the rows of demands of a document
-abbrev pub rows_in : Data → Option (List (List ℕ))
-rows_in value = option_and_then (each row_of) (items_at (codes "demands") value)
+-- the rows of demands of a document, each demand shortened
+abbrev pub short_rows_in : Data → Option (List (List ℕ))
+short_rows_in value = option_map (map (map shortened)) (option_and_then (each row_of) (items_at (codes "demands") value))
 
 -- the keys of an opening that is being read
 abbrev pub found_opening : FoundOpening → Fields

@@ -6,4 +6,4 @@ pub returns : goal.returns
 returns c =
     let rows = c.self.inside in
     ap (λ (lengths : List ℕ). length lengths) c.as_slice.ensures.value
-    ∙ sym (length-cut rows.lengths.items rows.numbers) ∙ ap (λ (list : List (List ℕ)). length list) c.self.view_is
+    ∙ sym (length-cut rows.lengths.items rows.numbers.items) ∙ ap (λ (list : List (List ℕ)). length list) c.self.view_is

@@ -8,5 +8,5 @@ returns c =
     let rows = c.self.inside in
     c.are_all.ensures
     ∙ ap (λ (lengths : List ℕ). list_all (λ count. count == c.args.width) lengths) c.as_slice.ensures.value
-    ∙ same_lengths c.args.width rows.lengths.items rows.numbers c.self.invariant
+    ∙ same_lengths c.args.width rows.lengths.items rows.numbers.items c.self.invariant
     ∙ ap (λ (list : List (List ℕ)). list_all (λ row. length row == c.args.width) list) c.self.view_is

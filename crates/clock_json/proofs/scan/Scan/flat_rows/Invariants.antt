@@ -7,8 +7,8 @@ use Rattle.clock_json.proofs.scan.Scan.flat_rows.Given as goal
 
 abbrev pub invariant-items : goal.invariant-items
 invariant-items l =
-    HasItems 1 l.initial.self (map numbers (cut l.lengths.items l.numbers)) l.self
-    × (numbers_in l.lengths.items ≡ length l.numbers)
+    HasItems 1 l.initial.self (map numbers (cut l.lengths.items l.numbers.items)) l.self
+    × (numbers_in l.lengths.items ≡ length l.numbers.items)
     × (length l.self ≤ length l.initial.self)
 
 abbrev pub decreases-items : goal.decreases-items
