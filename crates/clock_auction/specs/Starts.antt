@@ -1,7 +1,7 @@
 -- How a server tells that it does not go on with a journal.
 --     of_start fault      the fault of a file that is refused, or of a disk
-use Rattle.clock_keeping.specs.declared.going_on.GoOnFault.{GoOnFault}
-use Rattle.clock_keeping.specs.declared.going_on.GoOnFault.TheVariants.{Refused, Failed}
+use Rattle.clock_keeping.specs.declared.taking.GoOnFault.{GoOnFault}
+use Rattle.clock_keeping.specs.declared.taking.GoOnFault.TheVariants.{Refused, Failed}
 use Rattle.clock_commands.specs.FaultLines.{of_journal}
 use Rattle.clock_commands.specs.declared.fault.Fault.{Fault}
 use Rattle.clock_commands.specs.declared.fault.Fault.TheVariants.{Journal}
