@@ -1,4 +1,5 @@
-//! An auction that is served with a journal: its file is taken over before the port is listened on.
+//! An auction that is served with a journal: its file is taken over before the port is listened on, and each closing is
+//! told on standard output.
 ghost use Rattle.std.specs.Prelude.{◌≡◌, [], IfOk, false, None};
 ghost use Rattle.clock_journal.specs.Kept.{JournalState};
 ghost use Rattle.clock_front.specs.Fronts.{StandsForTexts};

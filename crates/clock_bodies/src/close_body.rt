@@ -26,6 +26,10 @@ pub struct CloseBody {
     pub ties: Items<Tie>,
 }
 
+/// How a tie number is read, from a value of JSON or by bytes.
+#[derive(Drop)]
+pub struct TieReader;
+
 /// A tie number is a list of a bidder, a product and a number.
 impl<'v> PlainReader<'v> for TieReader {
     type Part = Tie;
@@ -41,6 +45,30 @@ impl<'v> PlainReader<'v> for TieReader {
             bidder: items[0].as_u64()?,
             product: items[1].as_u64()?,
             number: items[2].as_u64()?,
+        })
+    }
+}
+
+/// By bytes a tie number is read from a list of three numbers, each written in digits alone.
+impl<'v> PartReader<'v> for TieReader {
+    type Part = Tie;
+
+    ghost levels = { 1 };
+
+    ghost shown = { tie_data };
+
+    fn part(_alloc: Global, scan: &mut Scan<'v>) -> Result<Tie, ScanStop> {
+        scan.opens_array()?;
+        let bidder = scan.number()?;
+        let product = scan.number()?;
+        let number = scan.number()?;
+        if !scan.closes_array() {
+            return Err(ScanStop::Unusual);
+        }
+        Ok(Tie {
+            bidder,
+            product,
+            number,
         })
     }
 }
@@ -107,33 +135,6 @@ pub fn one_form(single: Option<u64>, listed: Option<Items<u64>>) -> Option<Incre
     }
 }
 
-/// A tie number is read from a list of three numbers, each written in digits alone.
-#[derive(Drop)]
-pub struct TieReader;
-
-impl<'v> PartReader<'v> for TieReader {
-    type Part = Tie;
-
-    ghost levels = { 1 };
-
-    ghost shown = { tie_data };
-
-    fn part(_alloc: Global, scan: &mut Scan<'v>) -> Result<Tie, ScanStop> {
-        scan.opens_array()?;
-        let bidder = scan.number()?;
-        let product = scan.number()?;
-        let number = scan.number()?;
-        if !scan.closes_array() {
-            return Err(ScanStop::Unusual);
-        }
-        Ok(Tie {
-            bidder,
-            product,
-            number,
-        })
-    }
-}
-
 /// What was found of a closing so far.
 #[derive(Default, Drop)]
 pub struct FoundClose {
@@ -194,7 +195,7 @@ impl<'v> ScannedMembers<'v> for FoundClose {
 
 /// The body of a closing is read from one that names its round.
 #[derive(Drop)]
-pub(crate) struct CloseReader;
+struct CloseReader;
 
 impl<'v> PartReader<'v> for CloseReader {
     type Part = CloseBody;

@@ -21,6 +21,10 @@ pub struct PutBody {
     pub bids: Items<Bid>,
 }
 
+/// How a bid is read, from a value of JSON or by bytes.
+#[derive(Drop)]
+pub struct BidReader;
+
 /// A bid is an object of price, product and quantity, whole numbers of at most 64 bits.
 #[tactic(auto, unfolding(crate::specs::Bodies::bid_of))]
 impl<'v> PlainReader<'v> for BidReader {
@@ -35,6 +39,20 @@ impl<'v> PlainReader<'v> for BidReader {
             quantity: number_at(value, "quantity")?,
         };
         has_members(value, 3).then_some(bid)
+    }
+}
+
+/// By bytes a bid is read from its members, where no key has an escape and each number is written in digits alone.
+impl<'v> PartReader<'v> for BidReader {
+    type Part = Bid;
+
+    ghost levels = { 1 };
+
+    ghost shown = { bid_data };
+
+    #[inline(never)]
+    fn part(alloc: Global, scan: &mut Scan<'v>) -> Result<Bid, ScanStop> {
+        FoundBid::part(alloc, scan)
     }
 }
 
@@ -116,23 +134,6 @@ impl<'v> ScannedMembers<'v> for FoundBid {
     }
 }
 
-/// A bid is read from its members, where no key has an escape and each number is written in digits alone.
-#[derive(Drop)]
-pub struct BidReader;
-
-impl<'v> PartReader<'v> for BidReader {
-    type Part = Bid;
-
-    ghost levels = { 1 };
-
-    ghost shown = { bid_data };
-
-    #[inline(never)]
-    fn part(alloc: Global, scan: &mut Scan<'v>) -> Result<Bid, ScanStop> {
-        FoundBid::part(alloc, scan)
-    }
-}
-
 /// The bids that are next, behind those of a list, as far as they are written without white space, their keys in the
 /// order of their bytes, and with a comma behind each. They are read by several bytes at a time.
 #[inline(never)]
@@ -170,7 +171,7 @@ fn bids(alloc: Global, scan: &mut Scan<'_>) -> Result<Items<Bid>, ScanStop>
 
 /// What was found of a sheet so far.
 #[derive(Default, Drop)]
-pub(crate) struct FoundPut {
+struct FoundPut {
     round: Option<u64>,
     bids: Option<Items<Bid>>,
 }

@@ -8,24 +8,6 @@ use std::marker::Model;
 use std::ops::{DerefSlice, DerefSliceMut};
 use thiserror::Error;
 
-/// A growth was refused: there was no memory for it. The values that the call was to change are as
-/// they were, though room that was taken before the refusal may stay theirs.
-#[derive(Clone, Copy, Debug, PartialEq, Eq, Error)]
-#[error("out of memory")]
-pub struct NoMemory;
-
-impl From<AllocError> for NoMemory {
-    fn from(_e: AllocError) -> NoMemory {
-        NoMemory
-    }
-}
-
-impl<T: Drop> From<AllocFailed<T>> for NoMemory {
-    fn from(_e: AllocFailed<T>) -> NoMemory {
-        NoMemory
-    }
-}
-
 /// A list that owns its items, and is read as a slice of them is. Contracts see the list of the items.
 ///
 /// The lists of the auction are this type under names of their own, as [`Text`] for bytes.
@@ -228,5 +210,23 @@ impl<T: Copy> Bounded<T> {
         ensures room { self.old.room ≤ self.new.room + length items.now }
     {
         self.held.extend_from_slice(items).unwrap();
+    }
+}
+
+/// A growth was refused: there was no memory for it. The values that the call was to change are as
+/// they were, though room that was taken before the refusal may stay theirs.
+#[derive(Clone, Copy, Debug, PartialEq, Eq, Error)]
+#[error("out of memory")]
+pub struct NoMemory;
+
+impl From<AllocError> for NoMemory {
+    fn from(_e: AllocError) -> NoMemory {
+        NoMemory
+    }
+}
+
+impl<T: Drop> From<AllocFailed<T>> for NoMemory {
+    fn from(_e: AllocFailed<T>) -> NoMemory {
+        NoMemory
     }
 }

@@ -37,16 +37,16 @@ pub(crate) fn head_length(text: &[u8], start: usize) -> Option<usize>
 
 /// How the lines of a head end.
 #[derive(Clone, Copy, Debug)]
-pub(crate) struct LineEnds {
+struct LineEnds {
     /// How many lines end.
-    pub(crate) count: usize,
+    count: usize,
     /// Whether the bytes begin with a CR, or have an LF with no CR before it: RFC 9112 lets a
     /// server take such an LF for the end of a line, and this one does not.
-    pub(crate) loose: bool,
+    loose: bool,
 }
 
 /// How the lines of these bytes end.
-pub(crate) fn line_ends(text: &[u8]) -> LineEnds
+fn line_ends(text: &[u8]) -> LineEnds
     ensures count { result.count ≡ count_of_line_ends text.now }
     ensures loose { result.loose ≡ is_loose_text text.now }
 {

@@ -1,12 +1,12 @@
-//! Numbers of digits alone, whose digits are counted sixteen at a time; and items of a list that stand one behind the
-//! other with nothing between them but a comma: numbers, and empty lists.
-ghost use Rattle.std.specs.Prelude.{◌≡◌, ◌+◌, ◌≤◌, ◌<◌, ◌^◌, ◌∷◌, ◌++◌, [], false, drop, get_or, length, take, IfSome, ℕ, List, map, replicate, decimal, IfOk};
+//! Numbers of digits alone, whose digits are counted sixteen at a time, and such numbers one behind the other with
+//! nothing between them but a comma.
+ghost use Rattle.std.specs.Prelude.{◌≡◌, ◌+◌, ◌≤◌, ◌<◌, ◌^◌, ◌∷◌, ◌++◌, false, drop, get_or, length, take, IfSome, ℕ, List, map, decimal, IfOk};
 ghost use Rattle.std.specs.Str.Parse.{AllDigits, digits_value};
 ghost use Rattle.json.specs.Token.{number};
 ghost use Rattle.json.specs.Lex.{lex, between, token, comma};
 ghost use Rattle.clock_json.specs.inside.Digits.{AreDigits, IsNumberUpTo, zero_digit};
 ghost use Rattle.clock_json.specs.Left.{left};
-ghost use Rattle.clock_json.specs.Reading.{whole, numbers, ReadsAll};
+ghost use Rattle.clock_json.specs.Reading.{whole, ReadsAll};
 
 use crate::compact::has_room;
 use crate::room::push;
@@ -56,7 +56,7 @@ fn value_of(bytes: &[u8], at: usize, count: usize) -> u64
 
 /// Whether digits begin with a zero that is not the only one.
 #[inline(always)]
-pub(crate) fn has_leading_zero(first: u8, count: usize) -> bool
+fn has_leading_zero(first: u8, count: usize) -> bool
     ensures { result ≡ false → first ≡ zero_digit → count ≡ 1 }
 {
     first == b'0' && count != 1
@@ -117,7 +117,7 @@ pub(crate) fn uneven_digits_at(bytes: &[u8], start: usize) -> Option<(u64, usize
     Some((value_of(bytes, start, count), start + count))
 }
 
-/// How many bytes a number has at most that is read so, with its comma.
+/// How many bytes a number has at most that is read with the comma right behind it, and that comma.
 const MOST_NUMBER: usize = 17;
 
 /// The number that stands there with a comma right behind it, and where that ends. One of a single digit takes a few
@@ -153,21 +153,4 @@ pub(crate) fn numbers_at(bytes: &[u8], start: usize, list: &mut Vec<u64>) -> Res
         at = end;
     }
     Ok(at)
-}
-
-/// How many empty lists stand there with a comma right behind each, and where the last comma ends.
-#[inline(always)]
-pub(crate) fn after_empties(bytes: &[u8], start: usize) -> (usize, usize)
-    ensures { ReadsAll 1 (left Expected.AfterComma (drop start bytes.now)) (replicate result.0 (numbers []))
-        (left Expected.AfterComma (drop result.1 bytes.now)) }
-{
-    let mut at = start;
-    let mut count = 0usize;
-    'lists: while has_room(bytes, at, 3)
-        && (bytes[at] == b'[') & (bytes[at + 1] == b']') & (bytes[at + 2] == b',')
-    {
-        at += 3;
-        count += 1;
-    }
-    (count, at)
 }

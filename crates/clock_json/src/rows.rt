@@ -1,4 +1,4 @@
-//! Rows of numbers, all in one list.
+//! Lists of numbers, and lists of such lists (rows), which are kept all in one: how they are kept, and how they are read.
 ghost use Rattle.std.specs.Prelude.{◌≡◌, ◌==◌, ◌<◌, ◌≤◌, ◌+◌, [], ◌++◌, ℕ, List, length, map, take, slice_index, slice_index_or, IsTrue, IfOk, OnOk};
 ghost use Rattle.std.specs.List.{list_all};
 ghost use Rattle.clock_json.specs.Rows.{cut, shortened};
@@ -28,45 +28,6 @@ impl Model for FlatRows {
     ghost view = { λ a. cut a.lengths.items a.numbers.items };
 
     ghost invariant = { λ a. numbers_in a.lengths.items ≡ length a.numbers.items };
-}
-
-/// Whether each length is that width.
-fn are_all(width: usize, lengths: &[usize]) -> bool
-    ensures { result ≡ list_all (λ length. length == width) lengths.now }
-{
-    lengths.iter().all(|length| *length == width)
-}
-
-/// Where the row of a place begins and ends, among so many numbers: behind those of the rows before it.
-fn span_of(lengths: &[usize], place: usize, whole: usize) -> (usize, usize)
-    requires place { place < length lengths.now }
-    requires whole { numbers_in lengths.now ≡ whole }
-    ensures start { result.0 ≡ numbers_in (take place lengths.now) }
-    ensures end { result.1 ≡ result.0 + slice_index lengths.now place }
-    ensures within { result.1 ≤ whole }
-{
-    let mut start = 0usize;
-    for before in 0..place {
-        start += lengths[before];
-    }
-    (start, start + lengths[place])
-}
-
-/// Adds numbers at the end, a larger one as 65,535, and tells whether none is larger. Each is looked at, since a loop
-/// that may end early is slow.
-fn push_short(list: &mut Vec<u16>, numbers: &[u64]) -> Result<bool, NoMemory>
-    ensures pushed { OnOk result (list.new.items ≡ list.old.items ++ map shortened numbers.now) }
-    ensures same { IfOk result (λ same. IsTrue same → map shortened numbers.now ≡ numbers.now) }
-{
-    let start = list.len();
-    list.resize(start + numbers.len(), 0)?;
-    let places = &mut list[start..];
-    let mut has_long = false;
-    for (place, number) in numbers.iter().enumerate() {
-        has_long |= *number > MOST_SHORT;
-        places[place] = (*number).min(MOST_SHORT) as u16;
-    }
-    Ok(!has_long)
 }
 
 impl FlatRows {
@@ -113,6 +74,45 @@ impl FlatRows {
         }
         Ok(())
     }
+}
+
+/// Whether each length is that width.
+fn are_all(width: usize, lengths: &[usize]) -> bool
+    ensures { result ≡ list_all (λ length. length == width) lengths.now }
+{
+    lengths.iter().all(|length| *length == width)
+}
+
+/// Where the row of a place begins and ends, among so many numbers: behind those of the rows before it.
+fn span_of(lengths: &[usize], place: usize, whole: usize) -> (usize, usize)
+    requires place { place < length lengths.now }
+    requires whole { numbers_in lengths.now ≡ whole }
+    ensures start { result.0 ≡ numbers_in (take place lengths.now) }
+    ensures end { result.1 ≡ result.0 + slice_index lengths.now place }
+    ensures within { result.1 ≤ whole }
+{
+    let mut start = 0usize;
+    for before in 0..place {
+        start += lengths[before];
+    }
+    (start, start + lengths[place])
+}
+
+/// Adds numbers at the end, one above 65,535 as 65,535, and tells whether none is above. Each is looked at, since a loop
+/// that may end early is slow.
+fn push_short(list: &mut Vec<u16>, numbers: &[u64]) -> Result<bool, NoMemory>
+    ensures pushed { OnOk result (list.new.items ≡ list.old.items ++ map shortened numbers.now) }
+    ensures same { IfOk result (λ same. IsTrue same → map shortened numbers.now ≡ numbers.now) }
+{
+    let start = list.len();
+    list.resize(start + numbers.len(), 0)?;
+    let places = &mut list[start..];
+    let mut has_long = false;
+    for (place, number) in numbers.iter().enumerate() {
+        has_long |= *number > MOST_SHORT;
+        places[place] = (*number).min(MOST_SHORT) as u16;
+    }
+    Ok(!has_long)
 }
 
 impl<'a> Scan<'a> {

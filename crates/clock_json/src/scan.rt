@@ -11,8 +11,10 @@ ghost use Rattle.clock_json.specs.inside.Marks.{IsMark};
 ghost use Rattle.clock_json.specs.declared.scan.ScanStop.TheVariants as stops;
 
 use crate::compact::{CompactBid, compact_bid_at};
-use crate::digits::{after_empties, numbers_at};
-use crate::words::{after_space, after_value, byte_at, decimal_at, ends_text, null_at, quoted};
+use crate::digits::numbers_at;
+use crate::words::{
+    after_empties, after_space, after_value, byte_at, decimal_at, ends_text, null_at, quoted,
+};
 use clock_device::NoMemory;
 use std::marker::Model;
 

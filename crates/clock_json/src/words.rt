@@ -1,6 +1,6 @@
-//! Bytes of a text as lexemes: white space, commas, quoted words and numbers. Where plain text ends, at a quote, a
+//! Bytes of a text as lexemes: white space, commas, quoted words, numbers and empty lists. Where plain text ends, at a quote, a
 //! backslash or a control character, is looked for in sixteen bytes together.
-ghost use Rattle.std.specs.Prelude.{◌≡◌, ◌∷◌, ◌<◌, ◌^◌, ◌||◌, ◌+◌, ◌≤◌, ℕ, List, true, false, None, IsTrue, drop, length, get_or, decimal, IfSome, IfOk, map};
+ghost use Rattle.std.specs.Prelude.{◌≡◌, ◌∷◌, ◌<◌, ◌^◌, ◌||◌, ◌+◌, ◌≤◌, [], ℕ, List, true, false, None, IsTrue, drop, length, get_or, decimal, IfSome, IfOk, map, replicate};
 ghost use Rattle.std.specs.Str.{IsUtf8};
 ghost use Rattle.std.specs.List.{prefix_len};
 ghost use Rattle.std.specs.Simd.Lanes.{mask_l};
@@ -11,55 +11,12 @@ ghost use Rattle.json.specs.Align.{is_blank as is_blank_class};
 ghost use Rattle.serde_json.specs.Read.{read};
 ghost use Rattle.json.specs.Run.{is_stop, is_plain};
 ghost use Rattle.clock_json.specs.Left.{left};
+ghost use Rattle.clock_json.specs.Reading.{numbers, ReadsAll};
 
 use crate::compact::has_room;
 use crate::digits::digits_up_to;
 use crate::scan::{Expected, ScanStop};
 use std::simd::prelude::*;
-
-/// The bytes among these at which plain text ends, as bits.
-#[inline(always)]
-fn stops(bytes: u8x16) -> u64
-    ensures { result ≡ mask_l (map is_stop bytes) }
-{
-    (bytes.simd_eq(u8x16::splat(b'"'))
-        | bytes.simd_eq(u8x16::splat(b'\\'))
-        | bytes.simd_lt(u8x16::splat(b' '))).to_bitmask()
-}
-
-/// Where the plain text ends that begins there, byte by byte.
-#[inline(never)]
-fn plain_end_slowly(bytes: &[u8], start: usize) -> usize
-    requires { start ≤ length bytes.now }
-    ensures { result ≡ start + prefix_len is_plain (drop start bytes.now) }
-{
-    let mut end = start;
-    'text: while end < bytes.len()
-        && bytes[end] != b'"'
-        && bytes[end] != b'\\'
-        && bytes[end] >= b' '
-    {
-        end += 1;
-    }
-    end
-}
-
-/// Where the plain text ends that begins there.
-#[inline(always)]
-pub(crate) fn plain_end(bytes: &[u8], start: usize) -> usize
-    requires { start ≤ length bytes.now }
-    ensures { result ≡ start + prefix_len is_plain (drop start bytes.now) }
-{
-    let mut end = start;
-    'text: while bytes.len() - end >= 16 {
-        let found = stops(u8x16::from_slice(&bytes[end..]));
-        if found != 0 {
-            return end + found.trailing_zeros() as usize;
-        }
-        end += 16;
-    }
-    plain_end_slowly(bytes, end)
-}
 
 /// The byte there, or 0 past the end.
 #[inline(always)]
@@ -138,6 +95,50 @@ pub(crate) fn after_value(bytes: &[u8], start: usize) -> (Expected, usize)
     }
 }
 
+/// The bytes among these at which plain text ends, as bits.
+#[inline(always)]
+fn stops(bytes: u8x16) -> u64
+    ensures { result ≡ mask_l (map is_stop bytes) }
+{
+    (bytes.simd_eq(u8x16::splat(b'"'))
+        | bytes.simd_eq(u8x16::splat(b'\\'))
+        | bytes.simd_lt(u8x16::splat(b' '))).to_bitmask()
+}
+
+/// Where the plain text ends that begins there, byte by byte.
+#[inline(never)]
+fn plain_end_slowly(bytes: &[u8], start: usize) -> usize
+    requires { start ≤ length bytes.now }
+    ensures { result ≡ start + prefix_len is_plain (drop start bytes.now) }
+{
+    let mut end = start;
+    'text: while end < bytes.len()
+        && bytes[end] != b'"'
+        && bytes[end] != b'\\'
+        && bytes[end] >= b' '
+    {
+        end += 1;
+    }
+    end
+}
+
+/// Where the plain text ends that begins there.
+#[inline(always)]
+fn plain_end(bytes: &[u8], start: usize) -> usize
+    requires { start ≤ length bytes.now }
+    ensures { result ≡ start + prefix_len is_plain (drop start bytes.now) }
+{
+    let mut end = start;
+    'text: while bytes.len() - end >= 16 {
+        let found = stops(u8x16::from_slice(&bytes[end..]));
+        if found != 0 {
+            return end + found.trailing_zeros() as usize;
+        }
+        end += 16;
+    }
+    plain_end_slowly(bytes, end)
+}
+
 /// The bytes that are quoted there, with no escape among them, and where they end.
 #[inline(always)]
 pub(crate) fn quoted(bytes: &[u8], at: usize) -> Result<(&[u8], usize), ScanStop>
@@ -197,4 +198,21 @@ pub(crate) fn null_at(bytes: &[u8], at: usize) -> Option<usize>
         return None;
     }
     Some(at + 4)
+}
+
+/// How many empty lists stand there with a comma right behind each, and where the last comma ends.
+#[inline(always)]
+pub(crate) fn after_empties(bytes: &[u8], start: usize) -> (usize, usize)
+    ensures { ReadsAll 1 (left Expected.AfterComma (drop start bytes.now)) (replicate result.0 (numbers []))
+        (left Expected.AfterComma (drop result.1 bytes.now)) }
+{
+    let mut at = start;
+    let mut count = 0usize;
+    'lists: while has_room(bytes, at, 3)
+        && (bytes[at] == b'[') & (bytes[at + 1] == b']') & (bytes[at + 2] == b',')
+    {
+        at += 3;
+        count += 1;
+    }
+    (count, at)
 }

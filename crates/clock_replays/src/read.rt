@@ -4,7 +4,6 @@ ghost use Rattle.serde_json.specs.View.{view};
 ghost use Rattle.clock_terms.specs.Faults.{IsRefusal, first_fault, unless};
 ghost use Rattle.clock_terms.specs.Limits.{IsSetup};
 ghost use Rattle.clock_replays.specs.Replays.{IsReplay, ReplayFields};
-ghost use Rattle.clock_replays.specs.ReplayChecks.{replay_checks};
 ghost use Rattle.clock_replays.specs.ReplayDocument.{document_replay, replay_of};
 ghost use Rattle.clock_replays.specs.ReplayChecks as rules;
 
@@ -65,11 +64,7 @@ fn script_fault(bidder: u64, products: &[Product], script: &Script) -> Option<Sc
 
 /// The first fault of a replay whose parts have their shape and whose set-up is one.
 #[tactic(auto, unfolding(crate::specs::ReplayChecks::replay_checks))]
-pub(crate) fn replay_fault(
-    setup: &Setup,
-    scripts: &[Script],
-    closings: &[Closing],
-) -> Option<ScriptFault>
+fn replay_fault(setup: &Setup, scripts: &[Script], closings: &[Closing]) -> Option<ScriptFault>
     ensures fault { result ≡ first_fault (rules.replay_checks
         (record { setup = setup.now; scripts = scripts.now; closings = closings.now })) }
     // For the caller, who has no call of its own that tells it.
@@ -97,9 +92,9 @@ pub(crate) fn replay_fault(
 /// The replay of a set-up, or the first fault of what is looked at behind it.
 fn judged(setup: Setup, scripts: Scripts, closings: Closings) -> Result<Replay, ScriptFault>
     ensures ok { let all : ReplayFields = record { setup = setup; scripts = scripts; closings = closings } in
-        IfOk result (λ replay. unless (first_fault (replay_checks all)) all ≡ Ok replay) }
+        IfOk result (λ replay. unless (first_fault (rules.replay_checks all)) all ≡ Ok replay) }
     ensures err { let all : ReplayFields = record { setup = setup; scripts = scripts; closings = closings } in
-        IfErr result (IsRefusal ScriptFault.NoMemory (unless (first_fault (replay_checks all)) all)) }
+        IfErr result (IsRefusal ScriptFault.NoMemory (unless (first_fault (rules.replay_checks all)) all)) }
     ensures held { IfErr result (λ fault. fault ≢ ScriptFault.Setup SetupFault.NoMemory) }
 {
     match replay_fault(&setup, scripts.as_slice(), closings.as_slice()) {

@@ -1,15 +1,8 @@
-ghost use Rattle.std.specs.Prelude.{◌≡◌, ◌||◌, ◌∷◌, [], ◌≢◌, ℕ, Bool, List, Option, IfOk, OnOk, OnErr, is_err, not, true, false, None, Err};
+ghost use Rattle.std.specs.Prelude.{◌≡◌, ◌||◌, ◌∷◌, [], ℕ, Bool, List, Option, IfOk, OnOk, OnErr, is_err, not, true, false, None};
 ghost use Rattle.clock_device.specs.Told.{IsUnread, IsUnused, unread, unused};
-ghost use Rattle.clock_serving.specs.Exchanges.{Came, Closes, Exchange, Offer, no_journal};
-ghost use Rattle.clock_serving.specs.declared.serving.ServeFault.TheVariants.{Journal as JournalFault};
-ghost use Rattle.clock_serving.specs.Serving.{EndsServing};
+ghost use Rattle.clock_serving.specs.Exchanges.{Came, Closes, Exchange, Offer};
 
-use crate::keeper::Unkept;
-use crate::serving::{ServeFault, serve_all};
 use clock_device::{Failed, FromReader, Sink, Source, ToWriter};
-use clock_front::Front;
-use clock_processor::Processor;
-use std::alloc::Global;
 use std::net::{TcpListener, TcpStream};
 
 /// A connection that was taken: where its request comes from, and where its reply goes.
@@ -125,23 +118,4 @@ impl Acceptor for Listening<'_> {
         self.is_open = false;
         drop(connection);
     }
-}
-
-/// Serves so many connections of a port, one after the other, with one request each. A fault of a stream ends its
-/// connection alone.
-///
-/// It waits for each connection, and for each peer, as long as these take.
-pub fn serve_on<P: Processor>(
-    alloc: Global,
-    front: &mut Front<P>,
-    listener: &TcpListener,
-    connections: u64,
-) -> Result<(), ServeFault>
-    ensures served { (exchanges : List Exchange)
-        × EndsServing connections exchanges None None no_journal no_journal front.old front.new result }
-    ensures kept { result ≢ Err JournalFault }
-    ensures setup { front.new.setup ≡ front.old.setup }
-{
-    let mut port = Listening::new(listener);
-    serve_all(alloc, front, &mut Unkept, &mut port, connections)
 }

@@ -2,13 +2,13 @@
 //!
 //! [`serve_all`] serves them by a front. What they are taken from is an [`Acceptor`], as a [`Listening`] on a port of the
 //! machine (clock_acceptance has one in memory). Where accepted texts are kept is a [`Keeper`]: a journal, or
-//! [`Unkept`]. [`serve_on`] is both of a port, where nothing is kept.
+//! [`Unkept`]. [`serve_on`] is that loop over a port, where nothing is kept.
 #![tactic(auto)]
 
 mod acceptor;
 mod keeper;
 mod serving;
 
-pub use acceptor::{Acceptor, Connection, Listening, serve_on};
+pub use acceptor::{Acceptor, Connection, Listening};
 pub use keeper::{Keeper, Unkept};
-pub use serving::{ServeFault, law_told_bytes, serve_all};
+pub use serving::{ServeFault, law_told_bytes, serve_all, serve_on};

@@ -1,16 +1,18 @@
-ghost use Rattle.std.specs.Prelude.{◌≡◌, List, OnOk, MatchResult, false, length};
+ghost use Rattle.std.specs.Prelude.{◌≡◌, ◌≢◌, List, OnOk, MatchResult, None, Err, false, length};
 ghost use Rattle.clock_device.specs.Told.{IsUnread, IsUnused};
-ghost use Rattle.clock_serving.specs.Exchanges.{Came, Exchange, GrowsBy, HasClosed, bytes_given};
+ghost use Rattle.clock_serving.specs.Exchanges.{Came, Exchange, GrowsBy, HasClosed, bytes_given, no_journal};
+ghost use Rattle.clock_serving.specs.declared.serving.ServeFault.TheVariants.{Journal as JournalFault};
 ghost use Rattle.clock_serving.specs.Serving.{EndsServing, is_accept_fault};
 ghost use Rattle.clock_serving.specs.inside.Served.{EndsOne, IsServed, IsUnkept, round_if};
 ghost use Rattle.clock_serving.specs.Laws.{ToldBytes};
 
-use crate::acceptor::Acceptor;
-use crate::keeper::Keeper;
+use crate::acceptor::{Acceptor, Listening};
+use crate::keeper::{Keeper, Unkept};
 use clock_device::{Failed, Sink, Source, write_all};
 use clock_front::{Front, Unread, no_memory_reply, read_request};
 use clock_processor::Processor;
 use std::alloc::Global;
+use std::net::TcpListener;
 use thiserror::Error;
 
 /// Why not all connections were served. Those before were.
@@ -123,6 +125,25 @@ pub fn serve_all<P: Processor, K: Keeper, C: Acceptor>(
         serve_next(alloc, front, keeper, connections)?;
     }
     Ok(())
+}
+
+/// Serves so many connections of a port, one after the other, with one request each. A fault of a stream ends its
+/// connection alone.
+///
+/// It waits for each connection, and for each peer, as long as these take.
+pub fn serve_on<P: Processor>(
+    alloc: Global,
+    front: &mut Front<P>,
+    listener: &TcpListener,
+    connections: u64,
+) -> Result<(), ServeFault>
+    ensures served { (exchanges : List Exchange)
+        × EndsServing connections exchanges None None no_journal no_journal front.old front.new result }
+    ensures kept { result ≢ Err JournalFault }
+    ensures setup { front.new.setup ≡ front.old.setup }
+{
+    let mut port = Listening::new(listener);
+    serve_all(alloc, front, &mut Unkept, &mut port, connections)
 }
 
 /// A law, which does nothing when it runs: where a connection tells its bytes, its request was their beginning, and its

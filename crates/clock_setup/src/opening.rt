@@ -246,9 +246,10 @@ pub fn read_opening(alloc: Global, bytes: &[u8]) -> Result<Opening, OpeningFault
     opening_in(alloc, &value)
 }
 
-/// What was found of an opening.
+/// What was found of an opening that is read by bytes: no text has an escape, each number is written in digits alone,
+/// and no demand is above 65,535.
 #[derive(Default, Drop)]
-pub(crate) struct FoundOpening {
+struct FoundOpening {
     demands: Option<FlatRows>,
     held: Option<HeldSetup>,
     increment: Option<u64>,

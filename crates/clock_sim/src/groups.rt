@@ -16,59 +16,6 @@ use clock_processor::Processor;
 use clock_scripts::{Pieces, Written};
 use std::alloc::Global;
 
-/// What the code of a reply is told as: a refusal as the fault of a bidder, or of the operator.
-fn told(code: Code, sender: Option<u64>, round: u64) -> Result<(), SimFault>
-    ensures { IsTold code (rules.refused_by sender round code) result }
-{
-    match (code, sender) {
-        (Code::Done, _) => Ok(()),
-        (Code::Memory, _) => Err(SimFault::NoMemory),
-        (_, Some(bidder)) => Err(SimFault::Refused(bidder, round, code)),
-        (_, None) => Err(SimFault::Closing(round, code)),
-    }
-}
-
-/// Sends the body of a request whose head has come over a connection.
-pub(crate) fn send_body<P: Processor>(
-    hub: &mut Hub<P>,
-    conn: Conn,
-    sender: Option<u64>,
-    round: u64,
-    body: &[u8],
-) -> Result<(), SimFault>
-    ensures step { (head : List ℕ) → text_of hub.old.connections conn ≡ Some head
-        → MakesStep (λ texts. rules.after_request hub.old.house.setup texts sender round (head ++ body.now))
-        hub.old.house hub.new.house result }
-    ensures others { (head : List ℕ) → text_of hub.old.connections conn ≡ Some head
-        → OnOk result (KeepsOthers hub.old.connections hub.new.connections conn) }
-{
-    let reply = match hub.feed(conn, body)? {
-        Fed::Reply(reply) => reply,
-        Fed::More => hub.finish(conn)?,
-    };
-    told(reply.code(), sender, round)
-}
-
-/// Sends a request over a connection of its own. One that is refused at its head is answered before its body.
-pub(crate) fn send<P: Processor>(
-    hub: &mut Hub<P>,
-    sender: Option<u64>,
-    round: u64,
-    head: &[u8],
-    body: &[u8],
-) -> Result<(), SimFault>
-    ensures { MakesStep (λ texts. rules.after_request hub.old.house.setup texts sender round (head.now ++ body.now))
-        hub.old.house hub.new.house result }
-{
-    law_decided_once();
-    law_one_head();
-    let conn = hub.connect()?;
-    match hub.feed(conn, head)? {
-        Fed::More => send_body(hub, conn, sender, round, body),
-        Fed::Reply(reply) => told(reply.code(), sender, round),
-    }
-}
-
 /// How many requests a group has at most.
 const MOST_WAITING: usize = 64;
 
@@ -197,5 +144,58 @@ impl Group {
             return self.send_all(hub);
         }
         Ok(())
+    }
+}
+
+/// What the code of a reply is told as: a refusal as the fault of a bidder, or of the operator.
+fn told(code: Code, sender: Option<u64>, round: u64) -> Result<(), SimFault>
+    ensures { IsTold code (rules.refused_by sender round code) result }
+{
+    match (code, sender) {
+        (Code::Done, _) => Ok(()),
+        (Code::Memory, _) => Err(SimFault::NoMemory),
+        (_, Some(bidder)) => Err(SimFault::Refused(bidder, round, code)),
+        (_, None) => Err(SimFault::Closing(round, code)),
+    }
+}
+
+/// Sends the body of a request whose head has come over a connection.
+fn send_body<P: Processor>(
+    hub: &mut Hub<P>,
+    conn: Conn,
+    sender: Option<u64>,
+    round: u64,
+    body: &[u8],
+) -> Result<(), SimFault>
+    ensures step { (head : List ℕ) → text_of hub.old.connections conn ≡ Some head
+        → MakesStep (λ texts. rules.after_request hub.old.house.setup texts sender round (head ++ body.now))
+        hub.old.house hub.new.house result }
+    ensures others { (head : List ℕ) → text_of hub.old.connections conn ≡ Some head
+        → OnOk result (KeepsOthers hub.old.connections hub.new.connections conn) }
+{
+    let reply = match hub.feed(conn, body)? {
+        Fed::Reply(reply) => reply,
+        Fed::More => hub.finish(conn)?,
+    };
+    told(reply.code(), sender, round)
+}
+
+/// Sends a request over a connection of its own. One that is refused at its head is answered before its body.
+pub(crate) fn send<P: Processor>(
+    hub: &mut Hub<P>,
+    sender: Option<u64>,
+    round: u64,
+    head: &[u8],
+    body: &[u8],
+) -> Result<(), SimFault>
+    ensures { MakesStep (λ texts. rules.after_request hub.old.house.setup texts sender round (head.now ++ body.now))
+        hub.old.house hub.new.house result }
+{
+    law_decided_once();
+    law_one_head();
+    let conn = hub.connect()?;
+    match hub.feed(conn, head)? {
+        Fed::More => send_body(hub, conn, sender, round, body),
+        Fed::Reply(reply) => told(reply.code(), sender, round),
     }
 }

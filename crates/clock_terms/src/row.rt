@@ -213,8 +213,8 @@ impl Row {
 /// held alone. Contracts see the list of the demands, one for each product.
 #[derive(Drop)]
 pub struct KeptRow {
-    pub(crate) count: usize,
-    pub(crate) held: Vec<HeldDemand>,
+    count: usize,
+    held: Vec<HeldDemand>,
 }
 
 impl Model for KeptRow {
@@ -286,7 +286,7 @@ impl<'a> Model for HeldProducts<'a> {
 impl<'a> HeldProducts<'a> {
     /// A walk over demands that are held, in order, of so many products.
     #[inline(always)]
-    pub(crate) fn of(count: usize, held: &'a [HeldDemand]) -> HeldProducts<'a>
+    fn of(count: usize, held: &'a [HeldDemand]) -> HeldProducts<'a>
         requires { IsKeptWalk count held.now 0 }
         ensures { result ≡ record { demands = demands_of count held.now; from = next_of count held.now } }
     {

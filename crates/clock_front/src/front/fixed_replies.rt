@@ -1,5 +1,5 @@
 //! Replies that are always the same, and take no memory: those that refuse a text at its head or at its length, and
-//! that of want of memory.
+//! that of want of memory; and why a text gets that one.
 ghost use Rattle.std.specs.Prelude.{◌≡◌, IsTrue};
 ghost use Rattle.clock_front.specs.FixedReplies.{no_memory};
 ghost use Rattle.clock_front.specs.inside.FixedReplies.{is_fixed, refusal_of};
@@ -7,31 +7,6 @@ ghost use Rattle.clock_front.specs.declared.front.fixed_replies.Unanswered.TheVa
 
 use clock_device::NoMemory;
 use clock_http::{Code, NoRoom, Reply};
-
-/// Why a text gets no other reply than that of want of memory.
-#[derive(Debug, Drop)]
-pub enum Unanswered {
-    /// It changes nothing, and room for the page of its reply was asked for and refused.
-    Room(NoRoom),
-    /// It asks for a change, and memory was refused on the way to that.
-    Change,
-}
-
-impl From<NoRoom> for Unanswered {
-    ghost from_gives = { λ refused why. why ≡ unanswered.Room refused };
-
-    fn from(refused: NoRoom) -> Unanswered {
-        Unanswered::Room(refused)
-    }
-}
-
-impl From<NoMemory> for Unanswered {
-    ghost from_gives = { λ _ why. why ≡ unanswered.Change };
-
-    fn from(_refused: NoMemory) -> Unanswered {
-        Unanswered::Change
-    }
-}
 
 const LONG_HEAD: &[u8] = b"HTTP/1.1 431 Request Header Fields Too Large\r\nconnection: close\r\n\
     content-length: 33\r\ncontent-type: application/json\r\n\r\n{\"code\":\"long_head\",\"status\":431}";
@@ -73,4 +48,29 @@ pub fn no_memory_reply() -> Reply
     ensures { result ≡ no_memory }
 {
     fixed_reply(Code::Memory)
+}
+
+/// Why a text gets no other reply than that of want of memory.
+#[derive(Debug, Drop)]
+pub enum Unanswered {
+    /// It changes nothing, and room for the page of its reply was asked for and refused.
+    Room(NoRoom),
+    /// It asks for a change, and memory was refused on the way to that.
+    Change,
+}
+
+impl From<NoRoom> for Unanswered {
+    ghost from_gives = { λ refused why. why ≡ unanswered.Room refused };
+
+    fn from(refused: NoRoom) -> Unanswered {
+        Unanswered::Room(refused)
+    }
+}
+
+impl From<NoMemory> for Unanswered {
+    ghost from_gives = { λ _ why. why ≡ unanswered.Change };
+
+    fn from(_refused: NoMemory) -> Unanswered {
+        Unanswered::Change
+    }
 }

@@ -2,7 +2,7 @@ use Rattle.std.proofs.Common.{◌+◌, ◌-◌, ◌≤◌, [], length, drop, rep
 use Rattle.clock_json.specs.Left.{left}
 use Rattle.clock_json.specs.Reading.{numbers, ReadsAll}
 use Rattle.clock_json.specs.declared.scan.Expected.TheVariants.{AfterComma}
-use Rattle.clock_json.proofs.digits.after_empties.Given as goal
+use Rattle.clock_json.proofs.words.after_empties.Given as goal
 
 -- the lists so far
 abbrev pub invariant-lists : goal.invariant-lists

@@ -6,7 +6,7 @@ use Rattle.clock_json.specs.Reading.{numbers, ReadsAll}
 use Rattle.clock_json.specs.declared.scan.Expected.TheVariants.{AfterComma}
 use Rattle.clock_json.proofs.CompactLaws.{empty_at, empty_reads, replicate_push}
 use Rattle.clock_json.proofs.Steps.{all_next}
-use Rattle.clock_json.proofs.digits.after_empties.Goals as goal
+use Rattle.clock_json.proofs.words.after_empties.Goals as goal
 
 pub lists-init : goal.lists-init
 unfolding ReadsAll
