@@ -311,6 +311,6 @@ pub put_awaits : IsHeadOfGrammar → (token : List ℕ) → IsToken token → (o
 put_awaits law token is_token old pieces text (Err fault) writes head = tt
 put_awaits law token is_token old pieces text (Ok written) writes head =
     let place = writes.within.1 in
-    let room = pieces.bodies.text in
+    let room = pieces.bodies in
     let fits : written.body.end - written.body.start < 2 ^ 64 = omega (arith, place.1, room.ok.0, room.ok.1, room.small) in
     ap needs_more head ∙ put_waits token is_token (written.body.end - written.body.start) fits law

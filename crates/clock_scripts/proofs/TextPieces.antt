@@ -12,7 +12,7 @@ use Rattle.clock_views.proofs.Pushes.{before, together}
 use Rattle.clock_views.proofs.Texts.{bid_in_pieces}
 use Rattle.clock_scripts.specs.RequestTexts.{tie_value, close_value}
 use Rattle.clock_scripts.specs.inside.Arrays.{with_comma}
-use Rattle.clock_scripts.specs.inside.Bodies.{bid_start, bid_text}
+use Rattle.clock_scripts.specs.inside.Bodies.{bid_text}
 use Rattle.clock_scripts.specs.inside.RequestTexts.{increments_text}
 
 -- a piece, and what the last call adds behind it
@@ -27,14 +27,17 @@ pub together_ok : {T E : Type 0} {pieces piece : List ℕ} (text whole : List �
 together_ok text whole (Ok done) is added = together is added
 together_ok text whole (Err fault) is added = tt
 
-regrouped : (a b c d e : List ℕ) → (a ++ (b ++ ((c ++ d) ++ e))) ++ codes "," ≡ (a ++ (b ++ c)) ++ (d ++ (e ++ codes ","))
-regrouped a b c d e = simp append_assoc
+bid_regrouped : (a b c d e f g : List ℕ) → ((a ++ b) ++ ((c ++ d) ++ ((e ++ f) ++ g))) ++ codes ","
+    ≡ a ++ (b ++ (c ++ (d ++ (e ++ (f ++ (g ++ codes ","))))))
+bid_regrouped a b c d e f g = simp append_assoc
 
--- a bid with its comma, by its start
-pub bid_by_start : (bid : Bid) → bid_text bid ≡ bid_start bid.price bid.product ++ (decimal bid.quantity ++ codes "},")
-bid_by_start bid =
+-- a bid with its comma
+pub bid_with_comma : (bid : Bid) → bid_text bid
+    ≡ codes "{\"price\":" ++ (decimal bid.price ++ (codes ",\"product\":" ++ (decimal bid.product
+    ++ (codes ",\"quantity\":" ++ (decimal bid.quantity ++ codes "},")))))
+bid_with_comma bid =
     ap (λ text. text ++ codes ",") (bid_in_pieces bid)
-    ∙ regrouped (codes "{\"price\":" ++ decimal bid.price) (codes ",\"product\":" ++ decimal bid.product)
+    ∙ bid_regrouped (codes "{\"price\":") (decimal bid.price) (codes ",\"product\":") (decimal bid.product)
     (codes ",\"quantity\":") (decimal bid.quantity) (codes "}")
 
 tie_regrouped : (a b c d : List ℕ) → (a ++ (b ++ (c ++ d))) ++ codes "," ≡ a ++ (b ++ (c ++ (d ++ codes ",")))

@@ -33,10 +33,10 @@ kept_in text more whole extent is within =
 
 -- in longer texts the requests stand still
 pub longer : (old new : Pieces) (more rest : List ℕ) → new.heads.items ≡ old.heads.items ++ more
-    → new.bodies.text.items ≡ old.bodies.text.items ++ rest → Keeps old new
+    → new.bodies.items ≡ old.bodies.items ++ rest → Keeps old new
 longer old new more rest heads bodies = λ written within. (
   kept_in old.heads.items more new.heads.items written.head heads within.0,
-  kept_in old.bodies.text.items rest new.bodies.text.items written.body bodies within.1,
+  kept_in old.bodies.items rest new.bodies.items written.body bodies within.1,
 )
 
 -- one after the other
@@ -66,26 +66,26 @@ piece_from text extent within end =
 
 -- a head behind the others, of the body that was written last
 pub written_last : (old new : Pieces) (line token : List ℕ) (written : Written) (count : ℕ)
-    → new.heads.items ≡ old.heads.items ++ request_head line token count → new.bodies.text.items ≡ old.bodies.text.items
+    → new.heads.items ≡ old.heads.items ++ request_head line token count → new.bodies.items ≡ old.bodies.items
     → written.head.start ≡ length old.heads.items → written.head.end ≡ length new.heads.items
-    → written.body.start ≤ length old.bodies.text.items → written.body.end ≡ length old.bodies.text.items → count ≡ written.body.end - written.body.start
-    → text_at new written ≡ request_text line token (drop written.body.start old.bodies.text.items)
+    → written.body.start ≤ length old.bodies.items → written.body.end ≡ length old.bodies.items → count ≡ written.body.end - written.body.start
+    → text_at new written ≡ request_text line token (drop written.body.start old.bodies.items)
 written_last old new line token written count heads bodies start end within last is =
-    let body = drop written.body.start old.bodies.text.items in
-    let size : count ≡ length body = omega (arith, is, last, length-drop written.body.start old.bodies.text.items) in
+    let body = drop written.body.start old.bodies.items in
+    let size : count ≡ length body = omega (arith, is, last, length-drop written.body.start old.bodies.items) in
     ap₂ (λ (head rest : List ℕ). head ++ rest)
     (piece_behind old.heads.items new.heads.items (request_head line token count) written.head heads start end ∙ ap (request_head line token) size)
-    (ap (λ (text : List ℕ). piece_at text written.body) bodies ∙ piece_from old.bodies.text.items written.body within last)
+    (ap (λ (text : List ℕ). piece_at text written.body) bodies ∙ piece_from old.bodies.items written.body within last)
 
 -- a request behind the others, whose body was pushed before its head
 pub written_behind : (old pushed new : Pieces) (line token body : List ℕ) (start : ℕ) (result : Result Written NoMemory)
-    → pushed.heads.items ≡ old.heads.items → Adds body old.bodies.text.items pushed.bodies.text.items → start ≡ length old.bodies.text.items
-    → IfOk result (Writes pushed new (request_text line token (drop start pushed.bodies.text.items)))
+    → pushed.heads.items ≡ old.heads.items → Adds body old.bodies.items pushed.bodies.items → start ≡ length old.bodies.items
+    → IfOk result (Writes pushed new (request_text line token (drop start pushed.bodies.items)))
     → IfOk result (Writes old new (request_text line token body))
 written_behind old pushed new line token body start (Err fault) heads added from ended = tt
 written_behind old pushed new line token body start (Ok written) heads added from ended =
-    let rest : drop start pushed.bodies.text.items ≡ body =
-    ap₂ (λ (n : ℕ) (text : List ℕ). drop n text) from added.is ∙ drop-append_seam old.bodies.text.items body in
+    let rest : drop start pushed.bodies.items ≡ body =
+    ap₂ (λ (n : ℕ) (text : List ℕ). drop n text) from added.is ∙ drop-append_seam old.bodies.items body in
     record {
       kept = kept_twice old pushed new (longer old pushed [] body (heads ∙ sym (append-nil old.heads.items)) added.is) ended.kept;
       reads = ended.reads ∙ ap (request_text line token) rest;
@@ -96,9 +96,9 @@ written_behind old pushed new line token body start (Ok written) heads added fro
 pub closing_behind : (old pushed new : Pieces) (setup : SetupFields) (closed : List ClosedRound) (closing : Closing) (token : List ℕ) (round : ℕ)
     (ties : List Tie) (start : ℕ) (result : Result Written NoMemory)
     → token ≡ setup.operator → round ≡ (standing setup.products closed).round → ties ≡ closing.ties
-    → pushed.heads.items ≡ old.heads.items → Adds (written_close round closing.increments ties) old.bodies.text.items pushed.bodies.text.items
-    → start ≡ length old.bodies.text.items
-    → IfOk result (Writes pushed new (request_text (codes "POST /v1/close") token (drop start pushed.bodies.text.items)))
+    → pushed.heads.items ≡ old.heads.items → Adds (written_close round closing.increments ties) old.bodies.items pushed.bodies.items
+    → start ≡ length old.bodies.items
+    → IfOk result (Writes pushed new (request_text (codes "POST /v1/close") token (drop start pushed.bodies.items)))
     → IfOk result (Writes old new (scripted_close setup closed closing))
 unfolding scripted_close
 closing_behind old pushed new setup closed closing token round ties start result operator at same heads added from ended =
@@ -118,8 +118,8 @@ pub record AddsSheet (setup : SetupFields) (closed : List ClosedRound) (bidder :
 -- a bidder's request, by what it is written of
 pub put_behind : (old pushed new : Pieces) (setup : SetupFields) (closed : List ClosedRound) (bidder : ℕ) (script : Script) (token : List ℕ) (start : ℕ)
     (written : Written) → token ≡ (bidder_at setup bidder).token → pushed.heads.items ≡ old.heads.items
-    → AddsSheet setup closed bidder script old.bodies.text.items pushed.bodies.text.items → start ≡ length old.bodies.text.items
-    → Writes pushed new (request_text (codes "PUT /v1/me/bids") token (drop start pushed.bodies.text.items)) written
+    → AddsSheet setup closed bidder script old.bodies.items pushed.bodies.items → start ≡ length old.bodies.items
+    → Writes pushed new (request_text (codes "PUT /v1/me/bids") token (drop start pushed.bodies.items)) written
     → WritesIf old new (scripted_put setup closed bidder script) (Some written)
 unfolding scripted_put
 put_behind old pushed new setup closed bidder script token start written own heads sheet from ended =

@@ -19,7 +19,7 @@ piece_at text extent = take (extent.end - extent.start) (drop extent.start text)
 
 -- the two pieces of a request that was written
 abbrev pub text_at : Pieces → Written → List ℕ
-text_at pieces written = piece_at pieces.heads.items written.head ++ piece_at pieces.bodies.text.items written.body
+text_at pieces written = piece_at pieces.heads.items written.head ++ piece_at pieces.bodies.items written.body
 
 -- the extent is one of the text
 abbrev pub IsExtentIn : List ℕ → Extent → Type 0
@@ -27,12 +27,12 @@ IsExtentIn text extent = (extent.start ≤ extent.end) × (extent.end ≤ length
 
 -- the pieces of a request stand in the texts
 abbrev pub IsWrittenIn : Pieces → Written → Type 0
-IsWrittenIn pieces written = IsExtentIn pieces.heads.items written.head × IsExtentIn pieces.bodies.text.items written.body
+IsWrittenIn pieces written = IsExtentIn pieces.heads.items written.head × IsExtentIn pieces.bodies.items written.body
 
 -- both texts are empty
 pub record HoldsNothing (pieces : Pieces) : Type 0 where
   pub heads : pieces.heads.items ≡ []
-  pub bodies : pieces.bodies.text.items ≡ []
+  pub bodies : pieces.bodies.items ≡ []
 
 -- a piece stands in its extent still
 pub record IsKept (old text : List ℕ) (extent : Extent) : Type 0 where
@@ -42,7 +42,7 @@ pub record IsKept (old text : List ℕ) (extent : Extent) : Type 0 where
 -- each request that stood in the texts stands there still
 abbrev pub Keeps : Pieces → Pieces → Type 0
 Keeps old pieces = (written : Written) → IsWrittenIn old written
-    → IsKept old.heads.items pieces.heads.items written.head × IsKept old.bodies.text.items pieces.bodies.text.items written.body
+    → IsKept old.heads.items pieces.heads.items written.head × IsKept old.bodies.items pieces.bodies.items written.body
 
 -- a request was written of this text, and stands there
 pub record Writes (old pieces : Pieces) (text : List ℕ) (written : Written) : Type 0 where

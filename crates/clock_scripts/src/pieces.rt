@@ -14,7 +14,7 @@ ghost use Rattle.clock_scripts.specs.Sincere.{sincere_sheet};
 ghost use Rattle.clock_scripts.specs.inside.Heads.{HasHead};
 
 use crate::request_writer::{push_close_body, push_head};
-use crate::sheet_bodies::Bodies;
+use crate::sheet_bodies::push_sheet;
 use crate::sincere::Sincere;
 use clock_device::NoMemory;
 use clock_house::House;
@@ -42,7 +42,7 @@ pub struct Written {
 pub struct Pieces {
     heads: Vec<u8>,
     /// The bodies, and behind them that of the request that is being written.
-    bodies: Bodies,
+    bodies: Vec<u8>,
 }
 
 impl Written {
@@ -66,7 +66,7 @@ fn token_of(setup: &Setup, bidder: u32) -> &[u8]
 
 /// Adds the body of the sheet that a sincere bidder puts.
 fn push_sincere<P>(
-    bodies: &mut Bodies,
+    text: &mut Vec<u8>,
     house: &House<P>,
     bidder: u32,
     limits: &LimitLists,
@@ -76,7 +76,7 @@ fn push_sincere<P>(
     requires limits { IsLimits house.now.setup.products limits.now }
     ensures { OnOk result (Adds (written_put (standing_in house.now).round
         (sincere_sheet (standing_in house.now).round (standing_in house.now).prices
-        (holding_in house.now bidder).demands limits.now)) bodies.old.text.items bodies.new.text.items) }
+        (holding_in house.now bidder).demands limits.now)) text.old.items text.new.items) }
 {
     house.law_of_house();
     let sheet = Sincere {
@@ -84,19 +84,18 @@ fn push_sincere<P>(
         own: house.own(bidder),
         limits,
     };
-    sheet.push(bodies)
+    sheet.push(text)
 }
 
 impl Pieces {
-    /// No requests yet, of an auction of so many products.
-    pub fn new(alloc: Global, products: usize) -> Result<Pieces, NoMemory>
-        ensures { IfOk result HoldsNothing }
+    /// No requests yet. It takes no memory.
+    pub fn new(alloc: Global) -> Pieces
+        ensures { HoldsNothing result }
     {
-        let bodies = Bodies::new(alloc, products)?;
-        Ok(Pieces {
+        Pieces {
             heads: Vec::new(alloc),
-            bodies,
-        })
+            bodies: Vec::new(alloc),
+        }
     }
 
     /// Lets all requests go. Their memory is used again.
@@ -104,7 +103,7 @@ impl Pieces {
         ensures { HoldsNothing self.new }
     {
         self.heads.clear();
-        self.bodies.text.clear();
+        self.bodies.clear();
     }
 
     /// The head of a request.
@@ -118,19 +117,19 @@ impl Pieces {
     /// The body of a request.
     pub fn body(&self, written: &Written) -> &[u8]
         requires { IsWrittenIn self.now written.now }
-        ensures { result.now ≡ piece_at self.now.bodies.text.items written.now.body }
+        ensures { result.now ≡ piece_at self.now.bodies.items written.now.body }
     {
-        &self.bodies.text.as_slice()[written.body.start..written.body.end]
+        &self.bodies.as_slice()[written.body.start..written.body.end]
     }
 
     /// Writes the head of a request, whose body stands behind all others from a place on.
     fn end_request(&mut self, line: &[u8], token: &[u8], body: usize) -> Result<Written, NoMemory>
-        requires { body ≤ length self.old.bodies.text.items }
+        requires { body ≤ length self.old.bodies.items }
         ensures writes { IfOk result (Writes self.old self.new
-            (request_text line.now token.now (drop body self.old.bodies.text.items))) }
+            (request_text line.now token.now (drop body self.old.bodies.items))) }
         ensures head { IfOk result (HasHead line.now token.now self.new) }
     {
-        let end = self.bodies.text.len();
+        let end = self.bodies.len();
         let head = self.heads.len();
         push_head(&mut self.heads, line, token, (end - body) as u64)?;
         Ok(Written {
@@ -157,13 +156,13 @@ impl Pieces {
             (rules.scripted_put house.now.setup house.now.closed bidder script.now)) }
         ensures awaits { IfOk result (λ written. IfSome written (AwaitsBody self.new)) }
     {
-        let start = self.bodies.text.len();
+        let start = self.bodies.len();
         match script {
             Script::Sincere(limits) => push_sincere(&mut self.bodies, house, bidder, limits)?,
             Script::Literal(sheets) => {
                 let round = house.round();
                 match sheets.get(round.saturating_sub(1) as usize) {
-                    Some(Some(bids)) => self.bodies.push_sheet(round, bids.as_slice())?,
+                    Some(Some(bids)) => push_sheet(&mut self.bodies, round, bids.as_slice())?,
                     _ => return Ok(None),
                 }
             }
@@ -184,9 +183,9 @@ impl Pieces {
     {
         let round = house.round();
         let token = house.setup().operator.as_slice();
-        let start = self.bodies.text.len();
+        let start = self.bodies.len();
         let ties = closing.ties.as_slice();
-        push_close_body(&mut self.bodies.text, round, &closing.increments, ties)?;
+        push_close_body(&mut self.bodies, round, &closing.increments, ties)?;
         self.end_request(b"POST /v1/close", token, start)
     }
 }

@@ -9,7 +9,7 @@ ghost use Rattle.clock_scripts.specs.inside.Blocks as one_by_one;
 ghost use Rattle.clock_scripts.specs.inside.Bodies.{bids_text};
 ghost use Rattle.clock_scripts.specs.inside.SincereSheets.{IsSincere, sheet_of};
 
-use crate::sheet_bodies::Bodies;
+use crate::sheet_bodies::{close_sheet, open_sheet, push_bid};
 use clock_bids::{Bid, Own};
 use clock_device::NoMemory;
 use clock_replays::LimitLists;
@@ -37,21 +37,27 @@ fn last_leaving(pair: &PricePair, limits: &[u64], blocks: usize) -> Option<u64>
 
 /// Adds the bid at the price at which a block leaves, where the block before does not leave there.
 fn push_block(
-    bodies: &mut Bodies,
+    text: &mut Vec<u8>,
     product: u64,
     before: u64,
     price: Option<u64>,
     next: Option<u64>,
 ) -> Result<(), NoMemory>
     ensures { OnOk result (Adds (bids_text (one_by_one.block_bid product before price next))
-        bodies.old.text.items bodies.new.text.items) }
+        text.old.items text.new.items) }
 {
     match price {
-        Some(price) if next != Some(price) => bodies.push_own_bid(&Bid {
-            product,
-            quantity: before,
-            price,
-        }),
+        Some(price) if next != Some(price) => {
+            let quantity = before;
+            push_bid(
+                text,
+                &Bid {
+                    product,
+                    quantity,
+                    price,
+                },
+            )
+        }
         _ => Ok(()),
     }
 }
@@ -59,7 +65,7 @@ fn push_block(
 /// Adds a bid for each different price at which one of the held blocks leaves, rising. The blocks past the limits stay.
 #[inline(never)]
 fn push_leaving(
-    bodies: &mut Bodies,
+    text: &mut Vec<u8>,
     product: u64,
     pair: &PricePair,
     held: u64,
@@ -68,13 +74,13 @@ fn push_leaving(
     requires falls { NeverRises limits.now }
     requires within { length limits.now ≤ held }
     ensures { OnOk result (Adds (bids_text (rules.leaving_bids product held (rules.leaving_prices pair.now limits.now)))
-        bodies.old.text.items bodies.new.text.items) }
+        text.old.items text.new.items) }
 {
     let past = held - limits.len() as u64;
     for block in (0..limits.len()).rev() {
         let price = leaving_price(pair, limits[block]);
         let next = last_leaving(pair, limits, block);
-        push_block(bodies, product, past + block as u64, price, next)?;
+        push_block(text, product, past + block as u64, price, next)?;
     }
     Ok(())
 }
@@ -83,7 +89,7 @@ fn push_leaving(
 /// leaves.
 #[inline(always)]
 fn push_held(
-    bodies: &mut Bodies,
+    text: &mut Vec<u8>,
     product: u64,
     pair: &PricePair,
     held: u64,
@@ -92,40 +98,46 @@ fn push_held(
     requires falls { NeverRises limits.now }
     requires some { 0 < held }
     ensures { OnOk result (Adds (bids_text (rules.later_bids product pair.now held limits.now))
-        bodies.old.text.items bodies.new.text.items) }
+        text.old.items text.new.items) }
 {
     let blocks = (held as usize).min(limits.len());
     match last_leaving(pair, limits, blocks) {
-        Some(_) => push_leaving(bodies, product, pair, held, &limits[..blocks]),
-        None => bodies.push_bid(&Bid {
-            product,
-            quantity: held,
-            price: pair.clock.get(),
-        }),
+        Some(_) => push_leaving(text, product, pair, held, &limits[..blocks]),
+        None => push_bid(
+            text,
+            &Bid {
+                product,
+                quantity: held,
+                price: pair.clock.get(),
+            },
+        ),
     }
 }
 
 /// Adds the bid for a product in the first round.
 #[inline(always)]
 fn push_opening(
-    bodies: &mut Bodies,
+    text: &mut Vec<u8>,
     product: u64,
     pair: &PricePair,
     limits: &[u64],
 ) -> Result<(), NoMemory>
     ensures { OnOk result (Adds (bids_text (rules.opening_bids product pair.now limits.now))
-        bodies.old.text.items bodies.new.text.items) }
+        text.old.items text.new.items) }
 {
     let price = pair.start.get();
     let quantity = limits.iter().filter(|limit| price <= **limit).count() as u64;
     if quantity == 0 {
         return Ok(());
     }
-    bodies.push_bid(&Bid {
-        product,
-        quantity,
-        price,
-    })
+    push_bid(
+        text,
+        &Bid {
+            product,
+            quantity,
+            price,
+        },
+    )
 }
 
 /// What the sheet of a sincere bidder follows from: the prices of the round, what it holds, and its limits, a list for
@@ -142,48 +154,48 @@ pub(crate) struct Sincere<'a> {
 
 impl Sincere<'_> {
     /// Adds the bids of the first round, for one product after another.
-    fn push_first(&self, bodies: &mut Bodies) -> Result<(), NoMemory>
+    fn push_first(&self, text: &mut Vec<u8>) -> Result<(), NoMemory>
         requires sheet { IsSincere self.now }
         requires first { self.now.own.round ≡ 1 }
-        ensures { OnOk result (Adds (bids_text (sheet_of self.now)) bodies.old.text.items bodies.new.text.items) }
+        ensures { OnOk result (Adds (bids_text (sheet_of self.now)) text.old.items text.new.items) }
     {
         let mut from = 0;
         for (product, pair) in self.prices.iter().enumerate() {
             let limits = self.limits.list(product, &mut from);
-            push_opening(bodies, product as u64, pair, limits)?;
+            push_opening(text, product as u64, pair, limits)?;
         }
         Ok(())
     }
 
     /// Adds the bids of a later round. It holds few of the products, and nothing is looked at of the others.
     #[inline(never)]
-    fn push_later(&self, bodies: &mut Bodies) -> Result<(), NoMemory>
+    fn push_later(&self, text: &mut Vec<u8>) -> Result<(), NoMemory>
         requires sheet { IsSincere self.now }
         requires later { self.now.own.round ≢ 1 }
-        ensures { OnOk result (Adds (bids_text (sheet_of self.now)) bodies.old.text.items bodies.new.text.items) }
+        ensures { OnOk result (Adds (bids_text (sheet_of self.now)) text.old.items text.new.items) }
     {
         let mut from = 0;
         let mut held = self.own.demands.held();
         'held: while let Some(one) = held.next() {
             let pair = &self.prices[one.product];
             let limits = self.limits.list(one.product, &mut from);
-            push_held(bodies, one.product as u64, pair, one.demand, limits)?;
+            push_held(text, one.product as u64, pair, one.demand, limits)?;
         }
         Ok(())
     }
 
     /// Adds the body of the sheet.
-    pub(crate) fn push(&self, bodies: &mut Bodies) -> Result<(), NoMemory>
+    pub(crate) fn push(&self, text: &mut Vec<u8>) -> Result<(), NoMemory>
         requires { IsSincere self.now }
         ensures { OnOk result (Adds (written_put self.now.own.round (sheet_of self.now))
-            bodies.old.text.items bodies.new.text.items) }
+            text.old.items text.new.items) }
     {
-        let start = bodies.open_sheet()?;
+        let start = open_sheet(text)?;
         if self.own.round == 1 {
-            self.push_first(bodies)?;
+            self.push_first(text)?;
         } else {
-            self.push_later(bodies)?;
+            self.push_later(text)?;
         }
-        bodies.close_sheet(start, self.own.round)
+        close_sheet(text, start, self.own.round)
     }
 }

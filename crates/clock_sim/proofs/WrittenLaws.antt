@@ -104,7 +104,7 @@ IsMade i old new result waiting body =
 
 module _ (whole : Step) (group : Group) (i : ℕ) (waiting : List Waiting) (body : List ℕ) (initial : HouseFields) (old new : HubFields)
     (same : waiting ≡ group.waiting.items) (here : i < length waiting)
-    (is : body ≡ piece_at group.pieces.bodies.text.items (waiting_at waiting i).turn.written.body)
+    (is : body ≡ piece_at group.pieces.bodies.items (waiting_at waiting i).turn.written.body)
     (before : IsOnWay whole (after_group initial.setup (drop i (requests_in group))) initial old.house)
     (stand : StandFrom i old.connections (requests_in group) (λ k one. one.head)) where
   abbrev this : Request
@@ -119,7 +119,7 @@ module _ (whole : Step) (group : Group) (i : ℕ) (waiting : List Waiting) (body
   made_at : {U : Type 0} (result : Result U SimFault) → IsMade i old new result waiting body → MakesStep (one_step old.house.setup this) old.house new.house result
   made_at result made =
       let same_body : body ≡ this.body =
-      is ∙ ap (λ (list : List Waiting). piece_at group.pieces.bodies.text.items (waiting_at list i).turn.written.body) same in
+      is ∙ ap (λ (list : List Waiting). piece_at group.pieces.bodies.items (waiting_at list i).turn.written.body) same in
       subst₂ (IsMade i old new result) same same_body made this.head headed
 
   -- it is done, and the requests behind it are left

@@ -43,14 +43,14 @@ pub(crate) struct Group {
 }
 
 impl Group {
-    /// No requests yet, of an auction of so many products.
-    pub(crate) fn new(alloc: Global, products: usize) -> Result<Group, NoMemory>
-        ensures { IfOk result (λ group. requests_in group ≡ []) }
+    /// No requests yet. It takes no memory.
+    pub(crate) fn new(alloc: Global) -> Group
+        ensures { requests_in result ≡ [] }
     {
-        Ok(Group {
-            pieces: Pieces::new(alloc, products)?,
+        Group {
+            pieces: Pieces::new(alloc),
             waiting: Vec::new(alloc),
-        })
+        }
     }
 
     /// Where no request waits, lets go what was written before.

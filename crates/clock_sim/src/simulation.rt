@@ -70,9 +70,7 @@ fn play_out<P: Processor>(
     ensures err { IfErr result (IsRefusal SimFault.NoMemory
         (rules.simulated (replay_of hub.old.house scripts.now closings.now))) }
 {
-    let products = hub.front().house().setup().products.as_slice().len();
-    let mut group = Group::new(alloc, products)?;
-    play(hub, &mut group, scripts, closings)
+    play(hub, &mut Group::new(alloc), scripts, closings)
 }
 
 /// Plays an auction before its first request, and makes its report.

@@ -52,7 +52,7 @@ request_in pieces one = record {
   round = one.turn.round;
   conn = one.conn;
   head = piece_at pieces.heads.items one.turn.written.head;
-  body = piece_at pieces.bodies.text.items one.turn.written.body;
+  body = piece_at pieces.bodies.items one.turn.written.body;
 }
 
 -- the requests that wait

@@ -18,4 +18,4 @@ returns g c =
     let text : written_put sheet.own.round (sheet_of sheet)
     ≡ written_put (standing_in house).round (sincere_sheet (standing_in house).round (standing_in house).prices (holding_in house bidder).demands c.args.limits.now) =
     rw (round, prices, demands) refl in
-    subst (λ (body : List ℕ). OnOk c.push.result (Adds body c.args.bodies.now.text.items c.push.new.bodies.text.items)) text c.push.ensures
+    subst (λ (body : List ℕ). OnOk c.push.result (Adds body c.args.text.now.items c.push.new.text.items)) text c.push.ensures

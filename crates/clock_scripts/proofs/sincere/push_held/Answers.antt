@@ -17,8 +17,8 @@ returns-in-Some c =
 
 pub returns-in-None : goal.returns-in-None
 returns-in-None c =
-    let text = c.args.bodies.now.text.items in
-    let next = c.push_bid.new.self.text.items in
+    let text = c.args.text.now.items in
+    let next = c.push_bid.new.text.items in
     together_ok text next c.push_bid.result
     (all_kept c.args.product c.args.held c.args.pair.now c.args.limits.now c.min-blocks.result c.requires.falls c.requires.some
     c.min-blocks.ensures (sym c.last_leaving.ensures ∙ c.in-None.is))

@@ -9,12 +9,12 @@ use Rattle.clock_scripts.proofs.sincere.push_leaving.Goals as goal
 pub returns : goal.returns
 returns c =
     let limits = c.args.limits.now in
-    let text = c.loop-block.bodies.text.items in
+    let text = c.loop-block.text.items in
     let none : 0 ≡ c.loop-block.block = omega arith in
     record {
       is = sym (append-nil text)
           ∙ ap (λ (k : ℕ). text ++ bids_text (block_bids c.args.product (c.args.held - length limits) c.args.pair.now (reverse (take k limits)))) none
           ∙ c.loop-block.invariant
-          ∙ ap (λ (all : List Bid). c.args.bodies.now.text.items ++ bids_text all)
+          ∙ ap (λ (all : List Bid). c.args.text.now.items ++ bids_text all)
           (all_blocks c.args.product c.args.held c.args.pair.now limits c.requires.falls c.requires.within);
     }

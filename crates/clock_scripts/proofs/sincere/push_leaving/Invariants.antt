@@ -6,5 +6,5 @@ use Rattle.clock_scripts.proofs.sincere.push_leaving.Given as goal
 -- with the bids of the blocks before it is those of all
 abbrev pub invariant-loop-block : goal.invariant-loop-block
 invariant-loop-block l =
-    l.bodies.text.items ++ bids_text (block_bids l.product l.past l.pair (reverse (take l.block l.limits)))
-    ≡ l.initial.bodies.text.items ++ bids_text (block_bids l.product l.past l.pair (reverse l.limits))
+    l.text.items ++ bids_text (block_bids l.product l.past l.pair (reverse (take l.block l.limits)))
+    ≡ l.initial.text.items ++ bids_text (block_bids l.product l.past l.pair (reverse l.limits))

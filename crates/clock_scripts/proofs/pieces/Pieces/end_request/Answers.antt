@@ -20,9 +20,9 @@ returns-clause-writes c =
     let long = ap length c.in_ok-push_head.ensures.is in
     let start : c.len-head.result ≡ length old.heads.items = omega (arith, c.len-head.ensures, old.heads.ok.0) in
     let end : c.len.result ≡ length new.heads.items = omega (arith, c.len.ensures, new.heads.ok.0) in
-    let last : c.len-end.result ≡ length old.bodies.text.items = omega (arith, c.len-end.ensures, old.bodies.text.ok.0) in
+    let last : c.len-end.result ≡ length old.bodies.items = omega (arith, c.len-end.ensures, old.bodies.ok.0) in
     record {
-      kept = longer old new head [] c.in_ok-push_head.ensures.is (sym (append-nil old.bodies.text.items));
+      kept = longer old new head [] c.in_ok-push_head.ensures.is (sym (append-nil old.bodies.items));
       reads = written_last old new c.args.line.now c.args.token.now written count c.in_ok-push_head.ensures.is refl start end
           c.requires last refl;
       within = (

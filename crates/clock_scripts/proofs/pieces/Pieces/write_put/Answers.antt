@@ -19,7 +19,7 @@ returns-clause-writes g c =
     let pushed = c.match-script.self in
     let now = standing_in house in
     let heads : Pieces → List ℕ = λ pieces. pieces.heads.items in
-    let added : (heads pushed ≡ heads old) × AddsSheet house.setup house.closed c.args.bidder c.args.script.now old.bodies.text.items pushed.bodies.text.items =
+    let added : (heads pushed ≡ heads old) × AddsSheet house.setup house.closed c.args.bidder c.args.script.now old.bodies.items pushed.bodies.items =
     elim c.match-script.branch [
       | in-Sincere+in_ok-push_sincere-in-Sincere w ↦ (
         ap heads w.self-is,
@@ -36,14 +36,14 @@ returns-clause-writes g c =
             rw (w.self-is, w.in-Literal.is) (record {
               bids = bids;
               given = ap (λ (round : ℕ). slice_index_or w.in-Literal.sheets (round - 1) None) (sym w.round-round.ensures.is) ∙ sheet;
-              added = subst (λ (round : ℕ). Adds (written_put round bids) old.bodies.text.items w.push_sheet.new.self.text.items) w.round-round.ensures.is
+              added = subst (λ (round : ℕ). Adds (written_put round bids) old.bodies.items w.push_sheet.new.text.items) w.round-round.ensures.is
                   w.in_ok-push_sheet-in-Some-Some.ensures;
             }),
           )
     ] in
     put_behind old pushed c.end_request.new.self house.setup house.closed c.args.bidder c.args.script.now c.token_of-token.result.now c.len-start.result
     c.in_ok-end_request.field-0 (c.token_of-token.ensures.own ∙ ap (λ (setup : SetupFields). (bidder_at setup c.args.bidder).token) c.setup.ensures)
-    added.0 added.1 (omega (arith, c.len-start.ensures, old.bodies.text.ok.0)) c.in_ok-end_request.ensures.writes
+    added.0 added.1 (omega (arith, c.len-start.ensures, old.bodies.ok.0)) c.in_ok-end_request.ensures.writes
 
 pub returns-clause-awaits : goal.returns-clause-awaits
 returns-clause-awaits g c =

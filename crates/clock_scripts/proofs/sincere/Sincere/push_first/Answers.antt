@@ -8,9 +8,9 @@ loop-product-preserved c =
     let sheet = c.args.self.now in
     let n = length sheet.prices.now in
     let p = c.loop-product.product in
-    let text = c.loop-product.bodies.text.items in
-    let next = c.push_opening.new.bodies.text.items in
-    one_more (written_for sheet) text next (c.args.bodies.now.text.items ++ flat_map (written_for sheet) (range_with_len 0 n)) p n
+    let text = c.loop-product.text.items in
+    let next = c.push_opening.new.text.items in
+    one_more (written_for sheet) text next (c.args.text.now.items ++ flat_map (written_for sheet) (range_with_len 0 n)) p n
     c.loop-product-test.true
     (opening_for sheet p c.pair-item.result c.list-limits.result.now text next c.requires.first
     (c.pair-item.is ∙ priced_at sheet.prices.now p c.pair-item.result c.loop-product-test.true) c.list-limits.ensures c.in_ok-push_opening.ensures)
@@ -21,11 +21,11 @@ returns c =
     let sheet = c.args.self.now in
     let n = length sheet.prices.now in
     let p = c.loop-product.product in
-    let text = c.loop-product.bodies.text.items in
+    let text = c.loop-product.text.items in
     let none : n - p ≡ 0 = omega (arith, c.loop-product-test.false) in
     record {
       is = sym (append-nil text)
           ∙ ap (λ (k : ℕ). text ++ flat_map (written_for sheet) (range_with_len p k)) (sym none)
           ∙ c.loop-product.invariant
-          ∙ ap (λ (all : List ℕ). c.args.bodies.now.text.items ++ all) (whole_sheet sheet);
+          ∙ ap (λ (all : List ℕ). c.args.text.now.items ++ all) (whole_sheet sheet);
     }

@@ -7,5 +7,5 @@ use Rattle.clock_scripts.proofs.sincere.Sincere.push_first.Given as goal
 abbrev pub invariant-loop-product : goal.invariant-loop-product
 invariant-loop-product l =
     let n = length l.self.prices.now in
-    l.bodies.text.items ++ flat_map (written_for l.self) (range_with_len l.product (n - l.product))
-    ≡ l.initial.bodies.text.items ++ flat_map (written_for l.self) (range_with_len 0 n)
+    l.text.items ++ flat_map (written_for l.self) (range_with_len l.product (n - l.product))
+    ≡ l.initial.text.items ++ flat_map (written_for l.self) (range_with_len 0 n)

@@ -22,7 +22,7 @@ held-init c =
     let whole : n ≡ n - 0 = omega arith in
     record {
       row = c.held-held.ensures.row;
-      rest = ap (λ (rest : List ℕ). c.args.bodies.now.text.items ++ rest)
+      rest = ap (λ (rest : List ℕ). c.args.text.now.items ++ rest)
           (sym (ap (λ (k : ℕ). flat_map (written_for sheet) (range_with_len 0 k)) whole
           ∙ passed (written_for sheet) 0 to n (omega arith) (omega arith)
           (λ k low high. none_for sheet k c.requires.later (c.held-held.ensures.passed k 0 low (omega (arith, high))))));
@@ -47,12 +47,12 @@ held-preserved c =
     (λ k low high. none_for sheet k c.requires.later
     (subst (λ (row : List ℕ). slice_index row k ≡ 0) same (found.ahead k 0 low (omega (arith, high))))) in
     let demand = found.demand ∙ ap (λ (row : List ℕ). slice_index row product) same in
-    let old = c.held.bodies.text.items in
-    let text = c.push_held.new.bodies.text.items in
+    let old = c.held.text.items in
+    let text = c.push_held.new.text.items in
     record {
       row = found.row ∙ same;
       rest = ap (λ (rest : List ℕ). text ++ rest) (sym behind)
-          ∙ one_more f old text (c.args.bodies.now.text.items ++ flat_map f (range_with_len 0 n)) product n within
+          ∙ one_more f old text (c.args.text.now.items ++ flat_map f (range_with_len 0 n)) product n within
           (later_for sheet product c.in-Some.one.demand (get_or sheet.prices.now product c.index-self-one.result) c.list-limits.result.now old text c.requires.later
           (priced_at sheet.prices.now product c.index-self-one.result within)
           demand c.list-limits.ensures c.in_ok-push_held.ensures)
@@ -65,7 +65,7 @@ returns c =
     let n = length sheet.prices.now in
     let f = written_for sheet in
     let walk = c.held.held in
-    let text = c.held.bodies.text.items in
+    let text = c.held.text.items in
     let count : length walk.demands ≡ n = ap (λ (row : List ℕ). length row) c.held.invariant.row ∙ c.requires.sheet.held in
     let end = walked sheet walk.demands walk.from n n c.requires.later c.held.invariant.row
     (omega arith) (omega arith) (λ k d low high. c.in_default.ensures.passed k d low (omega (arith, high, count))) in
@@ -74,5 +74,5 @@ returns c =
       is = sym (append-nil text)
           ∙ ap (λ (rest : List ℕ). text ++ rest) (sym (end ∙ ap (λ (k : ℕ). flat_map f (range_with_len n k)) none))
           ∙ c.held.invariant.rest
-          ∙ ap (λ (all : List ℕ). c.args.bodies.now.text.items ++ all) (whole_sheet sheet);
+          ∙ ap (λ (all : List ℕ). c.args.text.now.items ++ all) (whole_sheet sheet);
     }

@@ -9,8 +9,8 @@ invariant-held l =
     let n = length l.self.prices.now in
     let from = min l.held.from n in record {
       row : l.held.demands ≡ l.self.own.demands.now;
-      rest : l.bodies.text.items ++ flat_map (written_for l.self) (range_with_len from (n - from))
-          ≡ l.initial.bodies.text.items ++ flat_map (written_for l.self) (range_with_len 0 n);
+      rest : l.text.items ++ flat_map (written_for l.self) (range_with_len from (n - from))
+          ≡ l.initial.text.items ++ flat_map (written_for l.self) (range_with_len 0 n);
     }
 
 abbrev pub decreases-held : goal.decreases-held

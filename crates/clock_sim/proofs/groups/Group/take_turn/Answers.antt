@@ -16,7 +16,7 @@ returns-then-not-needs_body g c =
     let text : c.head-head.result.now ++ c.body-body.result.now ≡ text_at group.pieces c.args.turn.written =
     ap₂ (λ (head body : List ℕ). head ++ body)
     (c.head-head.ensures ∙ ap (λ (pieces : Pieces). piece_at pieces.heads.items c.args.turn.written.head) same)
-    (c.body-body.ensures ∙ ap (λ (pieces : Pieces). piece_at pieces.bodies.text.items c.args.turn.written.body) same) in
+    (c.body-body.ensures ∙ ap (λ (pieces : Pieces). piece_at pieces.bodies.items c.args.turn.written.body) same) in
     subst (λ (sent : List ℕ). ComesUnderWay (with_request old.house.setup (requests_in group) c.args.turn.bidder c.args.turn.round sent) old c.send.new.hub next
     c.send.result) text
     (sent_alone group next c.args.turn.bidder c.args.turn.round (c.head-head.result.now ++ c.body-body.result.now) old c.send_all.new.hub c.send.new.hub _ c.send.result

@@ -4,14 +4,14 @@ use Rattle.clock_views.specs.Values.{Adds}
 use Rattle.clock_views.proofs.Texts.{bids_in_pieces}
 use Rattle.clock_scripts.proofs.ArrayLaws.{array_from}
 use Rattle.clock_scripts.proofs.TextPieces.{before_ok, together_ok}
-use Rattle.clock_scripts.proofs.sheet_bodies.Bodies.close_sheet.Goals as goal
+use Rattle.clock_scripts.proofs.sheet_bodies.close_sheet.Goals as goal
 
 pub returns : goal.returns
 returns c = λ old begun bids opened from all.
     let key = old ++ codes "{\"bids\":" in
     let first : Adds (codes "{\"bids\":") old key = record { is = refl } in
     let bracket : Adds (codes "[") key begun = record { is = opened.is ∙ sym (append_assoc old (codes "{\"bids\":") (codes "[")) } in
-    let array = array_from bid_value bids key begun c.args.self.now.text.items c.end_array.new.text.items c.args.start bracket from all.is
+    let array = array_from bid_value bids key begun c.args.text.now.items c.end_array.new.text.items c.args.start bracket from all.is
     c.in_ok-end_array.ensures in
     let result = c.push_label.result in
     together_ok _ _ result (bids_in_pieces c.args.round (Some bids))
