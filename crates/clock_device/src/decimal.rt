@@ -1,4 +1,4 @@
-ghost use Rattle.std.specs.Prelude.{◌≡◌, ◌++◌, ◌+◌, ◌≤◌, ◌||◌, decimal, OnOk, OnErr, is_err};
+ghost use Rattle.std.specs.Prelude.{◌≡◌, ◌++◌, ◌+◌, ◌≤◌, ◌||◌, decimal, drop, length, OnOk, OnErr, is_err};
 ghost use Rattle.clock_device.specs.Decimal.{number_or_dash};
 ghost use Rattle.clock_device.specs.Streams.{WritesText};
 
@@ -47,4 +47,20 @@ pub fn write_number<W: Sink>(sink: &mut W, number: u64) -> Result<(), Failed>
 {
     let mut buffer = Buffer::new();
     write_all(sink, buffer.format(number).as_bytes())
+}
+
+/// Writes bytes right before a place of others, and tells where they begin. So a text of several pieces is written from
+/// its end to its start, numbers among them by itoa's `write_digits`, and then copied at once: by itself each piece would
+/// be a call, and a look at the room that is left.
+#[inline(always)]
+pub fn put_before(bytes: &mut [u8], end: usize, piece: &[u8]) -> usize
+    requires room { length piece.now ≤ end }
+    requires within { end ≤ length bytes.old }
+    ensures start { result + length piece.now ≡ end }
+    ensures kept { length bytes.new ≡ length bytes.old }
+    ensures put { drop result bytes.new ≡ piece.now ++ drop end bytes.old }
+{
+    let start = end - piece.len();
+    bytes[start..end].copy_from_slice(piece);
+    start
 }

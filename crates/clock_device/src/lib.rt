@@ -6,7 +6,7 @@ mod items;
 mod memory;
 mod stream;
 
-pub use decimal::write_number;
+pub use decimal::{put_before, write_number};
 pub use items::{Bounded, Items, NoMemory, Text};
 pub use memory::{ListSink, ListSource};
 pub use stream::{Failed, FromReader, Sink, Source, Stop, ToWriter, room_for_read, write_all};

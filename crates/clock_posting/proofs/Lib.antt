@@ -4,3 +4,4 @@ pub mod Laws
 pub mod Posted
 pub mod NextPrices
 mod Examples
+pub mod SheetLines

@@ -1,10 +1,11 @@
-ghost use Rattle.std.specs.Prelude.{◌≡◌, ◌++◌, IfOk, codes, length, OnOk};
+ghost use Rattle.std.specs.Prelude.{◌≡◌, ◌≤◌, ◌+◌, ◌++◌, IfOk, codes, drop, length, OnOk};
 ghost use Rattle.clock_device.specs.Decimal.{number_or_dash};
 ghost use Rattle.clock_posting.specs.SheetText.{sheet_text, line_text};
 
-use clock_device::{Items, NoMemory, Text};
+use clock_device::{Items, NoMemory, Text, put_before};
 use clock_money::Price;
 use clock_terms::{Product, Setup};
+use itoa::write_digits;
 use std::alloc::Global;
 
 /// What a round's sheet says of a product. Prices are in whole dollars. It names no bidder.
@@ -81,23 +82,37 @@ pub fn with_sheet_lines(mut text: Text, setup: &Setup, sheet: &RoundSheet) -> Re
     Ok(text)
 }
 
-/// Adds a space and a number, or a dash where there is none.
-fn push_field(text: &mut Text, number: Option<u64>) -> Result<(), NoMemory>
-    ensures { OnOk result (text.new ≡ text.old ++ codes " " ++ number_or_dash number) }
+/// How many bytes the numbers of a line take at most: five of 20 digits, each behind a space, and a line feed.
+const NUMBERS_ROOM: usize = 106;
+
+/// Writes a space and a number, or a dash where there is none, right before a place, and tells where they begin.
+#[inline(always)]
+fn put_field(bytes: &mut [u8], end: usize, number: Option<u64>) -> usize
+    requires room { 21 ≤ end }
+    requires within { end ≤ length bytes.old }
+    ensures start { end ≤ result + 21 }
+    ensures order { result ≤ end }
+    ensures kept { length bytes.new ≡ length bytes.old }
+    ensures put { drop result bytes.new ≡ codes " " ++ (number_or_dash number ++ drop end bytes.old) }
 {
-    text.push(b' ')?;
-    text.push_or_dash(number)
+    let start = match number {
+        Some(number) => write_digits(number, bytes, end),
+        None => put_before(bytes, end, b"-"),
+    };
+    put_before(bytes, start, b" ")
 }
 
 /// Adds the line of a product.
 fn push_line(text: &mut Text, product: &Product, line: &Line) -> Result<(), NoMemory>
     ensures { OnOk result (text.new ≡ text.old ++ line_text product.now line.now) }
 {
+    let mut numbers = [0; NUMBERS_ROOM];
+    let end = put_before(&mut numbers, NUMBERS_ROOM, b"\n");
+    let next = put_field(&mut numbers, end, line.next);
+    let demand = put_field(&mut numbers, next, line.demand);
+    let posted = put_field(&mut numbers, demand, Some(line.posted.get()));
+    let clock = put_field(&mut numbers, posted, Some(line.clock.get()));
+    let start = put_field(&mut numbers, clock, Some(line.start.get()));
     text.extend_from_slice(product.name.as_slice())?;
-    push_field(text, Some(line.start.get()))?;
-    push_field(text, Some(line.clock.get()))?;
-    push_field(text, Some(line.posted.get()))?;
-    push_field(text, line.demand)?;
-    push_field(text, line.next)?;
-    text.push(b'\n')
+    text.extend_from_slice(&numbers[start..])
 }

@@ -1,6 +1,6 @@
 //! The bodies of sheets, and the texts of their bids.
 
-ghost use Rattle.std.specs.Prelude.{◌≡◌, ◌≤◌, ◌+◌, ◌++◌, ℕ, List, codes, drop, length, OnOk, IfOk};
+ghost use Rattle.std.specs.Prelude.{◌≡◌, ℕ, List, codes, length, OnOk, IfOk};
 ghost use Rattle.clock_bids.specs.declared.sheet.Bid.{Bid};
 ghost use Rattle.clock_views.specs.Values.{Adds};
 ghost use Rattle.clock_scripts.specs.RequestTexts.{written_put};
@@ -8,28 +8,14 @@ ghost use Rattle.clock_scripts.specs.inside.Bodies.{bid_text, bids_text};
 
 use crate::request_writer::{end_array, push_label, push_number};
 use clock_bids::Bid;
-use clock_device::NoMemory;
+use clock_device::{NoMemory, put_before};
 use itoa::write_digits;
 
 /// How many bytes a bid takes at most, with a comma behind it: three numbers of 20 digits, and what is around them.
 const BID_ROOM: usize = 94;
 
-/// Writes bytes right before a place of a line, and tells where they begin.
-#[inline(always)]
-fn put_before(line: &mut [u8], end: usize, piece: &[u8]) -> usize
-    requires room { length piece.now ≤ end }
-    requires within { end ≤ length line.old }
-    ensures start { result + length piece.now ≡ end }
-    ensures kept { length line.new ≡ length line.old }
-    ensures put { drop result line.new ≡ piece.now ++ drop end line.old }
-{
-    let start = end - piece.len();
-    line[start..end].copy_from_slice(piece);
-    start
-}
-
 /// Adds a bid, with a comma behind it. It is written into a line of its own, from its end to its start, and copied at
-/// once, since each piece by itself would be a call and a look at the room that is left.
+/// once.
 pub(crate) fn push_bid(text: &mut Vec<u8>, bid: &Bid) -> Result<(), NoMemory>
     ensures { OnOk result (Adds (bid_text bid.now) text.old.items text.new.items) }
 {

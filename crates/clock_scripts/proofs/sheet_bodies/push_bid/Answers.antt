@@ -25,9 +25,9 @@ put_before-start-requires-clause-room c = search (rules, length-decimal-le 20)
 pub returns : goal.returns
 returns c =
     let bid = c.args.bid.now in
-    let line = c.put_before-start.new.line in
+    let line = c.put_before-start.new.bytes in
     let start = c.put_before-start.result in
-    let end : drop c.put_before-end.result c.put_before-end.new.line ≡ codes "}," = search rules in
+    let end : drop c.put_before-end.result c.put_before-end.new.bytes ≡ codes "}," = search rules in
     let quantity = c.write_digits-quantity.ensures.written ∙ ap (λ (rest : List ℕ). decimal bid.quantity ++ rest) end in
     let behind_product = c.put_before-behind_product.ensures.put ∙ ap (λ (rest : List ℕ). codes ",\"quantity\":" ++ rest) quantity in
     let product = c.write_digits-product.ensures.written ∙ ap (λ (rest : List ℕ). decimal bid.product ++ rest) behind_product in
