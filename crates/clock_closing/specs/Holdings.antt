@@ -1,7 +1,7 @@
 -- What each bidder holds before a round.
 --     first_holding products row, holding_after slip      before the first round, and after a closed one
---     holdings_before products bidders last      what all bidders hold, by the slips of the last closed round, if any
-use Rattle.std.specs.Prelude.{List, Option, Some, None, length, map, replicate}
+--     holdings_of eligibilities demands      what all bidders hold, by the list of each
+use Rattle.std.specs.Prelude.{ℕ, List, length, map, replicate, zip}
 use Rattle.clock_terms.specs.declared.setup.Product.{Product}
 use Rattle.clock_terms.specs.declared.setup.Bidder.{Bidder}
 pub use Rattle.clock_bids.specs.Holding.{Holding}
@@ -15,7 +15,6 @@ first_holding products row = record { eligibility = row.eligibility; demands = r
 abbrev pub holding_after : Slip → Holding
 holding_after slip = record { eligibility = slip.eligibility; demands = slip.demands }
 
--- what each bidder of the set-up holds: before the first round nothing, and then what its last slip says
-abbrev pub holdings_before : List Product → List Bidder → Option (List Slip) → List Holding
-holdings_before products bidders None = map (first_holding products) bidders
-holdings_before products bidders (Some slips) = map holding_after slips
+-- each bidder holds its eligibility and its row of demands
+abbrev pub holdings_of : List ℕ → List (List ℕ) → List Holding
+holdings_of eligibilities demands = map (λ own. record { eligibility = own.0; demands = own.1 }) (zip eligibilities demands)

@@ -17,7 +17,7 @@ use Rattle.clock_bids.specs.declared.sheet.Bid.{Bid}
 use Rattle.clock_bids.specs.Sheet.{IsGoodSheet}
 use Rattle.clock_posting.specs.Posting.{IsRising}
 use Rattle.clock_closing.specs.Standing.{Standing}
-use Rattle.clock_closing.specs.Holdings.{Holding}
+use Rattle.clock_closing.specs.Holdings.{Holding, holdings_of}
 
 -- what a closing goes by: where the auction stands, what each bidder holds, and each bidder's sheet in force
 pub record OpenRound : Type 0 where
@@ -68,12 +68,11 @@ pub record OpenRoundFields : Type 0 where
   pub setup : SetupFields
   pub before : OpenRound
 
--- a round that goes on, at these prices, with these holdings and sheets in force
-abbrev pub open_at : ℕ → List PricePair → List Holding → List (Option (List Bid)) → OpenRound
-open_at round prices holdings sheets = record {
-  standing = record { ended = false; round = round; prices = prices };
-  holdings = holdings;
-  sheets = sheets;
+-- a round of a set-up that goes on, at these prices, with what is held and the sheets in force
+abbrev pub open_at : SetupFields → ℕ → List PricePair → List ℕ → List (List ℕ) → List (Option (List Bid)) → OpenRoundFields
+open_at setup round prices eligibilities demands sheets = record {
+  setup = setup;
+  before = record { standing = record { ended = false; round = round; prices = prices }; holdings = holdings_of eligibilities demands; sheets = sheets };
 }
 
 -- a round in order that goes on, a holding and a sheet or none for each bidder, and in round 1 the opening prices

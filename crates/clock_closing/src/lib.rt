@@ -6,10 +6,8 @@
 
 mod closed_round;
 mod fault;
-mod holdings;
 mod open_round;
 
 pub use closed_round::{ClosedRound, Prepared, Results, Slip, Slips};
 pub use fault::CloseFault;
-pub use holdings::Holdings;
 pub use open_round::OpenRound;

@@ -1,7 +1,8 @@
 ghost use Rattle.std.specs.Prelude.{◌≡◌, ◌≢◌, ◌<◌, None, length, slice_index_or, option_copied, IfOk, IfErr};
 ghost use Rattle.clock_terms.specs.Faults.{IsRefusal};
+ghost use Rattle.clock_bids.specs.Holding.{holding_of};
 ghost use Rattle.clock_order.specs.declared.ties.TieFault.TheVariants as tie_faults;
-ghost use Rattle.clock_closing.specs.OpenRound.{OpenRoundFields, IsOpenRound, open_at};
+ghost use Rattle.clock_closing.specs.OpenRound.{OpenRoundFields, IsOpenRound, holding_at, open_at};
 ghost use Rattle.clock_closing.specs.Closing.{closing_now};
 ghost use Rattle.clock_closing.specs.Prepared.{Answers};
 ghost use Rattle.clock_closing.specs.inside.Postings.{IsAsked};
@@ -10,12 +11,11 @@ mod outcome;
 
 use crate::closed_round::{ClosingInputs, Prepared};
 use crate::fault::CloseFault;
-use crate::holdings::Holdings;
-use clock_bids::Sheet;
+use clock_bids::{Own, Sheet};
 use clock_device::NoMemory;
 use clock_order::{Tie, Ties};
 use clock_processor::Processor;
-use clock_terms::{Grid, Increments, Prices, Setup};
+use clock_terms::{Amounts, Grid, Increments, Prices, Setup};
 use std::alloc::Global;
 use std::marker::Model;
 
@@ -29,37 +29,41 @@ pub struct OpenRound<'a> {
     setup: &'a Setup,
     round: u64,
     prices: &'a Prices,
-    holdings: Holdings<'a>,
+    eligibilities: &'a Amounts,
+    demands: &'a Grid,
     sheets: &'a [Option<Sheet>],
 }
 
 impl<'a> Model for OpenRound<'a> {
     ghost Value = { OpenRoundFields };
 
-    ghost view = { λ r. record { setup = r.setup.now; before = open_at r.round r.prices.now r.holdings r.sheets.now } };
+    ghost view = { λ r. open_at r.setup.now r.round r.prices.now r.eligibilities.now r.demands.now r.sheets.now };
 
-    ghost invariant = { λ r. IsOpenRound
-        (record { setup = r.setup.now; before = open_at r.round r.prices.now r.holdings r.sheets.now }) };
+    ghost invariant = { λ r. (length r.demands.now ≡ length r.eligibilities.now) × IsOpenRound
+        (open_at r.setup.now r.round r.prices.now r.eligibilities.now r.demands.now r.sheets.now) };
 }
 
 impl<'a> OpenRound<'a> {
-    /// A round that goes on. There are a pair of prices for each product, and a holding and a sheet or none for each
-    /// bidder; all of them are in order.
+    /// A round that goes on. There are a pair of prices for each product, and an eligibility in bidding units, a row of
+    /// demands in blocks, and a sheet or none for each bidder; all of them are in order.
     pub fn new(
         setup: &'a Setup,
         round: u64,
         prices: &'a Prices,
-        holdings: Holdings<'a>,
+        eligibilities: &'a Amounts,
+        demands: &'a Grid,
         sheets: &'a [Option<Sheet>],
     ) -> OpenRound<'a>
-        requires { IsOpenRound (record { setup = setup.now; before = open_at round prices.now holdings sheets.now }) }
-        ensures { result ≡ record { setup = setup.now; before = open_at round prices.now holdings.entry sheets.now } }
+        requires each { length demands.now ≡ length eligibilities.now }
+        requires order { IsOpenRound (open_at setup.now round prices.now eligibilities.now demands.now sheets.now) }
+        ensures { result ≡ open_at setup.now round prices.now eligibilities.now demands.now sheets.now }
     {
         OpenRound {
             setup,
             round,
             prices,
-            holdings,
+            eligibilities,
+            demands,
             sheets,
         }
     }
@@ -116,6 +120,19 @@ impl<'a> OpenRound<'a> {
         })
     }
 
+    /// What a bidder holds.
+    fn own(&self, bidder: u32) -> Own<'a>
+        requires { bidder < length self.now.setup.bidders }
+        ensures round { result.round ≡ self.now.before.standing.round }
+        ensures held { holding_of result ≡ holding_at self.now.before.holdings bidder }
+    {
+        Own {
+            round: self.round,
+            eligibility: self.eligibilities[bidder as usize],
+            demands: self.demands.row(bidder as usize),
+        }
+    }
+
     /// A bidder's sheet in force, if any.
     fn sheet(&self, bidder: u32) -> Option<&'a Sheet>
         requires { bidder < length self.now.setup.bidders }
@@ -129,7 +146,7 @@ impl<'a> OpenRound<'a> {
         ensures each { result ≡ length self.now.setup.bidders }
         ensures held { result ≡ length self.now.before.holdings }
     {
-        self.holdings.count()
+        self.sheets.len() as u32
     }
 }
 

@@ -93,15 +93,16 @@ module _ (house : HouseFields) (limits : IsSetup house.setup) (commands : List C
   }
 
 -- a house keeps the same with other room for further rounds
-pub kept_in_room : (house : HouseFields) (spare : ℕ) (ended : Bool) (round : ℕ) (prices : List PricePair) (demands : List (List ℕ)) →
-    IsKept house ended round prices demands →
-    IsKept (record { setup = house.setup; closed = house.closed; sheets = house.sheets; spare = spare }) ended round prices demands
-kept_in_room house spare ended round prices demands kept = record {
+pub kept_in_room : (house : HouseFields) (spare : ℕ) (ended : Bool) (round : ℕ) (prices : List PricePair) (eligibilities : List ℕ) (demands : List (List ℕ)) →
+    IsKept house ended round prices eligibilities demands →
+    IsKept (record { setup = house.setup; closed = house.closed; sheets = house.sheets; spare = spare }) ended round prices eligibilities demands
+kept_in_room house spare ended round prices eligibilities demands kept = record {
   limits = kept.limits;
   commands = kept.commands;
   stands = record { closed = kept.stands.closed; sheets = kept.stands.sheets };
   ended_is = kept.ended_is;
   round_is = kept.round_is;
   prices_are = kept.prices_are;
+  eligibilities_are = kept.eligibilities_are;
   demands_are = kept.demands_are;
 }

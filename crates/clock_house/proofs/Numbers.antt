@@ -1,8 +1,8 @@
 -- Closed rounds are numbered from 1 on, and each has a slip for each bidder and a line for each product.
-use Rattle.std.proofs.Common.{◌≡◌, ℕ, suc, ◌+◌, ◌-◌, List, [], ◌∷◌, ◌++◌, false, cond, length, refl, ap, sym, ◌∙◌, arith}
-use Rattle.std.specs.Prelude.{Some, Result, Ok, Err, reverse, slice_get}
+use Rattle.std.proofs.Common.{◌≡◌, ℕ, suc, ◌+◌, List, [], ◌∷◌, ◌++◌, false, cond, length, refl, ap, ◌∙◌, arith}
+use Rattle.std.specs.Prelude.{Result, Ok, Err, reverse}
 use Rattle.std.proofs.lemmas.List.FromFn.{length-map-range_with_len}
-use Rattle.std.proofs.lemmas.List.{reverse-reverse, length-reverse, reverse-append}
+use Rattle.std.proofs.lemmas.List.{reverse-append}
 use Rattle.clock_terms.specs.declared.increments.Increments.{Increments}
 use Rattle.clock_terms.specs.Limits.{SetupFields, public_setup}
 use Rattle.clock_order.specs.declared.ties.Tie.{Tie}
@@ -52,20 +52,5 @@ module _ (setup : SetupFields) where
   numbered (other ∷ earlier) = numbered earlier
 
 module _ {A : Type 0} where
-  -- the element at the end of a list
-  get-at_end : (xs : List A) (x : A) → slice_get (xs ++ x ∷ []) (length xs) ≡ Some x
-  get-at_end [] x = refl
-  get-at_end (y ∷ xs) x = get-at_end xs x
-
   pub reverse_cons : (x : A) (xs : List A) → reverse (x ∷ xs) ≡ reverse xs ++ x ∷ []
   reverse_cons x xs = reverse-append (x ∷ []) xs
-
-  last_of_reverse : (xs : List A) → slice_get (reverse xs) (length (reverse xs) - 1) ≡ slice_get xs 0
-  last_of_reverse [] = refl
-  last_of_reverse (x ∷ xs) =
-      let place : length (reverse (x ∷ xs)) - 1 ≡ length (reverse xs) = omega (arith, length-reverse (x ∷ xs), length-reverse xs) in
-      ap (λ k. slice_get (reverse (x ∷ xs)) k) place ∙ ap (λ ys. slice_get ys (length (reverse xs))) (reverse_cons x xs) ∙ get-at_end (reverse xs) x
-
-  -- the last of a list is the first of the list from its end
-  pub last-reverse : (xs : List A) → slice_get xs (length xs - 1) ≡ slice_get (reverse xs) 0
-  last-reverse xs = ap (λ ys. slice_get ys (length ys - 1)) (sym (reverse-reverse xs)) ∙ last_of_reverse (reverse xs)

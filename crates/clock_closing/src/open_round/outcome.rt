@@ -7,7 +7,7 @@ ghost use Rattle.clock_terms.specs.Eligibility as eligibilities;
 ghost use Rattle.clock_terms.specs.Increments.{AreIncrements};
 ghost use Rattle.clock_processor.specs.Board.{IsWithinEligibility};
 ghost use Rattle.clock_closing.specs.OpenRound.{holding_at};
-ghost use Rattle.clock_closing.specs.inside.OpenRound.{eligibilities_of};
+ghost use Rattle.clock_closing.specs.inside.OpenRound.{eligibilities_of, grid_of};
 ghost use Rattle.clock_closing.specs.Closing as rules;
 ghost use Rattle.clock_closing.specs.inside.Postings.{AreRequests, ComesTo, IsRoundOf, posted_now};
 ghost use Rattle.clock_closing.specs.Results.{demands_of};
@@ -15,7 +15,7 @@ ghost use Rattle.clock_closing.specs.Results.{demands_of};
 use crate::closed_round::{ClosedRound, ClosingInputs, Results, Slip, Slips};
 use crate::fault::CloseFault;
 use crate::open_round::OpenRound;
-use clock_bids::{Changes, Own, asked_demands, bids_of, with_changes_of};
+use clock_bids::{Changes, asked_demands, bids_of, with_changes_of};
 use clock_device::NoMemory;
 use clock_order::{Ties, ordered};
 use clock_posting::{PostFault, Posting, post, post_first};
@@ -76,17 +76,12 @@ impl OpenRound<'_> {
     {
         let mut changes = Changes::new(alloc);
         for bidder in 0..self.bidders() {
-            let own = Own {
-                round: self.round,
-                eligibility: self.holdings.eligibility(bidder),
-                demands: self.holdings.demands(bidder),
-            };
             changes = with_changes_of(
                 alloc,
                 changes,
                 self.setup,
                 self.prices,
-                own,
+                self.own(bidder),
                 bidder,
                 self.sheet(bidder),
             )?;
@@ -113,10 +108,19 @@ impl OpenRound<'_> {
             (eligibilities_of self.now.before) settled.grid) }
         ensures each { IfOk result (λ settled. length settled.left ≡ length requests.now) }
     {
-        let eligibilities = self.holdings.eligibilities(alloc)?;
-        let grid = self.holdings.grid(alloc, old)?;
-        let board = Board::on(alloc, self.setup, &eligibilities, grid)?;
+        let grid = self.grid(alloc, old)?;
+        let board = Board::on(alloc, self.setup, self.eligibilities, grid)?;
         processor.settle(alloc, board, requests)
+    }
+
+    /// The demands that are held, in the memory of a grid that is no longer needed, where there is one.
+    fn grid(&self, alloc: Global, old: &mut Option<Grid>) -> Result<Grid, NoMemory>
+        ensures { IfOk result (λ grid. grid ≡ grid_of self.now.before) }
+    {
+        match old.take() {
+            Some(old) => old.renewed(alloc, self.demands),
+            None => self.demands.copy(alloc),
+        }
     }
 
     /// What a posting and these demands make of the round, or why there is no posting.
@@ -163,7 +167,7 @@ impl OpenRound<'_> {
     {
         let setup = self.setup;
         let used = units_held(setup.products.as_slice(), demands);
-        let held = self.holdings.eligibility(bidder);
+        let held = self.own(bidder).eligibility;
         Ok(Slip {
             round: self.round,
             activity: used,

@@ -1,21 +1,22 @@
 -- What a house keeps inside, beside what contracts see of it.
---     IsKept house ended round prices demands      the kept end, round, prices and demands are those of the closed
---         rounds
+--     IsKept house ended round prices eligibilities demands      the kept end, round, prices and what is held are those of
+--         the closed rounds
 use Rattle.std.specs.Prelude.{◌≡◌, ℕ, List, Bool, false}
 use Rattle.clock_terms.specs.declared.prices.PricePair.{PricePair}
 use Rattle.clock_terms.specs.Limits.{IsSetup}
-use Rattle.clock_closing.specs.inside.OpenRound.{grid_of}
+use Rattle.clock_closing.specs.inside.OpenRound.{eligibilities_of, grid_of}
 use Rattle.clock_house.specs.Command.{Command}
 use Rattle.clock_house.specs.House.{HouseFields, StandsFor, standing_in}
 use Rattle.clock_house.specs.inside.OpenRounds.{open_round_in}
 
 -- a house of a set-up stands for some list of commands, and what it keeps for quick reading is what its closed rounds
 -- say; at the end there are no prices
-pub record IsKept (house : HouseFields) (ended : Bool) (round : ℕ) (prices : List PricePair) (demands : List (List ℕ)) : Type 0 where
+pub record IsKept (house : HouseFields) (ended : Bool) (round : ℕ) (prices : List PricePair) (eligibilities : List ℕ) (demands : List (List ℕ)) : Type 0 where
   pub limits : IsSetup house.setup
   pub commands : List Command
   pub stands : StandsFor commands house
   pub ended_is : ended ≡ (standing_in house).ended
   pub round_is : round ≡ (standing_in house).round
   pub prices_are : ended ≡ false → prices ≡ (standing_in house).prices
+  pub eligibilities_are : eligibilities ≡ eligibilities_of (open_round_in house)
   pub demands_are : demands ≡ grid_of (open_round_in house)

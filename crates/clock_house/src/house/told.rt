@@ -61,11 +61,10 @@ impl<P> House<P> {
         ensures seen { ToView self.now bidder (λ view. seen_holding (public_setup self.now.setup)
             (bidder_at self.now.setup bidder) view ≡ holding_of result) }
     {
-        let holdings = self.holdings();
         Own {
             round: self.round,
-            eligibility: holdings.eligibility(bidder),
-            demands: holdings.demands(bidder),
+            eligibility: self.eligibilities[bidder as usize],
+            demands: self.demands.row(bidder as usize),
         }
     }
 

@@ -13,7 +13,7 @@ returns-clause-asked c =
     record {
       same = rw (c.in_ok-copy.ensures, c.in_ok-ties.ensures.listed) refl;
       within = increments_of_test _ c.args.increments.now (sym (rw (c.as_slice.ensures, products) at c.if-not-are_within.ensures));
-      good = closes-tested c.args.self.now (is_open c.self.view_is c.self.invariant) c.self.inside.setup.now c.as_slice.result.now
+      good = closes-tested c.args.self.now (is_open c.self.view_is c.self.invariant.1) c.self.inside.setup.now c.as_slice.result.now
           c.args.increments.now c.args.ties.now (ap (λ (round : OpenRoundFields). round.setup) c.self.view_is)
           (c.as_slice.ensures ∙ ap (λ (one : SetupFields). one.products) c.setup.view_is) (sym c.if-not-are_within.ensures) c.in_ok-ties.ensures.good;
     }

@@ -12,14 +12,14 @@ use Rattle.clock_closing.proofs.open_round.OpenRound.asked_grid.Goals as goal
 pub asked_demands-requires : goal.asked_demands-requires
 asked_demands-requires c =
     let within : c.loop-bidder.bidder < length c.args.self.now.setup.bidders = omega (arith, c.loop-bidder-test.true, c.bidders-bidder-end.ensures.each) in
-    rw (c.bids_of.ensures, c.sheet.ensures, ← c.self.view_is) (known_bids _ c.self.invariant c.loop-bidder.bidder (rw (← c.self.view_is) at within))
+    rw (c.bids_of.ensures, c.sheet.ensures, ← c.self.view_is) (known_bids _ c.self.invariant.1 c.loop-bidder.bidder (rw (← c.self.view_is) at within))
 
 pub of-requires : goal.of-requires
 of-requires c =
     let within : c.loop-bidder.bidder < length c.args.self.now.setup.bidders = omega (arith, c.loop-bidder-test.true, c.bidders-bidder-end.ensures.each) in
     let asked = rw (c.bids_of.ensures, c.sheet.ensures, ← c.self.view_is) at c.in_ok-asked.ensures in
     subst (IsRow c.self.inside.setup.now.products) (sym (c.as_slice.ensures ∙ asked))
-    (asked_row _ c.self.invariant c.loop-bidder.bidder (rw (← c.self.view_is) at within))
+    (asked_row _ c.self.invariant.1 c.loop-bidder.bidder (rw (← c.self.view_is) at within))
 
 pub loop-bidder-preserved : goal.loop-bidder-preserved
 loop-bidder-preserved c =
@@ -32,7 +32,7 @@ loop-bidder-preserved c =
     let asked = rw (c.bids_of.ensures, c.sheet.ensures) at c.in_ok-asked.ensures in
     let is : row ≡ f bidder = c.in_ok-of.ensures ∙ c.as_slice.ensures ∙ asked
     ∙ ap (λ (fields : OpenRoundFields). asked_demands (length fields.setup.products) (bids_at round.before.sheets bidder)) c.self.view_is in
-    let good : IsRow round.setup.products (f bidder) = rw (← c.self.view_is) (asked_row _ c.self.invariant bidder (rw (← c.self.view_is) at within)) in
+    let good : IsRow round.setup.products (f bidder) = rw (← c.self.view_is) (asked_row _ c.self.invariant.1 bidder (rw (← c.self.view_is) at within)) in
     record {
       asked = pushed
           ∙ ap (λ (rows : List (List ℕ)). rows ++ row ∷ []) c.loop-bidder.invariant.asked

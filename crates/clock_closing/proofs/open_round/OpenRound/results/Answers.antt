@@ -19,10 +19,10 @@ later_of inside now same is other = rw (← same) (later_by inside is other)
 
 pub post_first-posting-requires-clause-grid : goal.post_first-posting-requires-clause-grid
 post_first-posting-requires-clause-grid g c =
-    rw (c.in_ok-grid.ensures, ← c.self.view_is) (within_grid _ c.self.invariant _ (asked_within _ _ c.self.invariant.sound c.if-self-eq1.true))
+    rw (c.in_ok-grid.ensures, ← c.self.view_is) (within_grid _ c.self.invariant.1 _ (asked_within _ _ c.self.invariant.1.sound c.if-self-eq1.true))
 
 pub with_slips-requires : goal.with_slips-requires
-with_slips-requires g c = rw (c.in_ok-grid.ensures, ← c.self.view_is) (asked_within _ _ c.self.invariant.sound c.if-self-eq1.true)
+with_slips-requires g c = rw (c.in_ok-grid.ensures, ← c.self.view_is) (asked_within _ _ c.self.invariant.1.sound c.if-self-eq1.true)
 
 pub returns-then-self-eq1 : goal.returns-then-self-eq1
 returns-then-self-eq1 g c =
@@ -31,7 +31,7 @@ returns-then-self-eq1 g c =
     let number : c.self.inside.round ≡ now.before.standing.round = ap (λ (round : OpenRoundFields). round.before.standing.round) c.self.view_is in
     let first = sym number ∙ c.if-self-eq1.true in
     let setup : c.self.inside.setup.now ≡ now.setup = ap (λ (round : OpenRoundFields). round.setup) c.self.view_is in
-    let opening = (is_open c.self.view_is c.self.invariant).opening first in
+    let opening = (is_open c.self.view_is c.self.invariant.1).opening first in
     let posting = rw (c.in_ok-grid.ensures, setup) at c.post_first-posting.ensures.ok in
     let refused = rw (c.in_ok-grid.ensures, setup) at c.post_first-posting.ensures.err in
     let comes = rw c.in_ok-grid.ensures at c.with_slips.ensures in
@@ -41,18 +41,18 @@ returns-then-self-eq1 g c =
     c.post_first-posting.ensures.laws refused))
 
 pub requests-requires : goal.requests-requires
-requests-requires g c = later_of _ _ c.self.view_is c.self.invariant c.if-self-eq1.false
+requests-requires g c = later_of _ _ c.self.view_is c.self.invariant.1 c.if-self-eq1.false
 
 pub settled-requires-clause-later : goal.settled-requires-clause-later
-settled-requires-clause-later g c = later_of _ _ c.self.view_is c.self.invariant c.if-self-eq1.false
+settled-requires-clause-later g c = later_of _ _ c.self.view_is c.self.invariant.1 c.if-self-eq1.false
 
 pub post-posting-requires-clause-later : goal.post-posting-requires-clause-later
-post-posting-requires-clause-later g c = later_by _ c.self.invariant c.if-self-eq1.false
+post-posting-requires-clause-later g c = later_by _ c.self.invariant.1 c.if-self-eq1.false
 
 pub post-posting-requires-clause-changes : goal.post-posting-requires-clause-changes
 post-posting-requires-clause-changes g c =
     All-permutation (IsWithinPrices c.self.inside.prices.now) _ _ (rw (← c.self.view_is) at c.in_ok-requests.ensures.all)
-    (priced_requests _ _ c.self.invariant.sound (later_by _ c.self.invariant c.if-self-eq1.false))
+    (priced_requests _ _ c.self.invariant.1.sound (later_by _ c.self.invariant.1 c.if-self-eq1.false))
 
 pub returns : goal.returns
 returns g c =
@@ -70,8 +70,8 @@ returns g c =
     let refused = rw (c.in_ok-settled.ensures.left, c.in_ok-settled.ensures.grid, c.in_ok-requests.ensures.ordered, setup, prices)
     at c.post-posting.ensures.err in
     let comes = rw (c.into_grid.ensures, c.in_ok-settled.ensures.grid, c.in_ok-requests.ensures.ordered) at c.with_slips-2.ensures in
-    rw (result-later now.setup.products now.before ties (later_of _ _ c.self.view_is c.self.invariant c.if-self-eq1.false))
+    rw (result-later now.setup.products now.before ties (later_of _ _ c.self.view_is c.self.invariant.1 c.if-self-eq1.false))
     (comes increments result.posted (posts_by now increments result c.post-posting.result posting c.post-posting.ensures.laws refused))
 
 pub post-posting-requires-clause-grid : goal.post-posting-requires-clause-grid
-post-posting-requires-clause-grid g c = within_grid _ c.self.invariant _ (rw (← c.self.view_is) at c.in_ok-settled.ensures.within)
+post-posting-requires-clause-grid g c = within_grid _ c.self.invariant.1 _ (rw (← c.self.view_is) at c.in_ok-settled.ensures.within)

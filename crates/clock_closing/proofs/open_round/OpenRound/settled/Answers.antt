@@ -1,10 +1,79 @@
+use Rattle.std.proofs.Common.{◌≡◌, ℕ, List, ap, sym, subst, length, ◌∙◌}
+use Rattle.std.proofs.lemmas.List.{length-map}
+use Rattle.std.proofs.lemmas.Result.{IfOk-weaker}
+use Rattle.clock_bids.specs.declared.sheet.Bid.{Bid}
+use Rattle.std.specs.Prelude.{Option}
+use Rattle.clock_processor.specs.Board.{BoardFields, IsWithinEligibility, new_board}
+use Rattle.clock_processor.specs.Requests.{CanSettle}
+use Rattle.clock_processor.specs.Settlement.{SettledFields, IsSettlement, IsProperEnd}
+use Rattle.clock_terms.specs.declared.prices.PricePair.{PricePair}
+use Rattle.clock_terms.specs.Limits.{SetupFields}
+use Rattle.clock_closing.specs.Holdings.{Holding}
+use Rattle.clock_closing.specs.Closing.{settlement}
+use Rattle.clock_closing.specs.OpenRound.{OpenRoundFields, open_at}
+use Rattle.clock_closing.specs.inside.OpenRound.{eligibilities_of, grid_of}
+use Rattle.clock_closing.proofs.Held.{held_eligibilities}
 use Rattle.clock_closing.proofs.OpenRounds.{before_within, can_settle}
+use Rattle.clock_closing.proofs.Steps.{is_open}
 use Rattle.clock_closing.proofs.open_round.OpenRound.settled.Goals as goal
 
+-- a board of the lists that are lent is that of what is held
+module _ (setup : SetupFields) (number : ℕ) (prices : List PricePair) (eligibilities : List ℕ) (demands : List (List ℕ)) (sheets : List (Option (List Bid)))
+    (many : length demands ≡ length eligibilities) where
+  held_board : (round : OpenRoundFields) (board : BoardFields) (grid : List (List ℕ)) → open_at setup number prices eligibilities demands sheets ≡ round →
+      board ≡ new_board setup.products eligibilities grid → grid ≡ grid_of round.before →
+      board ≡ new_board round.setup.products (eligibilities_of round.before) (grid_of round.before)
+  held_board round board grid same is are =
+      is
+      ∙ ap (λ (list : List ℕ). new_board setup.products list grid) (held_eligibilities eligibilities demands many)
+      ∙ ap (λ (one : OpenRoundFields). new_board one.setup.products (eligibilities_of one.before) grid) same
+      ∙ ap (new_board round.setup.products (eligibilities_of round.before)) are
+
+pub on-requires-clause-bidders : goal.on-requires-clause-bidders
+on-requires-clause-bidders g c =
+    rw (c.in_ok-grid.ensures, ← c.self.view_is)
+    (length-map _ (λ (held : Holding). held.demands) ∙ c.self.invariant.1.holdings)
+
 pub on-requires-clause-within : goal.on-requires-clause-within
-on-requires-clause-within g c = rw (c.in_ok-eligibilities.ensures, c.in_ok-grid.ensures) (before_within _ _ c.self.invariant.sound)
+on-requires-clause-within g c =
+    let grid = rw (← c.self.view_is) at c.in_ok-grid.ensures in
+    subst (λ (list : List ℕ). IsWithinEligibility c.self.inside.setup.now.products list c.in_ok-grid.grid)
+    (sym (held_eligibilities c.self.inside.eligibilities.now c.self.inside.demands.now c.self.invariant.0))
+    (rw grid (before_within _ _ c.self.invariant.1.sound))
 
 pub settle-requires : goal.settle-requires
 settle-requires g c =
-    rw (c.in_ok-board.ensures, c.in_ok-eligibilities.ensures, c.in_ok-grid.ensures)
-    (can_settle _ _ c.self.invariant.sound (rw (← c.self.view_is) at c.requires.later) _ (rw (← c.self.view_is) at c.requires.requests))
+    let board = held_board _ _ _ _ _ _ c.self.invariant.0 c.args.self.now c.in_ok-board.board c.in_ok-grid.grid c.self.view_is c.in_ok-board.ensures
+    c.in_ok-grid.ensures in
+    subst (λ (one : BoardFields). CanSettle one c.args.requests.now) (sym board)
+    (can_settle _ _ (is_open c.self.view_is c.self.invariant.1).sound c.requires.later _ c.requires.requests)
+
+pub returns-clause-grid : goal.returns-clause-grid
+returns-clause-grid g c =
+    let board = held_board _ _ _ _ _ _ c.self.invariant.0 c.args.self.now c.in_ok-board.board c.in_ok-grid.grid c.self.view_is c.in_ok-board.ensures
+    c.in_ok-grid.ensures in
+    let settles = rw board at c.settle.ensures.settlement in
+    let now = c.args.self.now in
+    IfOk-weaker c.settle.result
+    (IsSettlement (new_board now.setup.products (eligibilities_of now.before) (grid_of now.before)) c.args.requests.now)
+    (λ (settled : SettledFields). settled.grid ≡ (settlement now.setup.products now.before c.args.requests.now).grid) (λ settled is. is.grid) settles
+
+pub returns-clause-left : goal.returns-clause-left
+returns-clause-left g c =
+    let board = held_board _ _ _ _ _ _ c.self.invariant.0 c.args.self.now c.in_ok-board.board c.in_ok-grid.grid c.self.view_is c.in_ok-board.ensures
+    c.in_ok-grid.ensures in
+    let settles = rw board at c.settle.ensures.settlement in
+    let now = c.args.self.now in
+    IfOk-weaker c.settle.result
+    (IsSettlement (new_board now.setup.products (eligibilities_of now.before) (grid_of now.before)) c.args.requests.now)
+    (λ (settled : SettledFields). settled.left ≡ (settlement now.setup.products now.before c.args.requests.now).left) (λ settled is. is.left) settles
+
+pub returns-clause-within : goal.returns-clause-within
+returns-clause-within g c =
+    let board = held_board _ _ _ _ _ _ c.self.invariant.0 c.args.self.now c.in_ok-board.board c.in_ok-grid.grid c.self.view_is c.in_ok-board.ensures
+    c.in_ok-grid.ensures in
+    let ends = rw board at c.settle.ensures.proper in
+    let now = c.args.self.now in
+    IfOk-weaker c.settle.result
+    (IsProperEnd (new_board now.setup.products (eligibilities_of now.before) (grid_of now.before)) c.args.requests.now)
+    (λ (settled : SettledFields). IsWithinEligibility now.setup.products (eligibilities_of now.before) settled.grid) (λ settled is. is.within) ends

@@ -1,18 +1,21 @@
-use Rattle.std.proofs.Common.{◌≡◌, ℕ, List, [], ◌∷◌, ◌++◌, Bool, true, refl, ap, sym, subst, ◌∙◌, arith}
+use Rattle.std.proofs.Common.{◌≡◌, ℕ, List, [], ◌∷◌, ◌++◌, Bool, true, refl, ap, sym, subst, ◌∙◌, arith, length}
 use Rattle.std.specs.Prelude.{Option, None, map, reverse, is_ok, if◌then◌else◌}
 use Rattle.std.specs.List.{range_with_len}
 use Rattle.std.proofs.lemmas.List.{reverse-append}
 use Rattle.clock_terms.specs.Limits.{IsSetup}
 use Rattle.clock_bids.specs.declared.sheet.Bid.{Bid}
 use Rattle.clock_house.specs.Command.{close}
-use Rattle.clock_closing.specs.Results.{demands_of}
+use Rattle.clock_closing.specs.declared.closed_round.Slip.{Slip}
+use Rattle.clock_closing.specs.inside.OpenRound.{eligibilities_of}
 use Rattle.clock_house.specs.Standing.{Holding, standing_after}
-use Rattle.clock_house.specs.History.{ClosedRound, standing, holding, for_each_bidder}
+use Rattle.clock_house.specs.History.{ClosedRound, standing}
 use Rattle.clock_house.specs.House.{HouseFields, StandsFor, standing_in}
+use Rattle.clock_house.specs.inside.OpenRounds.{open_round_in}
+use Rattle.clock_house.proofs.InHouse.{many_eligibilities}
 use Rattle.clock_house.proofs.Kept.{stands_sheets, stands_sound}
 use Rattle.clock_house.proofs.Bounds.{round_bounded}
 use Rattle.clock_house.proofs.Closes.{close-accepted, fits_like, closed_number, closed_slips, taken_prices}
-use Rattle.clock_house.proofs.Rows.{next_demands}
+use Rattle.clock_house.proofs.Rows.{next_held}
 use Rattle.clock_house.proofs.house.House.commit.Goals as goal
 
 pub round_after-self-inside-requires : goal.round_after-self-inside-requires
@@ -27,6 +30,16 @@ round_after-self-inside-requires g c =
       round_bounded c.args.self.now.setup.products (standing_in c.args.self.now) limits.product_count.1
           ((stands_sound c.args.self.now limits c.self.invariant.commands stands).priced number.0),
     )
+
+pub take_eligibilities-requires : goal.take_eligibilities-requires
+take_eligibilities-requires g c =
+    let slips = closed_slips c.args.self.now c.args.prepared.round c.args.prepared.increments c.args.prepared.ties c.args.prepared.closed c.requires.fits in
+    let are = subst (λ (house : HouseFields). c.self.inside.eligibilities ≡ eligibilities_of (open_round_in house)) c.self.view_is
+    c.self.invariant.eligibilities_are in
+    ap length c.as_slice.ensures
+    ∙ ap (λ (one : ClosedRound). length one.slips) c.into_results-closed.ensures.closed
+    ∙ slips
+    ∙ sym (many_eligibilities c.args.self.now c.self.inside.eligibilities are)
 
 pub unwrap-requires : goal.unwrap-requires
 unwrap-requires g c = c.push.ensures.succeeds (omega (arith, (rw (← c.self.view_is) at c.requires.room)))
@@ -48,7 +61,7 @@ invariant_of-self g c =
     (c.push.ensures.succeeds (omega (arith, (rw (← c.self.view_is) at c.requires.room)))) c.push.ensures.items done in
     let none = c.clear.ensures ∙ ap (λ (n : ℕ). map (λ (bidder : ℕ). let sheet : Option (List Bid) = None in sheet) (range_with_len 0 n))
     (stands_sheets _ c.self.invariant.commands c.self.invariant.stands) in
-    let at = λ (closed : List ClosedRound). standing c.self.inside.setup.products closed in
+    let slips = closed_slips house asked.round asked.increments asked.ties asked.closed fits in
     record {
       limits = c.self.invariant.limits;
       commands = close asked.round asked.increments asked.ties ∷ c.self.invariant.commands;
@@ -64,14 +77,10 @@ invariant_of-self g c =
           c.into_results-closed.ensures.consistent.end c.into_results-closed.ensures.consistent.shown
           ∙ ap (λ (one : ClosedRound). (standing_after one.sheet).prices) done
           ∙ sym (ap (λ (closed : List ClosedRound). (standing c.self.inside.setup.products closed).prices) added);
-      demands_are =
-          c.replace.ensures.after
-          ∙ c.into_results-closed.ensures.consistent.demands
-          ∙ ap (λ (one : ClosedRound). demands_of one.slips) done
-          ∙ next_demands c.self.inside.setup asked.closed (reverse c.self.inside.rounds.items)
-          (closed_slips house asked.round asked.increments asked.ties asked.closed fits)
-          ∙ sym (ap (λ (closed : List ClosedRound). map (λ (held : Holding). held.demands)
-          (for_each_bidder c.self.inside.setup (holding c.self.inside.setup closed))) added);
+      eligibilities_are = next_held c.self.inside.setup (λ (held : Holding). held.eligibility) 0 _ results.closed asked.closed _ _
+          (c.take_eligibilities.ensures ∙ ap (map (λ (slip : Slip). slip.eligibility)) c.as_slice.ensures) done slips added;
+      demands_are = next_held c.self.inside.setup (λ (held : Holding). held.demands) [] _ results.closed asked.closed _ _
+          (c.replace.ensures.after ∙ c.into_results-closed.ensures.consistent.demands) done slips added;
     }
 
 pub returns-clause-closed : goal.returns-clause-closed

@@ -22,6 +22,7 @@ invariant_of-self g c =
       ended_is = c.self.invariant.ended_is;
       round_is = c.self.invariant.round_is;
       prices_are = c.self.invariant.prices_are;
+      eligibilities_are = c.self.invariant.eligibilities_are;
       demands_are = c.self.invariant.demands_are;
     }
 

@@ -1,5 +1,5 @@
 use Rattle.std.proofs.Common.{[], ◌∙◌, refl}
-use Rattle.clock_house.proofs.Rows.{first_demands}
+use Rattle.clock_house.proofs.Rows.{first_eligibilities, first_demands}
 use Rattle.clock_house.proofs.house.House.new.Goals as goal
 
 pub invariant_of-result : goal.invariant_of-result
@@ -12,5 +12,6 @@ invariant_of-result g c =
       ended_is = refl;
       round_is = refl;
       prices_are = λ going. c.in-Ok.ensures.prices;
+      eligibilities_are = c.in-Ok.ensures.eligibilities ∙ first_eligibilities c.args.setup;
       demands_are = c.in-Ok.ensures.demands ∙ first_demands c.args.setup;
     })

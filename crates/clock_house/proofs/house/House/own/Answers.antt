@@ -1,24 +1,32 @@
-use Rattle.std.proofs.Common.{◌≡◌, ap, sym, ◌∙◌, arith}
-use Rattle.clock_house.specs.Standing.{Standing, Holding}
-use Rattle.clock_house.specs.House.{holding_in}
-use Rattle.clock_house.proofs.InHouse.{in-many, in-held}
+use Rattle.std.proofs.Common.{◌≡◌, ℕ, List, get_or, length, ap, sym, subst, ◌∙◌, arith}
+use Rattle.clock_closing.specs.inside.OpenRound.{eligibilities_of, grid_of}
+use Rattle.clock_house.specs.Standing.{Standing}
+use Rattle.clock_house.specs.House.{HouseFields}
+use Rattle.clock_house.specs.inside.OpenRounds.{open_round_in}
+use Rattle.clock_house.proofs.InHouse.{many_eligibilities, many_demands, own_eligibility, own_demands}
 use Rattle.clock_house.proofs.Kept.{stands_sound}
 use Rattle.clock_house.proofs.Seen.{standing_seen, holding_seen}
 use Rattle.clock_house.proofs.house.House.own.Goals as goal
 
-pub eligibility-requires : goal.eligibility-requires
-eligibility-requires g c = rw c.holdings-holdings.ensures (omega (arith, c.requires, in-many c.args.self.now))
+pub bounds-deref-bidder : goal.bounds-deref-bidder
+bounds-deref-bidder g c =
+    let are = subst (λ (house : HouseFields). c.self.inside.eligibilities ≡ eligibilities_of (open_round_in house)) c.self.view_is
+    c.self.invariant.eligibilities_are in
+    omega (arith, ap length c.deref.ensures, many_eligibilities c.args.self.now c.self.inside.eligibilities are, c.requires)
 
-pub demands-requires : goal.demands-requires
-demands-requires g c = rw c.holdings-holdings.ensures (omega (arith, c.requires, in-many c.args.self.now))
+pub row-requires : goal.row-requires
+row-requires g c =
+    let are = subst (λ (house : HouseFields). c.self.inside.demands ≡ grid_of (open_round_in house)) c.self.view_is c.self.invariant.demands_are in
+    omega (arith, many_demands c.args.self.now c.self.inside.demands are, c.requires)
 
 pub returns : goal.returns
 returns g c =
-    let held = in-held c.args.self.now c.args.bidder c.requires in
-    let eligibility : c.eligibility.result ≡ (holding_in c.args.self.now c.args.bidder).eligibility =
-    (rw c.holdings-holdings.ensures at c.eligibility.ensures) ∙ ap (λ (one : Holding). one.eligibility) held in
-    let demands : c.demands.result.now ≡ (holding_in c.args.self.now c.args.bidder).demands =
-    (rw c.holdings-holdings.ensures at c.demands.ensures) ∙ ap (λ (one : Holding). one.demands) held in
+    let eligibilities = subst (λ (house : HouseFields). c.self.inside.eligibilities ≡ eligibilities_of (open_round_in house)) c.self.view_is
+    c.self.invariant.eligibilities_are in
+    let grid = subst (λ (house : HouseFields). c.self.inside.demands ≡ grid_of (open_round_in house)) c.self.view_is c.self.invariant.demands_are in
+    let eligibility = ap (λ (list : List ℕ). get_or list c.args.bidder 0) c.deref.ensures
+    ∙ own_eligibility c.args.self.now c.self.inside.eligibilities eligibilities c.args.bidder c.requires in
+    let demands = c.row.ensures ∙ own_demands c.args.self.now c.self.inside.demands grid c.args.bidder c.requires in
     let within = (stands_sound _ c.self.invariant.limits c.self.invariant.commands c.self.invariant.stands).within c.args.bidder
     (rw (← c.self.view_is) at c.requires) in
     record {
