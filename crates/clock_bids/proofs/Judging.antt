@@ -1,5 +1,5 @@
--- One bid more is judged by the last one before it for its product.
-use Rattle.std.proofs.Common.{◌≡◌, ℕ, ◌+◌, ◌*◌, ◌<◌, ◌≤◌, List, length, take, refl, ap, ◌∙◌, sym, arith, get_or}
+-- How far the bids of a sheet are judged, and one bid more by the last one before it for its product.
+use Rattle.std.proofs.Common.{◌≡◌, ℕ, ◌+◌, ◌*◌, ◌<◌, ◌≤◌, List, length, take, drop, refl, ap, ◌∙◌, sym, arith, get_or}
 use Rattle.std.specs.Prelude.{Option, Some, None}
 use Rattle.std.proofs.lemmas.List.{get_or_default, take_all, drop_all}
 use Rattle.clock_terms.specs.declared.setup.Product.{Product}
@@ -12,11 +12,18 @@ use Rattle.clock_bids.specs.declared.sheet.Bid.{Bid}
 use Rattle.clock_bids.specs.declared.sheet.BidFault.{BidFault}
 use Rattle.clock_bids.specs.Sheet.{asked_demands, bid_checks}
 use Rattle.clock_bids.specs.inside.Parts.{checks_of_bids}
-use Rattle.clock_bids.specs.inside.Chains.{last_bids, quantity_of, checks_by_last}
-use Rattle.clock_bids.specs.inside.Judging.{AreJudged}
+use Rattle.clock_bids.specs.inside.Chains.{AreGoodChains, last_bids, quantity_of, checks_by_last}
 use Rattle.clock_bids.proofs.Tables.{no_bid}
 use Rattle.clock_bids.proofs.Good.{no_activity, good_chains-nil, judged_by, good_chains-more, known_here}
 use Rattle.clock_bids.proofs.Activity.{held_least, taken_more, units_read}
+
+-- the bids before a place are good and ask for so much activity, and the bids ahead decide the first fault
+pub record AreJudged (products : List Product) (prices : List PricePair) (demands : List ℕ) (bids : List Bid) (place taken : ℕ) : Type 0 where
+  pub good : AreGoodChains products prices demands (take place bids)
+  pub taken_is : taken ≡ activity products (asked_demands (length products) (take place bids))
+  pub small : taken ≤ most_units * most_supply * place
+  pub ahead : first_fault (in_turn (λ i bid. bid_checks products prices demands (take i bids) i bid) place (drop place bids))
+      ≡ first_fault (checks_of_bids products prices demands bids)
 
 -- no bid is judged at first
 pub none_judged : (products : List Product) (prices : List PricePair) (demands : List ℕ) (bids : List Bid) → AreJudged products prices demands bids 0 0

@@ -2,10 +2,9 @@
 use Rattle.std.proofs.Common.{◌≡◌, ℕ, ◌+◌, ◌<◌, ◌≤◌, List, [], ◌==◌, false, map, length, replicate, take, inl, inr, ap, sym, subst, ◌∙◌, arith, get_or, set, All}
 use Rattle.std.specs.Prelude.{Option, Some, None}
 use Rattle.std.proofs.lemmas.Bool.{cases_lt, ne_eqb}
-use Rattle.std.proofs.lemmas.List.{get_or-take, get_or_past, length-take-le, length-replicate, length-set, map-set}
-use Rattle.std.proofs.lemmas.List.Elements.{All-weaker}
+use Rattle.std.proofs.lemmas.List.{get_or-take, get_or_past, length-take-le, take_more, length-replicate, length-set, map-set}
+use Rattle.std.proofs.lemmas.List.Elements.{All-push, All-weaker}
 use Rattle.std.proofs.lemmas.List.FromFn.{get_or-map-range_with_len, length-map-range_with_len}
-use Rattle.clock_terms.specs.declared.setup.Product.{Product}
 use Rattle.clock_bids.specs.declared.sheet.Bid.{Bid}
 use Rattle.clock_bids.specs.Sheet.{chain_of}
 use Rattle.clock_bids.specs.inside.Chains.{bid_at, last_of, last_bids}
@@ -58,9 +57,15 @@ last_places-more products bids i places within known kept =
     }
 
 -- what is read at a product's place is its last bid
-pub last_read : (list seen : List Product) (bids : List Bid) (i : ℕ) (places slice : List ℕ) (product : ℕ) (last : Option Bid) → seen ≡ list →
-    AreLastPlaces (length list) bids i places → slice ≡ places → last ≡ get_or (map (bid_at bids) slice) product None →
-    last ≡ get_or (last_bids (length seen) (take i bids)) product None
-last_read list seen bids i places slice product last same kept is read =
+pub last_read : (products : ℕ) (bids : List Bid) (i : ℕ) (places slice : List ℕ) (product : ℕ) (last : Option Bid) → AreLastPlaces products bids i places →
+    slice ≡ places → last ≡ get_or (map (bid_at bids) slice) product None → last ≡ get_or (last_bids products (take i bids)) product None
+last_read products bids i places slice product last kept is read =
     read ∙ ap (λ (xs : List ℕ). get_or (map (bid_at bids) xs) product None) is ∙ ap (λ entries. get_or entries product None) kept.table
-    ∙ ap (λ (ps : List Product). get_or (last_bids (length ps) (take i bids)) product None) (sym same)
+
+-- one place further: all bids stay below a number that is no less than before, and above the bid there
+pub below_more : (bids : List Bid) (i least next : ℕ) → i < length bids → least ≤ next → (get_or bids i no_bid).product < next →
+    All (λ bid. bid.product < least) (take i bids) → All (λ bid. bid.product < next) (take (i + 1) bids)
+below_more bids i least next within more high below =
+    subst (λ (list : List Bid). All (λ bid. bid.product < next) list) (sym (take_more bids i no_bid within))
+    (All-push (λ (bid : Bid). bid.product < next) (take i bids) (get_or bids i no_bid)
+    (All-weaker (λ (bid : Bid). bid.product < least) (λ (bid : Bid). bid.product < next) (λ bid low. omega (arith, low, more)) (take i bids) below) high)

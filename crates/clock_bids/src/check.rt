@@ -1,12 +1,11 @@
 ghost use Rattle.std.specs.Prelude.{◌≡◌, ◌<◌, ◌≤◌, ◌+◌, ◌*◌, Some, None, length, map, take, slice_index_or, All, Err, OnOk, IfOk, IfErr};
-ghost use Rattle.std.specs.List.Sorted.{IsNonDecreasingBy};
+ghost use Rattle.std.specs.Option.{option_copied};
 ghost use Rattle.clock_terms.specs.Limits.{IsRow, most_supply, most_units, public_setup};
 ghost use Rattle.clock_terms.specs.Faults.{first_fault, IsFirstFault};
 ghost use Rattle.clock_terms.specs.Eligibility as eligibilities;
 ghost use Rattle.clock_bids.specs.Holding.{holding_of};
 ghost use Rattle.clock_bids.specs.inside.Parts.{checks_of_bids};
 ghost use Rattle.clock_bids.specs.Sheet.{IsGoodSheet, asked_demands, most_bids, sheet_fault};
-ghost use Rattle.clock_bids.specs.inside.Judging.{AreJudged};
 ghost use Rattle.clock_bids.specs.inside.Chains.{bid_at, checks_by_last, quantity_of, step_checks};
 ghost use Rattle.clock_bids.specs.inside.LastBids.{AreLastPlaces};
 
@@ -100,11 +99,11 @@ fn judge_sheet(
     Ok(())
 }
 
-/// Judges each bid by the last one before it for the same product; the first bids, whose products rise, have none. The
-/// place of each product's last bid is kept from the first bid on that is for no higher product than the one before it:
-/// nearly all sheets have none. Where the earlier bids are good, their prices rise and their quantities move one way,
-/// so that the last one tells whether the next price is higher and the next step goes on. Good bids ask for demands
-/// that take so many bidding units.
+/// Judges each bid by the last one before it for the same product. A bid for a higher product than all before it has
+/// none, and nearly all bids are such: places of last bids are made for the others alone, and no memory is taken before
+/// one comes. Where the earlier bids are good, their prices rise and their quantities move one way, so that the last
+/// one tells whether the next price is higher and the next step goes on. Good bids ask for demands that take so many
+/// bidding units.
 fn judge(
     alloc: Global,
     setup: &Setup,
@@ -121,77 +120,38 @@ fn judge(
     ensures fault { IfErr result (IsFirstFault BidFault.NoMemory
         (first_fault (checks_of_bids setup.now.products prices.now demands.now bids.now))) }
 {
-    let risen = judge_rising(setup, prices, demands, bids)?;
-    if risen.count == bids.len() {
-        return Ok(risen.taken);
-    }
-    let products = setup.products.as_slice();
-    let mut places = last_places(alloc, bids, products.len(), risen.count)?;
-    let mut near = 0;
-    let mut taken = risen.taken;
-    for i in risen.count..bids.len() {
-        let bid = bids[i];
-        let last = last_bid(bids, places.as_slice(), bid.product);
-        if let Some(fault) = bid_fault(products, prices, demands, &mut near, last, i as u64, &bid) {
-            return Err(fault);
-        }
-        let product = bid.product as usize;
-        taken = taken_with(taken, products[product].units, last, bid.quantity);
-        places[product] = i as u16 + 1;
-    }
-    Ok(taken)
-}
-
-/// How far bids are judged: so many, which ask for demands that take so many bidding units.
-#[derive(Clone, Copy)]
-struct Judged {
-    count: usize,
-    taken: u64,
-}
-
-/// Judges the first bids, as far as each is for a higher product than those before it: none has an earlier one for its
-/// product. These are nearly all bids.
-fn judge_rising(
-    setup: &Setup,
-    prices: &[PricePair],
-    demands: &Row,
-    bids: &[Bid],
-) -> Result<Judged, BidFault>
-    requires prices { length prices.now ≡ length setup.now.products }
-    requires demands { IsRow setup.now.products demands.now }
-    requires few { length bids.now ≤ most_bids }
-    ensures bound { IfOk result (λ risen. risen.count ≤ length bids.now) }
-    ensures judged { IfOk result (λ risen. AreJudged setup.now.products prices.now demands.now bids.now risen.count risen.taken) }
-    ensures rising { IfOk result (λ risen. IsNonDecreasingBy (λ bid. bid.product) (take risen.count bids.now)) }
-    ensures fault { IfErr result (λ fault. first_fault (checks_of_bids setup.now.products prices.now demands.now bids.now)
-        ≡ Some fault) }
-{
     let products = setup.products.as_slice();
     let mut near = 0;
     let mut taken: u64 = 0;
     let mut least: u64 = 0;
+    let mut kept = 0;
+    let mut places = Vec::new(alloc);
     for (i, bid) in bids.iter().enumerate() {
-        if bid.product < least {
-            return Ok(Judged { count: i, taken });
-        }
-        if let Some(fault) = bid_fault(products, prices, demands, &mut near, None, i as u64, bid) {
+        let last = if bid.product < least {
+            places = last_places(alloc, places, bids, products.len(), kept, i)?;
+            kept = i;
+            last_bid(bids, places.as_slice(), bid.product)
+        } else {
+            // The highest number of all has no next one, but is no product's: its bid is refused below.
+            least = bid.product.wrapping_add(1);
+            None
+        };
+        if let Some(fault) = bid_fault(products, prices, demands, &mut near, last, i as u64, bid) {
             return Err(fault);
         }
         let units = products[bid.product as usize].units;
-        taken = taken_with(taken, units, None, bid.quantity);
-        least = bid.product + 1;
+        taken = taken_with(taken, units, last, bid.quantity);
     }
-    let count = bids.len();
-    Ok(Judged { count, taken })
+    Ok(taken)
 }
 
 /// The bidding units that demands take once a quantity stands in the place of the last bid's.
-fn taken_with(taken: u64, units: u64, last: Option<Bid>, quantity: u64) -> u64
+fn taken_with(taken: u64, units: u64, last: Option<&Bid>, quantity: u64) -> u64
     requires limit { taken ≤ most_bids * (most_units * most_supply) }
     requires units { units ≤ most_units }
     requires quantity { quantity ≤ most_supply }
-    requires held { units * quantity_of last ≤ taken }
-    ensures exact { result + units * quantity_of last ≡ taken + units * quantity }
+    requires held { units * quantity_of (option_copied last) ≤ taken }
+    ensures exact { result + units * quantity_of (option_copied last.entry) ≡ taken + units * quantity }
     ensures most { result ≤ taken + most_units * most_supply }
 {
     match last {
@@ -201,32 +161,39 @@ fn taken_with(taken: u64, units: u64, last: Option<Bid>, quantity: u64) -> u64
 }
 
 /// For each product the place of the last bid for it, of those before a place, counted from 1 on, or 0 where there is
-/// none.
-#[inline(never)]
+/// none. The bids before an earlier place, which is 0 at first, are in these places already. Told that this is cold,
+/// LLVM keeps what rising bids need in registers.
+#[cold]
 fn last_places(
     alloc: Global,
+    mut places: Vec<u16>,
     bids: &[Bid],
     products: usize,
+    kept: usize,
     place: usize,
 ) -> Result<Vec<u16>, NoMemory>
     requires few { length bids.now ≤ most_bids }
+    requires order { kept ≤ place }
     requires place { place ≤ length bids.now }
     requires known { All (λ bid. bid.product < products) (take place bids.now) }
+    requires kept { 0 < kept → AreLastPlaces products bids.now kept places.items }
     ensures { IfOk result (λ places. AreLastPlaces products bids.now place places.items) }
 {
-    let mut places = vec![in alloc; 0; products]?;
-    for i in 0..place {
+    if kept == 0 {
+        places = vec![in alloc; 0; products]?;
+    }
+    for i in kept..place {
         places[bids[i].product as usize] = i as u16 + 1;
     }
     Ok(places)
 }
 
 /// The last bid for a product, by such places, if any.
-fn last_bid(bids: &[Bid], places: &[u16], product: u64) -> Option<Bid>
-    ensures { result ≡ slice_index_or (map (bid_at bids.now) places.now) product None }
+fn last_bid<'a>(bids: &'a [Bid], places: &[u16], product: u64) -> Option<&'a Bid>
+    ensures { option_copied result ≡ slice_index_or (map (bid_at bids.entry.now) places.now) product None }
 {
     let place = *places.get(product as usize)?;
-    bids.get((place as usize).checked_sub(1)?).copied()
+    bids.get((place as usize).checked_sub(1)?)
 }
 
 /// The fault of the bid at a place of the sheet, by the last bid before it for the same product. Most sheets stand by
@@ -236,13 +203,13 @@ fn bid_fault(
     prices: &[PricePair],
     demands: &Row,
     near: &mut usize,
-    last: Option<Bid>,
+    last: Option<&Bid>,
     place: u64,
     bid: &Bid,
 ) -> Option<BidFault>
     requires prices { length prices.now ≡ length products.now }
     requires demands { IsRow products.now demands.now }
-    ensures { result ≡ first_fault (checks_by_last products.now prices.now demands.now last place bid.now) }
+    ensures { result ≡ first_fault (checks_by_last products.now prices.now demands.now (option_copied last.entry) place bid.now) }
 {
     if bid.product >= products.len() as u64 {
         return Some(BidFault::UnknownProduct(place));
@@ -261,8 +228,8 @@ fn bid_fault(
 
 /// The fault of a bid's step from the last bid before it for the same product, or where there is
 /// none from the demand held.
-fn step_fault(last: Option<Bid>, held: u64, clock: u64, place: u64, bid: &Bid) -> Option<BidFault>
-    ensures { result ≡ first_fault (step_checks last held clock place bid.now) }
+fn step_fault(last: Option<&Bid>, held: u64, clock: u64, place: u64, bid: &Bid) -> Option<BidFault>
+    ensures { result ≡ first_fault (step_checks (option_copied last.entry) held clock place bid.now) }
 {
     let Some(last) = last else {
         let kept_below = bid.quantity == held && bid.price != clock;

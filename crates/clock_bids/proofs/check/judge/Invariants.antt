@@ -1,11 +1,13 @@
-use Rattle.std.proofs.Common.{length}
-use Rattle.clock_bids.specs.inside.Judging.{AreJudged}
+use Rattle.std.proofs.Common.{◌≤◌, ◌<◌, length, take, All}
+use Rattle.clock_bids.proofs.Judging.{AreJudged}
 use Rattle.clock_bids.specs.inside.LastBids.{AreLastPlaces}
 use Rattle.clock_bids.proofs.check.judge.Given as goal
 
--- the bids so far are judged, and the places tell the last of them for each product
+-- the bids so far are judged and for products below the least one, and places of the last ones are kept for those up to one
 abbrev pub invariant-loop-i : goal.invariant-loop-i
 invariant-loop-i l = record {
   judged : AreJudged l.setup.products l.prices l.demands l.bids l.i l.taken;
-  kept : AreLastPlaces (length l.setup.products) l.bids l.i l.places.items;
+  below : All (λ bid. bid.product < l.least) (take l.i l.bids);
+  order : l.kept ≤ l.i;
+  kept : 0 < l.kept → AreLastPlaces (length l.setup.products) l.bids l.kept l.places.items;
 }
