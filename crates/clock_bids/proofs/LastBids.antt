@@ -1,10 +1,11 @@
 -- The last bid before a place for a product.
-use Rattle.std.proofs.Common.{◌≡◌, ℕ, ◌+◌, ◌<◌, ◌≤◌, List, [], ◌==◌, false, map, length, replicate, take, inl, inr, ap, sym, subst, ◌∙◌, arith, get_or, set, All}
+use Rattle.std.proofs.Common.{◌≡◌, ℕ, ◌+◌, ◌<◌, ◌≤◌, List, [], ◌==◌, false, map, length, replicate, take, inl, inr, ap, ap₂, sym, subst, ◌∙◌, arith, get_or, set, All}
 use Rattle.std.specs.Prelude.{Option, Some, None}
 use Rattle.std.proofs.lemmas.Bool.{cases_lt, ne_eqb}
-use Rattle.std.proofs.lemmas.List.{get_or-take, get_or_past, length-take-le, take_more, length-replicate, length-set, map-set}
+use Rattle.std.proofs.lemmas.List.{get_or-set_same, get_or-take, get_or_past, length-take-le, take_more, length-replicate, length-set, map-set}
 use Rattle.std.proofs.lemmas.List.Elements.{All-push, All-weaker}
 use Rattle.std.proofs.lemmas.List.FromFn.{get_or-map-range_with_len, length-map-range_with_len}
+use Rattle.clock_terms.specs.declared.setup.Product.{Product}
 use Rattle.clock_bids.specs.declared.sheet.Bid.{Bid}
 use Rattle.clock_bids.specs.Sheet.{chain_of}
 use Rattle.clock_bids.specs.inside.Chains.{bid_at, last_of, last_bids}
@@ -28,6 +29,11 @@ none_below products least product bids below high =
     (filter_none (λ (bid : Bid). bid.product == product) bids
     (All-weaker (λ (bid : Bid). bid.product < least) (λ (bid : Bid). (bid.product == product) ≡ false)
     (λ bid low. ne_eqb bid.product product (λ e. omega (arith, e, low, high))) bids below))
+
+-- bids for products are for those of a list that is the same
+pub known_all : (products seen : List Product) (bids : List Bid) → seen ≡ products → All (λ bid. bid.product < length products) bids →
+    All (λ bid. bid.product < length seen) bids
+known_all products seen bids same known = subst (λ (list : List Product). All (λ bid. bid.product < length list) bids) (sym same) known
 
 -- each bid before a place is for a product
 pub known_at : (products : ℕ) (bids : List Bid) (place i : ℕ) → place ≤ length bids → All (λ bid. bid.product < products) (take place bids) → i < place →
@@ -69,3 +75,18 @@ below_more bids i least next within more high below =
     subst (λ (list : List Bid). All (λ bid. bid.product < next) list) (sym (take_more bids i no_bid within))
     (All-push (λ (bid : Bid). bid.product < next) (take i bids) (get_or bids i no_bid)
     (All-weaker (λ (bid : Bid). bid.product < least) (λ (bid : Bid). bid.product < next) (λ bid low. omega (arith, low, more)) (take i bids) below) high)
+
+-- the bid right before a place is the last one for its product, of those before the place
+pub last_before : (products product place i : ℕ) (bids : List Bid) (before : Bid) → place ≡ i + 1 → i < length bids → before ≡ get_or bids i no_bid →
+    before.product ≡ product → All (λ bid. bid.product < products) (take place bids)
+    → Some before ≡ get_or (last_bids products (take place bids)) product None
+last_before products product place i bids before from within is same all =
+    let bid = get_or bids i no_bid in
+    let here : bid.product ≡ product = ap (λ (b : Bid). b.product) (sym is) ∙ same in
+    let known : bid.product < products = known_at products bids place i (omega (arith, from, within)) all (omega (arith, from)) in
+    let earlier = last_bids products (take i bids) in
+    let each : length earlier ≡ products = length-map-range_with_len (λ p. last_of (chain_of p (take i bids))) 0 products in
+    ap Some is
+    ∙ sym (ap (λ entries. get_or entries bid.product None) (last_bids-more products bids i within known)
+    ∙ get_or-set_same earlier bid.product (Some bid) None (omega (arith, known, each)))
+    ∙ ap₂ (λ (n p : ℕ). get_or (last_bids products (take n bids)) p None) (sym from) here

@@ -1,4 +1,4 @@
-ghost use Rattle.std.specs.Prelude.{◌≡◌, ◌<◌, ◌≤◌, ◌+◌, ◌*◌, Some, None, length, map, take, slice_index_or, All, Err, OnOk, IfOk, IfErr};
+ghost use Rattle.std.specs.Prelude.{◌≡◌, ◌<◌, ◌≤◌, ◌+◌, ◌*◌, ℕ, Some, None, length, map, take, slice_index_or, All, Err, OnOk, OnSome, IfOk, IfErr};
 ghost use Rattle.std.specs.Option.{option_copied};
 ghost use Rattle.clock_terms.specs.Limits.{IsRow, most_supply, most_units, public_setup};
 ghost use Rattle.clock_terms.specs.Faults.{first_fault, IsFirstFault};
@@ -6,7 +6,7 @@ ghost use Rattle.clock_terms.specs.Eligibility as eligibilities;
 ghost use Rattle.clock_bids.specs.Holding.{holding_of};
 ghost use Rattle.clock_bids.specs.inside.Parts.{checks_of_bids};
 ghost use Rattle.clock_bids.specs.Sheet.{IsGoodSheet, asked_demands, most_bids, sheet_fault};
-ghost use Rattle.clock_bids.specs.inside.Chains.{bid_at, checks_by_last, quantity_of, step_checks};
+ghost use Rattle.clock_bids.specs.inside.Chains.{bid_at, checks_by_last, last_bids, quantity_of, step_checks};
 ghost use Rattle.clock_bids.specs.inside.LastBids.{AreLastPlaces};
 
 use crate::sheet::{Bid, BidFault, Own, Sheet};
@@ -100,10 +100,10 @@ fn judge_sheet(
 }
 
 /// Judges each bid by the last one before it for the same product. A bid for a higher product than all before it has
-/// none, and nearly all bids are such: places of last bids are made for the others alone, and no memory is taken before
-/// one comes. Where the earlier bids are good, their prices rise and their quantities move one way, so that the last
-/// one tells whether the next price is higher and the next step goes on. Good bids ask for demands that take so many
-/// bidding units.
+/// none, and nearly all bids are such; most of the others have it right before them. Places of last bids are made for the
+/// rest alone, and no memory is taken before one comes. Where the earlier bids are good, their prices rise and their
+/// quantities move one way, so that the last one tells whether the next price is higher and the next step goes on. Good
+/// bids ask for demands that take so many bidding units.
 fn judge(
     alloc: Global,
     setup: &Setup,
@@ -127,14 +127,16 @@ fn judge(
     let mut kept = 0;
     let mut places = Vec::new(alloc);
     for (i, bid) in bids.iter().enumerate() {
-        let last = if bid.product < least {
-            places = last_places(alloc, places, bids, products.len(), kept, i)?;
-            kept = i;
-            last_bid(bids, places.as_slice(), bid.product)
-        } else {
+        let last = if bid.product >= least {
             // The highest number of all has no next one, but is no product's: its bid is refused below.
             least = bid.product.wrapping_add(1);
             None
+        } else if let Some(before) = bid_before(bids, i, bid.product) {
+            Some(before)
+        } else {
+            places = last_places(alloc, places, bids, products.len(), kept, i)?;
+            kept = i;
+            last_bid(bids, places.as_slice(), bid.product)
         };
         if let Some(fault) = bid_fault(products, prices, demands, &mut near, last, i as u64, bid) {
             return Err(fault);
@@ -157,6 +159,19 @@ fn taken_with(taken: u64, units: u64, last: Option<&Bid>, quantity: u64) -> u64
     match last {
         Some(last) => taken - units * last.quantity + units * quantity,
         None => taken + units * quantity,
+    }
+}
+
+/// The bid right before a place, where it is for a product: it is then the last one for it.
+fn bid_before(bids: &[Bid], place: usize, product: u64) -> Option<&Bid>
+    ensures { (products : ℕ) → All (λ bid. bid.product < products) (take place bids.now)
+        → OnSome result (option_copied result ≡ slice_index_or (last_bids products (take place bids.now)) product None) }
+{
+    let before = bids.get(place.checked_sub(1)?)?;
+    if before.product == product {
+        Some(before)
+    } else {
+        None
     }
 }
 

@@ -5,10 +5,10 @@ use Rattle.clock_terms.specs.declared.setup.Product.{Product}
 use Rattle.clock_bids.specs.inside.Chains.{last_bids}
 use Rattle.clock_bids.specs.inside.LastBids.{AreLastPlaces}
 use Rattle.clock_bids.proofs.Tables.{no_bid}
-use Rattle.clock_bids.proofs.LastBids.{none_below, last_read, below_more}
+use Rattle.clock_bids.proofs.LastBids.{none_below, known_all, last_read, below_more}
 use Rattle.clock_bids.proofs.Judging.{none_judged, none_at_fault, all_taken, fault_found, known, units_held, judged_more}
 use Rattle.clock_bids.proofs.check.judge.Goals as goal
-use Rattle.clock_bids.proofs.check.judge.Goals.{In_default, then-bid-least+in_ok-places, else-bid-least}
+use Rattle.clock_bids.proofs.check.judge.Goals.{In_default-bid_fault, then-bid-least, else-bid-least+in-Some, else-bid-least+in_default+in_ok-places}
 
 pub loop-i-init : goal.loop-i-init
 loop-i-init c = record {
@@ -18,41 +18,47 @@ loop-i-init c = record {
   kept = λ none. absurd (omega (arith, none));
 }
 
-pub returns-in-Some-clause-fault : goal.returns-in-Some-clause-fault
-returns-in-Some-clause-fault c _ =
+pub returns-in-Some-bid_fault-clause-fault : goal.returns-in-Some-bid_fault-clause-fault
+returns-in-Some-bid_fault-clause-fault c _ =
     let list = c.args.setup.now.products in
     let bids = c.args.bids.now in
     let i = c.loop-i.i in
     let bid = get_or bids i no_bid in
     let seen = c.as_slice-products.result.now in
+    let same = c.as_slice-products.ensures ∙ ap (λ s. s.products) c.setup.view_is in
+    let all = known_all list seen (take i bids) same c.loop-i.invariant.judged.good.known in
     let last : option_copied c.if-bid-least.last ≡ get_or (last_bids (length seen) (take i bids)) bid.product None =
     elim c.if-bid-least.branch [
-      | then-bid-least+in_ok-places w ↦ ap option_copied w.last-is ∙ last_read (length seen) bids i w.in_ok-places.places.items w.as_slice.result.now bid.product
-          (option_copied w.last_bid-last.result) w.in_ok-places.ensures w.as_slice.ensures.value w.last_bid-last.ensures
-      | else-bid-least w ↦ ap option_copied w.last-is ∙ none_below (length seen) c.loop-i.least bid.product (take i bids) c.loop-i.invariant.below w.if-bid-least.false
+      | then-bid-least w ↦ ap option_copied w.last-is ∙ none_below (length seen) c.loop-i.least bid.product (take i bids) c.loop-i.invariant.below w.if-bid-least.true
+      | else-bid-least+in-Some w ↦ ap option_copied w.last-is ∙ w.in-Some.ensures (length seen) all
+      | else-bid-least+in_default+in_ok-places w ↦ ap option_copied w.last-is ∙ last_read (length seen) bids i w.in_ok-places.places.items w.as_slice.result.now bid.product
+          (option_copied w.last_bid.result) w.in_ok-places.ensures w.as_slice.ensures.value w.last_bid.ensures
     ] in
     fault_found list c.args.prices.now c.args.demands.now bids i c.loop-i.taken c.loop-i.invariant.judged c.loop-i-test.true seen (option_copied c.if-bid-least.last)
-    c.bid_fault.result (c.as_slice-products.ensures ∙ ap (λ s. s.products) c.setup.view_is) last c.bid_fault.ensures c.in-Some.fault c.in-Some.is
+    c.bid_fault.result same last c.bid_fault.ensures c.in-Some-bid_fault.fault c.in-Some-bid_fault.is
 
 -- the last bid for the product, of those before
-last_is : (c : In_default) → option_copied c.if-bid-least.last
+last_is : (c : In_default-bid_fault) → option_copied c.if-bid-least.last
     ≡ get_or (last_bids (length c.as_slice-products.result.now) (take c.loop-i.i c.args.bids.now)) (get_or c.args.bids.now c.loop-i.i no_bid).product None
 last_is c =
     let bids = c.args.bids.now in
     let i = c.loop-i.i in
     let bid = get_or bids i no_bid in
     let products = length c.as_slice-products.result.now in
+    let all = known_all c.args.setup.now.products c.as_slice-products.result.now (take i bids)
+    (c.as_slice-products.ensures ∙ ap (λ s. s.products) c.setup.view_is) c.loop-i.invariant.judged.good.known in
     elim c.if-bid-least.branch [
-      | then-bid-least+in_ok-places w ↦ ap option_copied w.last-is ∙ last_read products bids i w.in_ok-places.places.items w.as_slice.result.now bid.product
-          (option_copied w.last_bid-last.result) w.in_ok-places.ensures w.as_slice.ensures.value w.last_bid-last.ensures
-      | else-bid-least w ↦ ap option_copied w.last-is ∙ none_below products c.loop-i.least bid.product (take i bids) c.loop-i.invariant.below w.if-bid-least.false
+      | then-bid-least w ↦ ap option_copied w.last-is ∙ none_below products c.loop-i.least bid.product (take i bids) c.loop-i.invariant.below w.if-bid-least.true
+      | else-bid-least+in-Some w ↦ ap option_copied w.last-is ∙ w.in-Some.ensures products all
+      | else-bid-least+in_default+in_ok-places w ↦ ap option_copied w.last-is ∙ last_read products bids i w.in_ok-places.places.items w.as_slice.result.now bid.product
+          (option_copied w.last_bid.result) w.in_ok-places.ensures w.as_slice.ensures.value w.last_bid.ensures
     ]
 
 pub taken_with-taken-requires-clause-held : goal.taken_with-taken-requires-clause-held
 taken_with-taken-requires-clause-held c =
     units_held c.args.setup.now.products c.args.prices.now c.args.demands.now c.args.bids.now c.loop-i.i c.loop-i.taken c.loop-i.invariant.judged
     c.loop-i-test.true c.as_slice-products.result.now (option_copied c.if-bid-least.last) c.bid_fault.result
-    (c.as_slice-products.ensures ∙ ap (λ s. s.products) c.setup.view_is) (last_is c.before) c.bid_fault.ensures c.in_default.is c.index-products-bid.result
+    (c.as_slice-products.ensures ∙ ap (λ s. s.products) c.setup.view_is) (last_is c.before) c.bid_fault.ensures c.in_default-bid_fault.is c.index-products-bid.result
 
 pub loop-i-preserved : goal.loop-i-preserved
 loop-i-preserved c =
@@ -61,29 +67,33 @@ loop-i-preserved c =
     let i = c.loop-i.i in
     let same = c.as_slice-products.ensures ∙ ap (λ s. s.products) c.setup.view_is in
     let here = known list c.args.prices.now c.args.demands.now bids i c.loop-i.taken c.loop-i.invariant.judged c.loop-i-test.true
-    c.as_slice-products.result.now (option_copied c.if-bid-least.last) c.bid_fault.result same (last_is c.before.before) c.bid_fault.ensures c.in_default.is
+    c.as_slice-products.result.now (option_copied c.if-bid-least.last) c.bid_fault.result same (last_is c.before.before) c.bid_fault.ensures c.in_default-bid_fault.is
     c.index-products-bid.result in
     record {
       judged = judged_more list c.args.prices.now c.args.demands.now bids i c.loop-i.taken c.loop-i.invariant.judged c.loop-i-test.true
-          c.as_slice-products.result.now (option_copied c.if-bid-least.last) c.bid_fault.result same (last_is c.before.before) c.bid_fault.ensures c.in_default.is
+          c.as_slice-products.result.now (option_copied c.if-bid-least.last) c.bid_fault.result same (last_is c.before.before) c.bid_fault.ensures c.in_default-bid_fault.is
           c.index-products-bid.result c.taken_with-taken.result c.taken_with-taken.ensures.exact c.taken_with-taken.ensures.most;
       below = elim c.if-bid-least.branch [
-        | then-bid-least+in_ok-places w ↦ rw w.least-is
-            (below_more bids i c.loop-i.least c.loop-i.least c.loop-i-test.true (omega arith) w.if-bid-least.true c.loop-i.invariant.below)
-        | else-bid-least w ↦
+        | then-bid-least w ↦
             let next : c.if-bid-least.least ≡ (get_or bids i no_bid).product + 1 =
             omega (arith, w.least-is, here, ap (λ s. length s.products) c.setup.view_is, c.setup.invariant.product_count) in
-            below_more bids i c.loop-i.least c.if-bid-least.least c.loop-i-test.true (omega (arith, next, w.if-bid-least.false)) (omega (arith, next))
+            below_more bids i c.loop-i.least c.if-bid-least.least c.loop-i-test.true (omega (arith, next, w.if-bid-least.true)) (omega (arith, next))
             c.loop-i.invariant.below
+        | else-bid-least+in-Some w ↦ rw w.least-is
+            (below_more bids i c.loop-i.least c.loop-i.least c.loop-i-test.true (omega arith) (omega (arith, w.if-bid-least.false)) c.loop-i.invariant.below)
+        | else-bid-least+in_default+in_ok-places w ↦ rw w.least-is
+            (below_more bids i c.loop-i.least c.loop-i.least c.loop-i-test.true (omega arith) (omega (arith, w.if-bid-least.false)) c.loop-i.invariant.below)
       ];
       order = elim c.if-bid-least.branch [
-        | then-bid-least+in_ok-places w ↦ omega (arith, w.kept-is)
-        | else-bid-least w ↦ omega (arith, w.kept-is, c.loop-i.invariant.order)
+        | then-bid-least w ↦ omega (arith, w.kept-is, c.loop-i.invariant.order)
+        | else-bid-least+in-Some w ↦ omega (arith, w.kept-is, c.loop-i.invariant.order)
+        | else-bid-least+in_default+in_ok-places w ↦ omega (arith, w.kept-is)
       ];
       kept = elim c.if-bid-least.branch [
-        | then-bid-least+in_ok-places w ↦ rw (w.kept-is, w.places-is)
+        | then-bid-least w ↦ rw (w.kept-is, w.places-is) c.loop-i.invariant.kept
+        | else-bid-least+in-Some w ↦ rw (w.kept-is, w.places-is) c.loop-i.invariant.kept
+        | else-bid-least+in_default+in_ok-places w ↦ rw (w.kept-is, w.places-is)
             (λ _. subst (λ (ps : List Product). AreLastPlaces (length ps) bids i w.in_ok-places.places.items) same w.in_ok-places.ensures)
-        | else-bid-least w ↦ rw (w.kept-is, w.places-is) c.loop-i.invariant.kept
       ];
     }
 
