@@ -13,7 +13,7 @@ mod serve;
 use clap::error::ErrorKind;
 use clock_commands::{Fault, command, show_fault};
 use clock_device::{FromReader, ToWriter};
-use clock_words::{FileTask, file_task_asked};
+use clock_words::{Asked, read_words};
 use files::{tell_audit, tell_texts};
 use kept::serve_kept;
 use serve::serve;
@@ -43,31 +43,27 @@ fn main(rt: HostRuntime) -> io::Result<ExitCode> {
 /// Does what the words ask for, and answers the exit status. What is to be done with files is done here, and all else
 /// by `command`.
 fn run(rt: &HostRuntime, words: &[&str]) -> u8 {
-    match file_task_asked(rt.alloc(), words) {
-        Ok(Some(task)) => match run_task(rt, &task) {
-            Ok(()) => 0,
-            Err(fault) => fault_status(rt, fault),
+    let done = match read_words(rt.alloc(), words) {
+        Ok(Some(Asked::Serve(serving))) => match serving.journal {
+            Some(path) => serve_kept(rt, &serving, path),
+            None => serve(rt, &serving),
         },
-        Err(error) if error.kind() == ErrorKind::OutOfMemory => fault_status(rt, Fault::Memory),
-        Ok(None) | Err(_) => command(
-            rt.alloc(),
-            words,
-            &mut FromReader::new(rt.stdin()),
-            &mut ToWriter::new(rt.stdout()),
-            &mut ToWriter::new(rt.stderr()),
-        ),
-    }
-}
-
-/// Does what is to be done with files.
-fn run_task(rt: &HostRuntime, task: &FileTask) -> Result<(), Fault> {
-    match task {
-        FileTask::Serve(serving) => match serving.journal {
-            Some(path) => serve_kept(rt, serving, path),
-            None => serve(rt, serving),
-        },
-        FileTask::Journal(files) => tell_texts(rt, &mut ToWriter::new(rt.stdout()), files),
-        FileTask::Audit(files) => tell_audit(rt, &mut ToWriter::new(rt.stdout()), files),
+        Ok(Some(Asked::Journal(files))) => tell_texts(rt, &mut ToWriter::new(rt.stdout()), &files),
+        Ok(Some(Asked::Audit(files))) => tell_audit(rt, &mut ToWriter::new(rt.stdout()), &files),
+        Err(error) if error.kind() == ErrorKind::OutOfMemory => Err(Fault::Memory),
+        Ok(_) | Err(_) => {
+            return command(
+                rt.alloc(),
+                words,
+                &mut FromReader::new(rt.stdin()),
+                &mut ToWriter::new(rt.stdout()),
+                &mut ToWriter::new(rt.stderr()),
+            );
+        }
+    };
+    match done {
+        Ok(()) => 0,
+        Err(fault) => fault_status(rt, fault),
     }
 }
 

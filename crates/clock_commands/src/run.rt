@@ -11,7 +11,7 @@ use crate::fault::{Fault, write_fault};
 use clap::Error;
 use clap::error::ErrorKind;
 use clock_device::{Sink, Source, Stop, Text, room_for_read, write_all};
-use clock_words::{Job, job_asked};
+use clock_words::{Asked, Job, read_words};
 use std::alloc::Global;
 
 /// What is shown of good words that ask for `serve`, `journal` or `audit`, which are no commands on streams.
@@ -46,15 +46,15 @@ pub fn command<R: Source, W: Sink, F: Sink>(
         (record { before = F.told faults.old; after = F.told faults.new }) result }
     ensures reads { (R.told reader.new).calls ≤ most_document_reads }
 {
-    match job_asked(alloc, words) {
-        Ok(Some(job)) => match run(alloc, job, reader, writer) {
+    match read_words(alloc, words) {
+        Ok(Some(Asked::Job(job))) => match run(alloc, job, reader, writer) {
             Ok(()) => 0,
             Err(fault) => {
                 show_fault(fault, faults);
                 1
             }
         },
-        Ok(None) => {
+        Ok(_) => {
             let _ = write_all(faults, NOT_HERE.as_bytes());
             2
         }

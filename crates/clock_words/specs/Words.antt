@@ -2,8 +2,8 @@
 -- ways in which a grammar refuses words, and `subcommand_of` is the command that they name, with what each option has.
 --     grammar      the program's commands and options
 --     given words      the words, or those that stand for none
---     job_of words      the job that the words ask for, where they are not refused
---     task_of words      what the words ask to be done with files, where they do and are not refused
+--     asked_by words      what the words ask for, where they are not refused
+--     job_of words      the job that the words ask for, where they ask for one
 use Rattle.std.specs.Prelude.{ℕ, true, List, [], ◌∷◌, Option, Some, None, codes, if◌then◌else◌, option_and_then, option_map}
 use Rattle.std.specs.Str.{bytes_eq}
 use Rattle.std.specs.Str.Parse.{digits_value, without_leading_plus}
@@ -16,8 +16,8 @@ use Rattle.clock_terms.specs.Limits.{least_increment, most_increment}
 use Rattle.clock_words.specs.declared.words.Job.{Job}
 use Rattle.clock_words.specs.declared.words.Serving.{Serving}
 use Rattle.clock_words.specs.declared.words.Files.{Files}
-use Rattle.clock_words.specs.declared.words.FileTask.{FileTask}
-use Rattle.clock_words.specs.declared.words.FileTask.TheVariants as task
+use Rattle.clock_words.specs.declared.words.Asked.{Asked}
+use Rattle.clock_words.specs.declared.words.Asked.TheVariants as case
 use Rattle.clock_words.specs.declared.words.Job.TheVariants.{Prices, Opening, Replay}
 
 -- an option of one value that may be left out, as `--journal FILE`
@@ -91,18 +91,6 @@ number_from least most text =
 abbrev pub number_of : Text → ℕ → ℕ → List Row → Option ℕ
 number_of name least most options = option_and_then (number_from least most) (one_of name options)
 
--- what a command asks for, with what its options have
-abbrev pub job_named : Text → List Row → Option Job
-job_named name options =
-    if bytes_eq name (codes "prices")
-    then option_map Prices (number_of (codes "increment") least_increment most_increment options)
-    else (if bytes_eq name (codes "opening") then Some Opening else (if bytes_eq name (codes "replay") then Some Replay else None))
-
--- what the command that was met asks for
-abbrev pub job_met : Option (Text × List Row) → Option Job
-job_met None = None
-job_met (Some met) = job_named met.0 met.1
-
 -- what `serve` is told: the set-up's file, the port, how many connections, and the journal's file if there is to be one
 pub record ServingTold : Type 0 where
   pub setup : Text
@@ -115,11 +103,12 @@ pub record FilesTold : Type 0 where
   pub setup : Text
   pub journal : Text
 
--- what is to be done with files
-pub data TaskTold : Type 0 where
-  serve : ServingTold → TaskTold
-  journal : FilesTold → TaskTold
-  audit : FilesTold → TaskTold
+-- what a run is asked for: a job, or what is to be done with files
+pub data AskedTold : Type 0 where
+  job : Job → AskedTold
+  serve : ServingTold → AskedTold
+  journal : FilesTold → AskedTold
+  audit : FilesTold → AskedTold
 
 -- what the options of `serve` tell
 abbrev pub serving_from : List Row → Option ServingTold
@@ -134,17 +123,20 @@ files_from options =
     option_and_then (λ setup. option_map (λ file. record { setup = setup; journal = file }) (first_of (codes "journal") options))
     (first_of (codes "setup") options)
 
--- what a command asks to be done with files, with what its options have
-abbrev pub task_named : Text → List Row → Option TaskTold
-task_named name options =
-    if bytes_eq name (codes "serve") then option_map serve (serving_from options)
+-- what a command asks for, with what its options have
+abbrev pub asked_named : Text → List Row → Option AskedTold
+asked_named name options =
+    if bytes_eq name (codes "prices")
+    then option_map (λ increment. job (Prices increment)) (number_of (codes "increment") least_increment most_increment options)
+    else (if bytes_eq name (codes "opening") then Some (job Opening) else (if bytes_eq name (codes "replay") then Some (job Replay)
+    else (if bytes_eq name (codes "serve") then option_map serve (serving_from options)
     else (if bytes_eq name (codes "journal") then option_map journal (files_from options)
-    else (if bytes_eq name (codes "audit") then option_map audit (files_from options) else None))
+    else (if bytes_eq name (codes "audit") then option_map audit (files_from options) else None)))))
 
--- what the command that was met asks to be done with files
-abbrev pub task_met : Option (Text × List Row) → Option TaskTold
-task_met None = None
-task_met (Some met) = task_named met.0 met.1
+-- what the command that was met asks for
+abbrev pub asked_met : Option (Text × List Row) → Option AskedTold
+asked_met None = None
+asked_met (Some met) = asked_named met.0 met.1
 
 -- the same as the code has it
 abbrev pub serving_told : Serving → ServingTold
@@ -158,30 +150,45 @@ serving_told serving = record {
 abbrev pub files_told : Files → FilesTold
 files_told files = record { setup = files.setup.now; journal = files.journal.now }
 
-abbrev pub task_told : FileTask → TaskTold
-task_told (task.Serve serving) = serve (serving_told serving)
-task_told (task.Journal files) = journal (files_told files)
-task_told (task.Audit files) = audit (files_told files)
+abbrev pub asked_told : Asked → AskedTold
+asked_told (case.Job one) = job one
+asked_told (case.Serve serving) = serve (serving_told serving)
+asked_told (case.Journal files) = journal (files_told files)
+asked_told (case.Audit files) = audit (files_told files)
 
 -- what is meant, and nothing where the words may be refused
 abbrev pub unless_refused : {A : Type 0} → Kinds → Option A → Option A
 unless_refused [] meant = meant
 unless_refused (kind ∷ kinds) meant = None
 
--- the job that some words ask for, and none where clap refuses them
-abbrev pub job_meant : List Text → Option Job
-job_meant words = unless_refused (fault_of grammar words) (job_met (subcommand_of grammar words))
+-- what some words ask for, and nothing where clap refuses them
+abbrev pub asked_meant : List Text → Option AskedTold
+asked_meant words = unless_refused (fault_of grammar words) (asked_met (subcommand_of grammar words))
 
--- what the words ask to be done with files, and nothing where clap refuses them or they ask for another command
-abbrev pub task_of : List Text → Option TaskTold
-task_of words = unless_refused (fault_of grammar words) (task_met (subcommand_of grammar words))
+-- what the words after the program's name ask for
+abbrev pub asked_by : List Text → Option AskedTold
+asked_by words = asked_meant (given words)
 
--- the job that the words after the program's name ask for
+-- the job that is asked for, if it is one
+abbrev pub job_in : AskedTold → Option Job
+job_in (job one) = Some one
+job_in (serve serving) = None
+job_in (journal files) = None
+job_in (audit files) = None
+
+-- the job that the words after the program's name ask for, where they ask for one
 abbrev pub job_of : List Text → Option Job
-job_of words = job_meant (given words)
+job_of words = option_and_then job_in (asked_by words)
 
 -- the increment of a job is within its limits
 abbrev pub IsJob : Job → Type 0
 IsJob (Prices increment) = IsIncrement increment
 IsJob Opening = Unit {0}
 IsJob Replay = Unit {0}
+
+-- and so is that of what is asked for
+abbrev pub IsAsked : Asked → Type 0
+IsAsked (case.Job one) = IsJob one
+IsAsked (case.Serve serving) = Unit {0}
+IsAsked (case.Journal files) = Unit {0}
+IsAsked (case.Audit files) = Unit {0}

@@ -5,4 +5,4 @@ mod commands;
 mod help;
 mod words;
 
-pub use words::{FileTask, Files, Job, Serving, file_task_asked, job_asked};
+pub use words::{Asked, Files, Job, Serving, read_words};

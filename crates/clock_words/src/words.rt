@@ -2,7 +2,7 @@
 ghost use Rattle.std.specs.Prelude.{◌≡◌, ◌≢◌, None, [], map, option_map, IfSome, IfOk, IfErr};
 ghost use Rattle.clock_terms.specs.Limits.{IsWithin};
 ghost use Rattle.clap.specs.Words.{fault_of, first_of, found_of, kind_of, rows_of, subcommand_of, subcommand_rows_of};
-ghost use Rattle.clock_words.specs.Words.{IsJob, files_from, files_told, given, grammar, job_met, job_of, number_of, serving_from, serving_told, task_met, task_of, task_told};
+ghost use Rattle.clock_words.specs.Words.{IsAsked, asked_by, asked_met, asked_told, files_from, files_told, given, grammar, number_of, serving_from, serving_told};
 
 use crate::commands::{MOST_PORT, MOST_SERVED, program};
 use clap::error::ErrorKind;
@@ -44,9 +44,11 @@ pub struct Files<'a> {
     pub journal: &'a str,
 }
 
-/// What is to be done with files.
+/// What the words ask for.
 #[derive(Clone, Copy)]
-pub enum FileTask<'a> {
+pub enum Asked<'a> {
+    /// A document on standard input is answered.
+    Job(Job),
     /// An auction is served.
     Serve(Serving<'a>),
     /// What a journal holds is printed.
@@ -65,22 +67,6 @@ fn number_in(options: &ArgMatches, name: &str, least: u64, most: u64) -> Option<
 {
     match options.get_one::<u64>(name) {
         Some(number) if is_within(least, most, number) => Some(number),
-        _ => None,
-    }
-}
-
-/// The job that the matches name.
-fn job_in(matches: &ArgMatches) -> Option<Job>
-    ensures met { result ≡ job_met (subcommand_rows_of matches.now) }
-    ensures limits { IfSome result IsJob }
-{
-    let (name, options) = matches.subcommand()?;
-    match name {
-        "prices" => {
-            Some(Job::Prices(number_in(options, "increment", LEAST_INCREMENT, MOST_INCREMENT)?))
-        }
-        "opening" => Some(Job::Opening),
-        "replay" => Some(Job::Replay),
         _ => None,
     }
 }
@@ -105,21 +91,6 @@ fn words_given<'a>(words: &'a [&'a str]) -> &'a [&'a str]
     } else {
         words
     }
-}
-
-/// The job that the words after the program's name ask for, or `None` or an error where there is
-/// none. An error's text says what is wrong with the words, or is the help that they ask for.
-pub fn job_asked(alloc: Global, words: &[&str]) -> Result<Option<Job>, Error>
-    ensures ok { IfOk result (λ job. job ≡ job_of (map (λ word. word.now) words.entry.now)) }
-    ensures limits { IfOk result (λ job. IfSome job IsJob) }
-    ensures err { IfErr result (λ error. kind_of error ≢ ErrorKind.OutOfMemory
-        → job_of (map (λ word. word.now) words.entry.now) ≡ None) }
-{
-    let matches = matches_in(alloc, words_given(words))?;
-    let job = job_in(&matches);
-    // let go by a call: at the end of the scope it would be proved part by part
-    drop(matches);
-    Ok(job)
 }
 
 /// The text that an option is given.
@@ -153,31 +124,37 @@ fn files_with<'a>(options: &ArgMatches<'a>) -> Option<Files<'a>>
     Some(Files { setup, journal })
 }
 
-/// What the matches ask to be done with files, where they do.
-fn task_in<'a>(matches: &ArgMatches<'a>) -> Option<FileTask<'a>>
-    ensures { option_map task_told result ≡ task_met (subcommand_rows_of matches.now) }
+/// What the matches ask for, where it is anything.
+fn asked_in<'a>(matches: &ArgMatches<'a>) -> Option<Asked<'a>>
+    ensures met { option_map asked_told result ≡ asked_met (subcommand_rows_of matches.now) }
+    ensures limits { IfSome result IsAsked }
 {
     let (name, options) = matches.subcommand()?;
     match name {
-        "serve" => serving_with(options).map(FileTask::Serve),
-        "journal" => files_with(options).map(FileTask::Journal),
-        "audit" => files_with(options).map(FileTask::Audit),
+        "prices" => {
+            let increment = number_in(options, "increment", LEAST_INCREMENT, MOST_INCREMENT)?;
+            Some(Asked::Job(Job::Prices(increment)))
+        }
+        "opening" => Some(Asked::Job(Job::Opening)),
+        "replay" => Some(Asked::Job(Job::Replay)),
+        "serve" => serving_with(options).map(Asked::Serve),
+        "journal" => files_with(options).map(Asked::Journal),
+        "audit" => files_with(options).map(Asked::Audit),
         _ => None,
     }
 }
 
-/// What the words ask to be done with files, where they do. An error's text says what is wrong with the
-/// words, or is the help that they ask for.
-pub fn file_task_asked<'a>(
-    alloc: Global,
-    words: &'a [&'a str],
-) -> Result<Option<FileTask<'a>>, Error>
-    ensures ok { IfOk result (λ task. option_map task_told task ≡ task_of (map (λ word. word.now) words.entry.now)) }
+/// What the words after the program's name ask for, or `None` or an error where it is nothing. An error's text says what
+/// is wrong with the words, or is the help that they ask for.
+pub fn read_words<'a>(alloc: Global, words: &'a [&'a str]) -> Result<Option<Asked<'a>>, Error>
+    ensures ok { IfOk result (λ asked. option_map asked_told asked ≡ asked_by (map (λ word. word.now) words.entry.now)) }
+    ensures limits { IfOk result (λ asked. IfSome asked IsAsked) }
     ensures err { IfErr result (λ error. kind_of error ≢ ErrorKind.OutOfMemory
-        → task_of (map (λ word. word.now) words.entry.now) ≡ None) }
+        → asked_by (map (λ word. word.now) words.entry.now) ≡ None) }
 {
-    let matches = matches_in(alloc, words)?;
-    let task = task_in(&matches);
+    let matches = matches_in(alloc, words_given(words))?;
+    let asked = asked_in(&matches);
+    // let go by a call: at the end of the scope it would be proved part by part
     drop(matches);
-    Ok(task)
+    Ok(asked)
 }

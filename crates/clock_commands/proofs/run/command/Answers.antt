@@ -1,4 +1,4 @@
-use Rattle.std.proofs.Common.{refl, sym, ◌∙◌}
+use Rattle.std.proofs.Common.{refl, rules}
 use Rattle.clock_commands.specs.Run.{stopped}
 use Rattle.clock_commands.specs.declared.fault.Fault.TheVariants as fault
 use Rattle.clock_commands.proofs.RunEndings.{stopped_run, unread_for_memory, untouched}
@@ -6,8 +6,7 @@ use Rattle.clock_commands.proofs.run.command.Goals as goal
 
 pub returns-in-Err-run-clause-ending : goal.returns-in-Err-run-clause-ending
 returns-in-Err-run-clause-ending g c =
-    stopped_run _ c.in-Ok-Some.job (sym c.in-Ok-Some.ensures.ok ∙ c.in-Ok-Some.field-0-is) _ _ _
-    c.in-Err-run.fault c.in-Err-run.ensures.run c.show_fault.ensures
+    stopped_run _ c.in-Ok-Some-Job.job (search rules) _ _ _ c.in-Err-run.fault c.in-Err-run.ensures.run c.show_fault.ensures
 
 pub returns-in-None-clause-ending : goal.returns-in-None-clause-ending
 returns-in-None-clause-ending g c =
