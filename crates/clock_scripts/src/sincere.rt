@@ -47,17 +47,14 @@ fn push_block(
         text.old.items text.new.items) }
 {
     match price {
-        Some(price) if next != Some(price) => {
-            let quantity = before;
-            push_bid(
-                text,
-                &Bid {
-                    product,
-                    quantity,
-                    price,
-                },
-            )
-        }
+        Some(price) if next != Some(price) => push_bid(
+            text,
+            &Bid {
+                product,
+                quantity: before,
+                price,
+            },
+        ),
         _ => Ok(()),
     }
 }
