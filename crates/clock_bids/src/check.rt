@@ -168,11 +168,7 @@ fn bid_before(bids: &[Bid], place: usize, product: u64) -> Option<&Bid>
         → OnSome result (option_copied result ≡ slice_index_or (last_bids products (take place bids.now)) product None) }
 {
     let before = bids.get(place.checked_sub(1)?)?;
-    if before.product == product {
-        Some(before)
-    } else {
-        None
-    }
+    (before.product == product).then_some(before)
 }
 
 /// For each product the place of the last bid for it, of those before a place, counted from 1 on, or 0 where there is

@@ -1,4 +1,4 @@
-ghost use Rattle.std.specs.Prelude.{◌≡◌, ◌++◌, ◌+◌, ◌≤◌, ◌||◌, decimal, drop, length, OnOk, OnErr, is_err};
+ghost use Rattle.std.specs.Prelude.{◌≡◌, ◌++◌, ◌+◌, ◌≤◌, ◌||◌, decimal, drop, length, take, OnOk, OnErr, is_err};
 ghost use Rattle.clock_device.specs.Decimal.{number_or_dash};
 ghost use Rattle.clock_device.specs.Streams.{WritesText};
 
@@ -58,6 +58,7 @@ pub fn put_before(bytes: &mut [u8], end: usize, piece: &[u8]) -> usize
     requires within { end ≤ length bytes.old }
     ensures start { result + length piece.now ≡ end }
     ensures kept { length bytes.new ≡ length bytes.old }
+    ensures ahead { take result bytes.new ≡ take result bytes.old }
     ensures put { drop result bytes.new ≡ piece.now ++ drop end bytes.old }
 {
     let start = end - piece.len();

@@ -5,11 +5,9 @@ use Rattle.clock_bids.specs.declared.sheet.Bid.{Bid}
 use Rattle.std.specs.Prelude.{Option}
 use Rattle.clock_processor.specs.Board.{BoardFields, IsWithinEligibility, new_board}
 use Rattle.clock_processor.specs.Requests.{CanSettle}
-use Rattle.clock_processor.specs.Settlement.{SettledFields, IsSettlement, IsProperEnd}
 use Rattle.clock_terms.specs.declared.prices.PricePair.{PricePair}
 use Rattle.clock_terms.specs.Limits.{SetupFields}
 use Rattle.clock_closing.specs.Holdings.{Holding}
-use Rattle.clock_closing.specs.Closing.{settlement}
 use Rattle.clock_closing.specs.OpenRound.{OpenRoundFields, open_at}
 use Rattle.clock_closing.specs.inside.OpenRound.{eligibilities_of, grid_of}
 use Rattle.clock_closing.proofs.Held.{held_eligibilities}
@@ -43,37 +41,21 @@ on-requires-clause-within g c =
 
 pub settle-requires : goal.settle-requires
 settle-requires g c =
-    let board = held_board _ _ _ _ _ _ c.self.invariant.0 c.args.self.now c.in_ok-board.board c.in_ok-grid.grid c.self.view_is c.in_ok-board.ensures
-    c.in_ok-grid.ensures in
-    subst (λ (one : BoardFields). CanSettle one c.args.requests.now) (sym board)
+    subst (λ (one : BoardFields). CanSettle one c.args.requests.now)
+    (sym (held_board _ _ _ _ _ _ c.self.invariant.0 _ _ _ c.self.view_is c.in_ok-board.ensures c.in_ok-grid.ensures))
     (can_settle _ _ (is_open c.self.view_is c.self.invariant.1).sound c.requires.later _ c.requires.requests)
 
 pub returns-clause-grid : goal.returns-clause-grid
 returns-clause-grid g c =
-    let board = held_board _ _ _ _ _ _ c.self.invariant.0 c.args.self.now c.in_ok-board.board c.in_ok-grid.grid c.self.view_is c.in_ok-board.ensures
-    c.in_ok-grid.ensures in
-    let settles = rw board at c.settle.ensures.settlement in
-    let now = c.args.self.now in
-    IfOk-weaker c.settle.result
-    (IsSettlement (new_board now.setup.products (eligibilities_of now.before) (grid_of now.before)) c.args.requests.now)
-    (λ (settled : SettledFields). settled.grid ≡ (settlement now.setup.products now.before c.args.requests.now).grid) (λ settled is. is.grid) settles
+    let board = held_board _ _ _ _ _ _ c.self.invariant.0 _ _ _ c.self.view_is c.in_ok-board.ensures c.in_ok-grid.ensures in
+    IfOk-weaker c.settle.result _ _ (λ settled is. is.grid) (rw board at c.settle.ensures.settlement)
 
 pub returns-clause-left : goal.returns-clause-left
 returns-clause-left g c =
-    let board = held_board _ _ _ _ _ _ c.self.invariant.0 c.args.self.now c.in_ok-board.board c.in_ok-grid.grid c.self.view_is c.in_ok-board.ensures
-    c.in_ok-grid.ensures in
-    let settles = rw board at c.settle.ensures.settlement in
-    let now = c.args.self.now in
-    IfOk-weaker c.settle.result
-    (IsSettlement (new_board now.setup.products (eligibilities_of now.before) (grid_of now.before)) c.args.requests.now)
-    (λ (settled : SettledFields). settled.left ≡ (settlement now.setup.products now.before c.args.requests.now).left) (λ settled is. is.left) settles
+    let board = held_board _ _ _ _ _ _ c.self.invariant.0 _ _ _ c.self.view_is c.in_ok-board.ensures c.in_ok-grid.ensures in
+    IfOk-weaker c.settle.result _ _ (λ settled is. is.left) (rw board at c.settle.ensures.settlement)
 
 pub returns-clause-within : goal.returns-clause-within
 returns-clause-within g c =
-    let board = held_board _ _ _ _ _ _ c.self.invariant.0 c.args.self.now c.in_ok-board.board c.in_ok-grid.grid c.self.view_is c.in_ok-board.ensures
-    c.in_ok-grid.ensures in
-    let ends = rw board at c.settle.ensures.proper in
-    let now = c.args.self.now in
-    IfOk-weaker c.settle.result
-    (IsProperEnd (new_board now.setup.products (eligibilities_of now.before) (grid_of now.before)) c.args.requests.now)
-    (λ (settled : SettledFields). IsWithinEligibility now.setup.products (eligibilities_of now.before) settled.grid) (λ settled is. is.within) ends
+    let board = held_board _ _ _ _ _ _ c.self.invariant.0 _ _ _ c.self.view_is c.in_ok-board.ensures c.in_ok-grid.ensures in
+    IfOk-weaker c.settle.result _ _ (λ settled is. is.within) (rw board at c.settle.ensures.proper)
