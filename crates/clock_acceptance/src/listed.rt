@@ -1,7 +1,5 @@
 ghost use Rattle.std.specs.Prelude.{◌≡◌, ◌≤◌, ◌+◌, [], drop, length, map, IfOk, MatchBool, Some, true, false};
-ghost use Rattle.clock_device.specs.Told.{unread, unused};
-ghost use Rattle.clock_device.specs.SourceState.{source_told};
-ghost use Rattle.clock_device.specs.SinkState.{sink_told};
+ghost use Rattle.clock_device.specs.{Told.{unread, unused}, SourceState.{source_told}, SinkState.{sink_told}};
 ghost use Rattle.clock_serving.specs.Exchanges.{Closes, Exchange};
 ghost use Rattle.clock_acceptance.specs.Listed.{ListedState};
 

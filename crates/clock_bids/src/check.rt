@@ -1,10 +1,8 @@
 ghost use Rattle.std.specs.Prelude.{◌≡◌, ◌<◌, ◌≤◌, ◌+◌, ◌*◌, ℕ, Some, None, length, map, take, slice_index_or, All, Err, OnOk, OnSome, IfOk, IfErr};
 ghost use Rattle.std.specs.Option.{option_copied};
-ghost use Rattle.clock_terms.specs.Limits.{IsRow, most_supply, most_units, public_setup};
-ghost use Rattle.clock_terms.specs.Faults.{first_fault, IsFirstFault};
+ghost use Rattle.clock_terms.specs.{Limits.{IsRow, most_supply, most_units, public_setup}, Faults.{first_fault, IsFirstFault}};
 ghost use Rattle.clock_terms.specs.Eligibility as eligibilities;
-ghost use Rattle.clock_bids.specs.Holding.{holding_of};
-ghost use Rattle.clock_bids.specs.inside.Parts.{checks_of_bids};
+ghost use Rattle.clock_bids.specs.{Holding.{holding_of}, inside.Parts.{checks_of_bids}};
 ghost use Rattle.clock_bids.specs.Sheet.{IsGoodSheet, asked_demands, most_bids, sheet_fault};
 ghost use Rattle.clock_bids.specs.inside.Chains.{bid_at, checks_by_last, last_bids, quantity_of, step_checks};
 ghost use Rattle.clock_bids.specs.inside.LastBids.{AreLastPlaces};

@@ -1,7 +1,6 @@
 //! Bodies that are read byte by byte where they can be, and by a tree of their values where not.
 ghost use Rattle.std.specs.Prelude.{◌≡◌, ◌≢◌, ◌≤◌, Option, Some, Ok, Err, IfOk, IfErr};
-ghost use Rattle.serde_json.specs.Data.{Data};
-ghost use Rattle.serde_json.specs.View.{view};
+ghost use Rattle.serde_json.specs.{Data.{Data}, View.{view}};
 ghost use Rattle.clock_json.specs.Tree.{json};
 ghost use Rattle.clock_bodies.specs.Bodies.{meant_by};
 ghost use Rattle.clock_bodies.specs.declared.body.BodyFault.TheVariants as faults;

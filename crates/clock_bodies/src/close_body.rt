@@ -1,8 +1,7 @@
 ghost use Rattle.std.specs.Prelude.{◌≡◌, ◌≢◌, Ok, Err, IfOk, IfErr, IfSome};
 ghost use Rattle.serde_json.specs.View.{view};
 ghost use Rattle.clock_bodies.specs.CloseBodies as bodies;
-ghost use Rattle.clock_bodies.specs.QuickBodies.{tie_data, single_of, listed_of};
-ghost use Rattle.clock_bodies.specs.QuickClosings.{close_fields, scanned_data};
+ghost use Rattle.clock_bodies.specs.{QuickBodies.{tie_data, single_of, listed_of}, QuickClosings.{close_fields, scanned_data}};
 ghost use Rattle.clock_bodies.specs.inside.QuickBodies.{close_data};
 
 use crate::body::{Body, BodyFault, read_body};

@@ -1,8 +1,7 @@
 ghost use Rattle.std.specs.Prelude.{◌≡◌, ◌≢◌, ◌++◌, ◌<◌, Ok, Err, IfOk, IfErr, List, length, map, OnOk};
 ghost use Rattle.clock_json.specs.Reading.{Reads, ReadsAll};
 ghost use Rattle.clock_bodies.specs.Bodies as bodies;
-ghost use Rattle.clock_bodies.specs.QuickBodies.{bid_fields, bid_data};
-ghost use Rattle.clock_bodies.specs.inside.QuickBodies.{bids_data, put_fields, put_data};
+ghost use Rattle.clock_bodies.specs.{QuickBodies.{bid_fields, bid_data}, inside.QuickBodies.{bids_data, put_fields, put_data}};
 
 use crate::body::{Body, BodyFault, read_body};
 use clock_bids::Bid;

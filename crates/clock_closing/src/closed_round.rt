@@ -1,6 +1,5 @@
 ghost use Rattle.std.specs.Prelude.{◌≡◌};
-ghost use Rattle.clock_closing.specs.Prepared.{PreparedClosing};
-ghost use Rattle.clock_closing.specs.Results.{AreConsistent};
+ghost use Rattle.clock_closing.specs.{Prepared.{PreparedClosing}, Results.{AreConsistent}};
 
 use clock_device::Items;
 use clock_order::Ties;

@@ -2,10 +2,8 @@ ghost use Rattle.std.specs.Prelude.{◌≡◌, ◌≢◌, ◌<◌, None, length,
 ghost use Rattle.clock_terms.specs.Faults.{IsRefusal};
 ghost use Rattle.clock_bids.specs.Holding.{holding_of};
 ghost use Rattle.clock_order.specs.declared.ties.TieFault.TheVariants as tie_faults;
-ghost use Rattle.clock_closing.specs.OpenRound.{OpenRoundFields, IsOpenRound, holding_at, open_at};
-ghost use Rattle.clock_closing.specs.Closing.{closing_now};
-ghost use Rattle.clock_closing.specs.Prepared.{Answers};
-ghost use Rattle.clock_closing.specs.inside.Postings.{IsAsked};
+ghost use Rattle.clock_closing.specs.{OpenRound.{OpenRoundFields, IsOpenRound, holding_at, open_at}, Closing.{closing_now}};
+ghost use Rattle.clock_closing.specs.{Prepared.{Answers}, inside.Postings.{IsAsked}};
 
 mod outcome;
 

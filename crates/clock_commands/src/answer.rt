@@ -1,11 +1,7 @@
 ghost use Rattle.std.specs.Prelude.{◌≡◌, ◌++◌, Ok, All, length, IfOk, IfErr, OnOk};
-ghost use Rattle.clock_terms.specs.Demands.{IsGrid};
-ghost use Rattle.clock_terms.specs.Faults.{IsRefusal};
-ghost use Rattle.clock_terms.specs.Increments.{IsIncrement};
-ghost use Rattle.clock_terms.specs.Limits.{IsProduct};
+ghost use Rattle.clock_terms.specs.{Demands.{IsGrid}, Faults.{IsRefusal}, Increments.{IsIncrement}, Limits.{IsProduct}};
 ghost use Rattle.clock_setup.specs.SetupDocument.{document_setup};
-ghost use Rattle.clock_commands.specs.Answers.{answer_to, first_round, read_in};
-ghost use Rattle.clock_commands.specs.PriceLines.{price_line, price_lines};
+ghost use Rattle.clock_commands.specs.{Answers.{answer_to, first_round, read_in}, PriceLines.{price_line, price_lines}};
 ghost use Rattle.clock_words.specs.Words.{IsJob};
 
 use crate::fault::Fault;

@@ -2,8 +2,7 @@ ghost use Rattle.std.specs.Prelude.{◌≢◌, ◌≤◌, IfSome, map};
 ghost use Rattle.clap.specs.Words.{kind_of};
 ghost use Rattle.clock_device.specs.Told.{IsUnread, IsUnused};
 ghost use Rattle.clock_words.specs.Words.{IsJob, job_of};
-ghost use Rattle.clock_commands.specs.FaultLines.{fault_line};
-ghost use Rattle.clock_commands.specs.Input.{most_document_reads, IsReadingOf};
+ghost use Rattle.clock_commands.specs.{FaultLines.{fault_line}, Input.{most_document_reads, IsReadingOf}};
 ghost use Rattle.clock_commands.specs.Run.{ComesTo, IsRunOf, Shows};
 
 use crate::answer::answer;

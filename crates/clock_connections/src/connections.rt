@@ -1,6 +1,5 @@
 ghost use Rattle.std.specs.Prelude.{◌≡◌, ◌++◌, ℕ, List, [], Some, IfOk, IfErr, IfSome, OnErr, OnOk, OnSome, false, is_some, IsSome};
-ghost use Rattle.clock_http.specs.Framing.{needs_more};
-ghost use Rattle.clock_http.specs.Shown.{IsFramed};
+ghost use Rattle.clock_http.specs.{Framing.{needs_more}, Shown.{IsFramed}};
 ghost use Rattle.clock_connections.specs.declared.connections.HubFault.TheVariants as faults;
 ghost use Rattle.clock_connections.specs.Connections.{text_of, ConnectionFields, IsConnected, IsConnectFault, IsGone, IsTaken, OpenConnection};
 

@@ -1,6 +1,5 @@
 ghost use Rattle.std.specs.Prelude.{◌≡◌, ◌++◌, ◌+◌, ◌≤◌, ◌||◌, decimal, drop, length, take, OnOk, OnErr, is_err};
-ghost use Rattle.clock_device.specs.Decimal.{number_or_dash};
-ghost use Rattle.clock_device.specs.Streams.{WritesText};
+ghost use Rattle.clock_device.specs.{Decimal.{number_or_dash}, Streams.{WritesText}};
 
 use crate::items::{Bounded, Items, NoMemory};
 use crate::stream::{Failed, Sink, write_all};

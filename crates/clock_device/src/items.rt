@@ -1,7 +1,6 @@
 ghost use Rattle.std.specs.Prelude.{◌≡◌, [], ◌∷◌, ◌++◌, ◌<◌, ◌↔◌, ◌+◌, ◌-◌, ◌≤◌, length, replicate, slice_set, IsTrue, OnOk, OnErr, IfOk, vec_len, vec_capacity};
 ghost use Rattle.std.specs.Borrow.{sem};
-ghost use Rattle.clock_device.specs.Lends.{lends_slice};
-ghost use Rattle.clock_device.specs.Bounded.{BoundedList};
+ghost use Rattle.clock_device.specs.{Lends.{lends_slice}, Bounded.{BoundedList}};
 
 use std::alloc::{AllocError, AllocFailed, Global};
 use std::marker::Model;

@@ -1,9 +1,6 @@
 ghost use Rattle.std.specs.Prelude.{◌≡◌, ◌≤◌, ◌||◌, ◌++◌, length, take, drop, IfOk, OnErr, Some, vec_len, vec_capacity, is_err};
-ghost use Rattle.std.specs.Result.{result_ok};
-ghost use Rattle.std.specs.Io.{ReadsAtMost};
-ghost use Rattle.std.specs.Io.KnownBytes.{ReadConsumes, WriteAppends};
-ghost use Rattle.clock_device.specs.Calls.{count_after, interruptions_after, is_failed_read};
-ghost use Rattle.clock_device.specs.Streams.{CountsTaken};
+ghost use Rattle.std.specs.{Result.{result_ok}, Io.{ReadsAtMost}, Io.KnownBytes.{ReadConsumes, WriteAppends}};
+ghost use Rattle.clock_device.specs.{Calls.{count_after, interruptions_after, is_failed_read}, Streams.{CountsTaken}};
 ghost use Rattle.clock_device.specs.SourceState.{SourceState, after_read, new_source, read_answer, source_told};
 ghost use Rattle.clock_device.specs.SinkState.{SinkState, after_write, new_sink, sink_told, write_count};
 

@@ -1,8 +1,6 @@
-ghost use Rattle.std.specs.Prelude.{◌≡◌, ◌||◌, vec_len, IfOk, is_err};
-ghost use Rattle.std.specs.Io.{ReadsAtMost};
+ghost use Rattle.std.specs.{Prelude.{◌≡◌, ◌||◌, vec_len, IfOk, is_err}, Io.{ReadsAtMost}};
 ghost use Rattle.std.specs.Io.KnownBytes.{ReadConsumes, WriteAppends};
-ghost use Rattle.clock_device.specs.Calls.{count_after, interruptions_after, is_failed_read};
-ghost use Rattle.clock_device.specs.Streams.{CountsTaken, WritesText};
+ghost use Rattle.clock_device.specs.{Calls.{count_after, interruptions_after, is_failed_read}, Streams.{CountsTaken, WritesText}};
 ghost use Rattle.clock_device.specs.Told.{SinkTold, SourceTold, IsUnread, IsUnused, unread, unused};
 
 use crate::items::NoMemory;

@@ -1,10 +1,8 @@
 ghost use Rattle.std.specs.Prelude.{◌≡◌, ◌++◌, ℕ, true, List, [], Some, IfOk, IfErr, OnErr, OnOk, IsSome};
-ghost use Rattle.clock_front.specs.Fronts.{IsCutShort};
-ghost use Rattle.clock_http.specs.Framing.{needs_more};
-ghost use Rattle.clock_connections.specs.inside.Waiting.{AllNeedMore};
-ghost use Rattle.clock_connections.specs.Connections.{text_of, IsConnected, IsConnectFault};
-ghost use Rattle.clock_front.specs.Hubs.{HubFields, IsFed, IsFeedFault, IsAnswered, IsFinishFault};
+ghost use Rattle.clock_front.specs.{Fronts.{IsCutShort}, Hubs.{HubFields, IsFed, IsFeedFault, IsAnswered, IsFinishFault}};
 ghost use Rattle.clock_front.specs.inside.Hubs.{hub_of};
+ghost use Rattle.clock_http.specs.Framing.{needs_more};
+ghost use Rattle.clock_connections.specs.{inside.Waiting.{AllNeedMore}, Connections.{text_of, IsConnected, IsConnectFault}};
 
 use crate::front::Front;
 use clock_connections::{Conn, Connections, HubFault};

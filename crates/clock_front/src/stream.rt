@@ -1,8 +1,7 @@
 ghost use Rattle.std.specs.Prelude.{◌≡◌, ◌≤◌, ℕ, List};
 ghost use Rattle.clock_device.specs.Told.{IsUnread, IsUnused};
 ghost use Rattle.clock_connections.specs.Arrivals.{most_request_reads};
-ghost use Rattle.clock_front.specs.Fronts.{StandsForTexts};
-ghost use Rattle.clock_front.specs.Streamed.{HasServed, IsServed};
+ghost use Rattle.clock_front.specs.{Fronts.{StandsForTexts}, Streamed.{HasServed, IsServed}};
 
 use crate::front::{Front, no_memory_reply};
 use clock_connections::{Unread, read_request};

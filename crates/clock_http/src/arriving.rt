@@ -1,7 +1,5 @@
 ghost use Rattle.std.specs.Prelude.{◌≡◌, ◌+◌, ◌≤◌, ◌++◌, ℕ, List, [], false, length, take, IfOk, IfSome, OnErr, OnOk, OnSome};
-ghost use Rattle.clock_http.specs.Framing.{needs_more};
-ghost use Rattle.clock_http.specs.Shown.{IsFramed, Knows};
-ghost use Rattle.clock_http.specs.inside.Followed.{IsFollowed};
+ghost use Rattle.clock_http.specs.{Framing.{needs_more}, Shown.{IsFramed, Knows}, inside.Followed.{IsFollowed}};
 
 use crate::progress::{Framing, Progress, head_in};
 use clock_device::NoMemory;

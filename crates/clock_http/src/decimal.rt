@@ -1,8 +1,6 @@
 //! Numbers written in decimal digits.
 
-ghost use Rattle.std.specs.Prelude.{◌≡◌, ◌<◌, ◌^◌, IsTrue};
-ghost use Rattle.std.specs.Option.{SomeIff};
-ghost use Rattle.std.specs.Str.Parse.{digits_value};
+ghost use Rattle.std.specs.{Prelude.{◌≡◌, ◌<◌, ◌^◌, IsTrue}, Option.{SomeIff}, Str.Parse.{digits_value}};
 ghost use Rattle.clock_http.specs.Decimals as spec;
 
 /// Whether these are one or more digits.

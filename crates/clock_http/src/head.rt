@@ -7,8 +7,7 @@
 ghost use Rattle.std.specs.Prelude.{◌≡◌, ◌≤◌, ◌+◌, ◌-◌, length, false, IfOk, drop, option_map};
 ghost use Rattle.httparse.specs.Spans.{IsWithin, span_bytes};
 ghost use Rattle.clock_http.specs.Scans.{line_ends as count_of_line_ends, is_loose as is_loose_text, head_length as length_of_head};
-ghost use Rattle.clock_http.specs.inside.HeadParts.{path_of_target, head_with_length};
-ghost use Rattle.clock_http.specs.Shown.{IsHeadWithin};
+ghost use Rattle.clock_http.specs.{inside.HeadParts.{path_of_target, head_with_length}, Shown.{IsHeadWithin}};
 ghost use Rattle.clock_http.specs.inside.HeadFields.{shown_read};
 
 use crate::code::Code;

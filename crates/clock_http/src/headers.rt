@@ -9,8 +9,7 @@
 ghost use Rattle.std.specs.Prelude.{◌≡◌, ◌+◌, ◌≤◌, ◌<◌, ◌++◌, ℕ, List, [], ◌∷◌, length, map, drop, All, IfSome, option_map};
 ghost use Rattle.httparse.specs.Spans.{IsHeaderWithin, IsWithin, header_bytes, span_bytes};
 ghost use Rattle.clock_http.specs.HeaderLines as lines;
-ghost use Rattle.clock_http.specs.Shown.{IsSomeWithin};
-ghost use Rattle.clock_http.specs.inside.HeadFields.{Pairs, AreLinesOf, AreFieldsOf};
+ghost use Rattle.clock_http.specs.{Shown.{IsSomeWithin}, inside.HeadFields.{Pairs, AreLinesOf, AreFieldsOf}};
 
 use crate::code::Code;
 use crate::decimal::{is_number, number};

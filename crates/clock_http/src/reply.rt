@@ -72,8 +72,7 @@ pub struct Reply {
 }
 
 impl Model for Reply {
-    ghost use Rattle.clock_http.specs.Replies.{Answer};
-    ghost use Rattle.clock_http.specs.HeldReply.{shown_held};
+    ghost use Rattle.clock_http.specs.{Replies.{Answer}, HeldReply.{shown_held}};
 
     ghost Value = { Answer };
 

@@ -2,8 +2,7 @@
 
 ghost use Rattle.std.specs.Prelude.{◌≡◌, ◌≤◌, ◌+◌, ◌++◌, length, IsTrue};
 ghost use Rattle.sha2.specs.Sha256.{sha256};
-ghost use Rattle.clock_journal.specs.Format.{before_text, head, link, mark, mark_length, most_text};
-ghost use Rattle.clock_journal.specs.Headings.{heading};
+ghost use Rattle.clock_journal.specs.{Format.{before_text, head, link, mark, mark_length, most_text}, Headings.{heading}};
 ghost use Rattle.clock_journal.specs.Reading.{checked_text as checked_text_in, is_marked as is_marked_in};
 ghost use Rattle.clock_journal.specs.Reading.{marked_length as marked_length_in, next};
 ghost use Rattle.clock_journal.specs.inside.Shown.{IsRecord, shown, shown_heading};

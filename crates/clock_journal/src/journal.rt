@@ -1,8 +1,5 @@
 ghost use Rattle.std.specs.Prelude.{◌≡◌, ◌++◌, [], ◌∷◌, List, ℕ, OnOk, OnErr, IfOk, Some, false, is_err, length};
-ghost use Rattle.clock_journal.specs.Disks.{MayBeLeft};
-ghost use Rattle.clock_journal.specs.Format.{Fits, link};
-ghost use Rattle.clock_journal.specs.Crash.{LeavesTexts};
-ghost use Rattle.clock_journal.specs.Kept.{HasTexts, JournalState};
+ghost use Rattle.clock_journal.specs.{Disks.{MayBeLeft}, Format.{Fits, link}, Crash.{LeavesTexts}, Kept.{HasTexts, JournalState}};
 ghost use Rattle.clock_journal.specs.Recovering.{IsPlaced};
 
 use crate::durable::Durable;

@@ -1,7 +1,6 @@
 //! Laws of journals. Each function does nothing when it runs: a caller is handed the law.
 
-ghost use Rattle.clock_journal.specs.Chain.{ChainBinds, JournalsBind};
-ghost use Rattle.clock_journal.specs.Laws.{CutLeaves, EveryFront, ReadsBack, WhateverFollows};
+ghost use Rattle.clock_journal.specs.{Chain.{ChainBinds, JournalsBind}, Laws.{CutLeaves, EveryFront, ReadsBack, WhateverFollows}};
 
 /// The digest of a journal's last text stands for the set-up and all texts before it: two journals that end with the
 /// same digest are the same, or two messages with one SHA-256 digest stand in them. Where one may have more texts than

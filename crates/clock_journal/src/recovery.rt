@@ -1,8 +1,7 @@
 //! How a journal is taken over from a file: its texts go to a machine, one after the other.
 
 ghost use Rattle.std.specs.Prelude.{◌≡◌, ◌≤◌, ◌∷◌, List, ℕ, Err, MatchResult, OnOk, drop, length};
-ghost use Rattle.clock_journal.specs.Crash.{LeavesTexts};
-ghost use Rattle.clock_journal.specs.Format.{head_length};
+ghost use Rattle.clock_journal.specs.{Crash.{LeavesTexts}, Format.{head_length}};
 ghost use Rattle.clock_journal.specs.Recovering.{HasTaken, IsRecovered, IsRefusal, IsRefusedRightly, IsUntaken};
 ghost use Rattle.clock_journal.specs.inside.Replays.{IsReplayed, IsStopped};
 

@@ -1,8 +1,7 @@
 //! Bids as most programs write them: without white space, and their keys in one order. Eight bytes are compared at
 //! once.
 ghost use Rattle.std.specs.Prelude.{◌≡◌, ◌+◌, ◌≤◌, ◌<◌, ◌^◌, ◌∷◌, ◌++◌, length, take, drop, codes, decimal, IsTrue, IfSome};
-ghost use Rattle.json.specs.Token.{begin_object, end_object, number, string};
-ghost use Rattle.json.specs.Lex.{lex, between, token, comma, colon};
+ghost use Rattle.json.specs.{Token.{begin_object, end_object, number, string}, Lex.{lex, between, token, comma, colon}};
 ghost use Rattle.clock_json.specs.inside.Digits.{IsNumberUpTo};
 
 use crate::digits::{digit_before, digits_up_to, uneven_digits_at};

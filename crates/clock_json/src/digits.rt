@@ -2,11 +2,8 @@
 //! nothing between them but a comma.
 ghost use Rattle.std.specs.Prelude.{◌≡◌, ◌+◌, ◌≤◌, ◌<◌, ◌^◌, ◌∷◌, ◌++◌, false, drop, get_or, length, take, IfSome, ℕ, List, map, decimal, IfOk};
 ghost use Rattle.std.specs.Str.Parse.{AllDigits, digits_value};
-ghost use Rattle.json.specs.Token.{number};
-ghost use Rattle.json.specs.Lex.{lex, between, token, comma};
-ghost use Rattle.clock_json.specs.inside.Digits.{AreDigits, IsNumberUpTo, zero_digit};
-ghost use Rattle.clock_json.specs.Left.{left};
-ghost use Rattle.clock_json.specs.Reading.{whole, ReadsAll};
+ghost use Rattle.json.specs.{Token.{number}, Lex.{lex, between, token, comma}};
+ghost use Rattle.clock_json.specs.{inside.Digits.{AreDigits, IsNumberUpTo, zero_digit}, Left.{left}, Reading.{whole, ReadsAll}};
 
 use crate::compact::has_room;
 use crate::room::push;

@@ -1,10 +1,7 @@
 //! Parts of one kind: lists of them, whole texts, and objects of known keys, which may stand in any order.
-ghost use Rattle.std.specs.Prelude.{◌≡◌, ◌<◌, ◌≤◌, ℕ, suc, length, map, Some, IfSome, OnSome, IfOk, OnOk};
-ghost use Rattle.std.specs.Str.{IsUtf8};
-ghost use Rattle.serde_json.specs.Data.{Data, array, no_members, object};
-ghost use Rattle.serde_json.specs.Read.{read};
-ghost use Rattle.clock_json.specs.Reading.{items_of, Reads, Fields, members_of};
-ghost use Rattle.clock_json.specs.Members.{ReadsField};
+ghost use Rattle.std.specs.{Prelude.{◌≡◌, ◌<◌, ◌≤◌, ℕ, suc, length, map, Some, IfSome, OnSome, IfOk, OnOk}, Str.{IsUtf8}};
+ghost use Rattle.serde_json.specs.{Data.{Data, array, no_members, object}, Read.{read}};
+ghost use Rattle.clock_json.specs.{Reading.{items_of, Reads, Fields, members_of}, Members.{ReadsField}};
 
 use crate::room::with_room;
 use crate::scan::{Scan, ScanStop};

@@ -1,9 +1,7 @@
 //! Lists of numbers, and lists of such lists (rows), which are kept all in one: how they are kept, and how they are read.
 ghost use Rattle.std.specs.Prelude.{◌≡◌, ◌==◌, ◌<◌, ◌≤◌, ◌+◌, [], ◌++◌, ℕ, List, length, map, take, slice_index, slice_index_or, IsTrue, IfOk, OnOk};
 ghost use Rattle.std.specs.List.{list_all};
-ghost use Rattle.clock_json.specs.Rows.{cut, shortened};
-ghost use Rattle.clock_json.specs.inside.Rows.{numbers_in};
-ghost use Rattle.clock_json.specs.Reading.{numbers, rows, Reads};
+ghost use Rattle.clock_json.specs.{Rows.{cut, shortened}, inside.Rows.{numbers_in}, Reading.{numbers, rows, Reads}};
 
 use crate::room::push;
 use crate::scan::{Scan, ScanStop};

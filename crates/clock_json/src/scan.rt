@@ -4,9 +4,7 @@ ghost use Rattle.std.specs.Bool.{MatchBool};
 ghost use Rattle.json.specs.Token.{Token, begin_array, begin_object, end_array, end_object, key as key_token, tokens_code};
 ghost use Rattle.json.specs.Lex.{after_value, fresh, may_begin, may_close, tokens};
 ghost use Rattle.serde_json.specs.Data.{null, string};
-ghost use Rattle.clock_json.specs.Compact.{compact_bid};
-ghost use Rattle.clock_json.specs.Left.{left, place_of};
-ghost use Rattle.clock_json.specs.Reading.{whole, numbers, Reads, ReadsAll};
+ghost use Rattle.clock_json.specs.{Compact.{compact_bid}, Left.{left, place_of}, Reading.{whole, numbers, Reads, ReadsAll}};
 ghost use Rattle.clock_json.specs.inside.Marks.{IsMark};
 ghost use Rattle.clock_json.specs.declared.scan.ScanStop.TheVariants as stops;
 

@@ -2,9 +2,8 @@
 //! `Value::get` gives the value under a key itself.
 
 ghost use Rattle.std.specs.Prelude.{◌≡◌, Option, option_and_then, option_map, IfOk};
-ghost use Rattle.serde_json.specs.View.{view, items_view};
+ghost use Rattle.serde_json.specs.{View.{view, items_view}, Data.{Data}};
 ghost use Rattle.clock_json.specs.Tree as members;
-ghost use Rattle.serde_json.specs.Data.{Data};
 
 use crate::words::is_blank;
 use clock_device::{Items, NoMemory};

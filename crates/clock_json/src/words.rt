@@ -1,17 +1,13 @@
 //! Bytes of a text as lexemes: white space, commas, quoted words, numbers and empty lists. Where plain text ends, at a quote, a
 //! backslash or a control character, is looked for in sixteen bytes together.
 ghost use Rattle.std.specs.Prelude.{◌≡◌, ◌∷◌, ◌<◌, ◌^◌, ◌||◌, ◌+◌, ◌≤◌, [], ℕ, List, true, false, None, IsTrue, drop, length, get_or, decimal, IfSome, IfOk, map, replicate};
-ghost use Rattle.std.specs.Str.{IsUtf8};
-ghost use Rattle.std.specs.List.{prefix_len};
-ghost use Rattle.std.specs.Simd.Lanes.{mask_l};
+ghost use Rattle.std.specs.{Str.{IsUtf8}, List.{prefix_len}, Simd.Lanes.{mask_l}};
 ghost use Rattle.json.specs.Token.{null, number, string};
 ghost use Rattle.json.specs.Lex.{lex, between, token, class, begins_colon, after_value as past_value, punctuate};
-ghost use Rattle.json.specs.Word.{is_operator, is_space as is_blank_byte};
-ghost use Rattle.json.specs.Align.{is_blank as is_blank_class};
-ghost use Rattle.serde_json.specs.Read.{read};
+ghost use Rattle.json.specs.{Word.{is_operator, is_space as is_blank_byte}, Align.{is_blank as is_blank_class}};
 ghost use Rattle.json.specs.Run.{is_stop, is_plain};
-ghost use Rattle.clock_json.specs.Left.{left};
-ghost use Rattle.clock_json.specs.Reading.{numbers, ReadsAll};
+ghost use Rattle.serde_json.specs.Read.{read};
+ghost use Rattle.clock_json.specs.{Left.{left}, Reading.{numbers, ReadsAll}};
 
 use crate::compact::has_room;
 use crate::digits::digits_up_to;

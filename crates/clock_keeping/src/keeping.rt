@@ -1,7 +1,6 @@
 ghost use Rattle.std.specs.Prelude.{◌≡◌, ◌<◌, ◌⊎◌, List, ℕ, IfOk, OnOk, OnErr, length, true, false};
 ghost use Rattle.clock_http.specs.Shown.{Knows};
-ghost use Rattle.clock_front.specs.Fronts.{AnswersText, IsStruckOut};
-ghost use Rattle.clock_front.specs.Private.{IsPrivateReply};
+ghost use Rattle.clock_front.specs.{Fronts.{AnswersText, IsStruckOut}, Private.{IsPrivateReply}};
 ghost use Rattle.clock_journal.specs.Format.{most_text};
 ghost use Rattle.clock_keeping.specs.Keeping.{GetsChangeNothing, IsInStep, IsKept, LeavesOneMore, is_get as is_get_of};
 

@@ -1,10 +1,8 @@
 ghost use Rattle.std.specs.Prelude.{◌≡◌, [], List, ℕ, MatchResult, drop, length, IfErr, IfOk, Some, false};
-ghost use Rattle.clock_journal.specs.Crash.{LeavesTexts};
-ghost use Rattle.clock_journal.specs.Recovering.{IsRefusal, IsRefusedRightly, IsUntaken};
+ghost use Rattle.clock_journal.specs.{Crash.{LeavesTexts}, Recovering.{IsRefusal, IsRefusedRightly, IsUntaken}};
 ghost use Rattle.clock_terms.specs.Limits.{SetupFields};
 ghost use Rattle.clock_front.specs.Fronts.{StandsForTexts};
-ghost use Rattle.clock_keeping.specs.Keeping.{HasTakenUp, IsRefused, IsTakenUp, counted};
-ghost use Rattle.clock_keeping.specs.Starts.{IsGoingOn, IsNotGoingOn};
+ghost use Rattle.clock_keeping.specs.{Keeping.{HasTakenUp, IsRefused, IsTakenUp, counted}, Starts.{IsGoingOn, IsNotGoingOn}};
 
 use clock_front::Front;
 use clock_http::Code;

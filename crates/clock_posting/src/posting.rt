@@ -1,8 +1,5 @@
 ghost use Rattle.std.specs.Prelude.{◌≡◌, ◌≤◌, length, All, Any, IfOk, IfErr, IfSome};
-ghost use Rattle.clock_terms.specs.Demands.{IsGrid};
-ghost use Rattle.clock_terms.specs.Faults.{IsFirstFault};
-ghost use Rattle.clock_terms.specs.Increments.{AreIncrements};
-ghost use Rattle.clock_terms.specs.Prices.{opening_prices};
+ghost use Rattle.clock_terms.specs.{Demands.{IsGrid}, Faults.{IsFirstFault}, Increments.{AreIncrements}, Prices.{opening_prices}};
 ghost use Rattle.clock_posting.specs.PostedPrice.{IsWithinPrices, posted_prices};
 ghost use Rattle.clock_posting.specs.Posting as rules;
 ghost use Rattle.clock_posting.specs.declared.posting.PostFault.TheVariants as faults;

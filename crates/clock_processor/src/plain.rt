@@ -1,9 +1,7 @@
 ghost use Rattle.std.specs.Prelude.{◌≡◌, ◌<◌, ◌≤◌, ◌-◌, length, OnSome, All, ℕ, slice_index, slice_index_or, slice_set};
-ghost use Rattle.clock_processor.specs.Board.{IsBoard, one_more};
-ghost use Rattle.clock_processor.specs.Room.{with_change};
-ghost use Rattle.clock_processor.specs.Settling as settling;
-ghost use Rattle.clock_processor.specs.Requests.{IsRequest};
+ghost use Rattle.clock_processor.specs.{Board.{IsBoard, one_more}, Room.{with_change}, Requests.{IsRequest}};
 ghost use Rattle.clock_processor.specs.inside.UnderWay.{IsUnderWay, SameButTests, StaysWithinCaps, progress_of};
+ghost use Rattle.clock_processor.specs.Settling as settling;
 
 use crate::board::Board;
 use crate::processor::{Processor, Settled, amounts_of};

@@ -1,9 +1,7 @@
 //! The lines in which requests wait, and the places of those that are ready to be tested.
 
 ghost use Rattle.std.specs.Prelude.{◌≡◌, ◌<◌, [], ◌∷◌, ◌++◌, ◌≤◌, ℕ, List, length, replicate, All, IfOk, OnOk, slice_index_or, slice_set, map, IfSome, IfNone};
-ghost use Rattle.std.specs.BinaryHeap.{IsHeap, heap_items};
-ghost use Rattle.std.specs.List.Sorted.{IsPermutation};
-ghost use Rattle.std.specs.Ordering.{nat_cmp};
+ghost use Rattle.std.specs.{BinaryHeap.{IsHeap, heap_items}, List.Sorted.{IsPermutation}, Ordering.{nat_cmp}};
 ghost use Rattle.clock_queue.specs.inside.Lines as lines;
 
 use clock_device::NoMemory;

@@ -1,6 +1,5 @@
 ghost use Rattle.std.specs.Prelude.{◌≡◌, ◌+◌, ◌<◌, ◌≤◌, [], length, map, IfOk, OnOk, All};
-ghost use Rattle.clock_processor.specs.Board.{IsBoard};
-ghost use Rattle.clock_processor.specs.Requests.{CanSettle};
+ghost use Rattle.clock_processor.specs.{Board.{IsBoard}, Requests.{CanSettle}};
 ghost use Rattle.clock_queue.specs.inside.Queue.{GoesOn, IsAppliedWhole, IsQueue, StaysWithinTests, after_test, room_in, with_first, work};
 
 use crate::lines::{Ready, WaitingLines, line_of, lines_for, woken_line};

@@ -1,6 +1,5 @@
 ghost use Rattle.std.specs.Prelude.{IfOk};
-ghost use Rattle.clock_processor.specs.Requests.{CanSettle};
-ghost use Rattle.clock_processor.specs.Settlement.{IsSettlement, IsProperEnd};
+ghost use Rattle.clock_processor.specs.{Requests.{CanSettle}, Settlement.{IsSettlement, IsProperEnd}};
 ghost use Rattle.clock_queue.specs.Bound.{IsWithinTests};
 
 use crate::queue::Queue;

@@ -1,8 +1,7 @@
 //! The limits of a sincere bidder, which are mostly none.
 ghost use Rattle.std.specs.Prelude.{◌≡◌, ℕ, ◌<◌, ◌≤◌, List, [], ◌++◌, ◌∷◌, length, replicate, slice_index, IfOk, OnOk};
 ghost use Rattle.clock_terms.specs.Demands.{row_of};
-ghost use Rattle.clock_replays.specs.EndedRows.{rows_from};
-ghost use Rattle.clock_replays.specs.KeptLimits.{limits_of};
+ghost use Rattle.clock_replays.specs.{EndedRows.{rows_from}, KeptLimits.{limits_of}};
 ghost use Rattle.clock_replays.specs.inside.KeptLimits.{AreKept, IsPlaceOf, kept_limits};
 ghost use Rattle.clock_json.specs.Reading.{rows, Reads};
 

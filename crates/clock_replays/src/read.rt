@@ -1,10 +1,7 @@
-ghost use Rattle.std.specs.Prelude.{◌≡◌, ◌≢◌, ◌&&◌, Ok, IfOk, IfErr, true, Some, length, nat_le};
-ghost use Rattle.std.specs.List.{list_all};
+ghost use Rattle.std.specs.{Prelude.{◌≡◌, ◌≢◌, ◌&&◌, Ok, IfOk, IfErr, true, Some, length, nat_le}, List.{list_all}};
 ghost use Rattle.serde_json.specs.View.{view};
-ghost use Rattle.clock_terms.specs.Faults.{IsRefusal, first_fault, unless};
-ghost use Rattle.clock_terms.specs.Limits.{IsSetup};
-ghost use Rattle.clock_replays.specs.Replays.{IsReplay, ReplayFields};
-ghost use Rattle.clock_replays.specs.ReplayDocument.{document_replay, replay_of};
+ghost use Rattle.clock_terms.specs.{Faults.{IsRefusal, first_fault, unless}, Limits.{IsSetup}};
+ghost use Rattle.clock_replays.specs.{Replays.{IsReplay, ReplayFields}, ReplayDocument.{document_replay, replay_of}};
 ghost use Rattle.clock_replays.specs.ReplayChecks as rules;
 
 use crate::replay::{Closing, Closings, Replay, Script, ScriptFault, Scripts};

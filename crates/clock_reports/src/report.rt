@@ -1,8 +1,7 @@
 //! The report of an auction, of its rounds so far.
 
 ghost use Rattle.std.specs.Prelude.{◌≡◌, ◌<◌, ◌≤◌, Some, length, map, reverse, slice_get, All, IfOk};
-ghost use Rattle.clock_reports.specs.Reports.{ReportFields};
-ghost use Rattle.clock_reports.specs.inside.Reports.{IsPricedLine, IsReport};
+ghost use Rattle.clock_reports.specs.{Reports.{ReportFields}, inside.Reports.{IsPricedLine, IsReport}};
 ghost use Rattle.clock_reports.specs.FinalReport as rules;
 
 use clock_device::{Items, NoMemory};

@@ -1,7 +1,6 @@
 //! The texts of reports: of a replay, of an auction itself, and of an audit.
 
-ghost use Rattle.std.specs.Prelude.{◌≡◌, ◌≤◌, ◌++◌, All, IfOk, OnOk, length, decimal, codes, zip, true};
-ghost use Rattle.std.specs.List.{flat_map};
+ghost use Rattle.std.specs.{Prelude.{◌≡◌, ◌≤◌, ◌++◌, All, IfOk, OnOk, length, decimal, codes, zip, true}, List.{flat_map}};
 ghost use Rattle.clock_terms.specs.Limits.{IsRow, most_products, most_supply};
 ghost use Rattle.clock_reports.specs.inside.WonLines.{none_held};
 ghost use Rattle.clock_house.specs.House.{standing_in};

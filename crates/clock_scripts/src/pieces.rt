@@ -3,15 +3,12 @@
 
 ghost use Rattle.std.specs.Prelude.{◌≡◌, ◌<◌, ◌≤◌, ◌-◌, false, length, drop, IfOk, IfSome, OnOk};
 ghost use Rattle.clock_terms.specs.Limits.{IsToken};
-ghost use Rattle.clock_house.specs.History.{bidder_at};
-ghost use Rattle.clock_house.specs.House.{standing_in, holding_in};
+ghost use Rattle.clock_house.specs.{History.{bidder_at}, House.{standing_in, holding_in}};
 ghost use Rattle.clock_replays.specs.Replays.{IsScript, IsLimits};
 ghost use Rattle.clock_views.specs.Values.{Adds};
 ghost use Rattle.clock_scripts.specs.Pieces.{AwaitsBody, HoldsNothing, IsWrittenIn, Writes, WritesIf, is_awaited, piece_at};
-ghost use Rattle.clock_scripts.specs.RequestTexts.{request_text, written_put};
+ghost use Rattle.clock_scripts.specs.{RequestTexts.{request_text, written_put}, Sincere.{sincere_sheet}, inside.Heads.{HasHead}};
 ghost use Rattle.clock_scripts.specs.ScriptedRequests as rules;
-ghost use Rattle.clock_scripts.specs.Sincere.{sincere_sheet};
-ghost use Rattle.clock_scripts.specs.inside.Heads.{HasHead};
 
 use crate::request_writer::{push_close_body, push_head};
 use crate::sheet_bodies::push_sheet;

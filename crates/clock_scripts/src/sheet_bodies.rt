@@ -3,8 +3,7 @@
 ghost use Rattle.std.specs.Prelude.{◌≡◌, ℕ, List, codes, length, OnOk, IfOk};
 ghost use Rattle.clock_bids.specs.declared.sheet.Bid.{Bid};
 ghost use Rattle.clock_views.specs.Values.{Adds};
-ghost use Rattle.clock_scripts.specs.RequestTexts.{written_put};
-ghost use Rattle.clock_scripts.specs.inside.Bodies.{bid_text, bids_text};
+ghost use Rattle.clock_scripts.specs.{RequestTexts.{written_put}, inside.Bodies.{bid_text, bids_text}};
 
 use crate::request_writer::{end_array, push_label, push_number};
 use clock_bids::Bid;

@@ -3,11 +3,10 @@
 ghost use Rattle.std.specs.Prelude.{◌≡◌, ◌≤◌, ◌<◌, ◌≢◌, length, take, reverse, OnOk};
 ghost use Rattle.clock_views.specs.Values.{Adds};
 ghost use Rattle.clock_replays.specs.Replays.{NeverRises};
-ghost use Rattle.clock_scripts.specs.RequestTexts.{written_put};
+ghost use Rattle.clock_scripts.specs.{RequestTexts.{written_put}, inside.Bodies.{bids_text}};
+ghost use Rattle.clock_scripts.specs.inside.SincereSheets.{IsSincere, sheet_of};
 ghost use Rattle.clock_scripts.specs.Sincere as rules;
 ghost use Rattle.clock_scripts.specs.inside.Blocks as one_by_one;
-ghost use Rattle.clock_scripts.specs.inside.Bodies.{bids_text};
-ghost use Rattle.clock_scripts.specs.inside.SincereSheets.{IsSincere, sheet_of};
 
 use crate::sheet_bodies::{close_sheet, open_sheet, push_bid};
 use clock_bids::{Bid, Own};

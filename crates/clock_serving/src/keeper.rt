@@ -1,8 +1,7 @@
 ghost use Rattle.std.specs.Prelude.{◌≡◌, ◌<◌, ◌⊎◌, [], ◌∷◌, ℕ, List, Option, None, IfOk, OnOk, OnErr, length, true, false};
 ghost use Rattle.clock_front.specs.Fronts.{AnswersText};
 ghost use Rattle.clock_http.specs.Shown.{Knows};
-ghost use Rattle.clock_journal.specs.Format.{most_text};
-ghost use Rattle.clock_journal.specs.Kept.{JournalState};
+ghost use Rattle.clock_journal.specs.{Format.{most_text}, Kept.{JournalState}};
 ghost use Rattle.clock_keeping.specs.Keeping.{IsInStep, IsKept, LeavesOneMore};
 ghost use Rattle.clock_serving.specs.Exchanges.{GrowsBy, no_journal};
 

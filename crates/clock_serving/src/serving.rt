@@ -3,8 +3,7 @@ ghost use Rattle.clock_device.specs.Told.{IsUnread, IsUnused};
 ghost use Rattle.clock_serving.specs.Exchanges.{Came, Exchange, GrowsBy, HasClosed, bytes_given, no_journal};
 ghost use Rattle.clock_serving.specs.declared.serving.ServeFault.TheVariants.{Journal as JournalFault};
 ghost use Rattle.clock_serving.specs.Serving.{EndsServing, is_accept_fault};
-ghost use Rattle.clock_serving.specs.inside.Served.{EndsOne, IsServed, IsUnkept, round_if};
-ghost use Rattle.clock_serving.specs.Laws.{ToldBytes};
+ghost use Rattle.clock_serving.specs.{inside.Served.{EndsOne, IsServed, IsUnkept, round_if}, Laws.{ToldBytes}};
 
 use crate::acceptor::{Acceptor, Listening};
 use crate::keeper::{Keeper, Unkept};

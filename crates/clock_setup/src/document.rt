@@ -3,9 +3,8 @@ ghost use Rattle.serde_json.specs.View.{view};
 ghost use Rattle.clock_terms.specs.Faults.{IsFirstFault, IsRefusal, first_fault};
 ghost use Rattle.clock_terms.specs.Limits.{SetupFields, IsOfFirstVersion, IsSetup, IsWithin, latest_version};
 ghost use Rattle.clock_json.specs.Tree.{number_at};
-ghost use Rattle.clock_setup.specs.SetupShape.{fields_of};
+ghost use Rattle.clock_setup.specs.{SetupShape.{fields_of}, inside.SetupDocument.{distinct_checks}};
 ghost use Rattle.clock_setup.specs.SetupDocument as document;
-ghost use Rattle.clock_setup.specs.inside.SetupDocument.{distinct_checks};
 
 use crate::entries::SetupEntries;
 use crate::fault::{Place, SetupFault};

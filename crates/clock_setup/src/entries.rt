@@ -1,7 +1,6 @@
 //! A set-up document of the right shape, with no limit tested yet.
 ghost use Rattle.std.specs.Prelude.{◌≡◌, All};
-ghost use Rattle.clock_terms.specs.declared.setup.Product.{Product};
-ghost use Rattle.clock_terms.specs.declared.setup.Bidder.{Bidder};
+ghost use Rattle.clock_terms.specs.{declared.setup.Product.{Product}, declared.setup.Bidder.{Bidder}};
 ghost use Rattle.clock_terms.specs.Limits.{IsWithin, IsOfFirstVersion, SetupFields, first_granule, latest_version};
 
 use clock_device::Items;

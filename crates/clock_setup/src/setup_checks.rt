@@ -1,9 +1,7 @@
-ghost use Rattle.std.specs.Prelude.{◌≡◌, ◌∷◌, ℕ, List, Bool, true, false, map, None, IfOk, IfErr, OnOk};
-ghost use Rattle.std.specs.List.{list_all};
+ghost use Rattle.std.specs.{Prelude.{◌≡◌, ◌∷◌, ℕ, List, Bool, true, false, map, None, IfOk, IfErr, OnOk}, List.{list_all}};
 ghost use Rattle.clock_terms.specs.Limits as limits;
 ghost use Rattle.clock_terms.specs.Faults.{IsFirstFault, first_fault};
-ghost use Rattle.clock_setup.specs.declared.fault.SetupFault.{SetupFault};
-ghost use Rattle.clock_setup.specs.SetupDocument.{product_checks, bidder_checks};
+ghost use Rattle.clock_setup.specs.{declared.fault.SetupFault.{SetupFault}, SetupDocument.{product_checks, bidder_checks}};
 ghost use Rattle.clock_setup.specs.inside.SetupDocument.{counted_checks};
 
 use crate::entries::{BidderEntry, ProductEntry};

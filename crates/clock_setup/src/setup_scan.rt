@@ -1,10 +1,8 @@
 //! A set-up read without a tree, where no text has an escape and each number is written in digits alone.
 ghost use Rattle.std.specs.Prelude.{◌≡◌, ◌<◌, length, Ok, IfOk, OnOk};
 ghost use Rattle.clock_json.specs.Reading.{Reads};
-ghost use Rattle.clock_setup.specs.SetupData.{product_data, products_data, bidder_data, setup_data};
-ghost use Rattle.clock_setup.specs.SetupDocument.{setup_of};
-ghost use Rattle.clock_setup.specs.inside.FoundEntries.{found_product, found_bidder};
-ghost use Rattle.clock_setup.specs.inside.FoundSetup.{found_setup};
+ghost use Rattle.clock_setup.specs.{SetupData.{product_data, products_data, bidder_data, setup_data}, SetupDocument.{setup_of}};
+ghost use Rattle.clock_setup.specs.{inside.FoundEntries.{found_product, found_bidder}, inside.FoundSetup.{found_setup}};
 
 use crate::document::within_limits;
 use crate::entries::{

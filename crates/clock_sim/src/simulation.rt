@@ -4,8 +4,7 @@ ghost use Rattle.clock_house.specs.House.{standing_in};
 ghost use Rattle.clock_front.specs.Fronts.{StandsForTexts};
 ghost use Rattle.clock_reports.specs.FinalReport.{report_of};
 ghost use Rattle.clock_sim.specs.Rehearsal as rules;
-ghost use Rattle.clock_sim.specs.inside.Steps.{AreScriptsOf, replay_of};
-ghost use Rattle.clock_sim.specs.declared.simulation.SimFault.TheVariants.{NoMemory};
+ghost use Rattle.clock_sim.specs.{inside.Steps.{AreScriptsOf, replay_of}, declared.simulation.SimFault.TheVariants.{NoMemory}};
 
 use crate::groups::Group;
 use crate::rounds::play;

@@ -1,6 +1,5 @@
 ghost use Rattle.std.specs.Prelude.{◌≡◌, ℕ, ◌≤◌, ◌<◌, slice_index_or, length, take, All, IfOk, IfErr, insert, remove, vec_capacity, IsTrue};
-ghost use Rattle.clock_terms.specs.HeldDemands.{demand_for, demands_of};
-ghost use Rattle.clock_terms.specs.Limits.{most_products, most_supply};
+ghost use Rattle.clock_terms.specs.{HeldDemands.{demand_for, demands_of}, Limits.{most_products, most_supply}};
 ghost use Rattle.clock_terms.specs.inside.Rows.{AreHeld, AreStarts, IsStart, IsStored, StandsAt, WouldStandAt};
 
 use clock_device::NoMemory;

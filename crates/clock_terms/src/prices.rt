@@ -1,6 +1,5 @@
 ghost use Rattle.std.specs.Prelude.{◌≡◌, IfOk};
-ghost use Rattle.clock_terms.specs.Prices.{opening_prices};
-ghost use Rattle.clock_terms.specs.declared.setup.Setup.{Setup};
+ghost use Rattle.clock_terms.specs.{Prices.{opening_prices}, declared.setup.Setup.{Setup}};
 
 use crate::setup::Setup;
 use clock_device::{Items, NoMemory};

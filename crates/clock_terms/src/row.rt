@@ -1,9 +1,7 @@
 ghost use Rattle.std.specs.Prelude.{◌≡◌, ◌≤◌, ◌<◌, ◌+◌, ℕ, List, length, replicate, IfOk, slice_index, slice_set, vec_capacity, drop, unwrap_or, option_map, IfSome};
 ghost use Rattle.std.specs.List.{AllWithin};
-ghost use Rattle.clock_terms.specs.Demands.{demand_after};
-ghost use Rattle.clock_terms.specs.HeldDemands.{demands_of, next_of};
-ghost use Rattle.clock_terms.specs.inside.Rows.{IsKeptRow, AreHeld, IsKeptWalk};
-ghost use Rattle.clock_terms.specs.Limits.{IsRow, most_products, most_supply};
+ghost use Rattle.clock_terms.specs.{Demands.{demand_after}, HeldDemands.{demands_of, next_of}};
+ghost use Rattle.clock_terms.specs.{inside.Rows.{IsKeptRow, AreHeld, IsKeptWalk}, Limits.{IsRow, most_products, most_supply}};
 ghost use Rattle.clock_terms.specs.Walks.{Walk};
 
 use crate::held_list::{

@@ -2,14 +2,11 @@
 
 ghost use Rattle.std.specs.Prelude.{◌≡◌, ◌≤◌, ◌<◌, ◌+◌, ℕ, Bool, List, length, option_copied, IfOk};
 ghost use Rattle.serde_json.specs.Written.{compact_text};
-ghost use Rattle.clock_terms.specs.Limits.{IsName, IsRow};
-ghost use Rattle.clock_terms.specs.declared.setup.Product.{Product};
+ghost use Rattle.clock_terms.specs.{Limits.{IsName, IsRow}, declared.setup.Product.{Product}};
 ghost use Rattle.clock_house.specs.History.{bidder_at};
 ghost use Rattle.clock_views.specs.BidderPages.{account_value, bids_value, bid_value, sheet_or_null, accepted_value, accepted_bytes, slip_value};
 ghost use Rattle.clock_views.specs.PageRooms.{room_of_account, room_around_bids, room_of_accepted, room_of_slip};
-ghost use Rattle.clock_views.specs.Rooms.{most_text};
-ghost use Rattle.clock_views.specs.Values.{list_of, IsPage, Adds};
-ghost use Rattle.clock_views.specs.inside.Rooms.{room_of_bid, room_of_array};
+ghost use Rattle.clock_views.specs.{Rooms.{most_text}, Values.{list_of, IsPage, Adds}, inside.Rooms.{room_of_bid, room_of_array}};
 
 use crate::pieces::{
     ITEM_ROOM, page_with_room, push_comma_if, push_demands, push_label, push_name, push_number,

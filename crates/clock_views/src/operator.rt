@@ -1,11 +1,9 @@
 //! The pages of the operator.
 
-ghost use Rattle.std.specs.Prelude.{◌≡◌, ◌≤◌, ◌<◌, ◌+◌, ℕ, Bool, length, IfOk};
-ghost use Rattle.std.specs.List.{range_with_len};
+ghost use Rattle.std.specs.{Prelude.{◌≡◌, ◌≤◌, ◌<◌, ◌+◌, ℕ, Bool, length, IfOk}, List.{range_with_len}};
 ghost use Rattle.serde_json.specs.Written.{compact_text};
 ghost use Rattle.clock_views.specs.OperatorPages.{closed_value, closed_bytes, results_value, result_in};
-ghost use Rattle.clock_views.specs.PageRooms.{room_of_closed, room_around_results};
-ghost use Rattle.clock_views.specs.Rooms.{most_text};
+ghost use Rattle.clock_views.specs.{PageRooms.{room_of_closed, room_around_results}, Rooms.{most_text}};
 ghost use Rattle.clock_views.specs.Values.{list_of, IsPage, Adds};
 
 use crate::bidder::name_of;

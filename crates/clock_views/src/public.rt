@@ -4,11 +4,8 @@ ghost use Rattle.std.specs.Prelude.{◌≡◌, ◌≤◌, ◌+◌, ℕ, Bool, le
 ghost use Rattle.serde_json.specs.Written.{compact_text};
 ghost use Rattle.clock_terms.specs.Limits.{IsProduct, PublicSetup, public_setup};
 ghost use Rattle.clock_views.specs.PublicPages.{status_value, status_bytes, sheet_value, products_value, product_value, from_version_2 as number_from_version_2};
-ghost use Rattle.clock_views.specs.inside.Rooms.{room_of_product};
-ghost use Rattle.clock_views.specs.PageRooms.{room_of_status, room_of_sheet};
-ghost use Rattle.clock_views.specs.Rooms.{most_text};
-ghost use Rattle.clock_views.specs.Values.{IsPage, Adds};
-ghost use Rattle.clock_views.specs.inside.Values.{item_text};
+ghost use Rattle.clock_views.specs.{inside.Rooms.{room_of_product}, PageRooms.{room_of_status, room_of_sheet}, Rooms.{most_text}};
+ghost use Rattle.clock_views.specs.{Values.{IsPage, Adds}, inside.Values.{item_text}};
 
 use crate::pieces::{
     page_with_room, push_comma_if, push_label, push_name, push_number, push_number_if,

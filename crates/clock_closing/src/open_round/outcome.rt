@@ -2,15 +2,12 @@
 //! requests are settled in their order. What is posted of the demands, and each bidder's slip, are its results.
 
 ghost use Rattle.std.specs.Prelude.{◌≡◌, ◌<◌, ◌≤◌, length, IfOk};
-ghost use Rattle.clock_terms.specs.Limits.{IsRow, public_setup};
+ghost use Rattle.clock_terms.specs.{Limits.{IsRow, public_setup}, Increments.{AreIncrements}};
 ghost use Rattle.clock_terms.specs.Eligibility as eligibilities;
-ghost use Rattle.clock_terms.specs.Increments.{AreIncrements};
 ghost use Rattle.clock_processor.specs.Board.{IsWithinEligibility};
-ghost use Rattle.clock_closing.specs.OpenRound.{holding_at};
-ghost use Rattle.clock_closing.specs.inside.OpenRound.{eligibilities_of, grid_of};
+ghost use Rattle.clock_closing.specs.{OpenRound.{holding_at}, inside.OpenRound.{eligibilities_of, grid_of}};
+ghost use Rattle.clock_closing.specs.{inside.Postings.{AreRequests, ComesTo, IsRoundOf, posted_now}, Results.{demands_of}};
 ghost use Rattle.clock_closing.specs.Closing as rules;
-ghost use Rattle.clock_closing.specs.inside.Postings.{AreRequests, ComesTo, IsRoundOf, posted_now};
-ghost use Rattle.clock_closing.specs.Results.{demands_of};
 
 use crate::closed_round::{ClosedRound, ClosingInputs, Results, Slip, Slips};
 use crate::fault::CloseFault;

@@ -1,14 +1,11 @@
 //! Who asks, by the token of a request, and for what, by its path and method.
 ghost use Rattle.std.specs.Prelude.{◌≡◌, ℕ, List, length, IfOk, OnOk, if◌then◌else◌};
 ghost use Rattle.clock_terms.specs.Limits.{SetupFields};
-ghost use Rattle.clock_http.specs.Routes.{page_of};
-ghost use Rattle.clock_http.specs.Shown.{shown_head, shown_bytes};
-ghost use Rattle.clock_http.specs.Heads.{same_bytes};
+ghost use Rattle.clock_http.specs.{Routes.{page_of}, Shown.{shown_head, shown_bytes}, Heads.{same_bytes}};
 ghost use Rattle.clock_front.specs.Requests as spec;
-ghost use Rattle.clock_front.specs.inside.ShownAsked.{shown_asked};
-ghost use Rattle.clock_front.specs.Askers as askers;
-ghost use Rattle.clock_front.specs.inside.Askers.{IsKnown};
+ghost use Rattle.clock_front.specs.{inside.ShownAsked.{shown_asked}, inside.Askers.{IsKnown}};
 ghost use Rattle.clock_front.specs.inside.HeldTokens.{found, IsTableOf};
+ghost use Rattle.clock_front.specs.Askers as askers;
 
 use clock_device::NoMemory;
 use clock_http::{Head, Page, Routes, last_segment};

@@ -3,15 +3,10 @@
 ghost use Rattle.std.specs.Prelude.{◌≡◌, ◌≢◌, ◌<◌, Ok, Err, length, IfOk, IfErr, OnOk, OnErr};
 ghost use Rattle.clock_house.specs.House.{put_fault_in, closing_in, IsFollowedBy, StandsStill};
 ghost use Rattle.clock_house.specs.Command as command;
-ghost use Rattle.clock_views.specs.BidderPages.{accepted_value};
-ghost use Rattle.clock_views.specs.OperatorPages.{closed_value};
-ghost use Rattle.clock_views.specs.Refusals.{alone};
-ghost use Rattle.clock_bodies.specs.Bodies.{put_body};
-ghost use Rattle.clock_bodies.specs.CloseBodies.{close_body, in_version};
+ghost use Rattle.clock_views.specs.{BidderPages.{accepted_value}, OperatorPages.{closed_value}, Refusals.{alone}};
+ghost use Rattle.clock_bodies.specs.{Bodies.{put_body}, CloseBodies.{close_body, in_version}};
 ghost use Rattle.clock_front.specs.Outcomes.{answer_of, body_code, close_outcome, command_of, done, outcome, put_outcome, refused};
-ghost use Rattle.clock_front.specs.Rooms.{WantsRoom};
-ghost use Rattle.clock_front.specs.inside.Askers.{IsKnown};
-ghost use Rattle.clock_front.specs.inside.Private.{IsToldByView};
+ghost use Rattle.clock_front.specs.{Rooms.{WantsRoom}, inside.Askers.{IsKnown}, inside.Private.{IsToldByView}};
 ghost use Rattle.clock_front.specs.Requests as asked;
 
 use crate::front::Unanswered;

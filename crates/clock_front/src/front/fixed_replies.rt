@@ -1,8 +1,7 @@
 //! Replies that are always the same, and take no memory: those that refuse a text at its head or at its length, and
 //! that of want of memory; and why a text gets that one.
 ghost use Rattle.std.specs.Prelude.{◌≡◌, IsTrue};
-ghost use Rattle.clock_front.specs.FixedReplies.{no_memory};
-ghost use Rattle.clock_front.specs.inside.FixedReplies.{is_fixed, refusal_of};
+ghost use Rattle.clock_front.specs.{FixedReplies.{no_memory}, inside.FixedReplies.{is_fixed, refusal_of}};
 ghost use Rattle.clock_front.specs.declared.front.fixed_replies.Unanswered.TheVariants as unanswered;
 
 use clock_device::NoMemory;

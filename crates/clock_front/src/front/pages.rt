@@ -5,10 +5,8 @@ ghost use Rattle.clock_terms.specs.Limits.{SetupFields, public_setup};
 ghost use Rattle.clock_views.specs.PublicPages.{products_value};
 ghost use Rattle.clock_front.specs.declared.front.asked.Asker.TheVariants as who;
 ghost use Rattle.clock_front.specs.Outcomes.{answer_of, done, not_allowed as told_not_allowed, refused, told};
-ghost use Rattle.clock_front.specs.Rooms.{refusal_room, reply_room};
-ghost use Rattle.clock_front.specs.inside.KeptPage.{IsProductsPage};
-ghost use Rattle.clock_front.specs.inside.Roomless.{without_room};
-ghost use Rattle.clock_front.specs.inside.Private.{IsToldByView};
+ghost use Rattle.clock_front.specs.{Rooms.{refusal_room, reply_room}, inside.KeptPage.{IsProductsPage}};
+ghost use Rattle.clock_front.specs.{inside.Roomless.{without_room}, inside.Private.{IsToldByView}};
 ghost use Rattle.clock_front.specs.Requests as asked;
 
 use clock_house::House;

@@ -3,8 +3,7 @@
 ghost use Rattle.std.specs.Prelude.{◌≡◌, ◌<◌, ℕ, length, IfOk, IfErr, OnOk, OnErr};
 ghost use Rattle.clock_front.specs.inside.Askers.{IsKnown};
 ghost use Rattle.clock_front.specs.Outcomes.{Outcome, answer_of, outcome, refused, to_bidder, to_operator};
-ghost use Rattle.clock_front.specs.Rooms.{refusal_room, reply_room};
-ghost use Rattle.clock_front.specs.inside.ShownAsked.{shown_reading};
+ghost use Rattle.clock_front.specs.{Rooms.{refusal_room, reply_room}, inside.ShownAsked.{shown_reading}};
 ghost use Rattle.clock_front.specs.inside.KeptPage.{IsProductsPage};
 
 use crate::front::Unanswered;
