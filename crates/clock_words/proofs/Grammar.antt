@@ -12,14 +12,19 @@ use Rattle.clap.proofs.OnLiterals.{clap_on_literals}
 use Rattle.clock_words.specs.Words.{grammar, unless_refused}
 use Rattle.clock_words.specs.inside.Commands.{IsCommand, IsOption}
 
+-- an option was added
+pub with_one : (app : App) (command : Command) → IsCommand app command → (rule : Rule) (option : Arg) (made : Command) → IsOption rule option
+    → AddsArg command option made → IsCommand (with_rule app rule) made
+with_one app command is rule option made is_option added = record {
+  shape = added.shape is_option.local ∙ ap₂ with_rule is.shape is_option.shape;
+  local = rw (added.globals, is.local, is_option.local) refl;
+}
+
 module _ {E : Type 0} (app : App) (command : Command) (is : IsCommand app command) where
   -- an option was added
   pub with_one_more : (rule : Rule) (option : Arg) (result : Result Command E) → IsOption rule option
       → IfOk result (AddsArg command option) → IfOk result (IsCommand (with_rule app rule))
-  with_one_more rule option (Ok made) is_option added = record {
-    shape = added.shape is_option.local ∙ ap₂ with_rule is.shape is_option.shape;
-    local = rw (added.globals, is.local, is_option.local) refl;
-  }
+  with_one_more rule option (Ok made) is_option added = with_one app command is rule option made is_option added
   with_one_more rule option (Err refused) is_option added = tt
 
   -- a command was added

@@ -1,6 +1,6 @@
 //! The commands and options of the program, as clap is told of them.
 ghost use Rattle.std.specs.Prelude.{IfOk};
-ghost use Rattle.clap.specs.Words.{App, Rule, new_app, with_rule, with_subcommand};
+ghost use Rattle.clap.specs.Words.{App, new_app, with_subcommand};
 ghost use Rattle.clock_words.specs.Words.{files_grammar, grammar, needed_rule, number_rule, option_rule, prices_grammar, program_alone_grammar, serve_grammar};
 ghost use Rattle.clock_words.specs.inside.Commands.{IsCommand, IsOption};
 
@@ -54,17 +54,6 @@ fn named<'a>(alloc: Global, name: &'a str, about: &'a str, help: &'a str) -> Com
     Command::new(alloc, name).about(about).after_help(help)
 }
 
-/// The command with one option more.
-fn with_option<'a>(
-    command: Result<Command<'a>, AllocError>,
-    option: Arg<'a>,
-) -> Result<Command<'a>, AllocError>
-    ensures { (app : App) (rule : Rule) → IfOk command.entry (IsCommand app) → IsOption rule option.entry
-        → IfOk result (IsCommand (with_rule app rule)) }
-{
-    command?.arg(option)
-}
-
 /// The program with one command more.
 fn with_command<'a>(
     program: Result<Command<'a>, AllocError>,
@@ -96,14 +85,11 @@ fn serve_command<'a>(alloc: Global) -> Result<Command<'a>, AllocError>
     let port = "The port of 127.0.0.1, from 1 to 65535";
     let served = "How many connections are served, from 1 to 1000000";
     let kept = "The file in which accepted sheets and closings are kept";
-    let serve = named(alloc, "serve", about, SERVE_HELP);
-    let serve = serve.arg(needed_option(alloc, "setup", SETUP_FILE));
-    let serve = with_option(serve, number_option(alloc, "port", MOST_PORT, port));
-    let serve = with_option(
-        serve,
-        number_option(alloc, "connections", MOST_SERVED, served),
-    );
-    with_option(serve, option(alloc, "journal", "FILE", kept))
+    named(alloc, "serve", about, SERVE_HELP)
+        .arg(needed_option(alloc, "setup", SETUP_FILE))?
+        .arg(number_option(alloc, "port", MOST_PORT, port))?
+        .arg(number_option(alloc, "connections", MOST_SERVED, served))?
+        .arg(option(alloc, "journal", "FILE", kept))
 }
 
 /// A command of a set-up document and a journal.
@@ -116,9 +102,9 @@ fn files_command<'a>(
     ensures { IfOk result (IsCommand (files_grammar name.now)) }
 {
     let kept = "The file in which accepted sheets and closings were kept";
-    let command = named(alloc, name, about, help);
-    let command = command.arg(needed_option(alloc, "setup", SETUP_FILE));
-    with_option(command, needed_option(alloc, "journal", kept))
+    named(alloc, name, about, help)
+        .arg(needed_option(alloc, "setup", SETUP_FILE))?
+        .arg(needed_option(alloc, "journal", kept))
 }
 
 /// The program without its commands.
@@ -139,16 +125,13 @@ pub fn program<'a>(alloc: Global) -> Result<Command<'a>, AllocError>
 {
     let opening = "Prints the sheet of round 1";
     let replay = "Plays an auction of scripted bidders and prints its rounds and what each won";
-    let journal = "Prints what a journal holds, text by text";
-    let audit =
-        "Recounts an auction from its journal and prints its rounds and what each bidder won";
+    let kept = "Prints what a journal holds, text by text";
+    let won = "Recounts an auction from its journal and prints its rounds and what each bidder won";
+    let journal = files_command(alloc, "journal", kept, JOURNAL_HELP);
+    let audit = files_command(alloc, "audit", won, AUDIT_HELP);
     let program = with_command(program_alone(alloc), prices_command(alloc));
     let program = with_command(program, Ok(named(alloc, "opening", opening, OPENING_HELP)));
     let program = with_command(program, Ok(named(alloc, "replay", replay, REPLAY_HELP)));
     let program = with_command(program, serve_command(alloc));
-    let program = with_command(
-        program,
-        files_command(alloc, "journal", journal, JOURNAL_HELP),
-    );
-    with_command(program, files_command(alloc, "audit", audit, AUDIT_HELP))
+    with_command(with_command(program, journal), audit)
 }

@@ -1,8 +1,8 @@
 //! What the words after the program's name ask for.
-ghost use Rattle.std.specs.Prelude.{◌≡◌, ◌≢◌, None, [], map, option_map, IfSome, IfOk, IfErr};
+ghost use Rattle.std.specs.Prelude.{◌≡◌, ◌≢◌, None, map, option_map, IfSome, IfOk, IfErr};
 ghost use Rattle.clock_terms.specs.Limits.{IsWithin};
-ghost use Rattle.clap.specs.Words.{fault_of, first_of, found_of, kind_of, rows_of, subcommand_of, subcommand_rows_of};
-ghost use Rattle.clock_words.specs.Words.{IsAsked, asked_by, asked_met, asked_told, files_from, files_told, given, grammar, number_of, serving_from, serving_told};
+ghost use Rattle.clap.specs.Words.{first_of, found_of, kind_of, rows_of, subcommand_rows_of};
+ghost use Rattle.clock_words.specs.Words.{IsAsked, asked_by, asked_met, asked_told, files_from, files_told, given, number_of, serving_from, serving_told};
 
 use crate::commands::{MOST_PORT, MOST_SERVED, program};
 use clap::error::ErrorKind;
@@ -69,17 +69,6 @@ fn number_in(options: &ArgMatches, name: &str, least: u64, most: u64) -> Option<
         Some(number) if is_within(least, most, number) => Some(number),
         _ => None,
     }
-}
-
-/// What clap has of the words.
-fn matches_in<'a>(alloc: Global, words: &'a [&'a str]) -> Result<ArgMatches<'a>, Error>
-    ensures taken { IfOk result (λ matches. fault_of grammar (map (λ word. word.now) words.entry.now) ≡ []) }
-    ensures met { IfOk result (λ matches. subcommand_rows_of matches
-        ≡ subcommand_of grammar (map (λ word. word.now) words.entry.now)) }
-    ensures err { IfErr result (λ error. kind_of error ≢ ErrorKind.OutOfMemory
-        → fault_of grammar (map (λ word. word.now) words.entry.now) ≢ []) }
-{
-    program(alloc)?.try_get_matches_from(words)
 }
 
 /// The words, or those that stand for none.
@@ -152,7 +141,7 @@ pub fn read_words<'a>(alloc: Global, words: &'a [&'a str]) -> Result<Option<Aske
     ensures err { IfErr result (λ error. kind_of error ≢ ErrorKind.OutOfMemory
         → asked_by (map (λ word. word.now) words.entry.now) ≡ None) }
 {
-    let matches = matches_in(alloc, words_given(words))?;
+    let matches = program(alloc)?.try_get_matches_from(words_given(words))?;
     let asked = asked_in(&matches);
     // let go by a call: at the end of the scope it would be proved part by part
     drop(matches);

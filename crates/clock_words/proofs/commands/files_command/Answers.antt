@@ -1,11 +1,11 @@
 use Rattle.std.proofs.Common.{codes}
 use Rattle.clap.specs.Words.{new_app}
 use Rattle.clock_words.specs.Words.{needed_rule}
-use Rattle.clock_words.proofs.Grammar.{with_one_more}
+use Rattle.clock_words.proofs.Grammar.{with_one, with_one_more}
 use Rattle.clock_words.proofs.commands.files_command.Goals as goal
 
 pub returns : goal.returns
 returns c =
-    let first = with_one_more (new_app c.args.name.now) c.named-command.result c.named-command.ensures (needed_rule (codes "setup")) c.needed_option.result
-    c.arg-command.result c.needed_option.ensures c.arg-command.ensures in
-    c.with_option.ensures _ (needed_rule (codes "journal")) first c.needed_option-2.ensures
+    let first = with_one (new_app c.args.name.now) c.named.result c.named.ensures (needed_rule (codes "setup")) c.needed_option.result
+    c.in_ok-arg.field-0 c.needed_option.ensures c.in_ok-arg.ensures in
+    with_one_more _ c.in_ok-arg.field-0 first (needed_rule (codes "journal")) c.needed_option-2.result c.arg-2.result c.needed_option-2.ensures c.arg-2.ensures
