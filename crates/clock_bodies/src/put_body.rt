@@ -60,10 +60,10 @@ impl Body for PutBody {
     ghost meaning = { bodies.put_of };
 
     fn of_value(alloc: Global, value: &Value) -> Result<Option<PutBody>, NoMemory> {
-        let Some(round) = number_at(value, "round") else {
-            return Ok(None);
-        };
-        let Some(bids) = each_at(alloc, value, "bids", &BidReader)? else {
+        let (Some(round), Some(bids)) = (
+            number_at(value, "round"),
+            each_at(alloc, value, "bids", &BidReader)?,
+        ) else {
             return Ok(None);
         };
         Ok(has_members(value, 2).then_some(PutBody { round, bids }))
