@@ -4,7 +4,9 @@ ghost use Rattle.std.specs.Prelude.{◌≡◌, ◌∷◌, List, ℕ, Err, MatchR
 ghost use Rattle.clock_journal.specs.{Crash.{LeavesTexts}, Format.{head_length}};
 ghost use Rattle.clock_journal.specs.Recovering.{HasTaken, IsRecovered, IsRefusal, IsRefusedRightly, IsUntaken};
 
-use crate::format::{BEFORE_TEXT, HEAD_LENGTH, KIND, KIND_LENGTH, Link, Next, head_of, next_record};
+use crate::format::{
+    BEFORE_TEXT, HEAD_LENGTH, KIND, KIND_LENGTH, Link, Next, head_of, next_record,
+};
 
 /// Why a text was not taken: it is none that changes the machine as it stands, or there was no memory. The machine is
 /// not to be used any more.
