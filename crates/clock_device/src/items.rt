@@ -10,7 +10,7 @@ use thiserror::Error;
 /// A list that owns its items, and is read as a slice of them is. Contracts see the list of the items.
 ///
 /// The lists of the auction are this type under names of their own, as [`Text`] for bytes.
-#[derive(Drop)]
+#[derive(Clone, Drop)]
 pub struct Items<T> {
     held: Vec<T>,
 }

@@ -85,7 +85,7 @@ pub fn report_so_far<P>(alloc: Global, house: &House<P>) -> Result<Report, NoMem
     // the set-up comes last, so that the least is let go where there is no memory
     let grid = house.demands().copy(alloc)?;
     let sheets = sheets_of(alloc, house)?;
-    let setup = house.setup().copy(alloc)?;
+    let setup = house.setup().copy()?;
     Ok(Report {
         setup,
         sheets,

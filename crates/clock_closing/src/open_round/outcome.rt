@@ -114,10 +114,7 @@ impl OpenRound<'_> {
     fn grid(&self, alloc: Global, old: &mut Option<Grid>) -> Result<Grid, NoMemory>
         ensures { IfOk result (λ grid. grid ≡ grid_of self.now.before) }
     {
-        match old.take() {
-            Some(old) => old.renewed(alloc, self.demands),
-            None => self.demands.copy(alloc),
-        }
+        self.demands.copy_over(alloc, old.take())
     }
 
     /// What a posting and these demands make of the round, or why there is no posting.

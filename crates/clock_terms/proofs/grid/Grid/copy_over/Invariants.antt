@@ -1,5 +1,5 @@
 use Rattle.std.proofs.Common.{◌≡◌, take}
-use Rattle.clock_terms.proofs.grid.Grid.like.Given as goal
+use Rattle.clock_terms.proofs.grid.Grid.copy_over.Given as goal
 
 -- the rows so far are those of the others
 abbrev pub invariant-loop-row : goal.invariant-loop-row
