@@ -1,32 +1,31 @@
 -- One more request is settled; at the end all are.
-use Rattle.std.proofs.Common.{List, ap, sym, subst, ◌∙◌, arith}
+use Rattle.std.proofs.Common.{ℕ, List, length, refl, ap, sym, subst, ◌∙◌, arith}
 use Rattle.clock_terms.specs.declared.change.Change.{Change}
-use Rattle.clock_processor.specs.Board.{BoardFields}
 use Rattle.clock_processor.specs.Requests.{CanSettle}
 use Rattle.clock_processor.specs.Settlement.{IsSettlement, IsProperEnd}
 use Rattle.clock_queue.specs.Bound.{IsWithinTests}
+use Rattle.clock_queue.proofs.Start.{started}
 use Rattle.clock_queue.proofs.Steps.{reaches_from}
 use Rattle.clock_queue.proofs.Ended.{IsDone, is_settlement, is_proper, is_within}
-use Rattle.clock_queue.proofs.woken.WokenProcessor.settle.Goals as goal
+use Rattle.clock_queue.proofs.queue.WokenProcessor.settle.Goals as goal
 
 pub loop-place-init : goal.loop-place-init
-loop-place-init c = record {
-  queue = c.in_ok-queue.ensures.queue;
-  counts = c.in_ok-queue.ensures.counts;
-  none = c.in_ok-queue.ensures.none.0;
-  admitted = c.in_ok-queue.ensures.none.1;
-  products = ap (λ (board : BoardFields). board.products) c.in_ok-queue.ensures.board;
-  eligibilities = ap (λ (board : BoardFields). board.eligibilities) c.in_ok-queue.ensures.board;
-  reached = (
-    0,
-    λ k. record {
-      admitted = sym c.in_ok-queue.ensures.none.1 k;
-      left = sym c.in_ok-queue.ensures.left k;
-      grid = ap (λ (board : BoardFields). board.grid) (sym c.in_ok-queue.ensures.board) k;
-      applied = ap (λ (board : BoardFields). board.applied) (sym c.in_ok-queue.ensures.board) k;
-    },
-  );
-}
+loop-place-init c =
+    let changes : List Change = c.as_slice-requests.result.now in
+    let can : CanSettle c.args.board changes = subst (λ (list : List Change). CanSettle c.args.board list) (sym c.as_slice-requests.ensures) c.requires in
+    record {
+      queue = started c.args.board changes c.lines_for.result c.in_ok-amounts_of.field-0 c.new.result c.in_ok-new.field-0 can c.lines_for.ensures
+          c.in_ok-amounts_of.ensures c.new.ensures c.in_ok-new.ensures;
+      counts = omega (arith, can.tests, ap (λ (ready : List ℕ). length ready) c.new.ensures);
+      none = c.new.ensures;
+      admitted = refl;
+      products = refl;
+      eligibilities = refl;
+      reached = (
+        0,
+        λ k. record { admitted = 0; left = sym c.in_ok-amounts_of.ensures k; grid = c.args.board.grid; applied = c.args.board.applied },
+      );
+    }
 
 pub loop-place-preserved : goal.loop-place-preserved
 loop-place-preserved c = record {

@@ -3,7 +3,7 @@ use Rattle.clock_terms.specs.declared.change.Change.{Change}
 use Rattle.clock_processor.specs.Settling.{Reaches}
 use Rattle.clock_processor.specs.inside.UnderWay.{progress_of}
 use Rattle.clock_queue.specs.inside.Queue.{IsQueue, StaysWithinTests, progress}
-use Rattle.clock_queue.proofs.woken.WokenProcessor.settle.Given as goal
+use Rattle.clock_queue.proofs.queue.WokenProcessor.settle.Given as goal
 
 -- the requests so far are admitted, and none is ready
 abbrev pub invariant-loop-place : goal.invariant-loop-place
