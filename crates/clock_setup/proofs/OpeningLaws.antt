@@ -1,8 +1,8 @@
 -- Laws of the checks of an opening document.
-use Rattle.std.proofs.Common.{◌≡◌, ℕ, ◌+◌, ◌*◌, ◌<◌, ◌≤◌, All, ◌==◌, Bool, true, false, nat_le, if◌then◌else◌, List, [], ◌∷◌, length, get_or, drop}
+use Rattle.std.proofs.Common.{◌≡◌, ◌≢◌, ℕ, ◌+◌, ◌*◌, ◌<◌, ◌≤◌, All, ◌==◌, Bool, true, false, nat_le, if◌then◌else◌, List, [], ◌∷◌, length, get_or, drop}
 use Rattle.std.proofs.Common.{zip, Option, Some, None, Ok, Err, refl, sym, ap, ◌∙◌, subst, arith}
 use Rattle.std.specs.List.{list_all, AllPass}
-use Rattle.std.proofs.lemmas.Bool.{and_parts, le-leb, lt-leb}
+use Rattle.std.proofs.lemmas.Bool.{and_parts, eq-eqb, ne_eqb, le-leb, lt-leb}
 use Rattle.std.proofs.lemmas.Bool.Decides.{nat_tests}
 use Rattle.std.proofs.lemmas.List.{get_or_default, drop_all, drop_more}
 use Rattle.std.proofs.lemmas.List.Sums.{AllPass-from_list_all, sum_by-cons}
@@ -158,6 +158,19 @@ grid_of_counts setup demands h =
     let each : AllPass (λ row. length row == length setup.products) demands = AllPass-from_list_all
     (λ row. length row == length setup.products) demands both.1 in
     (same_of_test _ _ both.0, λ k d lt. same_of_test _ _ (each k d lt))
+
+-- the counts of the rows, by what was found of each
+module _ (setup : SetupFields) (demands : List (List ℕ)) where
+  pub counts_fit : length demands ≡ length setup.bidders → list_all (λ row. length row == length setup.products) demands ≡ true
+      → has_counts setup demands ≡ true
+  counts_fit same each = rw (eq-eqb (length demands) (length setup.bidders) same, each) refl
+
+  pub counts_differ : length demands ≢ length setup.bidders → has_counts setup demands ≡ false
+  counts_differ other = rw (ne_eqb (length demands) (length setup.bidders) other) refl
+
+  pub widths_differ : length demands ≡ length setup.bidders → list_all (λ row. length row == length setup.products) demands ≡ false
+      → has_counts setup demands ≡ false
+  widths_differ same each = rw (eq-eqb (length demands) (length setup.bidders) same, each) refl
 
 -- a document whose parts and set-up are known is judged by its other checks
 pub opening_at : (value : Data) (parts : OpeningParts) (setup : SetupFields) → parts_of value ≡ Some parts → setup_of parts.setup ≡ Ok setup

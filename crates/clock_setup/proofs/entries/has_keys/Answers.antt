@@ -3,8 +3,8 @@ use Rattle.std.proofs.lemmas.Bool.Decides.{nat_tests}
 use Rattle.serde_json.specs.View.{view}
 use Rattle.clock_json.specs.Tree.{has_members}
 use Rattle.clock_setup.specs.SetupShape.{key_count}
-use Rattle.clock_setup.proofs.setup_tree.has_keys.Goals.{then-version-eq1, else-version-eq1}
-use Rattle.clock_setup.proofs.setup_tree.has_keys.Goals as goal
+use Rattle.clock_setup.proofs.entries.has_keys.Goals.{then-version-eq1, else-version-eq1}
+use Rattle.clock_setup.proofs.entries.has_keys.Goals as goal
 
 pub returns : goal.returns
 returns c =
