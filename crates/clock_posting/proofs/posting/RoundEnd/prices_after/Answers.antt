@@ -5,12 +5,12 @@ use Rattle.std.proofs.lemmas.List.Elements.{All-push}
 use Rattle.std.proofs.lemmas.List.{get_or_default, map-append}
 use Rattle.std.proofs.lemmas.List.FromFn.{map-range_with_len_more}
 use Rattle.clock_terms.specs.declared.prices.PricePair.{PricePair}
-use Rattle.clock_posting.specs.declared.round_end.RoundEnd.{RoundEnd}
+use Rattle.clock_posting.specs.declared.posting.RoundEnd.{RoundEnd}
 use Rattle.clock_posting.specs.inside.Parts.{first_at_limit}
 use Rattle.clock_posting.specs.inside.RoundEnd.{limit_of, next_of}
 use Rattle.clock_posting.specs.Posting.{has_ended, next_clock, next_price, next_prices, post_fault, IsRising}
 use Rattle.clock_posting.proofs.Ranges.{first_is, first_is_later}
-use Rattle.clock_posting.proofs.round_end.RoundEnd.prices_after.Goals as goal
+use Rattle.clock_posting.proofs.posting.RoundEnd.prices_after.Goals as goal
 
 -- where the auction goes on
 limit_going : (end : RoundEnd) → has_ended end.products.now end.grid.now ≡ false →

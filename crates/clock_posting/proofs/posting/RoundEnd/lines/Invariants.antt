@@ -1,7 +1,7 @@
 use Rattle.std.proofs.Common.{◌≡◌, ◌+◌, ◌≤◌, length, map}
 use Rattle.std.specs.List.{range_with_len}
 use Rattle.clock_posting.specs.Posting.{sheet_line}
-use Rattle.clock_posting.proofs.round_end.RoundEnd.lines.Given as goal
+use Rattle.clock_posting.proofs.posting.RoundEnd.lines.Given as goal
 
 -- the lines of the products so far, and room for the others
 abbrev pub invariant-loop-product : goal.invariant-loop-product

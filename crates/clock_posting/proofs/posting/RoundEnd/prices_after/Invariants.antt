@@ -3,7 +3,7 @@ use Rattle.std.specs.Prelude.{is_none, All}
 use Rattle.std.specs.List.{position_from, range_with_len}
 use Rattle.clock_posting.specs.inside.Parts.{first_at_limit}
 use Rattle.clock_posting.specs.Posting.{next_clock, next_price, IsRising}
-use Rattle.clock_posting.proofs.round_end.RoundEnd.prices_after.Given as goal
+use Rattle.clock_posting.proofs.posting.RoundEnd.prices_after.Given as goal
 
 -- the prices so far are the products' next ones and rise, there is room for the others, and the first product that
 -- can't have any is among the others

@@ -2,7 +2,7 @@ use Rattle.std.proofs.Common.{rules}
 use Rattle.clock_posting.specs.declared.posting.Posting.{Posting}
 use Rattle.clock_posting.specs.Posting.{IsPosting}
 use Rattle.clock_posting.proofs.Laws.{consistent}
-use Rattle.clock_posting.proofs.round_end.RoundEnd.posting.Goals as goal
+use Rattle.clock_posting.proofs.posting.RoundEnd.posting.Goals as goal
 
 pub returns-clause-laws : goal.returns-clause-laws
 returns-clause-laws c =

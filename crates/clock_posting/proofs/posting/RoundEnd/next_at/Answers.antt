@@ -4,7 +4,7 @@ use Rattle.clock_terms.specs.declared.prices.PricePair.{PricePair}
 use Rattle.clock_posting.specs.Posting.{has_ended, next_clock, next_prices}
 use Rattle.clock_posting.specs.inside.RoundEnd.{HasClocks}
 use Rattle.clock_posting.proofs.Laws.{none_shown, some_shown, clock_of, clocks_each}
-use Rattle.clock_posting.proofs.round_end.RoundEnd.next_at.Goals as goal
+use Rattle.clock_posting.proofs.posting.RoundEnd.next_at.Goals as goal
 
 pub returns-in_err-as_ref : goal.returns-in_err-as_ref
 returns-in_err-as_ref c =

@@ -3,7 +3,7 @@ use Rattle.std.specs.List.{range_with_len}
 use Rattle.std.proofs.lemmas.List.FromFn.{map-range_with_len_more}
 use Rattle.std.proofs.lemmas.Grind.{common_steps}
 use Rattle.clock_posting.specs.Posting.{sheet_line}
-use Rattle.clock_posting.proofs.round_end.RoundEnd.lines.Goals as goal
+use Rattle.clock_posting.proofs.posting.RoundEnd.lines.Goals as goal
 
 pub loop-product-preserved : goal.loop-product-preserved
 loop-product-preserved c =

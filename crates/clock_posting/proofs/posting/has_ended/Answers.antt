@@ -3,7 +3,7 @@ use Rattle.std.specs.Prelude.{not}
 use Rattle.clock_posting.specs.Posting.{has_excess}
 use Rattle.clock_posting.proofs.Ranges.{none_in_range, one_in_range}
 use Rattle.clock_posting.proofs.Excess.{has_excess_at}
-use Rattle.clock_posting.proofs.round_end.has_ended.Goals as goal
+use Rattle.clock_posting.proofs.posting.has_ended.Goals as goal
 
 pub returns-then-total-product : goal.returns-then-total-product
 returns-then-total-product c =
