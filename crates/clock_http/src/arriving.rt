@@ -43,25 +43,17 @@ fn make_places(room: &mut Vec<u8>, awaited: usize) -> usize
     places + 1
 }
 
-/// Makes room for three times as many bytes again, but for none beyond those awaited, where that is more than are to be
-/// added.
-fn make_room(room: &mut Vec<u8>, added: usize, awaited: usize) -> Result<(), NoMemory>
-    ensures { room.new.items ≡ room.old.items }
-{
-    let further = awaited
-        .saturating_sub(room.len())
-        .min(room.len().saturating_mul(3));
-    if added < further {
-        room.reserve_exact(further)?;
-    }
-    Ok(())
-}
-
-/// Adds bytes at the end, all of them or none. One byte by itself is no list to be copied.
-fn append(room: &mut Vec<u8>, piece: &[u8]) -> Result<(), NoMemory>
+/// Adds bytes at the end, all of them or none. Before, room is made for three times as many bytes as there are, but for
+/// none beyond those awaited, where that is more than are added. One byte by itself is no list to be copied.
+fn append(room: &mut Vec<u8>, piece: &[u8], awaited: usize) -> Result<(), NoMemory>
     ensures ok { OnOk result (room.new.items ≡ room.old.items ++ piece.now) }
     ensures err { OnErr result (room.new.items ≡ room.old.items) }
 {
+    let missing = awaited.saturating_sub(room.len());
+    let further = missing.min(room.len().saturating_mul(3));
+    if piece.len() < further {
+        room.reserve_exact(further)?;
+    }
     match piece {
         [byte] => room.push(*byte)?,
         _ => room.extend_from_slice(piece)?,
@@ -125,8 +117,7 @@ impl Arriving {
         }
         self.quiet = 0;
         self.room.truncate(self.count);
-        make_room(&mut self.room, piece.len(), self.progress.awaited())?;
-        append(&mut self.room, piece)?;
+        append(&mut self.room, piece, self.progress.awaited())?;
         self.count = self.room.len();
         self.progress = self.progress.advance(self.room.as_slice());
         self.quiet = make_places(&mut self.room, self.progress.awaited());

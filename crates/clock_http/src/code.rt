@@ -79,86 +79,59 @@ impl Code {
     pub fn status(&self) -> u16
         ensures { result ≡ status_of self.now }
     {
-        self.status_code().as_u16()
+        self.row().0.as_u16()
     }
 
     /// The reason phrase that stands behind the status. It takes no memory.
     pub fn reason(&self) -> &'static str
         ensures { Some result.now ≡ reason_phrase (status_of self.now) }
     {
-        self.status_code().canonical_reason().unwrap_or("")
+        self.row().0.canonical_reason().unwrap_or("")
     }
 
     /// The code as pages show it. It takes no memory.
     pub fn text(&self) -> &'static str
         ensures { result.now ≡ text_of self.now }
     {
-        match self {
-            Code::Done => "done",
-            Code::BadHead => "bad_head",
-            Code::BadLength => "bad_length",
-            Code::CutShort => "cut_short",
-            Code::BadJson => "bad_json",
-            Code::Token => "token",
-            Code::Role => "role",
-            Code::NoPage => "no_page",
-            Code::NoRound => "no_round",
-            Code::Method => "method",
-            Code::Ended => "ended",
-            Code::WrongRound => "wrong_round",
-            Code::LongBody => "long_body",
-            Code::Shape => "shape",
-            Code::TooMany => "too_many",
-            Code::UnknownProduct => "unknown_product",
-            Code::PriceRange => "price_range",
-            Code::OverCap => "over_cap",
-            Code::PriceOrder => "price_order",
-            Code::MixedDirection => "mixed_direction",
-            Code::KeepPrice => "keep_price",
-            Code::OverActivity => "over_activity",
-            Code::Increment => "increment",
-            Code::TooManyTies => "too_many_ties",
-            Code::TieRange => "tie_range",
-            Code::TieRepeated => "tie_repeated",
-            Code::PriceLimit => "price_limit",
-            Code::LongHead => "long_head",
-            Code::Coding => "coding",
-            Code::Memory => "memory",
-        }
+        self.row().1
     }
 
-    /// The status as HTTP's own type.
-    fn status_code(&self) -> StatusCode
-        ensures { result ≡ status_of self.now }
+    /// The status as HTTP's own type, and the code as pages show it.
+    fn row(&self) -> (StatusCode, &'static str)
+        ensures status { result.0 ≡ status_of self.now }
+        ensures text { result.1.now ≡ text_of self.now }
     {
         match self {
-            Code::Done => StatusCode::OK,
-            Code::BadHead | Code::BadLength | Code::CutShort | Code::BadJson => {
-                StatusCode::BAD_REQUEST
-            }
-            Code::Token => StatusCode::UNAUTHORIZED,
-            Code::Role => StatusCode::FORBIDDEN,
-            Code::NoPage | Code::NoRound => StatusCode::NOT_FOUND,
-            Code::Method => StatusCode::METHOD_NOT_ALLOWED,
-            Code::Ended | Code::WrongRound => StatusCode::CONFLICT,
-            Code::LongBody => StatusCode::PAYLOAD_TOO_LARGE,
-            Code::Shape
-            | Code::TooMany
-            | Code::UnknownProduct
-            | Code::PriceRange
-            | Code::OverCap
-            | Code::PriceOrder
-            | Code::MixedDirection
-            | Code::KeepPrice
-            | Code::OverActivity
-            | Code::Increment
-            | Code::TooManyTies
-            | Code::TieRange
-            | Code::TieRepeated
-            | Code::PriceLimit => StatusCode::UNPROCESSABLE_ENTITY,
-            Code::LongHead => StatusCode::REQUEST_HEADER_FIELDS_TOO_LARGE,
-            Code::Coding => StatusCode::NOT_IMPLEMENTED,
-            Code::Memory => StatusCode::SERVICE_UNAVAILABLE,
+            Code::Done => (StatusCode::OK, "done"),
+            Code::BadHead => (StatusCode::BAD_REQUEST, "bad_head"),
+            Code::BadLength => (StatusCode::BAD_REQUEST, "bad_length"),
+            Code::CutShort => (StatusCode::BAD_REQUEST, "cut_short"),
+            Code::BadJson => (StatusCode::BAD_REQUEST, "bad_json"),
+            Code::Token => (StatusCode::UNAUTHORIZED, "token"),
+            Code::Role => (StatusCode::FORBIDDEN, "role"),
+            Code::NoPage => (StatusCode::NOT_FOUND, "no_page"),
+            Code::NoRound => (StatusCode::NOT_FOUND, "no_round"),
+            Code::Method => (StatusCode::METHOD_NOT_ALLOWED, "method"),
+            Code::Ended => (StatusCode::CONFLICT, "ended"),
+            Code::WrongRound => (StatusCode::CONFLICT, "wrong_round"),
+            Code::LongBody => (StatusCode::PAYLOAD_TOO_LARGE, "long_body"),
+            Code::Shape => (StatusCode::UNPROCESSABLE_ENTITY, "shape"),
+            Code::TooMany => (StatusCode::UNPROCESSABLE_ENTITY, "too_many"),
+            Code::UnknownProduct => (StatusCode::UNPROCESSABLE_ENTITY, "unknown_product"),
+            Code::PriceRange => (StatusCode::UNPROCESSABLE_ENTITY, "price_range"),
+            Code::OverCap => (StatusCode::UNPROCESSABLE_ENTITY, "over_cap"),
+            Code::PriceOrder => (StatusCode::UNPROCESSABLE_ENTITY, "price_order"),
+            Code::MixedDirection => (StatusCode::UNPROCESSABLE_ENTITY, "mixed_direction"),
+            Code::KeepPrice => (StatusCode::UNPROCESSABLE_ENTITY, "keep_price"),
+            Code::OverActivity => (StatusCode::UNPROCESSABLE_ENTITY, "over_activity"),
+            Code::Increment => (StatusCode::UNPROCESSABLE_ENTITY, "increment"),
+            Code::TooManyTies => (StatusCode::UNPROCESSABLE_ENTITY, "too_many_ties"),
+            Code::TieRange => (StatusCode::UNPROCESSABLE_ENTITY, "tie_range"),
+            Code::TieRepeated => (StatusCode::UNPROCESSABLE_ENTITY, "tie_repeated"),
+            Code::PriceLimit => (StatusCode::UNPROCESSABLE_ENTITY, "price_limit"),
+            Code::LongHead => (StatusCode::REQUEST_HEADER_FIELDS_TOO_LARGE, "long_head"),
+            Code::Coding => (StatusCode::NOT_IMPLEMENTED, "coding"),
+            Code::Memory => (StatusCode::SERVICE_UNAVAILABLE, "memory"),
         }
     }
 }

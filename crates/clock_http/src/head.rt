@@ -86,18 +86,15 @@ pub struct EndedHead {
 }
 
 /// Where the path of a target stands.
-fn path_of(text: &[u8], target: Span) -> Span
+fn path_of(text: &[u8], mut target: Span) -> Span
     requires { IsWithin (length text.now) target }
     ensures shown { span_bytes text.now result ≡ path_of_target (span_bytes text.now target) }
     ensures within { IsWithin (length text.now) result }
 {
-    match target.of(text).iter().position(|b| *b == b'?') {
-        Some(length) => Span {
-            start: target.start,
-            end: target.start + length,
-        },
-        None => target,
+    if let Some(length) = target.of(text).iter().position(|b| *b == b'?') {
+        target.end = target.start + length;
     }
+    target
 }
 
 /// The parts of a head whose lines end as they should, with room for the places of so many header lines.

@@ -22,42 +22,32 @@ pub const MOST_BODY: usize = 1_048_576;
 const BEARER: &[u8] = b"bearer ";
 
 /// The header lines of one name: how many there are, and where the value of the last one stands.
-#[derive(Clone, Copy, Debug)]
+#[derive(Clone, Copy, Debug, Default)]
 pub(crate) struct HeaderLines {
     count: usize,
     value: Span,
 }
 
 /// The header lines that are looked at, each name's by themselves.
-#[derive(Clone, Copy, Debug)]
+#[derive(Clone, Copy, Debug, Default)]
 pub(crate) struct Fields {
     coding: HeaderLines,
     length: HeaderLines,
     authorization: HeaderLines,
 }
 
-/// No line of a name.
-const NO_LINES: HeaderLines = HeaderLines {
-    count: 0,
-    value: Span { start: 0, end: 0 },
-};
-
 impl HeaderLines {
-    /// These, and the line of another name or of this one, which is told in letters of any case.
-    fn and(self, wanted: &[u8], name: &[u8], value: Span) -> HeaderLines
-        requires { self.count < usize.MAX }
-        ensures lines { (text : List ℕ) (pairs : Pairs) → AreLinesOf text wanted.now pairs self
+    /// Adds a line, if it is of the wanted name, which is told in letters of any case.
+    fn add(&mut self, wanted: &[u8], name: &[u8], value: Span)
+        requires { self.old.count < usize.MAX }
+        ensures lines { (text : List ℕ) (pairs : Pairs) → AreLinesOf text wanted.now pairs self.old
             → IsWithin (length text) value
-            → AreLinesOf text wanted.now (pairs ++ (name.now, span_bytes text value) ∷ []) result }
-        ensures few { result.count ≤ self.count + 1 }
+            → AreLinesOf text wanted.now (pairs ++ (name.now, span_bytes text value) ∷ []) self.new }
+        ensures few { self.new.count ≤ self.old.count + 1 }
     {
         if name.eq_ignore_ascii_case(wanted) {
-            HeaderLines {
-                count: self.count + 1,
-                value,
-            }
-        } else {
-            self
+            self.count += 1;
+            self.value = value;
         }
     }
 }
@@ -67,20 +57,15 @@ pub(crate) fn fields_of(text: &[u8], headers: &[HeaderSpan]) -> Fields
     requires { All (IsHeaderWithin (length text.now)) headers.now }
     ensures { AreFieldsOf text.now (map (header_bytes text.now) headers.now) result }
 {
-    let mut coding = NO_LINES;
-    let mut length = NO_LINES;
-    let mut authorization = NO_LINES;
+    let mut fields = Fields::default();
     for header in headers {
         let name = header.name.of(text);
-        coding = coding.and(b"transfer-encoding", name, header.value);
-        length = length.and(b"content-length", name, header.value);
-        authorization = authorization.and(b"authorization", name, header.value);
+        let value = header.value;
+        fields.coding.add(b"transfer-encoding", name, value);
+        fields.length.add(b"content-length", name, value);
+        fields.authorization.add(b"authorization", name, value);
     }
-    Fields {
-        coding,
-        length,
-        authorization,
-    }
+    fields
 }
 
 /// The number that one or more digits write, if a body may be so long.
@@ -143,11 +128,8 @@ impl Fields {
         if self.authorization.count != 1 {
             return None;
         }
-        let value = self.authorization.value;
-        let start = token_start(value.of(text))?;
-        Some(Span {
-            start: value.start + start,
-            end: value.end,
-        })
+        let mut token = self.authorization.value;
+        token.start += token_start(token.of(text))?;
+        Some(token)
     }
 }

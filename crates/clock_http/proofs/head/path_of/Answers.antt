@@ -13,8 +13,8 @@ returns-in-Some-clause-shown c =
     (λ x b q k. search (rules, tests)) in
     grind (arith, common_steps)
 
-pub returns-in-None-clause-shown : goal.returns-in-None-clause-shown
-returns-in-None-clause-shown c =
+pub returns-in_default-clause-shown : goal.returns-in_default-clause-shown
+returns-in_default-clause-shown c =
     let first : c.position.result ≡ position (λ b. b == question_mark) c.of.result.now =
     position_from_yields_List (λ b. b == question_mark) _ _ c.position.result c.position.ensures.ran (YieldsList-from_slice c.of.result.now cc)
     (λ x b q k. search (rules, tests)) in

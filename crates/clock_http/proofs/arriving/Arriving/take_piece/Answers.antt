@@ -38,7 +38,7 @@ invariant_of-self-2 c =
 pub returns-clause-ok : goal.returns-clause-ok
 returns-clause-ok c =
     taken c ∙ c.in_ok-append.ensures.ok
-    ∙ ap (λ bytes. bytes ++ c.args.piece.now) (c.in_ok-make_room.ensures ∙ c.truncate.ensures.items ∙ c.self.view_is)
+    ∙ ap (λ bytes. bytes ++ c.args.piece.now) (c.truncate.ensures.items ∙ c.self.view_is)
 
 pub returns-clause-short : goal.returns-clause-short
 returns-clause-short c =
