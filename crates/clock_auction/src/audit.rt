@@ -1,5 +1,5 @@
 //! `audit`: an auction that is recounted from its set-up document and its journal alone.
-ghost use Rattle.std.specs.Prelude.{◌≡◌, ◌×◌, [], List, ℕ, IfOk, IfErr};
+ghost use Rattle.std.specs.Prelude.{◌≡◌, [], List, ℕ, IfOk, IfErr};
 ghost use Rattle.clock_terms.specs.Limits.{SetupFields};
 ghost use Rattle.clock_front.specs.Fronts.{StandsForTexts};
 ghost use Rattle.clock_keeping.specs.Keeping.{IsRefused};
@@ -95,7 +95,8 @@ pub fn audit_of(
     let (texts, chain) = (recount.auction.texts, recount.chain);
     // let go by a call: at the end of the scope it would be proved part by part
     drop(recount);
-    Ok((made?, texts, chain))
+    let text = made?;
+    Ok((text, texts, chain))
 }
 
 /// What is printed of the rounds.

@@ -1,12 +1,13 @@
 ghost use Rattle.std.specs.Prelude.{◌≡◌, List, OnOk, None, false};
 ghost use Rattle.clock_device.specs.Told.{IsUnread, IsUnused};
-ghost use Rattle.clock_serving.specs.Exchanges.{Came, Exchange, HasClosed, bytes_given, no_journal};
+ghost use Rattle.clock_keeping.specs.Keeping.{no_journal};
+ghost use Rattle.clock_serving.specs.Exchanges.{Came, Exchange, HasClosed, bytes_given};
 ghost use Rattle.clock_serving.specs.{Laws.{ToldBytes}, Serving.{EndsServing, is_accept_fault}, inside.Served.{EndsOne, EndsTaken}};
 
 use crate::acceptor::{Acceptor, Listening};
-use crate::keeper::{Keeper, Unkept};
 use clock_device::{Failed, Sink, Source, write_all};
 use clock_front::{Front, Unread, no_memory_reply, read_request};
+use clock_keeping::{Keeper, Unkept};
 use clock_processor::Processor;
 use std::alloc::Global;
 use std::net::TcpListener;

@@ -16,9 +16,9 @@ use Rattle.clock_front.specs.FixedReplies.{no_memory}
 use Rattle.clock_front.specs.Fronts.{AnswersText}
 use Rattle.clock_front.specs.Streamed.{IsLeftUnread}
 use Rattle.clock_journal.specs.Kept.{JournalState}
-use Rattle.clock_keeping.specs.Keeping.{IsInStep, IsKept, LeavesOneMore}
+use Rattle.clock_keeping.specs.Keeping.{GrowsBy, IsInStep, IsKept, LeavesOneMore}
 use Rattle.clock_serving.specs.Serving.{WritesReply}
-use Rattle.clock_serving.specs.Exchanges.{Came, Exchange, GrowsBy, HasClosed, bytes_given}
+use Rattle.clock_serving.specs.Exchanges.{Came, Exchange, HasClosed, bytes_given}
 use Rattle.clock_serving.specs.declared.serving.ServeFault.{ServeFault}
 use Rattle.clock_serving.specs.declared.serving.ServeFault.TheVariants as fault
 

@@ -27,9 +27,9 @@ rounds_of-requires c =
     let all = c.in_ok-recover.ensures.read in
     (onto all.texts [], all.stands [] (record { stands = c.requires; chain_is = refl; count_is = refl; digests_are = c.new.ensures.items }))
 
-pub returns-in_err-made-clause-err : goal.returns-in_err-made-clause-err
-returns-in_err-made-clause-err c =
-    let p = err_from_is_err_and c.from_residual.result c.from_residual.ensures.1 in
+pub returns-in_err-text-clause-err : goal.returns-in_err-text-clause-err
+returns-in_err-text-clause-err c =
+    let p = err_from_is_err_and c.from_residual-in_err-text.result c.from_residual-in_err-text.ensures.1 in
     rw p.1 (record { fault = NoMemory; told_is = p.2; is = tt; rightly = tt })
 
 pub returns-clause-ok : goal.returns-clause-ok
@@ -40,4 +40,4 @@ returns-clause-ok c =
     audit_is c.args.front.setup end.auction.front.setup c.args.first end.first c.args.bytes.items _ all.texts c.in_ok-recover.field-0 end.auction.front
     end.chain end.auction.texts end.digests.items
     (ap (λ (rules : SetupFields × List ℕ). rules.0) c.recover.ensures.rules) (ap (λ (rules : SetupFields × List ℕ). rules.1) c.recover.ensures.rules)
-    all.placed recounted (c.in_ok-made.ensures (onto all.texts []) recounted)
+    all.placed recounted (c.in_ok-text.ensures (onto all.texts []) recounted)

@@ -5,8 +5,8 @@ use Rattle.clock_http.specs.declared.code.Code.TheVariants.{Done}
 use Rattle.clock_keeping.specs.Keeping.{is_get}
 use Rattle.clock_keeping.proofs.KeptLaws.{kept, passed_over, some_bytes}
 use Rattle.clock_keeping.proofs.Untouched.{untouched}
-use Rattle.clock_keeping.proofs.keeping.answer_and_keep.Goals as goal
-use Rattle.clock_keeping.proofs.keeping.answer_and_keep.Goals.{then-ne-via-then-ne, then-ne-via-else-ne+then-is_get}
+use Rattle.clock_keeping.proofs.keeping.JournalKeeper.answer.Goals as goal
+use Rattle.clock_keeping.proofs.keeping.JournalKeeper.answer.Goals.{then-ne-via-then-ne, then-ne-via-else-ne+then-is_get}
 
 pub returns-then-ne-clause-kept : goal.returns-then-ne-clause-kept
 returns-then-ne-clause-kept g c digest past in_step =
@@ -18,10 +18,10 @@ returns-then-ne-clause-kept g c digest past in_step =
     c.answer_known-reply.ensures.answered c.answer_known-reply.ensures.setup why
 
 pub returns-then-ne-clause-moments : goal.returns-then-ne-clause-moments
-returns-then-ne-clause-moments g c = untouched c.args.text.now c.args.journal.now
+returns-then-ne-clause-moments g c = untouched c.args.text.now c.args.self.now
 
 pub returns-then-text-gt-MOST_TEXT-clause-moments : goal.returns-then-text-gt-MOST_TEXT-clause-moments
-returns-then-text-gt-MOST_TEXT-clause-moments g c = untouched c.args.text.now c.args.journal.now
+returns-then-text-gt-MOST_TEXT-clause-moments g c = untouched c.args.text.now c.args.self.now
 
 pub append-requires-clause-fits : goal.append-requires-clause-fits
 append-requires-clause-fits g c = record {
