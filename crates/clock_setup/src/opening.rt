@@ -13,7 +13,8 @@ use crate::setup_scan::HeldSetup;
 use clock_device::NoMemory;
 use clock_json::tree::{RowReader, each_at, has_members, number_at, read_value};
 use clock_json::{
-    FlatRows, PartReader, Scan, ScanStop, ScannedMembers, is_key, push, scanned_text, with_room,
+    PartReader, Scan, ScanStop, ScannedMembers, ShortRows, is_key, push, read_row, scanned_text,
+    short_rows, with_room,
 };
 use clock_money::{LEAST_INCREMENT, MOST_INCREMENT};
 use clock_terms::{Bidder, Grid, Product, Row, Setup, is_within};
@@ -95,10 +96,11 @@ fn units_within(number: u64, products: &[Product], row: &[u64]) -> Result<u64, O
 }
 
 /// Whether there is a row for each bidder, and in each row a number for each product.
-fn has_counts(setup: &Setup, demands: &FlatRows) -> bool
+fn has_counts(setup: &Setup, demands: &ShortRows) -> bool
     ensures { result ≡ has_counts setup.now demands.now }
 {
-    demands.count() == setup.bidders.len() && demands.has_lengths(setup.products.len())
+    let width = setup.products.len();
+    demands.len() == setup.bidders.len() && demands.iter().all(|row| row.len() == width)
 }
 
 /// A bidder's row, or the first fault of its demands and their activity.
@@ -129,7 +131,7 @@ fn row_within(
 fn opening_grid(
     alloc: Global,
     setup: &Setup,
-    demands: &FlatRows,
+    demands: &ShortRows,
     increment: u64,
 ) -> Result<Grid, OpeningFault>
     ensures ok { IfOk result (λ grid. opening_with setup.now demands.now increment
@@ -146,7 +148,7 @@ fn opening_grid(
     let mut numbers = with_room(alloc, setup.products.len())?;
     let mut rows = with_room(alloc, bidders.len())?;
     for (number, bidder) in bidders.iter().enumerate() {
-        demands.read_row(number, &mut numbers)?;
+        read_row(&demands[number], &mut numbers)?;
         let row = row_within(alloc, setup, number as u64, bidder, numbers.as_slice())?;
         push(&mut rows, row)?;
     }
@@ -161,7 +163,7 @@ fn opening_grid(
 fn compared(
     alloc: Global,
     setup: Setup,
-    demands: FlatRows,
+    demands: ShortRows,
     increment: u64,
 ) -> Result<Opening, OpeningFault>
     // A fact of every set-up, which a caller's proof takes from here.
@@ -190,13 +192,13 @@ fn compared(
 
 /// The rows of demands that a value of JSON has, or none. A demand above 65,535 stands there as that, which is above
 /// each cap as well.
-fn demands_in(alloc: Global, value: &Value) -> Result<Option<FlatRows>, NoMemory>
+fn demands_in(alloc: Global, value: &Value) -> Result<Option<ShortRows>, NoMemory>
     ensures { IfOk result (λ demands. demands ≡ short_rows_in (view value.now)) }
 {
     let Some(rows) = each_at(alloc, value, "demands", &RowReader)? else {
         return Ok(None);
     };
-    let demands = FlatRows::from_lists(alloc, rows.as_slice());
+    let demands = short_rows(alloc, rows.as_slice());
     drop(rows);
     Ok(Some(demands?))
 }
@@ -249,13 +251,13 @@ pub fn read_opening(alloc: Global, bytes: &[u8]) -> Result<Opening, OpeningFault
 /// and no demand is above 65,535.
 #[derive(Default, Drop)]
 struct FoundOpening {
-    demands: Option<FlatRows>,
+    demands: Option<ShortRows>,
     held: Option<HeldSetup>,
     increment: Option<u64>,
 }
 
 impl<'v> ScannedMembers<'v> for FoundOpening {
-    type Whole = (HeldSetup, FlatRows, u64);
+    type Whole = (HeldSetup, ShortRows, u64);
 
     ghost levels = { 3 };
 
@@ -269,7 +271,7 @@ impl<'v> ScannedMembers<'v> for FoundOpening {
 
     fn read(&mut self, alloc: Global, key: &[u8], scan: &mut Scan<'v>) -> Result<(), ScanStop> {
         if is_key(key, "demands") {
-            self.demands = Some(scan.flat_rows(alloc)?);
+            self.demands = Some(scan.short_rows(alloc)?);
         } else if is_key(key, "setup") {
             self.held = Some(HeldSetup::part(alloc, scan)?);
         } else if is_key(key, "increment") {
@@ -280,7 +282,7 @@ impl<'v> ScannedMembers<'v> for FoundOpening {
         Ok(())
     }
 
-    fn whole(self) -> Option<(HeldSetup, FlatRows, u64)> {
+    fn whole(self) -> Option<(HeldSetup, ShortRows, u64)> {
         Some((self.held?, self.demands?, self.increment?))
     }
 }
