@@ -56,11 +56,11 @@ impl<'v> PartReader<'v> for TieReader {
     ghost shown = { tie_data };
 
     fn part(_alloc: Global, scan: &mut Scan<'v>) -> Result<Tie, ScanStop> {
-        scan.opens_array()?;
+        scan.opens(b'[')?;
         let bidder = scan.number()?;
         let product = scan.number()?;
         let number = scan.number()?;
-        if !scan.closes_array() {
+        if !scan.closes(b']') {
             return Err(ScanStop::Unusual);
         }
         Ok(Tie {

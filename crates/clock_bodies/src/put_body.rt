@@ -157,10 +157,10 @@ fn bids(alloc: Global, scan: &mut Scan<'_>) -> Result<Items<Bid>, ScanStop>
     ensures value { IfOk result (λ bids. Reads 2 scan.old (bids_data bids) scan.new) }
     ensures shorter { OnOk result (length scan.new < length scan.old) }
 {
-    scan.opens_array()?;
+    scan.opens(b'[')?;
     let mut list = with_room(alloc, MOST_AHEAD.min(scan.bytes_left() / LEAST_BID))?;
     compact_bids(scan, &mut list)?;
-    'items: while !scan.closes_array() {
+    'items: while !scan.closes(b']') {
         let next = BidReader::part(alloc, scan)?;
         push(&mut list, next)?;
         compact_bids(scan, &mut list)?;

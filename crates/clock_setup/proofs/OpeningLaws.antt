@@ -1,8 +1,8 @@
 -- Laws of the checks of an opening document.
-use Rattle.std.proofs.Common.{◌≡◌, ◌≢◌, ℕ, ◌+◌, ◌*◌, ◌<◌, ◌≤◌, All, ◌==◌, Bool, true, false, nat_le, if◌then◌else◌, List, [], ◌∷◌, length, get_or, drop}
+use Rattle.std.proofs.Common.{◌≡◌, ℕ, ◌+◌, ◌*◌, ◌<◌, ◌≤◌, All, ◌==◌, Bool, true, false, nat_le, if◌then◌else◌, List, [], ◌∷◌, length, get_or, drop}
 use Rattle.std.proofs.Common.{zip, Option, Some, None, Ok, Err, refl, sym, ap, ◌∙◌, subst, arith}
 use Rattle.std.specs.List.{list_all, AllPass}
-use Rattle.std.proofs.lemmas.Bool.{and_parts, eq-eqb, ne_eqb, le-leb, lt-leb}
+use Rattle.std.proofs.lemmas.Bool.{and_parts, le-leb, lt-leb}
 use Rattle.std.proofs.lemmas.Bool.Decides.{nat_tests}
 use Rattle.std.proofs.lemmas.List.{get_or_default, drop_all, drop_more}
 use Rattle.std.proofs.lemmas.List.Sums.{AllPass-from_list_all, sum_by-cons}
@@ -28,6 +28,11 @@ pub zip_at : {A B : Type 0} (ks : List A) (vs : List B) (i : ℕ) (a : A) (b : B
     → (a, b) ≡ get_or (zip ks vs) i (a, b)
 zip_at ks vs i a b h k first second =
     ap (λ x. (x, b)) first ∙ ap (λ y. (get_or ks i a, y)) second ∙ sym (get_or-zip ks vs i (a, b) h k)
+
+-- a row, where the rows are read as a slice
+pub row_at : {slice : List (List ℕ)} (rows : List (List ℕ)) (number : ℕ) (row : List ℕ) → slice ≡ rows → number < length rows → row ≡ get_or slice number row
+    → row ≡ get_or rows number []
+row_at rows number row same within is = is ∙ ap (λ (list : List (List ℕ)). get_or list number row) same ∙ get_or_default rows number row [] within
 
 -- a bidder with its row, where the bidders are read as a slice
 pub row_line : {slice : List Bidder} (bidders : List Bidder) (rows : List (List ℕ)) (number : ℕ) (bidder : Bidder) (row : List ℕ) → slice ≡ bidders
@@ -158,19 +163,6 @@ grid_of_counts setup demands h =
     let each : AllPass (λ row. length row == length setup.products) demands = AllPass-from_list_all
     (λ row. length row == length setup.products) demands both.1 in
     (same_of_test _ _ both.0, λ k d lt. same_of_test _ _ (each k d lt))
-
--- the counts of the rows, by what was found of each
-module _ (setup : SetupFields) (demands : List (List ℕ)) where
-  pub counts_fit : length demands ≡ length setup.bidders → list_all (λ row. length row == length setup.products) demands ≡ true
-      → has_counts setup demands ≡ true
-  counts_fit same each = rw (eq-eqb (length demands) (length setup.bidders) same, each) refl
-
-  pub counts_differ : length demands ≢ length setup.bidders → has_counts setup demands ≡ false
-  counts_differ other = rw (ne_eqb (length demands) (length setup.bidders) other) refl
-
-  pub widths_differ : length demands ≡ length setup.bidders → list_all (λ row. length row == length setup.products) demands ≡ false
-      → has_counts setup demands ≡ false
-  widths_differ same each = rw (eq-eqb (length demands) (length setup.bidders) same, each) refl
 
 -- a document whose parts and set-up are known is judged by its other checks
 pub opening_at : (value : Data) (parts : OpeningParts) (setup : SetupFields) → parts_of value ≡ Some parts → setup_of parts.setup ≡ Ok setup

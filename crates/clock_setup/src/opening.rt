@@ -3,7 +3,7 @@ ghost use Rattle.serde_json.specs.View.{view};
 ghost use Rattle.clock_terms.specs.{Demands.{IsGrid}, Eligibility.{activity}};
 ghost use Rattle.clock_terms.specs.Faults.{IsFirstFault, IsRefusal, first_fault};
 ghost use Rattle.clock_terms.specs.Limits.{IsProduct, IsRow, IsWithin, least_increment, most_increment};
-ghost use Rattle.clock_setup.specs.OpeningDocument.{document_opening, opening_of, opening_with, row_checks};
+ghost use Rattle.clock_setup.specs.OpeningDocument.{document_opening, has_counts, opening_of, opening_with, row_checks};
 ghost use Rattle.clock_setup.specs.inside.OpeningData.{scanned_data, found_opening};
 ghost use Rattle.clock_setup.specs.declared.opening.OpeningFault.TheVariants as faults;
 
@@ -13,7 +13,8 @@ use crate::setup_scan::HeldSetup;
 use clock_device::NoMemory;
 use clock_json::tree::{RowReader, each_at, has_members, number_at, read_value};
 use clock_json::{
-    FlatRows, PartReader, Scan, ScanStop, ScannedMembers, is_key, push, scanned_text, with_room,
+    PartReader, Scan, ScanStop, ScannedMembers, ShortRows, is_key, push, read_row, scanned_text,
+    short_rows, with_room,
 };
 use clock_money::{LEAST_INCREMENT, MOST_INCREMENT};
 use clock_terms::{Bidder, Grid, Row, Setup, is_within};
@@ -63,6 +64,14 @@ impl From<NoMemory> for OpeningFault {
     }
 }
 
+/// Whether there is a row for each bidder, and in each row a number for each product.
+fn has_counts(setup: &Setup, demands: &ShortRows) -> bool
+    ensures { result ≡ has_counts setup.now demands.now }
+{
+    let width = setup.products.len();
+    demands.len() == setup.bidders.len() && demands.iter().all(|row| row.len() == width)
+}
+
 /// A bidder's row, or the first fault of its demands and their activity. Each demand is looked at once, those that are 0
 /// as well, since a branch for them is mostly guessed wrong where many are held.
 fn row_within(
@@ -99,7 +108,7 @@ fn row_within(
 fn opening_grid(
     alloc: Global,
     setup: &Setup,
-    demands: &FlatRows,
+    demands: &ShortRows,
     increment: u64,
 ) -> Result<Grid, OpeningFault>
     ensures ok { IfOk result (λ grid. opening_with setup.now demands.now increment
@@ -110,13 +119,13 @@ fn opening_grid(
     ensures held { IfErr result (λ fault. fault ≢ OpeningFault.Setup SetupFault.NoMemory) }
 {
     let bidders = setup.bidders.as_slice();
-    if demands.count() != bidders.len() || !demands.has_lengths(setup.products.len()) {
+    if !has_counts(setup, demands) {
         return Err(OpeningFault::Shape);
     }
     let mut numbers = with_room(alloc, setup.products.len())?;
     let mut rows = with_room(alloc, bidders.len())?;
     for (number, bidder) in bidders.iter().enumerate() {
-        demands.read_row(number, &mut numbers)?;
+        read_row(&demands[number], &mut numbers)?;
         let row = row_within(alloc, setup, number as u64, bidder, numbers.as_slice())?;
         push(&mut rows, row)?;
     }
@@ -131,7 +140,7 @@ fn opening_grid(
 fn compared(
     alloc: Global,
     setup: Setup,
-    demands: FlatRows,
+    demands: ShortRows,
     increment: u64,
 ) -> Result<Opening, OpeningFault>
     // A fact of every set-up, which a caller's proof takes from here.
@@ -176,7 +185,7 @@ fn opening_in(alloc: Global, value: &Value) -> Result<Opening, OpeningFault>
         return Err(OpeningFault::Shape);
     }
     let rows = each_at(alloc, value, "demands", &RowReader)?.ok_or(OpeningFault::Shape)?;
-    let demands = FlatRows::from_lists(alloc, rows.as_slice());
+    let demands = short_rows(alloc, rows.as_slice());
     drop(rows);
     let demands = demands?;
     match setup_of(alloc, setup) {
@@ -210,13 +219,13 @@ pub fn read_opening(alloc: Global, bytes: &[u8]) -> Result<Opening, OpeningFault
 /// and no demand is above 65,535.
 #[derive(Default, Drop)]
 struct FoundOpening {
-    demands: Option<FlatRows>,
+    demands: Option<ShortRows>,
     held: Option<HeldSetup>,
     increment: Option<u64>,
 }
 
 impl<'v> ScannedMembers<'v> for FoundOpening {
-    type Whole = (HeldSetup, FlatRows, u64);
+    type Whole = (HeldSetup, ShortRows, u64);
 
     ghost levels = { 3 };
 
@@ -230,7 +239,7 @@ impl<'v> ScannedMembers<'v> for FoundOpening {
 
     fn read(&mut self, alloc: Global, key: &[u8], scan: &mut Scan<'v>) -> Result<(), ScanStop> {
         match key {
-            _ if is_key(key, "demands") => self.demands = Some(scan.flat_rows(alloc)?),
+            _ if is_key(key, "demands") => self.demands = Some(scan.short_rows(alloc)?),
             _ if is_key(key, "setup") => self.held = Some(HeldSetup::part(alloc, scan)?),
             _ if is_key(key, "increment") => self.increment = Some(scan.number()?),
             _ => return Err(ScanStop::Unusual),
@@ -238,7 +247,7 @@ impl<'v> ScannedMembers<'v> for FoundOpening {
         Ok(())
     }
 
-    fn whole(self) -> Option<(HeldSetup, FlatRows, u64)> {
+    fn whole(self) -> Option<(HeldSetup, ShortRows, u64)> {
         Some((self.held?, self.demands?, self.increment?))
     }
 }

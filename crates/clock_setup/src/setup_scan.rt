@@ -73,10 +73,10 @@ fn products<'v>(alloc: Global, scan: &mut Scan<'v>) -> Result<VersionedProducts<
     ensures value { IfOk result (λ list. Reads 2 scan.old (products_data list.version list.entries) scan.new) }
     ensures shorter { OnOk result (length scan.new < length scan.old) }
 {
-    scan.opens_array()?;
+    scan.opens(b'[')?;
     let mut version = 0;
     let mut entries = Items::new(alloc);
-    'items: while !scan.closes_array() {
+    'items: while !scan.closes(b']') {
         let next = FoundProduct::part(alloc, scan)?;
         if version != 0 && version != next.version {
             return Err(ScanStop::Unusual);

@@ -1,5 +1,4 @@
-use Rattle.std.proofs.Common.{◌≡◌, true, ◌==◌, ◌≤◌, ◌++◌, ◌∷◌, [], List, ℕ, All, None, length, take, drop, zip, sym, ap, ◌∙◌, subst, refl, arith}
-use Rattle.std.specs.List.{list_all}
+use Rattle.std.proofs.Common.{◌≡◌, ◌≤◌, ◌++◌, ◌∷◌, [], List, ℕ, All, None, length, get_or, take, drop, zip, sym, ap, ◌∙◌, subst, refl, arith}
 use Rattle.std.proofs.lemmas.List.{take_more, take_all}
 use Rattle.std.proofs.lemmas.List.Elements.{All-nil, All-push}
 use Rattle.std.proofs.lemmas.Result.{err_from_is_err_and}
@@ -7,10 +6,9 @@ use Rattle.std.proofs.lemmas.Slice.Zip.{length-zip}
 use Rattle.clock_terms.specs.Demands.{IsGrid}
 use Rattle.clock_terms.specs.Faults.{first_fault, in_turn}
 use Rattle.clock_terms.specs.Limits.{IsRow, SetupFields}
-use Rattle.clock_setup.specs.OpeningDocument.{has_counts, row_checks}
+use Rattle.clock_setup.specs.OpeningDocument.{row_checks}
 use Rattle.clock_terms.proofs.FaultLaws.{turn_passed, turn_failed, turn_none}
-use Rattle.clock_setup.proofs.OpeningLaws.{row_line, grid_of_counts, counts_fit, counts_differ, widths_differ, counts_refused, rows_refused, increment_refused, opened}
-use Rattle.clock_setup.proofs.opening.opening_grid.Goals.{Else-not-has_lengths, then-count-bidders-via-then-count-bidders, then-count-bidders-via-else-count-bidders+then-not-has_lengths}
+use Rattle.clock_setup.proofs.OpeningLaws.{row_at, row_line, grid_of_counts, counts_refused, rows_refused, increment_refused, opened}
 use Rattle.clock_setup.proofs.opening.opening_grid.Goals as goal
 
 module _ (setup : SetupFields) (demands : List (List ℕ)) (number : ℕ) (grid : IsGrid (length setup.bidders) (length setup.products) demands)
@@ -26,33 +24,14 @@ module _ (setup : SetupFields) (demands : List (List ℕ)) (number : ℕ) (grid 
   rows_pass rest =
       sym rest ∙ turn_none (row_checks setup.products) (zip setup.bidders demands) number (omega (arith, length-zip setup.bidders demands, grid.0, past))
 
--- the rows are in the right counts
-fits : (c : Else-not-has_lengths) → has_counts c.args.setup.now c.args.demands.now ≡ true
-fits c =
-    counts_fit c.args.setup.now c.args.demands.now
-    (sym c.count.ensures ∙ c.if-count-bidders.false ∙ ap length (c.as_slice-bidders.ensures ∙ ap (λ (s : SetupFields). s.bidders) c.setup.view_is))
-    (ap (λ (width : ℕ). list_all (λ row. length row == width) c.args.demands.now) (sym (c.len.ensures ∙ ap (λ (s : SetupFields). length s.products) c.setup.view_is))
-    ∙ sym c.has_lengths.ensures ∙ c.if-not-has_lengths.false)
-
-pub returns-then-count-bidders-clause-err : goal.returns-then-count-bidders-clause-err
-returns-then-count-bidders-clause-err c = λ known.
-    let setup = c.args.setup.now in
-    let demands = c.args.demands.now in
-    let bidders : length c.as_slice-bidders.result.now ≡ length setup.bidders =
-    ap length (c.as_slice-bidders.ensures ∙ ap (λ (s : SetupFields). s.bidders) c.setup.view_is) in
-    counts_refused setup demands c.args.increment (elim c.then-count-bidders.branch [
-      | then-count-bidders-via-then-count-bidders w ↦
-          counts_differ setup demands (λ same. w.if-count-bidders.true (c.count.ensures ∙ same ∙ sym bidders))
-      | then-count-bidders-via-else-count-bidders+then-not-has_lengths w ↦
-          widths_differ setup demands (sym c.count.ensures ∙ w.if-count-bidders.false ∙ bidders)
-          (ap (λ (width : ℕ). list_all (λ row. length row == width) demands) (sym (w.len.ensures ∙ ap (λ (s : SetupFields). length s.products) c.setup.view_is))
-          ∙ sym w.has_lengths.ensures ∙ w.if-not-has_lengths.true)
-    ])
+pub returns-then-not-has_counts-clause-err : goal.returns-then-not-has_counts-clause-err
+returns-then-not-has_counts-clause-err c = λ known.
+    counts_refused c.args.setup.now c.args.demands.now c.args.increment (sym c.has_counts.ensures ∙ c.if-not-has_counts.true)
 
 pub loop-number-init : goal.loop-number-init
 loop-number-init c =
     record {
-      grid = grid_of_counts c.args.setup.now c.args.demands.now (fits (goal.at.loop-number-init c).Else-not-has_lengths);
+      grid = grid_of_counts c.args.setup.now c.args.demands.now (sym c.has_counts.ensures ∙ c.if-not-has_counts.false);
       rest = refl;
       same = c.in_ok-rows.ensures.items;
       rows = subst (λ (rows : List (List ℕ)). All (IsRow c.args.setup.now.products) rows) (sym c.in_ok-rows.ensures.items)
@@ -64,11 +43,13 @@ returns-in_err-row-clause-err c =
     let setup = c.args.setup.now in
     let number = c.loop-number.number in
     let bidders = c.as_slice-bidders.ensures ∙ ap (λ (s : SetupFields). s.bidders) c.setup.view_is in
-    let line = row_line setup.bidders c.args.demands.now number c.index-bidders-number.result c.as_slice.result.now bidders c.loop-number-test.true
-    c.loop-number.invariant.grid.0 c.index-bidders-number.is (c.as_slice.ensures.value ∙ c.in_ok-read_row.ensures) in
+    let grid = c.loop-number.invariant.grid.0 in
+    let read = row_at c.args.demands.now number c.index-deref-number.result c.deref.ensures (omega (arith, grid, c.loop-number-test.true, ap length bidders)) c.index-deref-number.is in
+    let line = row_line setup.bidders c.args.demands.now number c.index-bidders-number.result c.as_slice.result.now bidders c.loop-number-test.true grid
+    c.index-bidders-number.is (c.as_slice.ensures.value ∙ c.in_ok-read_row.ensures ∙ c.deref-in-loop-number.ensures ∙ read) in
     let told = err_from_is_err_and c.from_residual-in_err-row.result c.from_residual-in_err-row.ensures.1 in
     rw (told.1, told.2)
-    (λ known. rows_refused setup c.args.demands.now c.args.increment _ (fits (goal.at.returns-in_err-row-clause-err c).Else-not-has_lengths)
+    (λ known. rows_refused setup c.args.demands.now c.args.increment _ (sym c.has_counts.ensures ∙ c.if-not-has_counts.false)
     (sym c.loop-number.invariant.rest
     ∙ turn_failed (row_checks setup.products) (zip setup.bidders c.args.demands.now) number _ _ line.1 line.0 (c.in_err-row.ensures.err known)))
 
@@ -79,7 +60,9 @@ loop-number-preserved c =
     let number = c.loop-number.number in
     let known = c.loop-number.invariant in
     let bidders = c.as_slice-bidders.ensures ∙ ap (λ (s : SetupFields). s.bidders) c.setup.view_is in
-    let read = c.as_slice.ensures.value ∙ c.in_ok-read_row.ensures in
+    let read : c.as_slice.result.now ≡ get_or demands number [] =
+    c.as_slice.ensures.value ∙ c.in_ok-read_row.ensures ∙ c.deref-in-loop-number.ensures
+    ∙ row_at demands number c.index-deref-number.result c.deref.ensures (omega (arith, known.grid.0, c.loop-number-test.true, ap length bidders)) c.index-deref-number.is in
     let line = row_line setup.bidders demands number c.index-bidders-number.result c.as_slice.result.now bidders c.loop-number-test.true known.grid.0
     c.index-bidders-number.is read in
     let row = c.in_ok-row.row in
@@ -98,7 +81,7 @@ loop-number-preserved c =
 pub returns-then-not-is_within-clause-err : goal.returns-then-not-is_within-clause-err
 returns-then-not-is_within-clause-err c = λ known.
     let bidders = c.as_slice-bidders.ensures ∙ ap (λ (s : SetupFields). s.bidders) c.setup.view_is in
-    increment_refused c.args.setup.now c.args.demands.now c.args.increment (fits (goal.at.returns-then-not-is_within-clause-err c).Else-not-has_lengths)
+    increment_refused c.args.setup.now c.args.demands.now c.args.increment (sym c.has_counts.ensures ∙ c.if-not-has_counts.false)
     (rows_pass c.args.setup.now c.args.demands.now c.loop-number.number c.loop-number.invariant.grid (omega (arith, ap length bidders, c.loop-number-test.false))
     c.loop-number.invariant.rest)
     (sym c.is_within.ensures ∙ c.if-not-is_within.true)
@@ -117,7 +100,7 @@ returns-clause-ok c =
     opened setup c.args.demands.now c.args.increment c.in_ok-of_rows.field-0
     (c.in_ok-of_rows.ensures ∙ rows_all setup c.args.demands.now c.loop-number.number c.loop-number.invariant.grid past c.loop-number.rows.items
     c.loop-number.invariant.same)
-    (fits (goal.at.returns-clause-ok c).Else-not-has_lengths)
+    (sym c.has_counts.ensures ∙ c.if-not-has_counts.false)
     (rows_pass setup c.args.demands.now c.loop-number.number c.loop-number.invariant.grid past c.loop-number.invariant.rest)
     (sym c.is_within.ensures ∙ c.if-not-is_within.false)
 
