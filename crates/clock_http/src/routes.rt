@@ -6,6 +6,7 @@ ghost use Rattle.clock_http.specs.inside.Routing as routing;
 use clock_device::NoMemory;
 use http::Method;
 use matchit::{InsertError, Router};
+use memchr::memrchr;
 use std::alloc::Global;
 
 /// What a path names.
@@ -94,11 +95,8 @@ impl Routes {
 pub fn last_segment(path: &[u8]) -> &[u8]
     ensures { result.now ≡ spec.last_segment path.now }
 {
-    let mut start = 0;
-    for (i, byte) in path.iter().enumerate() {
-        if *byte == b'/' {
-            start = i + 1;
-        }
+    match memrchr(b'/', path) {
+        Some(slash) => &path[slash + 1..],
+        None => path,
     }
-    &path[start..]
 }
