@@ -45,7 +45,7 @@ pub fn answer_and_keep<P: Processor, D: Durable>(
     ensures ok { OnOk result (journal.new.has_failed ≡ false) }
     ensures err { OnErr result ((journal.new.has_failed ≡ true) ⊎ (most_text < length text.now)) }
 {
-    let reply = front.answer_known(text, progress);
+    let reply = front.answer_framed(progress.framing(text));
     if reply.code() != Code::Done || is_get(text, progress) {
         return Ok(reply);
     }

@@ -81,7 +81,7 @@ impl Keeper for Unkept {
         text: &[u8],
         progress: Progress,
     ) -> Result<Reply, Failed> {
-        Ok(front.answer_known(text, progress))
+        Ok(front.answer_framed(progress.framing(text)))
     }
 
     fn round_closed(&mut self, _round: u64) {}
