@@ -60,7 +60,7 @@ impl<D: Durable> Keeper for Journal<D> {
         text: &[u8],
         progress: Progress,
     ) -> Result<Reply, Failed> {
-        let reply = front.answer_known(text, progress);
+        let reply = front.answer_framed(progress.framing(text));
         if reply.code() != Code::Done || is_get(text, progress) {
             return Ok(reply);
         }
@@ -89,7 +89,7 @@ impl Keeper for Unkept {
         text: &[u8],
         progress: Progress,
     ) -> Result<Reply, Failed> {
-        Ok(front.answer_known(text, progress))
+        Ok(front.answer_framed(progress.framing(text)))
     }
 
     fn round_closed(&mut self, _round: u64) {}

@@ -1,22 +1,24 @@
-//! Replies to requests that change the auction. A reply is built before its change is made.
+//! The reply to a request, by the page that it names and by who asks. The page of a change is built before the change.
 
 ghost use Rattle.std.specs.Prelude.{◌≡◌, ◌≢◌, ◌<◌, Ok, Err, length, IfOk, IfErr, OnOk, OnErr};
-ghost use Rattle.clock_house.specs.House.{put_fault_in, closing_in, IsFollowedBy, StandsStill};
-ghost use Rattle.clock_house.specs.Command as command;
-ghost use Rattle.clock_views.specs.{BidderPages.{accepted_value}, OperatorPages.{closed_value}, Refusals.{alone}};
+ghost use Rattle.clock_http.specs.{Routes.{page_of}, Shown.{shown_head}};
+ghost use Rattle.clock_house.specs.House.{StandsStill};
+ghost use Rattle.clock_views.specs.Refusals.{alone};
 ghost use Rattle.clock_bodies.specs.{Bodies.{put_body}, CloseBodies.{close_body, in_version}};
-ghost use Rattle.clock_front.specs.Outcomes.{answer_of, body_code, close_outcome, command_of, done, outcome, put_outcome, refused};
-ghost use Rattle.clock_front.specs.{Rooms.{WantsRoom}, inside.Askers.{IsKnown}, inside.Private.{IsToldByView}};
+ghost use Rattle.clock_front.specs.declared.front.askers.Asker.TheVariants as who;
+ghost use Rattle.clock_front.specs.{Outcomes.{answer_of, body_code, outcome, refused}, Rooms.{WantsRoom}};
 ghost use Rattle.clock_front.specs.Requests as asked;
+ghost use Rattle.clock_front.specs.inside.{Askers.{IsKnown}, KeptPage.{IsProductsPage}, Replies.{IsReplyTo}};
 
-use crate::front::Unanswered;
-use crate::front::asked::Asker;
-use crate::front::pages::refusal;
-use crate::front::telling::{bidder_of, operator_of, turn_away};
-use clock_bodies::{BodyFault, CloseBody, PutBody, is_of_version, read_close, read_put};
+use crate::front::Kept;
+use crate::front::askers::Asker;
+use crate::front::replies::{
+    Unanswered, account, bids, products, refusal, results, sheet, slip, status,
+};
+use clock_bodies::{BodyFault, CloseBody, is_of_version, read_close, read_put};
 use clock_device::NoMemory;
 use clock_house::{CloseFault, House, PutFault};
-use clock_http::{Code, Reply, text_with_room};
+use clock_http::{Code, Head, Page, Reply, last_segment, text_with_room};
 use clock_processor::Processor;
 use clock_terms::Setup;
 use clock_views::{Refusal, accepted_room, closed_room, push_accepted_page, push_closed_page};
@@ -28,105 +30,37 @@ fn refused_body(alloc: Global, fault: BodyFault) -> Result<Reply, NoMemory>
     ensures known { OnOk result (fault ≢ BodyFault.NoMemory) }
 {
     match fault {
-        BodyFault::NotJson => Ok(refusal(alloc, Refusal::alone(Code::BadJson))?),
-        BodyFault::Shape => Ok(refusal(alloc, Refusal::alone(Code::Shape))?),
+        BodyFault::NotJson => Ok(refusal(alloc, Refusal::alone(Code::BadJson), None)?),
+        BodyFault::Shape => Ok(refusal(alloc, Refusal::alone(Code::Shape), None)?),
         BodyFault::NoMemory => Err(NoMemory),
     }
 }
 
-/// The reply that a sheet of so many bids was accepted.
-fn accepted(alloc: Global, round: u64, bids: u64) -> Result<Reply, NoMemory>
-    ensures { IfOk result (λ reply. reply ≡ answer_of (done (accepted_value round bids))) }
-{
-    let mut text = text_with_room(alloc, accepted_room())?;
-    push_accepted_page(&mut text, round, bids);
-    Ok(Reply::written(Code::Done, None, text))
-}
-
-/// Puts a sheet in force, or tells its first fault.
+/// Puts the sheet that a body means in force, or tells the first fault.
 fn put_sheet<P: Processor>(
     alloc: Global,
     house: &mut House<P>,
     bidder: u32,
-    sheet: PutBody,
+    body: &[u8],
 ) -> Result<Reply, NoMemory>
     requires { bidder < length house.old.setup.bidders }
-    ensures reply { IfOk result (λ reply. reply
-        ≡ answer_of (put_outcome sheet (put_fault_in house.old bidder sheet.round sheet.bids))) }
-    ensures private { IfOk result (IsToldByView house.old bidder (asked.put (Ok sheet))) }
-    ensures followed { OnOk result (IsFollowedBy (command.put bidder sheet.round sheet.bids) house.old house.new) }
+    ensures done { IfOk result (IsReplyTo (who.Bidder bidder) (asked.put (put_body body.now)) house.old house.new) }
     ensures still { OnErr result (StandsStill house.old house.new) }
 {
+    let sheet = match read_put(alloc, body) {
+        Ok(sheet) => sheet,
+        Err(fault) => return refused_body(alloc, fault),
+    };
     let count = sheet.bids.as_slice().len() as u64;
     match house.prepare_sheet(bidder, sheet.round, sheet.bids) {
         Ok(prepared) => {
-            let reply = accepted(alloc, sheet.round, count)?;
+            let mut text = text_with_room(alloc, accepted_room())?;
+            push_accepted_page(&mut text, sheet.round, count);
             house.commit_put(prepared);
-            Ok(reply)
+            Ok(Reply::written(Code::Done, None, text))
         }
         Err(PutFault::NoMemory) => Err(NoMemory),
-        Err(fault) => Ok(refusal(alloc, Refusal::from(fault))?),
-    }
-}
-
-/// Puts the sheet of a bidder; whoever is no bidder is told so.
-pub(crate) fn answer_put<P: Processor>(
-    alloc: Global,
-    house: &mut House<P>,
-    asker: Asker,
-    body: &[u8],
-) -> Result<Reply, Unanswered>
-    requires { IsKnown (length house.old.setup.bidders) asker }
-    ensures reply { IfOk result (λ reply. reply ≡ answer_of (outcome house.old asker (asked.put (put_body body.now)))) }
-    ensures wanted { IfErr result (WantsRoom asker (asked.put (put_body body.now))
-        (outcome house.old asker (asked.put (put_body body.now)))) }
-    ensures followed { OnOk result (IsFollowedBy (command_of house.old.setup asker (asked.put (put_body body.now)))
-        house.old house.new) }
-    ensures still { OnErr result (StandsStill house.old house.new) }
-{
-    match bidder_of(asker) {
-        Ok(bidder) => match read_put(alloc, body) {
-            Ok(sheet) => Ok(put_sheet(alloc, house, bidder, sheet)?),
-            Err(fault) => Ok(refused_body(alloc, fault)?),
-        },
-        Err(away) => turn_away(alloc, away),
-    }
-}
-
-/// The reply that a round was closed.
-fn closed(alloc: Global, round: u64, ended: bool) -> Result<Reply, NoMemory>
-    ensures { IfOk result (λ reply. reply ≡ answer_of (done (closed_value round ended))) }
-{
-    let mut text = text_with_room(alloc, closed_room())?;
-    push_closed_page(&mut text, round, ended);
-    Ok(Reply::written(Code::Done, None, text))
-}
-
-/// Closes the round, or tells the first fault.
-fn close_round<P: Processor>(
-    alloc: Global,
-    house: &mut House<P>,
-    closing: &CloseBody,
-) -> Result<Reply, NoMemory>
-    ensures reply { IfOk result (λ reply. reply ≡ answer_of (close_outcome closing.now.round
-        (closing_in house.old closing.now.round closing.now.increments closing.now.ties))) }
-    ensures followed { OnOk result (IsFollowedBy (command.close closing.now.round closing.now.increments
-        closing.now.ties) house.old house.new) }
-    ensures still { OnErr result (StandsStill house.old house.new) }
-{
-    match house.prepare(closing.round, &closing.increments, closing.ties.as_slice()) {
-        Ok(settled) => match closed(alloc, closing.round, settled.ended()) {
-            Ok(reply) => {
-                house.commit(settled);
-                Ok(reply)
-            }
-            Err(none) => {
-                drop(settled);
-                Err(none)
-            }
-        },
-        Err(CloseFault::NoMemory) => Err(NoMemory),
-        Err(why) => Ok(refusal(alloc, Refusal::from(why))?),
+        Err(fault) => Ok(refusal(alloc, Refusal::from(fault), None)?),
     }
 }
 
@@ -144,26 +78,76 @@ fn closing_of(alloc: Global, setup: &Setup, body: &[u8]) -> Result<CloseBody, Bo
     }
 }
 
-/// Closes a round for the operator; whoever is not the operator is told so.
-pub(crate) fn answer_close<P: Processor>(
+/// Closes the round by a body, or tells the first fault.
+fn close_round<P: Processor>(
     alloc: Global,
     house: &mut House<P>,
-    asker: Asker,
     body: &[u8],
-) -> Result<Reply, Unanswered>
-    ensures reply { IfOk result (λ reply. reply
-        ≡ answer_of (outcome house.old asker (asked.close (close_body body.now)))) }
-    ensures wanted { IfErr result (WantsRoom asker (asked.close (close_body body.now))
-        (outcome house.old asker (asked.close (close_body body.now)))) }
-    ensures followed { OnOk result (IsFollowedBy (command_of house.old.setup asker (asked.close (close_body body.now)))
-        house.old house.new) }
+) -> Result<Reply, NoMemory>
+    ensures done { IfOk result (IsReplyTo who.Operator (asked.close (close_body body.now)) house.old house.new) }
     ensures still { OnErr result (StandsStill house.old house.new) }
 {
-    match operator_of(asker) {
-        Ok(()) => match closing_of(alloc, house.setup(), body) {
-            Ok(closing) => Ok(close_round(alloc, house, &closing)?),
-            Err(fault) => Ok(refused_body(alloc, fault)?),
-        },
-        Err(why) => turn_away(alloc, why),
+    let closing = match closing_of(alloc, house.setup(), body) {
+        Ok(closing) => closing,
+        Err(fault) => return refused_body(alloc, fault),
+    };
+    let round = closing.round;
+    let settled = house.prepare(round, &closing.increments, closing.ties.as_slice());
+    drop(closing);
+    match settled {
+        Ok(settled) => {
+            let mut text = text_with_room(alloc, closed_room())?;
+            push_closed_page(&mut text, round, settled.ended());
+            house.commit(settled);
+            Ok(Reply::written(Code::Done, None, text))
+        }
+        Err(CloseFault::NoMemory) => Err(NoMemory),
+        Err(why) => Ok(refusal(alloc, Refusal::from(why), None)?),
+    }
+}
+
+/// The reply to a request, which tells a page, or makes a change, or refuses it.
+pub(crate) fn answer_request<P: Processor>(
+    alloc: Global,
+    house: &mut House<P>,
+    kept: &Kept,
+    asker: Asker,
+    head: &Head<'_>,
+    body: &[u8],
+) -> Result<Reply, Unanswered>
+    requires page { IsProductsPage house.old.setup kept.now.products }
+    requires known { IsKnown (length house.old.setup.bidders) asker }
+    ensures done { IfOk result (IsReplyTo asker (asked.ask_by_route (page_of head.now.path.now) (shown_head head.now)
+        body.now) house.old house.new) }
+    ensures wanted { IfErr result (WantsRoom asker (asked.ask_by_route (page_of head.now.path.now) (shown_head head.now)
+        body.now) (outcome house.old asker (asked.ask_by_route (page_of head.now.path.now) (shown_head head.now)
+        body.now))) }
+    ensures still { OnErr result (StandsStill house.old house.new) }
+{
+    let Some(page) = kept.routes.page_of(head.path) else {
+        return Ok(refusal(alloc, Refusal::alone(Code::NoPage), None)?);
+    };
+    if !page.has_method(head.method) {
+        return Ok(refusal(alloc, Refusal::alone(Code::Method), Some(page))?);
+    }
+    match (page, asker) {
+        (Page::Status, _) => Ok(status(alloc, house)?),
+        (Page::Products, _) => Ok(products(alloc, kept.products.as_slice())?),
+        (Page::Sheet, _) => Ok(sheet(alloc, house, last_segment(head.path))?),
+        (Page::Account, Asker::Bidder(bidder)) => Ok(account(alloc, house, bidder)?),
+        (Page::Bids, Asker::Bidder(bidder)) if head.is_put() => Ok(put_sheet(
+            alloc, house, bidder, body,
+        )?),
+        (Page::Bids, Asker::Bidder(bidder)) => Ok(bids(alloc, house, bidder)?),
+        (Page::Slip, Asker::Bidder(bidder)) => Ok(slip(
+            alloc,
+            house,
+            bidder,
+            last_segment(head.path),
+        )?),
+        (Page::Close, Asker::Operator) => Ok(close_round(alloc, house, body)?),
+        (Page::Results, Asker::Operator) => Ok(results(alloc, house)?),
+        (_, Asker::Nobody) => Ok(refusal(alloc, Refusal::alone(Code::Token), None)?),
+        (_, _) => Ok(refusal(alloc, Refusal::alone(Code::Role), None)?),
     }
 }

@@ -1,14 +1,10 @@
-//! Who asks, by the token of a request, and for what, by its path and method.
+//! Who asks, by the token of a request.
 ghost use Rattle.std.specs.Prelude.{◌≡◌, ℕ, List, length, IfOk, OnOk, if◌then◌else◌};
 ghost use Rattle.clock_terms.specs.Limits.{SetupFields};
-ghost use Rattle.clock_http.specs.{Routes.{page_of}, Shown.{shown_head, shown_bytes}, Heads.{same_bytes}};
-ghost use Rattle.clock_front.specs.Requests as spec;
-ghost use Rattle.clock_front.specs.{inside.ShownAsked.{shown_asked}, inside.Askers.{IsKnown}};
-ghost use Rattle.clock_front.specs.inside.HeldTokens.{found, IsTableOf};
-ghost use Rattle.clock_front.specs.Askers as askers;
+ghost use Rattle.clock_http.specs.{Shown.{shown_bytes}, Heads.{same_bytes}};
+ghost use Rattle.clock_front.specs.{Askers.{asker as asker_with}, inside.Askers.{IsKnown}, inside.HeldTokens.{found, IsTableOf}};
 
 use clock_device::NoMemory;
-use clock_http::{Head, Page, Routes, last_segment};
 use clock_terms::Setup;
 use indexmap::IndexMap;
 use std::alloc::Global;
@@ -47,66 +43,23 @@ pub(crate) fn tokens_of(alloc: Global, setup: &Setup) -> Result<Tokens, NoMemory
         let token = setup.bidders[number].token.as_slice();
         add(alloc, &mut tokens, token, Asker::Bidder(number as u32))?;
     }
-    let token = setup.operator.as_slice();
-    add(alloc, &mut tokens, token, Asker::Operator)?;
+    add(
+        alloc,
+        &mut tokens,
+        setup.operator.as_slice(),
+        Asker::Operator,
+    )?;
     Ok(tokens)
 }
 
 /// Who asks with a token, or with none. It takes no memory.
 pub(crate) fn asker_of(tokens: &Tokens, token: Option<&[u8]>) -> Asker
     ensures shown { (setup : SetupFields) → IsTableOf setup tokens.now.entries → result
-        ≡ askers.asker setup (shown_bytes token.entry) }
+        ≡ asker_with setup (shown_bytes token.entry) }
     ensures known { (setup : SetupFields) → IsTableOf setup tokens.now.entries → IsKnown (length setup.bidders) result }
 {
     match token {
         Some(token) => tokens.get(token).copied().unwrap_or(Asker::Nobody),
         None => Asker::Nobody,
-    }
-}
-
-/// What is asked to be told. It changes nothing.
-#[derive(Clone, Copy)]
-pub(crate) enum PageAsked<'a> {
-    /// The path names no page.
-    NoPage,
-    /// The page is not for the method.
-    NoMethod(Page),
-    Status,
-    Products,
-    Sheet(&'a [u8]),
-    Account,
-    Bids,
-    Slip(&'a [u8]),
-    Results,
-}
-
-/// What is asked for: to be told, or a change by a body that is not read yet.
-#[derive(Clone, Copy)]
-pub(crate) enum Asked<'a> {
-    Read(PageAsked<'a>),
-    Put(&'a [u8]),
-    Close(&'a [u8]),
-}
-
-/// What a request asks for, by its path and method.
-pub(crate) fn asked_of<'a>(routes: &Routes, head: &Head<'a>, body: &'a [u8]) -> Asked<'a>
-    ensures { shown_asked result ≡ spec.ask_by_route (page_of head.now.path.now) (shown_head head.now) body.now }
-{
-    let Some(page) = routes.page_of(head.path) else {
-        return Asked::Read(PageAsked::NoPage);
-    };
-    if !page.has_method(head.method) {
-        return Asked::Read(PageAsked::NoMethod(page));
-    }
-    match page {
-        Page::Status => Asked::Read(PageAsked::Status),
-        Page::Products => Asked::Read(PageAsked::Products),
-        Page::Sheet => Asked::Read(PageAsked::Sheet(last_segment(head.path))),
-        Page::Account => Asked::Read(PageAsked::Account),
-        Page::Bids if head.is_put() => Asked::Put(body),
-        Page::Bids => Asked::Read(PageAsked::Bids),
-        Page::Slip => Asked::Read(PageAsked::Slip(last_segment(head.path))),
-        Page::Close => Asked::Close(body),
-        Page::Results => Asked::Read(PageAsked::Results),
     }
 }

@@ -1,14 +1,16 @@
-//! Replies that tell of the auction and change nothing.
+//! Replies that tell of the auction and change nothing; those that are always the same, and take no memory; and why
+//! there is none.
 
-ghost use Rattle.std.specs.Prelude.{◌≡◌, ◌<◌, length, IfOk, IfErr};
+ghost use Rattle.std.specs.Prelude.{◌≡◌, ◌<◌, length, IfOk, IfErr, IsTrue};
 ghost use Rattle.clock_terms.specs.Limits.{SetupFields, public_setup};
-ghost use Rattle.clock_views.specs.PublicPages.{products_value};
-ghost use Rattle.clock_front.specs.declared.front.asked.Asker.TheVariants as who;
-ghost use Rattle.clock_front.specs.Outcomes.{answer_of, done, not_allowed as told_not_allowed, refused, told};
-ghost use Rattle.clock_front.specs.{Rooms.{refusal_room, reply_room}, inside.KeptPage.{IsProductsPage}};
-ghost use Rattle.clock_front.specs.{inside.Roomless.{without_room}, inside.Private.{IsToldByView}};
+ghost use Rattle.clock_views.specs.{PublicPages.{products_value}, RefusalPage.{refusal_value}};
+ghost use Rattle.clock_front.specs.declared.front.askers.Asker.TheVariants as who;
+ghost use Rattle.clock_front.specs.declared.front.replies.Unanswered.TheVariants as unanswered;
+ghost use Rattle.clock_front.specs.{FixedReplies.{no_memory}, Outcomes.{answer_of, done, with_page}, Rooms.{refusal_room}};
+ghost use Rattle.clock_front.specs.inside.{FixedReplies.{is_fixed, refusal_of}, KeptPage.{IsProductsPage}, Replies.{IsPageIn, IsTold}};
 ghost use Rattle.clock_front.specs.Requests as asked;
 
+use clock_device::NoMemory;
 use clock_house::House;
 use clock_http::{Code, NoRoom, Page, Reply, plain_number, text_with_room};
 use clock_views::{
@@ -18,30 +20,73 @@ use clock_views::{
 };
 use std::alloc::Global;
 
-/// A refusal.
-pub(crate) fn refusal(alloc: Global, refusal: Refusal) -> Result<Reply, NoRoom>
-    ensures reply { IfOk result (λ reply. reply ≡ answer_of (refused refusal)) }
-    ensures room { IfErr result (λ room. room ≡ refusal_room) }
-{
-    let mut text = text_with_room(alloc, REFUSAL_ROOM)?;
-    push_refusal_page(&mut text, refusal);
-    Ok(Reply::written(refusal.code, None, text))
+/// Why a text gets no other reply than that of want of memory.
+#[derive(Debug, Drop)]
+pub enum Unanswered {
+    /// It changes nothing, and room for the page of its reply was asked for and refused.
+    Room(NoRoom),
+    /// It asks for a change, and memory was refused on the way to that.
+    Change,
 }
 
-/// A refusal of a method that the page has not.
-pub(crate) fn not_allowed(alloc: Global, page: Page) -> Result<Reply, NoRoom>
-    ensures reply { IfOk result (λ reply. reply ≡ answer_of (told_not_allowed page)) }
-    ensures room { IfErr result (λ room. room ≡ refusal_room) }
+impl From<NoRoom> for Unanswered {
+    ghost from_gives = { λ refused why. why ≡ unanswered.Room refused };
+
+    fn from(refused: NoRoom) -> Unanswered {
+        Unanswered::Room(refused)
+    }
+}
+
+impl From<NoMemory> for Unanswered {
+    ghost from_gives = { λ _ why. why ≡ unanswered.Change };
+
+    fn from(_refused: NoMemory) -> Unanswered {
+        Unanswered::Change
+    }
+}
+
+/// The reply that refuses by a code alone. It takes no memory.
+pub(crate) fn fixed_reply(code: Code) -> Reply
+    requires { IsTrue (is_fixed code) }
+    ensures { result ≡ refusal_of code }
+{
+    let bytes: &'static [u8] = match code {
+        Code::LongHead => b"HTTP/1.1 431 Request Header Fields Too Large\r\nconnection: close\r\n\
+            content-length: 33\r\ncontent-type: application/json\r\n\r\n{\"code\":\"long_head\",\"status\":431}",
+        Code::BadHead => b"HTTP/1.1 400 Bad Request\r\nconnection: close\r\n\
+            content-length: 32\r\ncontent-type: application/json\r\n\r\n{\"code\":\"bad_head\",\"status\":400}",
+        Code::Coding => b"HTTP/1.1 501 Not Implemented\r\nconnection: close\r\n\
+            content-length: 30\r\ncontent-type: application/json\r\n\r\n{\"code\":\"coding\",\"status\":501}",
+        Code::BadLength => b"HTTP/1.1 400 Bad Request\r\nconnection: close\r\n\
+            content-length: 34\r\ncontent-type: application/json\r\n\r\n{\"code\":\"bad_length\",\"status\":400}",
+        Code::LongBody => b"HTTP/1.1 413 Payload Too Large\r\nconnection: close\r\n\
+            content-length: 33\r\ncontent-type: application/json\r\n\r\n{\"code\":\"long_body\",\"status\":413}",
+        Code::Memory => b"HTTP/1.1 503 Service Unavailable\r\nconnection: close\r\n\
+            content-length: 30\r\ncontent-type: application/json\r\n\r\n{\"code\":\"memory\",\"status\":503}",
+        _ => unreachable!(),
+    };
+    Reply::constant(code, bytes)
+}
+
+/// The reply where there was no memory. It takes none.
+pub fn no_memory_reply() -> Reply
+    ensures { result ≡ no_memory }
+{
+    fixed_reply(Code::Memory)
+}
+
+/// A refusal; of a method that a page has not, with that page.
+pub(crate) fn refusal(alloc: Global, why: Refusal, page: Option<Page>) -> Result<Reply, NoRoom>
+    ensures { IsPageIn (with_page why.code page (refusal_value why)) refusal_room result }
 {
     let mut text = text_with_room(alloc, REFUSAL_ROOM)?;
-    push_refusal_page(&mut text, Refusal::alone(Code::Method));
-    Ok(Reply::written(Code::Method, Some(page), text))
+    push_refusal_page(&mut text, why);
+    Ok(Reply::written(why.code, page, text))
 }
 
 /// Where the auction stands.
 pub(crate) fn status<P>(alloc: Global, house: &House<P>) -> Result<Reply, NoRoom>
-    ensures reply { IfOk result (λ reply. reply ≡ answer_of (told house.now who.Nobody asked.status)) }
-    ensures room { IfErr result (λ room. room ≡ reply_room asked.status (told house.now who.Nobody asked.status)) }
+    ensures { IsTold house.now who.Nobody asked.status result }
 {
     let mut text = text_with_room(alloc, status_room())?;
     push_status_page(&mut text, house.setup(), house.round(), house.ended());
@@ -61,15 +106,13 @@ pub(crate) fn products(alloc: Global, page: &[u8]) -> Result<Reply, NoRoom>
 
 /// The sheet of the round that a segment names.
 pub(crate) fn sheet<P>(alloc: Global, house: &House<P>, segment: &[u8]) -> Result<Reply, NoRoom>
-    ensures reply { IfOk result (λ reply. reply ≡ answer_of (told house.now who.Nobody (asked.sheet segment.now))) }
-    ensures room { IfErr result (λ room. room ≡ reply_room (asked.sheet segment.now) (told house.now who.Nobody
-        (asked.sheet segment.now))) }
+    ensures { IsTold house.now who.Nobody (asked.sheet segment.now) result }
 {
     let Some(round) = plain_number(segment) else {
-        return refusal(alloc, Refusal::alone(Code::NoRound));
+        return refusal(alloc, Refusal::alone(Code::NoRound), None);
     };
     let Some(sheet) = house.sheet(round) else {
-        return refusal(alloc, Refusal::alone(Code::NoRound));
+        return refusal(alloc, Refusal::alone(Code::NoRound), None);
     };
     let mut text = text_with_room(alloc, sheet_room(sheet))?;
     push_sheet_page(&mut text, house.setup(), sheet);
@@ -79,10 +122,7 @@ pub(crate) fn sheet<P>(alloc: Global, house: &House<P>, segment: &[u8]) -> Resul
 /// What a bidder holds.
 pub(crate) fn account<P>(alloc: Global, house: &House<P>, bidder: u32) -> Result<Reply, NoRoom>
     requires { bidder < length house.now.setup.bidders }
-    ensures reply { IfOk result (λ reply. reply ≡ answer_of (told house.now (who.Bidder bidder) asked.account)) }
-    ensures private { IfOk result (IsToldByView house.now bidder asked.account) }
-    ensures room { IfErr result (λ room. room ≡ reply_room asked.account (told house.now (who.Bidder bidder)
-        asked.account)) }
+    ensures { IsTold house.now (who.Bidder bidder) asked.account result }
 {
     let own = house.own(bidder);
     let mut text = text_with_room(alloc, account_room(own.demands))?;
@@ -93,8 +133,7 @@ pub(crate) fn account<P>(alloc: Global, house: &House<P>, bidder: u32) -> Result
 /// A bidder's sheet of bids in force.
 pub(crate) fn bids<P>(alloc: Global, house: &House<P>, bidder: u32) -> Result<Reply, NoRoom>
     requires { bidder < length house.now.setup.bidders }
-    ensures reply { IfOk result (λ reply. reply ≡ answer_of (told house.now (who.Bidder bidder) asked.bids)) }
-    ensures room { IfErr result (λ room. room ≡ reply_room asked.bids (told house.now (who.Bidder bidder) asked.bids)) }
+    ensures { IsTold house.now (who.Bidder bidder) asked.bids result }
 {
     let sheet = house.bids(bidder);
     let mut text = text_with_room(alloc, bids_room(sheet))?;
@@ -110,16 +149,13 @@ pub(crate) fn slip<P>(
     segment: &[u8],
 ) -> Result<Reply, NoRoom>
     requires { bidder < length house.now.setup.bidders }
-    ensures reply { IfOk result (λ reply. reply
-        ≡ answer_of (told house.now (who.Bidder bidder) (asked.slip segment.now))) }
-    ensures room { IfErr result (λ room. room ≡ reply_room (asked.slip segment.now) (told house.now (who.Bidder bidder)
-        (asked.slip segment.now))) }
+    ensures { IsTold house.now (who.Bidder bidder) (asked.slip segment.now) result }
 {
     let Some(round) = plain_number(segment) else {
-        return refusal(alloc, Refusal::alone(Code::NoRound));
+        return refusal(alloc, Refusal::alone(Code::NoRound), None);
     };
     let Some(slip) = house.slip(bidder, round) else {
-        return refusal(alloc, Refusal::alone(Code::NoRound));
+        return refusal(alloc, Refusal::alone(Code::NoRound), None);
     };
     let mut text = text_with_room(alloc, slip_room(slip))?;
     push_slip_page(&mut text, slip);
@@ -129,10 +165,7 @@ pub(crate) fn slip<P>(
 /// What all bidders hold.
 #[tactic(auto, unfolding(clock_views::specs::OperatorPages::results_value))]
 pub(crate) fn results<P>(alloc: Global, house: &House<P>) -> Result<Reply, NoRoom>
-    ensures reply { IfOk result (λ reply. reply
-        ≡ answer_of (told (without_room house.now) who.Operator asked.results)) }
-    ensures room { IfErr result (λ room. room ≡ reply_room asked.results (told (without_room house.now) who.Operator
-        asked.results)) }
+    ensures { IsTold house.now who.Operator asked.results result }
 {
     let mut text = text_with_room(alloc, results_room(house))?;
     push_results_page(&mut text, house);

@@ -2,7 +2,7 @@ use Rattle.std.proofs.Common.{List, ℕ, cond, ap, ◌∙◌}
 use Rattle.clock_http.specs.Heads.{same_bytes}
 use Rattle.clock_front.specs.inside.HeldTokens.{found}
 use Rattle.clock_front.proofs.TokenLaws.{Entries, found-insert}
-use Rattle.clock_front.proofs.front.asked.add.Goals as goal
+use Rattle.clock_front.proofs.front.askers.add.Goals as goal
 
 pub returns : goal.returns
 returns c =

@@ -4,10 +4,10 @@ use Rattle.clock_front.specs.Askers.{holder}
 use Rattle.clock_front.specs.inside.Askers.{IsKnown}
 use Rattle.clock_front.specs.inside.HeldTokens.{asker_by, found, tokens_of}
 use Rattle.clock_http.specs.Shown.{shown_bytes}
-use Rattle.clock_front.specs.declared.front.asked.Asker.{Asker}
-use Rattle.clock_front.specs.declared.front.asked.Asker.TheVariants.{Nobody}
+use Rattle.clock_front.specs.declared.front.askers.Asker.{Asker}
+use Rattle.clock_front.specs.declared.front.askers.Asker.TheVariants.{Nobody}
 use Rattle.clock_front.proofs.TokenLaws.{asker_known, asker_same, found-lookup}
-use Rattle.clock_front.proofs.front.asked.asker_of.Goals as goal
+use Rattle.clock_front.proofs.front.askers.asker_of.Goals as goal
 
 pub returns-in-Some-clause-shown : goal.returns-in-Some-clause-shown
 returns-in-Some-clause-shown c =

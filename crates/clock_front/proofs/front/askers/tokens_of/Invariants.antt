@@ -1,7 +1,7 @@
 use Rattle.std.proofs.Common.{◌≡◌, ◌≤◌, ℕ, List, length, drop}
 use Rattle.clock_front.specs.Askers.{holder, bidder_tokens}
 use Rattle.clock_front.specs.inside.HeldTokens.{found}
-use Rattle.clock_front.proofs.front.asked.tokens_of.Given as goal
+use Rattle.clock_front.proofs.front.askers.tokens_of.Given as goal
 
 -- the tokens of the bidders from this number on are there
 abbrev pub invariant-loop-number : goal.invariant-loop-number

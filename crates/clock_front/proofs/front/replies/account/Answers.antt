@@ -6,13 +6,11 @@ use Rattle.clock_bids.specs.Holding.{Holding}
 use Rattle.clock_house.specs.History.{bidder_at}
 use Rattle.clock_house.specs.House.{standing_in, holding_in}
 use Rattle.clock_views.specs.BidderPages.{account_value}
-use Rattle.clock_front.specs.Requests.{account}
-use Rattle.clock_front.proofs.PrivateLaws.{told_by_view}
 use Rattle.clock_front.proofs.PageLaws.{held_is, written_page}
-use Rattle.clock_front.proofs.front.pages.account.Goals as goal
+use Rattle.clock_front.proofs.front.replies.account.Goals as goal
 
-pub returns-clause-reply : goal.returns-clause-reply
-returns-clause-reply g c =
+pub returns : goal.returns
+returns g c =
     let house = c.args.house.now in
     let held = held_is (holding_in house c.args.bidder) c.own-own.result.eligibility c.own-own.result.demands.now c.own-own.ensures.eligibility c.own-own.ensures.demands in
     written_page _ _ _ _ _ _ c.written.ensures c.in_ok-text.ensures.head c.push_account_page.ensures
@@ -24,6 +22,3 @@ returns-clause-reply g c =
     (standing_in house).round held c.ended.result)) held
     ∙ ap (λ (ended : Bool). with_page Done None (account_value house.setup.products (bidder_at house.setup c.args.bidder).name
     (standing_in house).round (holding_in house c.args.bidder) ended)) c.ended.ensures.is
-
-pub returns-clause-private : goal.returns-clause-private
-returns-clause-private g c = told_by_view c.args.house.now c.args.bidder account c.written.result c.requires (returns-clause-reply g c)

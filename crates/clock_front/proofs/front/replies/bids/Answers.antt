@@ -6,10 +6,10 @@ use Rattle.clock_bids.specs.declared.sheet.Bid.{Bid}
 use Rattle.clock_house.specs.House.{standing_in}
 use Rattle.clock_views.specs.BidderPages.{bids_value}
 use Rattle.clock_front.proofs.PageLaws.{written_page}
-use Rattle.clock_front.proofs.front.pages.bids.Goals as goal
+use Rattle.clock_front.proofs.front.replies.bids.Goals as goal
 
-pub returns-clause-reply : goal.returns-clause-reply
-returns-clause-reply g c =
+pub returns : goal.returns
+returns g c =
     let house = c.args.house.now in
     written_page _ _ _ _ _ _ c.written.ensures c.in_ok-text.ensures.head c.push_bids_page.ensures
     ∙ ap (λ (round : ℕ). with_page Done None (bids_value round (option_copied c.bids-sheet.result))) c.round.ensures.is

@@ -2,7 +2,7 @@ use Rattle.std.proofs.Common.{◌++◌, List, ℕ, ap, ◌∙◌}
 use Rattle.clock_terms.specs.Limits.{public_setup}
 use Rattle.clock_views.specs.PublicPages.{products_value}
 use Rattle.clock_front.proofs.PageLaws.{written_page}
-use Rattle.clock_front.proofs.front.pages.products.Goals as goal
+use Rattle.clock_front.proofs.front.replies.products.Goals as goal
 
 pub returns-clause-reply : goal.returns-clause-reply
 returns-clause-reply c setup page =

@@ -9,10 +9,10 @@ use Rattle.clock_views.specs.PublicPages.{sheet_value}
 use Rattle.clock_front.specs.Outcomes.{answer_of, round_in, with_page}
 use Rattle.clock_front.proofs.OutcomeLaws.{found_page}
 use Rattle.clock_front.proofs.PageLaws.{written_page}
-use Rattle.clock_front.proofs.front.pages.sheet.Goals as goal
+use Rattle.clock_front.proofs.front.replies.sheet.Goals as goal
 
-pub returns-clause-reply : goal.returns-clause-reply
-returns-clause-reply g c =
+pub returns : goal.returns
+returns g c =
     let house = c.args.house.now in
     let part : ClosedRound → RoundSheet = λ closed. closed.sheet in
     let found = c.in-Some-sheet.ensures.found

@@ -5,10 +5,10 @@ use Rattle.clock_views.specs.BidderPages.{slip_value}
 use Rattle.clock_front.specs.Outcomes.{answer_of, round_in}
 use Rattle.clock_front.proofs.OutcomeLaws.{found_page}
 use Rattle.clock_front.proofs.PageLaws.{written_page}
-use Rattle.clock_front.proofs.front.pages.slip.Goals as goal
+use Rattle.clock_front.proofs.front.replies.slip.Goals as goal
 
-pub returns-clause-reply : goal.returns-clause-reply
-returns-clause-reply g c =
+pub returns : goal.returns
+returns g c =
     let house = c.args.house.now in
     let found = c.in-Some-slip.ensures.found
     ∙ ap (λ (n : Option ℕ). option_map (slip_of c.args.bidder) (option_and_then (λ n. round_at n house.closed) n)) c.in-Some.ensures in
