@@ -22,7 +22,6 @@ use Rattle.clock_sim.specs.declared.simulation.SimFault.TheVariants.{NoMemory}
 use Rattle.clock_sim.specs.Rehearsal.{if_done, after_request, after_request_if, after_put, after_puts, rounds_after}
 use Rattle.clock_http.specs.Framing.{needs_more}
 use Rattle.clock_connections.specs.Connections.{IsConnected}
-use Rattle.clock_connections.specs.declared.connections.Conn.{Conn}
 use Rattle.clock_scripts.specs.declared.requests.Written.{Written}
 use Rattle.clock_scripts.specs.Pieces.{IsWrittenIn, WritesIf, head_in, text_at}
 use Rattle.clock_scripts.specs.ScriptedRequests.{scripted_put}

@@ -9,8 +9,8 @@ use Rattle.clock_scripts.specs.declared.requests.Written.{Written}
 use Rattle.clock_scripts.specs.Pieces.{AwaitsBody, body_in, head_in, text_at}
 use Rattle.clock_sim.specs.declared.rounds.Group.{Group}
 use Rattle.clock_sim.specs.declared.rounds.Waiting.{Waiting}
-use Rattle.clock_sim.specs.inside.Groups.{ClosesNoRound, ComesUnderWay, IsNext, StillWait, requests_in, with_put, with_request, with_turn}
-use Rattle.clock_sim.proofs.TurnLaws.{no_memory_under_way, joined, refused_before, sent_alone, sent_full, turn_passed, turn_taken, written_next}
+use Rattle.clock_sim.specs.inside.Groups.{ClosesNoRound, ComesUnderWay, IsNext, StillWait, requests_in, with_request, with_turn}
+use Rattle.clock_sim.proofs.TurnLaws.{joined, refused_before, sent_alone, sent_full, turn_passed, turn_taken, written_next}
 use Rattle.clock_sim.proofs.WrittenLaws.{still_none}
 use Rattle.clock_sim.proofs.rounds.put_scripted.Goals.{then-is_empty, else-is_empty}
 use Rattle.clock_sim.proofs.rounds.put_scripted.Goals as goal
