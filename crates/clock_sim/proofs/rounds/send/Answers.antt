@@ -7,7 +7,7 @@ use Rattle.clock_front.specs.declared.hub.Fed.{Fed}
 use Rattle.clock_front.specs.declared.hub.Fed.TheVariants.{Reply}
 use Rattle.clock_sim.proofs.SendLaws.{answered_early}
 use Rattle.clock_sim.proofs.StepLaws.{sent}
-use Rattle.clock_sim.proofs.groups.send.Goals as goal
+use Rattle.clock_sim.proofs.rounds.send.Goals as goal
 
 pub returns-in-Reply : goal.returns-in-Reply
 returns-in-Reply g c =

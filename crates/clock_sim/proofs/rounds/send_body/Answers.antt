@@ -3,8 +3,8 @@ use Rattle.clock_front.specs.Hubs.{IsAnswered, IsFed}
 use Rattle.clock_front.specs.declared.hub.Fed.{Fed}
 use Rattle.clock_sim.proofs.SendLaws.{ended_after}
 use Rattle.clock_sim.proofs.StepLaws.{sent}
-use Rattle.clock_sim.proofs.groups.send_body.Goals.{in-Reply, in-More+in_ok-reply-in-More}
-use Rattle.clock_sim.proofs.groups.send_body.Goals as goal
+use Rattle.clock_sim.proofs.rounds.send_body.Goals.{in-Reply, in-More+in_ok-reply-in-More}
+use Rattle.clock_sim.proofs.rounds.send_body.Goals as goal
 
 pub returns-clause-step : goal.returns-clause-step
 returns-clause-step g c = λ head is.

@@ -1,7 +1,7 @@
 use Rattle.std.proofs.Common.{◌≡◌}
 use Rattle.clock_sim.specs.inside.Groups.{StandFrom, requests_in}
 use Rattle.clock_sim.proofs.GroupLaws.{heads_to}
-use Rattle.clock_sim.proofs.groups.Group.feed_heads.Given as goal
+use Rattle.clock_sim.proofs.rounds.Group.feed_heads.Given as goal
 
 -- the heads so far have come, and nothing was answered
 abbrev pub invariant-loop-one : goal.invariant-loop-one

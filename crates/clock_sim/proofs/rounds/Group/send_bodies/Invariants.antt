@@ -1,7 +1,7 @@
 use Rattle.std.proofs.Common.{drop}
 use Rattle.clock_sim.specs.inside.Groups.{StandFrom, after_group, requests_in}
 use Rattle.clock_sim.proofs.StepLaws.{IsOnWay}
-use Rattle.clock_sim.proofs.groups.Group.send_bodies.Given as goal
+use Rattle.clock_sim.proofs.rounds.Group.send_bodies.Given as goal
 
 -- the requests that are left are answered, and their heads have come
 abbrev pub invariant-loop-one : goal.invariant-loop-one
