@@ -27,13 +27,14 @@ where
     let document = file_bytes(rt, named.setup)?;
     let first = digest_of(document.as_slice());
     let front = front_in(rt.alloc(), document)?;
-    let (text, texts, chain) = match journal_bytes(rt, named.journal) {
-        Ok(bytes) => audit_of(rt.alloc(), front, first, bytes)?,
+    let bytes = match journal_bytes(rt, named.journal) {
+        Ok(bytes) => bytes,
         Err(fault) => {
             drop(front);
             return Err(fault);
         }
     };
+    let (text, texts, chain) = audit_of(rt.alloc(), front, first, bytes)?;
     write_all(out, text.as_slice()).or(Err(Fault::Output))?;
     tell_journal(rt, texts, chain)
 }

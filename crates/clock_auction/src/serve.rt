@@ -34,17 +34,18 @@ where
         + Alloc<A = Global>,
 {
     let document = file_bytes(rt, serving.setup)?;
-    let kept = serving
-        .journal
-        .map(|path| (path, digest_of(document.as_slice())));
+    let Some(path) = serving.journal else {
+        let mut front = front_in(rt.alloc(), document)?;
+        let served = listen(rt, &mut front, None, serving);
+        drop(front);
+        return served;
+    };
+    let digest = digest_of(document.as_slice());
     let front = front_in(rt.alloc(), document)?;
     let mut auction = Auction { front, texts: 0 };
-    let served = match kept {
-        Some((path, digest)) => match taken_over(rt, &mut auction, digest, path) {
-            Ok(journal) => listen(rt, &mut auction.front, Some(journal), serving),
-            Err(fault) => Err(fault),
-        },
-        None => listen(rt, &mut auction.front, None, serving),
+    let served = match taken_over(rt, &mut auction, digest, path) {
+        Ok(journal) => listen(rt, &mut auction.front, Some(journal), serving),
+        Err(fault) => Err(fault),
     };
     // let go by a call: at the end of the scope it would be proved part by part
     drop(auction);
