@@ -78,7 +78,7 @@ pub fn report_so_far<P>(alloc: Global, house: &House<P>) -> Result<Report, NoMem
     let grid = house.demands().copy(alloc)?;
     let sheets = sheets_of(alloc, house)?;
     Ok(Report {
-        setup: house.setup().copy()?,
+        setup: house.setup().copy(alloc)?,
         sheets,
         grid,
     })

@@ -117,7 +117,7 @@ pub fn simulate_with<P: Processor + Drop>(
     ensures ok { IfOk result (λ report. rules.simulated replay.now ≡ Ok report) }
     ensures err { IfErr result (IsRefusal SimFault.NoMemory (rules.simulated replay.now)) }
 {
-    let setup = replay.setup.copy()?;
+    let setup = replay.setup.copy(alloc)?;
     let mut hub = Hub::new(alloc, Front::new(alloc, setup, processor)?);
     let report = played(alloc, &mut hub, replay);
     // let go by a call: at the end of the scope it would be proved part by part

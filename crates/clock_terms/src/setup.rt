@@ -2,6 +2,7 @@ ghost use Rattle.std.specs.Prelude.{◌≡◌, IfOk};
 
 use clock_device::{Items, NoMemory, Text};
 use clock_money::Price;
+use std::alloc::Global;
 use std::marker::Model;
 
 /// A product: generic blocks of one kind, which bidders want in numbers and not one by one.
@@ -72,8 +73,8 @@ impl Model for Setup {
 }
 
 impl Setup {
-    /// An equal set-up with lists of its own.
-    pub fn copy(&self) -> Result<Setup, NoMemory>
+    /// An equal set-up with lists of its own, whose memory comes from where that of this one does.
+    pub fn copy(&self, _alloc: Global) -> Result<Setup, NoMemory>
         ensures { IfOk result (λ copy. copy ≡ self.now) }
     {
         Ok(self.clone()?)

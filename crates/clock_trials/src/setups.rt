@@ -67,7 +67,7 @@ fn told(setup: &Setup) -> Told {
 /// What a document is read as, told of a copy of what was read.
 fn read(alloc: Global, text: &str) -> Result<Told, SetupFault> {
     let setup = read_setup(alloc, text.as_bytes())?;
-    let copy = setup.copy();
+    let copy = setup.copy(alloc);
     drop(setup);
     let copy = copy?;
     let told = told(&copy);
