@@ -1,4 +1,5 @@
 pub mod Limits
+pub mod Setups
 pub mod Demands
 pub mod Prices
 pub mod Increments

@@ -65,7 +65,7 @@ impl Model for Setup {
 
     ghost Value = { SetupFields };
 
-    ghost use Rattle.clock_terms.specs.inside.Setups.{fields_of};
+    ghost use Rattle.clock_terms.specs.Setups.{fields_of};
 
     ghost view = { fields_of };
 
