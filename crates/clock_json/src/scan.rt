@@ -105,8 +105,7 @@ impl<'a> Scan<'a> {
         if !self.expected.may_begin() || !is_at(self.bytes, at, mark) {
             return Err(ScanStop::Unusual);
         }
-        self.at = at + 1;
-        self.expected = Expected::Fresh;
+        (self.expected, self.at) = (Expected::Fresh, at + 1);
         Ok(())
     }
 
@@ -140,8 +139,7 @@ impl<'a> Scan<'a> {
         if !is_at(self.bytes, at, b':') {
             return Err(ScanStop::Unusual);
         }
-        self.at = at + 1;
-        self.expected = Expected::Fresh;
+        (self.expected, self.at) = (Expected::Fresh, at + 1);
         Ok(key)
     }
 
@@ -171,8 +169,7 @@ impl<'a> Scan<'a> {
             return None;
         }
         let (bid, at) = compact_bid_at(self.bytes, self.at)?;
-        self.at = at;
-        self.expected = Expected::AfterComma;
+        (self.expected, self.at) = (Expected::AfterComma, at);
         Some(bid)
     }
 
