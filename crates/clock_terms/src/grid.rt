@@ -138,7 +138,8 @@ impl Grid {
         requires bidder { bidder < length self.old }
         requires product { All (λ row. product < length row) self.old }
         requires small { changed_demand kind (demand_at self.old bidder product) amount ≤ most_supply }
-        ensures { self.new ≡ with_demand self.old bidder product (changed_demand kind (demand_at self.old bidder product) amount) }
+        ensures { self.new ≡ with_demand self.old bidder product
+            (changed_demand kind (demand_at self.old bidder product) amount) }
     {
         let total = self.total(product);
         let before = self.rows[bidder].change(product, kind, amount);
