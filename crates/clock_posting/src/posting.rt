@@ -236,6 +236,7 @@ impl RoundEnd<'_> {
     }
 
     /// The prices of the next round, or none where the auction has ended, or the first product that can have none.
+    #[tactic(auto, using(clock_terms::proofs::IncrementLaws::increment_there))]
     fn prices_after(&self, alloc: Global) -> Result<Option<Prices>, PostFault>
         requires { FitsTogether self.now }
         ensures ok { IfOk result (λ next. next ≡ next_of self.now) }
@@ -249,31 +250,14 @@ impl RoundEnd<'_> {
         }
         let mut next = Prices::with_capacity(alloc, self.products.len())?;
         for product in 0..self.products.len() {
-            let Some(clock) = self.next_clock(product) else {
+            let start = self.posted[product];
+            let percent = self.increments.at(product);
+            let Some(clock) = clock_price(start, percent, self.products[product].granule) else {
                 return Err(PostFault::PriceLimit(product as u64));
             };
-            next.push(PricePair {
-                start: self.posted[product],
-                clock,
-            });
+            next.push(PricePair { start, clock });
         }
         Ok(Some(next.into_items()))
-    }
-
-    /// The next clock price of a product: its posted price raised by its increment, to a whole multiple of its granule.
-    /// `None` where that is above the highest price.
-    #[tactic(auto, using(clock_terms::proofs::IncrementLaws::increment_there))]
-    fn next_clock(&self, product: usize) -> Option<Price>
-        requires product { product < length self.now.products.now }
-        requires end { FitsTogether self.now }
-        ensures exact { result ≡ rules.next_clock self.now.products.now self.now.increments.now self.now.posted.now product }
-        ensures above { IfSome result (λ clock. slice_index self.now.posted.now product < clock) }
-    {
-        clock_price(
-            self.posted[product],
-            self.increments.at(product),
-            self.products[product].granule,
-        )
     }
 
     /// The lines of the round's sheet, by the prices of the next round.
@@ -287,29 +271,18 @@ impl RoundEnd<'_> {
         // Each closed round keeps its lines, so they have no more room than they take.
         let mut lines = Lines::with_capacity(alloc, self.products.len())?;
         for product in 0..self.products.len() {
-            lines.push(self.line(product, next));
+            let pair = self.prices[product];
+            let total = self.grid.total(product);
+            let supply = self.products[product].supply;
+            lines.push(Line {
+                start: pair.start,
+                clock: pair.clock,
+                posted: self.posted[product],
+                demand: (total > supply).then_some(total),
+                next: self.next_at(product, next),
+            });
         }
         Ok(lines.into_items())
-    }
-
-    /// The line of a product.
-    fn line(&self, product: usize, next: &Option<Prices>) -> Line
-        requires product { product < length self.now.products.now }
-        requires end { FitsTogether self.now }
-        requires next { next.now ≡ next_of self.now }
-        requires clocks { IfSome next.now (HasClocksOf self.now) }
-        ensures { result ≡ rules.sheet_line self.now.products.now self.now.prices.now self.now.grid.now self.now.posted.now self.now.increments.now product }
-    {
-        let pair = self.prices[product];
-        let total = self.grid.total(product);
-        let supply = self.products[product].supply;
-        Line {
-            start: pair.start,
-            clock: pair.clock,
-            posted: self.posted[product],
-            demand: (total > supply).then_some(total),
-            next: self.next_at(product, next),
-        }
     }
 
     /// The clock price of a product in the next round, where there is one.
