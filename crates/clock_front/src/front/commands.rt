@@ -16,10 +16,10 @@ use crate::front::telling::{bidder_of, operator_of, turn_away};
 use clock_bodies::{BodyFault, CloseBody, PutBody, is_of_version, read_close, read_put};
 use clock_device::NoMemory;
 use clock_house::{CloseFault, House, PutFault};
-use clock_http::{Code, Reply, text_with_room};
+use clock_http::{Code, HEADROOM, Reply};
 use clock_processor::Processor;
 use clock_terms::Setup;
-use clock_views::{Refusal, accepted_room, closed_room, push_accepted_page, push_closed_page};
+use clock_views::{Refusal, headed_accepted, headed_closed};
 use std::alloc::Global;
 
 /// A refusal of a body for its fault, unless that is want of memory.
@@ -38,8 +38,7 @@ fn refused_body(alloc: Global, fault: BodyFault) -> Result<Reply, NoMemory>
 fn accepted(alloc: Global, round: u64, bids: u64) -> Result<Reply, NoMemory>
     ensures { IfOk result (λ reply. reply ≡ answer_of (done (accepted_value round bids))) }
 {
-    let mut text = text_with_room(alloc, accepted_room())?;
-    push_accepted_page(&mut text, round, bids);
+    let text = headed_accepted(alloc, HEADROOM, round, bids)?;
     Ok(Reply::written(Code::Done, None, text))
 }
 
@@ -97,8 +96,7 @@ pub(crate) fn answer_put<P: Processor>(
 fn closed(alloc: Global, round: u64, ended: bool) -> Result<Reply, NoMemory>
     ensures { IfOk result (λ reply. reply ≡ answer_of (done (closed_value round ended))) }
 {
-    let mut text = text_with_room(alloc, closed_room())?;
-    push_closed_page(&mut text, round, ended);
+    let text = headed_closed(alloc, HEADROOM, round, ended)?;
     Ok(Reply::written(Code::Done, None, text))
 }
 

@@ -2,4 +2,4 @@ use Rattle.clock_front.proofs.PageLaws.{written_page}
 use Rattle.clock_front.proofs.front.commands.closed.Goals as goal
 
 pub returns : goal.returns
-returns c = written_page _ _ _ _ _ _ c.written.ensures c.in_ok-text.ensures.head c.push_closed_page.ensures
+returns c = written_page _ _ _ _ _ c.written.ensures c.in_ok-text.ensures

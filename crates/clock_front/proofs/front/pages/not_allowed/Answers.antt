@@ -8,5 +8,5 @@ use Rattle.clock_front.proofs.front.pages.not_allowed.Goals as goal
 
 pub returns-clause-reply : goal.returns-clause-reply
 returns-clause-reply c =
-    written_page _ _ _ _ _ _ c.written.ensures c.in_ok-text.ensures.head c.push_refusal_page.ensures
+    written_page _ _ _ _ _ c.written.ensures c.in_ok-text.ensures.page
     ∙ ap (λ (shown : Shown). with_page Method (Some c.args.page) (refusal_value shown)) c.alone.ensures
